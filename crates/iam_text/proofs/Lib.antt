@@ -1,0 +1,2 @@
+pub mod ArnLemmas
+pub mod WalkLemmas

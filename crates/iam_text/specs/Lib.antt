@@ -1,0 +1,5 @@
+pub mod Arn
+pub mod Cut
+pub mod Draft
+pub mod Glob
+pub mod Walk

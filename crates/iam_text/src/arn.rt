@@ -1,0 +1,49 @@
+ghost use Rattle.std.specs.Prelude.{◌≡◌, ◌∷◌, [], ◌<◌, ◌↔◌, IfSome, IsNone, MatchOption};
+ghost use Rattle.iam_text.specs.Arn.{IsArn, colons};
+ghost use Rattle.iam_text.specs.Cut.{IsCutFirst};
+
+/// An ARN, cut into its six parts: `arn:partition:service:region:account:resource`.
+///
+/// AWS IAM User Guide, "IAM identifiers".
+#[derive(Clone, Copy, Debug, PartialEq, Eq)]
+pub struct Arn<'a> {
+    /// The first part, `arn` in every ARN.
+    pub prefix: &'a str,
+    pub partition: &'a str,
+    pub service: &'a str,
+    pub region: &'a str,
+    pub account: &'a str,
+    /// All that stands behind the fifth colon, further colons included.
+    pub resource: &'a str,
+}
+
+impl<'a> Arn<'a> {
+    /// The six parts of a text, cut at its first five colons; `None` where it has fewer.
+    ///
+    /// It does not test that the first part is `arn`.
+    pub fn cut(text: &'a str) -> Option<Arn<'a>>
+        ensures parts { IfSome result (λ a. IsArn (a.prefix.now ∷ (a.partition.now ∷ (a.service.now
+            ∷ (a.region.now ∷ (a.account.now ∷ (a.resource.now ∷ [])))))) text.entry.now) }
+        ensures none { IsNone result ↔ (colons text.entry.now < 5) }
+    {
+        let (prefix, rest) = cut_first(text)?;
+        let (partition, rest) = cut_first(rest)?;
+        let (service, rest) = cut_first(rest)?;
+        let (region, rest) = cut_first(rest)?;
+        let (account, resource) = cut_first(rest)?;
+        Some(Arn {
+            prefix,
+            partition,
+            service,
+            region,
+            account,
+            resource,
+        })
+    }
+}
+
+fn cut_first(text: &str) -> Option<(&str, &str)>
+    ensures { MatchOption result (colons text.entry.now ≡ 0) (λ p. IsCutFirst text.entry.now p.0.now p.1.now) }
+{
+    text.split_once(':')
+}

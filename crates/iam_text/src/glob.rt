@@ -1,0 +1,71 @@
+ghost use Rattle.std.specs.Prelude.{◌≡◌, ◌↔◌, List, IsTrue, IfOk, map};
+ghost use Rattle.std.specs.Str.{chars};
+ghost use Rattle.iam_text.specs.declared.sign.Sign.{Sign};
+ghost use Rattle.iam_text.specs.Glob.{wild_sign, plain_sign, Matches, MatchesFold};
+
+use crate::OutOfMemory;
+use crate::sign::Sign;
+use crate::walk::{Case, matches};
+use std::alloc::Global;
+use std::marker::Model;
+
+/// A pattern over texts: a list of signs.
+///
+/// A character is one Unicode scalar value.
+#[derive(Debug, Drop)]
+pub struct Glob {
+    signs: Vec<Sign>,
+}
+
+impl Model for Glob {
+    ghost Value = { List Sign };
+
+    ghost view = { λ g. g.signs.items };
+}
+
+impl Glob {
+    /// The pattern of a text in which `*` and `?` are wildcards.
+    pub fn read(alloc: Global, text: &str) -> Result<Glob, OutOfMemory>
+        ensures { IfOk result (λ g. g ≡ map wild_sign (chars text.now)) }
+    {
+        let signs = text.chars().map(Sign::wild).collect(alloc)?;
+        Ok(Glob { signs })
+    }
+
+    /// The pattern that matches this text alone: `*` and `?` are plain characters.
+    pub fn plain(alloc: Global, text: &str) -> Result<Glob, OutOfMemory>
+        ensures { IfOk result (λ g. g ≡ map plain_sign (chars text.now)) }
+    {
+        let signs = text.chars().map(Sign::Given).collect(alloc)?;
+        Ok(Glob { signs })
+    }
+
+    /// The pattern of these signs.
+    pub fn of(alloc: Global, signs: &[Sign]) -> Result<Glob, OutOfMemory>
+        ensures { IfOk result (λ g. g ≡ signs.now) }
+    {
+        let signs = Vec::from_slice(alloc, signs)?;
+        Ok(Glob { signs })
+    }
+
+    /// The signs, in order.
+    pub fn signs(&self) -> &[Sign]
+        ensures { result.now ≡ self.now }
+    {
+        self.signs.as_slice()
+    }
+
+    /// Whether the whole text matches, with regard to case.
+    pub fn matches(&self, text: &str) -> bool
+        ensures { IsTrue result ↔ Matches self.now (chars text.now) }
+    {
+        matches(self.signs.as_slice(), text, Case::Kept)
+    }
+
+    /// Whether the whole text matches once the ASCII letters of both sides are folded.
+    pub fn matches_fold(&self, text: &str) -> bool
+        ensures { IsTrue result ↔ MatchesFold self.now (chars text.now) }
+    {
+        matches(self.signs.as_slice(), text, Case::Folded)
+    }
+}

@@ -1,0 +1,15 @@
+//! Texts of IAM policies: patterns with wildcards, and the parts of an ARN.
+#![tactic(auto)]
+
+mod arn;
+mod glob;
+mod sign;
+#[cfg(test)]
+mod tests;
+mod walk;
+
+pub use arn::Arn;
+pub use glob::Glob;
+pub use sign::Sign;
+/// The allocator refused a growth.
+pub use std::alloc::AllocError as OutOfMemory;
