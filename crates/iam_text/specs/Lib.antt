@@ -2,4 +2,5 @@ pub mod Arn
 pub mod Cut
 pub mod Draft
 pub mod Glob
+pub mod Parts
 pub mod Walk

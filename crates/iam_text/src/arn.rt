@@ -1,5 +1,5 @@
-ghost use Rattle.std.specs.Prelude.{◌≡◌, ◌∷◌, [], ◌<◌, ◌↔◌, IfSome, IsNone, MatchOption};
-ghost use Rattle.iam_text.specs.Arn.{IsArn, colons};
+ghost use Rattle.std.specs.Prelude.{◌≡◌, MatchOption};
+ghost use Rattle.iam_text.specs.Arn.{colons};
 ghost use Rattle.iam_text.specs.Cut.{IsCutFirst};
 
 /// An ARN, cut into its six parts: `arn:partition:service:region:account:resource`.
@@ -18,12 +18,19 @@ pub struct Arn<'a> {
 }
 
 impl<'a> Arn<'a> {
+    ghost use Rattle.std.specs.Prelude.{◌≡◌, ℕ, List, ◌<◌, ◌↔◌, IfSome, IfNone, IsNone};
+    ghost use Rattle.iam_text.specs.Arn.{IsArn, colons};
+    ghost use Rattle.iam_text.specs.Parts.{parts_of};
+
     /// The six parts of a text, cut at its first five colons; `None` where it has fewer.
     ///
     /// It does not test that the first part is `arn`.
     pub fn cut(text: &'a str) -> Option<Arn<'a>>
-        ensures parts { IfSome result (λ a. IsArn (a.prefix.now ∷ (a.partition.now ∷ (a.service.now
-            ∷ (a.region.now ∷ (a.account.now ∷ (a.resource.now ∷ [])))))) text.entry.now) }
+        ensures parts { IfSome result (λ a. IsArn (parts_of a) text.entry.now) }
+        ensures only {
+            IfSome result (λ a. (parts : List (List ℕ)) → IsArn parts text.entry.now → parts_of a ≡ parts)
+        }
+        ensures no_parts { IfNone result ((parts : List (List ℕ)) → ¬ IsArn parts text.entry.now) }
         ensures none { IsNone result ↔ (colons text.entry.now < 5) }
     {
         let (prefix, rest) = cut_first(text)?;

@@ -1,0 +1,5 @@
+pub mod LaneRule
+pub mod Words
+pub mod Lanes
+pub mod Fields
+pub mod Closing
