@@ -1,0 +1,3 @@
+pub mod StatementLemmas
+pub mod PathLemmas
+pub mod UserLemmas

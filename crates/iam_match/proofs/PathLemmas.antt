@@ -1,0 +1,136 @@
+-- The test of a path meets the definition.
+use Rattle.std.proofs.Common.{◌≡◌, ◌↔◌, ◌⊎◌, inl, inr, ℕ, suc, zero, ◌+◌, ◌<◌, List, [], ◌∷◌, ◌++◌, Bool, true, false, ◌&&◌, ◌==◌, cond, length, refl, sym, ap, ◌∙◌, subst, arith, IsTrue, nat_lt, eqb-true}
+use Rattle.std.proofs.lemmas.Bool.{lt-ltb, ltb-true}
+use Rattle.std.proofs.lemmas.List.{append-nil}
+use Rattle.std.specs.List.{AllByRecursion, list_all, join_with_byte}
+use Rattle.iam_policy.specs.Grammar.{is_run}
+use Rattle.iam_match.specs.Tests.{path_from}
+use Rattle.iam_match.specs.Requester.{IsLastSegment, IsPath, is_segment_character}
+use Rattle.std.proofs.Common.{Some, take, drop, take-append-drop}
+use Rattle.std.specs.Str.{NoCharPasses}
+use Rattle.std.specs.Str.Pattern.{RFindsChar}
+use Rattle.std.proofs.lemmas.Str.Pattern.{NoCharPasses-char, drop_at_char}
+
+-- the characters of a segment, maybe none
+abbrev are_characters : List ℕ → Bool
+are_characters text = list_all is_segment_character text
+
+abbrev IsSegment : List ℕ → Type 0
+IsSegment text = IsTrue (is_run is_segment_character text)
+
+-- the rest of a path: the end of its first segment, and the segments behind it
+abbrev IsRest : Bool → List ℕ → Type 0
+IsRest begun text =
+    (first : List ℕ) × (rest : List (List ℕ)) × (are_characters first ≡ true) × (begun ≡ false → 0 < length first) × AllByRecursion IsSegment rest
+    × (join_with_byte 47 (first ∷ rest) ≡ text)
+
+and-both : (a b : Bool) → (a && b) ≡ true → (a ≡ true) × (b ≡ true)
+and-both true b e = (refl, e)
+and-both false b e = cc
+
+run_of : (text : List ℕ) → 0 < length text → are_characters text ≡ true → IsSegment text
+run_of text some all = go (nat_lt 0 (length text)) (lt-ltb 0 (length text) some)
+  where
+    go : (b : Bool) → b ≡ true → (b && are_characters text) ≡ true
+    go true e = all
+    go false e = cc
+
+join-cons : (c : ℕ) (first : List ℕ) (rest : List (List ℕ)) → join_with_byte 47 ((c ∷ first) ∷ rest) ≡ c ∷ join_with_byte 47 (first ∷ rest)
+join-cons c first [] = refl
+join-cons c first (s ∷ rest) = refl
+
+-- a text that passes the test is the rest of a path
+rest-from_test : (text : List ℕ) (begun : Bool) → path_from begun text ≡ true → IsRest begun text
+rest-from_test [] begun e = ([], [], refl, (λ fresh. let wrong : ⊥ = cc in absurd wrong), tt, refl)
+rest-from_test (c ∷ text) begun e = go (c == 47) refl (rest-from_test text false) (rest-from_test text true) e
+  where
+    at_slash : c ≡ 47 → begun ≡ true → IsRest false text → IsRest begun (c ∷ text)
+    at_slash slash been (first, rest, all, some, segments, joined) = (
+      [],
+      first ∷ rest,
+      refl,
+      (λ fresh. let wrong : ⊥ = cc in absurd wrong),
+      (run_of first (some refl) all, segments),
+      (let whole : 47 ∷ join_with_byte 47 (first ∷ rest) ≡ c ∷ text = cc in whole),
+    )
+
+    at_character : is_segment_character c ≡ true → IsRest true text → IsRest begun (c ∷ text)
+    at_character is (first, rest, all, some, segments, joined) = (
+      c ∷ first,
+      rest,
+      ap (λ b. b && are_characters first) is ∙ all,
+      (λ fresh. omega arith),
+      segments,
+      join-cons c first rest ∙ ap (λ t. c ∷ t) joined,
+    )
+
+    go : (b : Bool) → (c == 47) ≡ b → (path_from false text ≡ true → IsRest false text) → (path_from true text ≡ true → IsRest true text)
+        → cond b (begun && path_from false text) (is_segment_character c && path_from true text) ≡ true → IsRest begun (c ∷ text)
+    go true slash fresh later e =
+        let both = and-both begun (path_from false text) e in at_slash (eqb-true c 47 slash) both.0 (fresh both.1)
+    go false slash fresh later e =
+        let both = and-both (is_segment_character c) (path_from true text) e in at_character both.0 (later both.1)
+
+no_slash : (c : ℕ) → is_segment_character c ≡ true → (c == 47) ≡ false
+no_slash c is = go (c == 47) refl
+  where
+    go : (b : Bool) → (c == 47) ≡ b → b ≡ false
+    go false e = refl
+    go true e =
+        let slash : c ≡ 47 = eqb-true c 47 e in
+        let wrong : is_segment_character 47 ≡ true = ap is_segment_character (sym slash) ∙ is in
+        cc
+
+-- the characters of a segment are walked
+walk_first : (first tail : List ℕ) (begun : Bool) → are_characters first ≡ true → (begun ≡ false → 0 < length first) → path_from true tail ≡ true
+    → path_from begun (first ++ tail) ≡ true
+walk_first [] tail true all some ends = ends
+walk_first [] tail false all some ends = absurd (omega (arith, some refl))
+walk_first (c ∷ first) tail begun all some ends =
+    let both = and-both (is_segment_character c) (are_characters first) all in
+    go (c == 47) (is_segment_character c) (no_slash c both.0) both.0 (walk_first first tail true both.1 (λ fresh. let wrong : ⊥ = cc in absurd wrong) ends)
+  where
+    go : (b is : Bool) → b ≡ false → is ≡ true → path_from true (first ++ tail) ≡ true
+        → cond b (begun && path_from false (first ++ tail)) (is && path_from true (first ++ tail)) ≡ true
+    go true is other seg e = cc
+    go false true other seg e = e
+    go false false other seg e = cc
+
+run-parts : (text : List ℕ) → IsSegment text → (0 < length text) × (are_characters text ≡ true)
+run-parts text run =
+    let both = and-both (nat_lt 0 (length text)) (are_characters text) run in
+    (ltb-true 0 (length text) both.0, both.1)
+
+test-from_rest : (rest : List (List ℕ)) (first : List ℕ) (begun : Bool) → are_characters first ≡ true → (begun ≡ false → 0 < length first)
+    → AllByRecursion IsSegment rest → path_from begun (join_with_byte 47 (first ∷ rest)) ≡ true
+test-from_rest [] first begun all some segments =
+    let P : List ℕ → Type 0 = λ t. path_from begun t ≡ true in
+    subst P (append-nil first) (walk_first first [] begun all some refl)
+test-from_rest (s ∷ rest) first begun all some segments =
+    let run = run-parts s segments.0 in
+    walk_first first (47 ∷ join_with_byte 47 (s ∷ rest)) begun all some (test-from_rest rest s false run.1 (λ fresh. run.0) segments.1)
+
+-- the test is true exactly of paths
+pub path_test : (text : List ℕ) → (path_from false text ≡ true) ↔ IsPath text
+path_test text = (λ e. path-of (rest-from_test text false e), test-of)
+  where
+    path-of : IsRest false text → IsPath text
+    path-of (first, rest, all, some, segments, joined) = (first ∷ rest, omega arith, (run_of first (some refl) all, segments), joined)
+
+    test-of : IsPath text → path_from false text ≡ true
+    test-of ([], some, segments, joined) = absurd (omega arith)
+    test-of (s ∷ rest, some, segments, joined) =
+        let run = run-parts s segments.0 in
+        ap (path_from false) (sym joined) ∙ test-from_rest rest s false run.1 (λ fresh. run.0) segments.1
+
+-- what stands behind the last `/`
+pub last_found : (path name : List ℕ) (i j : ℕ) → RFindsChar 47 path (Some (i, j)) → name ≡ drop j path → IsLastSegment path name
+last_found path name i j found is =
+    let P : List ℕ → Type 0 = λ n. IsLastSegment path n in
+    subst P (sym is) (
+      (λ k below. NoCharPasses-char 47 (drop j path) k found.0 (omega arith) below),
+      inr (take i path, sym (take-append-drop i path) ∙ ap (λ t. take i path ++ t) (drop_at_char 47 path i j found.1 (omega arith))),
+    )
+
+pub last_whole : (path : List ℕ) → NoCharPasses (λ d. d == 47) path → IsLastSegment path path
+last_whole path plain = ((λ k below. NoCharPasses-char 47 path k plain (omega arith) below), inl refl)

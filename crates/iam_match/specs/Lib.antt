@@ -1,0 +1,4 @@
+pub mod Request
+pub mod Requester
+pub mod Statement
+pub mod Tests

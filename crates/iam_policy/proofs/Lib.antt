@@ -1,0 +1,4 @@
+pub mod FaultLaws
+pub mod ElementLemmas
+pub mod GrammarLemmas
+pub mod ReadingLemmas

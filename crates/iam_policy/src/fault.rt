@@ -1,0 +1,66 @@
+/// Why a document is refused. The order is that of the numbers, from 1.
+#[derive(Clone, Copy, Debug, PartialEq, Eq)]
+pub enum Fault {
+    /// The document is not an object.
+    NotObject = 1,
+    /// A member that the document or the statement does not know.
+    UnknownElement,
+    /// `Version` is absent or not `2012-10-17`.
+    BadVersion,
+    /// `Statement` is absent.
+    NoStatement,
+    /// `Statement` is neither an object nor a list, or a statement is not an object.
+    BadStatement,
+    /// `Sid` is not a text.
+    BadSid,
+    /// `Sid` is that of an earlier statement.
+    DuplicateSid,
+    /// `Effect` is absent or neither `Allow` nor `Deny`.
+    BadEffect,
+    /// Not exactly one of `Action` and `NotAction`.
+    ActionCount,
+    /// The actions are no text and no list of at least one text, or a text is off the action grammar.
+    BadAction,
+    /// `Principal` or `NotPrincipal` in a document that has none.
+    PrincipalMisplaced,
+    /// Neither `Principal` nor `NotPrincipal` in a document that wants one.
+    PrincipalMissing,
+    /// Both of `Principal` and `NotPrincipal`, or one off the principal grammar.
+    BadPrincipal,
+    /// `NotPrincipal` with the effect `Allow`.
+    NotPrincipalAllow,
+    /// Both of `Resource` and `NotResource`, or neither in a document that wants one.
+    ResourceCount,
+    /// The resources are no text and no list of at least one text, or a text is neither `*` nor begins with
+    /// `arn:`.
+    BadResource,
+    /// A variable that is off its grammar, or stands where none may.
+    BadVariable,
+    /// A member of `Condition` that is no condition operator.
+    UnknownOperator,
+    /// `Condition` or what stands under an operator has the wrong form.
+    BadCondition,
+    /// A value of a condition that is off the operator's grammar.
+    BadValue,
+    /// Over 4,096 statements, or a list of over 4,096 members.
+    TooMany,
+    /// The allocator refused a growth.
+    OutOfMemory,
+}
+
+/// What a document is attached to.
+#[derive(Clone, Copy, Debug, PartialEq, Eq)]
+pub enum Kind {
+    /// An identity policy, a permissions boundary or a session policy.
+    Identity,
+}
+
+/// Why a document is not read: its least fault, or want of memory. The faults of the document itself come
+/// first, then those of each statement in turn, and at one place the lower number.
+#[derive(Clone, Copy, Debug, PartialEq, Eq)]
+pub struct Refused {
+    /// The statement's number, from 0; `None` for a fault of the document and for want of memory.
+    pub statement: Option<u32>,
+    /// The least fault there.
+    pub fault: Fault,
+}
