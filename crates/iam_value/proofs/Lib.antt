@@ -1,0 +1,13 @@
+pub mod Numerals
+pub mod Years
+pub mod Stamps
+pub mod Cuts
+pub mod Times
+pub mod Octets
+pub mod Groups
+pub mod Filled
+pub mod Colons
+pub mod Slashes
+pub mod Unique
+pub mod OneAddress
+pub mod Rows

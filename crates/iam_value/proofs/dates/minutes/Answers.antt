@@ -1,0 +1,11 @@
+use Rattle.iam_value.proofs.Times.{minutes_cut, minutes_whole}
+use Rattle.iam_value.proofs.dates.minutes.Goals as goal
+
+pub returns-in_err-field-in-Some-clause-value : goal.returns-in_err-field-in-Some-clause-value
+returns-in_err-field-in-Some-clause-value c = rw c.from_residual.ensures (λ n is. let p = minutes_cut c.args.bytes.now c.in-Some.minute.now c.in-Some.rest.now n c.in-Some.ensures is in c.in_err-field-in-Some.ensures p.0 p.2)
+
+pub returns-in_err-rest-in-Some-clause-value : goal.returns-in_err-rest-in-Some-clause-value
+returns-in_err-rest-in-Some-clause-value c = rw c.from_residual-in_err-rest-in-Some.ensures (λ n is. let p = minutes_cut c.args.bytes.now c.in-Some.minute.now c.in-Some.rest.now n c.in-Some.ensures is in c.in_err-rest-in-Some.ensures.value p.1 p.3)
+
+pub returns-in_err-field-in-None-clause-value : goal.returns-in_err-field-in-None-clause-value
+returns-in_err-field-in-None-clause-value c = rw c.from_residual-in_err-field-in-None.ensures (λ n is. let p = minutes_whole c.args.bytes.now n c.in-None.ensures is in c.in_err-field-in-None.ensures p.0 p.1)

@@ -1,0 +1,9 @@
+pub mod Reading
+pub mod Pieces
+pub mod Truth
+pub mod Whole
+pub mod Bytes
+pub mod Moment
+pub mod Address
+pub mod Groups
+pub mod Family

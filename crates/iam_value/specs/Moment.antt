@@ -1,0 +1,171 @@
+-- Instants: whole seconds, a date, or a date with a time and its offset from UTC (AWS IAM User Guide, 'Date condition
+-- operators': seconds from 1970 on, or ISO 8601, of which the forms below are our choice). Their values are nanoseconds
+-- from 1970-01-01T00:00:00Z. The signs by their codes: 43 is `+`, 45 `-`, 46 `.`, 58 `:`, 84 `T`.
+use Rattle.std.specs.Prelude.{◌≡◌, ◌⊎◌, ℕ, ◌+◌, ◌-◌, ◌*◌, ◌/◌, ◌%◌, ◌^◌, ◌≤◌, List, [], ◌∷◌, ◌++◌, length, codes, ℤ, pos, neg_ℤ, ◌+ℤ◌, ◌-ℤ◌, ◌*ℤ◌}
+use Rattle.std.specs.Str.Parse.{IsNumeral, digits_value}
+use Rattle.jiff_core.specs.Calendar.{IsCivilDate, days_from_civil}
+use Rattle.iam_value.specs.Whole.{IsWhole}
+
+-- as many decimal digits as said, and the number that they write
+abbrev pub IsDigits : ℕ → List ℕ → ℕ → Type 0
+IsDigits count text n = (length text ≡ count) × IsNumeral 10 text × (n ≡ digits_value 10 text)
+
+-- two digits, of a number of at most `most`
+abbrev pub IsField : ℕ → List ℕ → ℕ → Type 0
+IsField most text n = IsDigits 2 text n × (n ≤ most)
+
+-- a day of the Gregorian calendar, and its number counted from 1970-01-01
+abbrev pub IsNumbered : ℕ → ℕ → ℕ → ℤ → Type 0
+IsNumbered year month day number =
+    IsCivilDate (pos year) month day × (number ≡ days_from_civil (pos year) month day)
+
+-- `YYYY-MM-DD` of a day with that number
+pub record IsDay (text : List ℕ) (number : ℤ) : Type 0 where
+  pub years : List ℕ
+  pub months : List ℕ
+  pub days : List ℕ
+  pub year : ℕ
+  pub month : ℕ
+  pub day : ℕ
+  pub written : text ≡ years ++ 45 ∷ (months ++ 45 ∷ days)
+  pub year_is : IsDigits 4 years year
+  pub month_is : IsDigits 2 months month
+  pub day_is : IsDigits 2 days day
+  pub numbered : IsNumbered year month day number
+
+-- one to nine digits after the point, in nanoseconds
+abbrev pub IsFraction : List ℕ → ℕ → Type 0
+IsFraction text nanos =
+    IsNumeral 10 text × (length text ≤ 9) × (nanos ≡ digits_value 10 text * 10 ^ (9 - length text))
+
+-- seconds with a fraction, `ss.f`, in nanoseconds
+pub record IsFractional (text : List ℕ) (nanos : ℕ) : Type 0 where
+  pub seconds : List ℕ
+  pub places : List ℕ
+  pub second : ℕ
+  pub part : ℕ
+  pub written : text ≡ seconds ++ 46 ∷ places
+  pub second_is : IsField 59 seconds second
+  pub part_is : IsFraction places part
+  pub sum : nanos ≡ second * 1_000_000_000 + part
+
+-- seconds, `ss` or `ss.f`, in nanoseconds
+abbrev pub IsSeconds : List ℕ → ℕ → Type 0
+IsSeconds text nanos =
+    ((second : ℕ) × IsField 59 text second × (nanos ≡ second * 1_000_000_000))
+    ⊎ IsFractional text nanos
+
+-- minutes with seconds, `mm:ss` or `mm:ss.f`, in nanoseconds
+pub record IsTimed (text : List ℕ) (nanos : ℕ) : Type 0 where
+  pub minutes : List ℕ
+  pub seconds : List ℕ
+  pub minute : ℕ
+  pub rest : ℕ
+  pub written : text ≡ minutes ++ 58 ∷ seconds
+  pub minute_is : IsField 59 minutes minute
+  pub rest_is : IsSeconds seconds rest
+  pub sum : nanos ≡ minute * 60_000_000_000 + rest
+
+-- minutes, with or without seconds, in nanoseconds
+abbrev pub IsMinutes : List ℕ → ℕ → Type 0
+IsMinutes text nanos =
+    ((minute : ℕ) × IsField 59 text minute × (nanos ≡ minute * 60_000_000_000)) ⊎ IsTimed text nanos
+
+-- the time of day, `hh:mm`, `hh:mm:ss` or `hh:mm:ss.f`, in nanoseconds from midnight
+pub record IsClock (text : List ℕ) (nanos : ℕ) : Type 0 where
+  pub hours : List ℕ
+  pub minutes : List ℕ
+  pub hour : ℕ
+  pub rest : ℕ
+  pub written : text ≡ hours ++ 58 ∷ minutes
+  pub hour_is : IsField 23 hours hour
+  pub rest_is : IsMinutes minutes rest
+  pub sum : nanos ≡ hour * 3_600_000_000_000 + rest
+
+-- `hh:mm`, in minutes
+pub record IsSpan (text : List ℕ) (span : ℕ) : Type 0 where
+  pub hours : List ℕ
+  pub minutes : List ℕ
+  pub hour : ℕ
+  pub minute : ℕ
+  pub written : text ≡ hours ++ 58 ∷ minutes
+  pub hour_is : IsField 23 hours hour
+  pub minute_is : IsField 59 minutes minute
+  pub sum : span ≡ hour * 60 + minute
+
+-- a time of day in UTC
+abbrev pub IsUtc : List ℕ → ℕ → Type 0
+IsUtc text time = (clock : List ℕ) × (text ≡ clock ++ codes "Z") × IsClock clock time
+
+-- a time of day, a sign and `hh:mm`
+pub record IsShifted (sign : ℕ) (text : List ℕ) (time span : ℕ) : Type 0 where
+  pub clock : List ℕ
+  pub shift : List ℕ
+  pub written : text ≡ clock ++ sign ∷ shift
+  pub time_is : IsClock clock time
+  pub span_is : IsSpan shift span
+
+-- a time of day with its offset from UTC in minutes: `Z`, `+hh:mm`, or `-hh:mm` for one that is behind
+abbrev pub IsLocal : List ℕ → ℕ → ℤ → Type 0
+IsLocal text time offset =
+    (IsUtc text time × (offset ≡ pos 0))
+    ⊎ ((span : ℕ) × ((IsShifted 43 text time span × (offset ≡ pos span))
+    ⊎ (IsShifted 45 text time span × (offset ≡ neg_ℤ (pos span)))))
+
+-- a date, `T`, and a time of day with its offset: the civil time less the offset
+pub record IsDateTime (text : List ℕ) (nanos : ℤ) : Type 0 where
+  pub date : List ℕ
+  pub rest : List ℕ
+  pub number : ℤ
+  pub time : ℕ
+  pub offset : ℤ
+  pub written : text ≡ date ++ 84 ∷ rest
+  pub date_is : IsDay date number
+  pub rest_is : IsLocal rest time offset
+  pub instant :
+      nanos ≡ (number *ℤ pos 86_400_000_000_000 +ℤ pos time) -ℤ offset *ℤ pos 60_000_000_000
+
+-- whole seconds, the midnight in UTC of a date, or a date with a time
+abbrev pub IsMoment : List ℕ → ℤ → Type 0
+IsMoment text nanos =
+    ((seconds : ℤ) × IsWhole text seconds × (nanos ≡ seconds *ℤ pos 1_000_000_000))
+    ⊎ (((number : ℤ) × IsDay text number × (nanos ≡ number *ℤ pos 86_400_000_000_000))
+    ⊎ IsDateTime text nanos)
+
+-- a number below 100 in two digits
+abbrev pub two_digits : ℕ → List ℕ
+two_digits n = (48 + n / 10) ∷ (48 + n % 10) ∷ []
+
+-- a number below 10000 in four digits
+abbrev pub four_digits : ℕ → List ℕ
+four_digits n = two_digits (n / 100) ++ two_digits (n % 100)
+
+-- the text `YYYY-MM-DD` of a day with that number
+pub record IsDateText (number : ℤ) (text : List ℕ) : Type 0 where
+  pub year : ℕ
+  pub month : ℕ
+  pub day : ℕ
+  pub numbered : IsNumbered year month day number
+  pub written :
+      text ≡ four_digits year ++ (codes "-" ++ (two_digits month ++ (codes "-" ++ two_digits day)))
+
+-- the text `hh:mm:ss` of a time of day that many seconds from midnight
+pub record IsTimeText (seconds : ℕ) (text : List ℕ) : Type 0 where
+  pub hour : ℕ
+  pub minute : ℕ
+  pub second : ℕ
+  pub in_day : (hour ≤ 23) × (minute ≤ 59) × (second ≤ 59)
+  pub sum : seconds ≡ hour * 3_600 + minute * 60 + second
+  pub written :
+      text ≡ two_digits hour ++ (codes ":" ++ (two_digits minute ++ (codes ":" ++ two_digits second)))
+
+-- the text `YYYY-MM-DDThh:mm:ssZ` of the instant that many seconds after 1970-01-01T00:00:00Z
+pub record IsStamp (seconds : ℤ) (text : List ℕ) : Type 0 where
+  pub date : List ℕ
+  pub time : List ℕ
+  pub number : ℤ
+  pub rest : ℕ
+  pub date_is : IsDateText number date
+  pub time_is : IsTimeText rest time
+  pub written : text ≡ date ++ (codes "T" ++ (time ++ codes "Z"))
+  pub instant : seconds ≡ number *ℤ pos 86_400 +ℤ pos rest

@@ -1,0 +1,149 @@
+//! Addresses, and ranges of them.
+ghost use Rattle.std.specs.Prelude.{◌≡◌, ◌≤◌, ◌↔◌, IsTrue};
+ghost use Rattle.iam_value.specs.Reading.{IsReading, IsOnly};
+ghost use Rattle.iam_value.specs.Address.{IsAddress, IsHost, IsNetwork, IsRange, Holds, first_bits};
+
+use crate::addresses::{dotted, grouped, octet};
+use crate::pieces::cut;
+use std::marker::Model;
+
+/// The family of an address.
+#[derive(Clone, Copy, Debug)]
+enum Family {
+    V4,
+    V6,
+}
+
+/// An IPv4 or an IPv6 address. A contract sees how many bits its family has, 32 or 128, and the number that they make.
+#[derive(Debug, Drop)]
+pub struct Address {
+    family: Family,
+    number: u128,
+}
+
+impl Model for Address {
+    ghost use Rattle.std.specs.Prelude.{◌<◌, ◌^◌};
+    ghost use Rattle.iam_value.specs.Address.{AddressBits};
+    ghost use Rattle.iam_value.specs.Family.{width_of};
+
+    ghost Value = { AddressBits };
+
+    ghost view = { λ a. record { width = width_of a.family; number = a.number } };
+
+    ghost invariant = { λ a. a.number < 2 ^ width_of a.family };
+}
+
+impl Address {
+    /// The address that the text writes: four decimal numbers without leading zeros, joined by dots, or one of the
+    /// forms of RFC 4291 section 2.2. `None` for any other text, and so for a zone or a prefix length.
+    pub fn read(text: &str) -> Option<Address>
+        ensures value { IsReading result (IsAddress text.now) }
+        ensures only { IsOnly result (IsAddress text.now) }
+    {
+        Address::from_bytes(text.as_bytes())
+    }
+
+    fn from_bytes(bytes: &[u8]) -> Option<Address>
+        ensures { IsReading result (IsAddress bytes.now) }
+    {
+        if let Some(number) = dotted(bytes) {
+            return Some(Address {
+                family: Family::V4,
+                number: u128::from(number),
+            });
+        }
+        match grouped(bytes) {
+            Some(number) => Some(Address {
+                family: Family::V6,
+                number,
+            }),
+            None => None,
+        }
+    }
+
+    /// How many bits the family has.
+    fn width(&self) -> u32
+        ensures { result ≡ self.now.width }
+    {
+        match self.family {
+            Family::V4 => 32,
+            Family::V6 => 128,
+        }
+    }
+
+    /// The first bits, as a number.
+    fn first_bits(&self, count: u32) -> u128
+        requires { count ≤ self.now.width }
+        ensures { result ≡ first_bits count self.now }
+    {
+        let number = self.number;
+        if count == 0 {
+            return 0;
+        }
+        number >> (self.width() - count)
+    }
+}
+
+/// An address, and how many of its first bits count. A contract sees both.
+#[derive(Debug, Drop)]
+pub struct Range {
+    address: Address,
+    prefix: u32,
+}
+
+impl Model for Range {
+    ghost use Rattle.std.specs.Prelude.{◌≤◌};
+    ghost use Rattle.iam_value.specs.Address.{Block};
+
+    ghost Value = { Block };
+
+    ghost view = { λ r. record { address = r.address; prefix = r.prefix } };
+
+    ghost invariant = { λ r. r.prefix ≤ r.address.width };
+}
+
+impl Range {
+    /// The range that the text writes: an address, whose bits all count, or an address, `/` and a number of bits
+    /// without leading zeros, at most 32 or 128. `None` for any other text.
+    pub fn read(text: &str) -> Option<Range>
+        ensures value { IsReading result (IsRange text.now) }
+        ensures only { IsOnly result (IsRange text.now) }
+    {
+        let bytes = text.as_bytes();
+        match cut(bytes, b'/') {
+            None => Range::all_of(bytes),
+            Some((address, prefix)) => Range::first_of(address, octet(prefix)?),
+        }
+    }
+
+    /// The range of an address alone.
+    fn all_of(bytes: &[u8]) -> Option<Range>
+        ensures { IsReading result (IsHost bytes.now) }
+    {
+        let address = Address::from_bytes(bytes)?;
+        let prefix = address.width();
+        Some(Range { address, prefix })
+    }
+
+    /// The range of the addresses that agree with the one of the text in that many bits.
+    fn first_of(bytes: &[u8], prefix: u32) -> Option<Range>
+        ensures { IsReading result (IsNetwork bytes.now prefix) }
+    {
+        let address = Address::from_bytes(bytes)?;
+        if prefix > address.width() {
+            return None;
+        }
+        Some(Range { address, prefix })
+    }
+
+    /// Whether the address is of the range's family and agrees with it in the bits that count.
+    pub fn holds(&self, address: &Address) -> bool
+        ensures { IsTrue result ↔ Holds self.now address.now }
+    {
+        let own = &self.address;
+        if own.width() != address.width() {
+            return false;
+        }
+        own.first_bits(self.prefix) == address.first_bits(self.prefix)
+    }
+}
