@@ -40,14 +40,14 @@ statements_of (Some (array ds)) = list_of ds
 statements_of (Some (object ms)) = object ms ∷ []
 
 -- `Statement` stands there, and is neither an object nor a list
-abbrev pub is_no_statement : Option Data → Bool
-is_no_statement None = false
-is_no_statement (Some null) = true
-is_no_statement (Some (boolean b)) = true
-is_no_statement (Some (number n)) = true
-is_no_statement (Some (string text)) = true
-is_no_statement (Some (array ds)) = false
-is_no_statement (Some (object ms)) = false
+abbrev pub is_bad_statement : Option Data → Bool
+is_bad_statement None = false
+is_bad_statement (Some null) = true
+is_bad_statement (Some (boolean b)) = true
+is_bad_statement (Some (number n)) = true
+is_bad_statement (Some (string text)) = true
+is_bad_statement (Some (array ds)) = false
+is_bad_statement (Some (object ms)) = false
 
 -- both stand there
 abbrev pub both : Option Data → Option Data → Bool
@@ -72,7 +72,7 @@ abbrev pub document_line : Kind → Data → Fault → Bool
 document_line kind d UnknownElement = has_unknown_member is_document_name d
 document_line kind d BadVersion = not (is_this (codes "2012-10-17") (get (codes "Version") d))
 document_line kind d NoStatement = is_none (get (codes "Statement") d)
-document_line kind d BadStatement = is_no_statement (get (codes "Statement") d)
+document_line kind d BadStatement = is_bad_statement (get (codes "Statement") d)
 document_line kind d TooMany = nat_lt 4096 (length (statements_of (get (codes "Statement") d)))
 document_line kind d _ = false
 

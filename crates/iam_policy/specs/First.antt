@@ -7,7 +7,7 @@ use Rattle.iam_policy.specs.declared.fault.Kind.{Kind}
 use Rattle.iam_policy.specs.Fault.{statement_has}
 use Rattle.iam_policy.specs.Table.{table}
 
--- the first line of the table that a statement is at fault with
+-- the least fault of a statement
 abbrev pub fault_of : Kind → Data → Option Fault
 fault_of kind s = find (statement_has kind s) table
 

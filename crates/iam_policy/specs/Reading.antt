@@ -77,7 +77,7 @@ pub record ReadsStatement (s : Data) (r : StatementValue) : Type 0 where
   pub principal : r.principal ≡ None
   pub conditions : r.conditions ≡ []
 
--- an accepted document is read statement by statement
+-- the document is accepted, and read statement by statement
 abbrev pub Reads : Kind → Data → PolicyValue → Type 0
 Reads kind d policy =
     IsAccepted kind d × AllZip ReadsStatement (statements_of (get (codes "Statement") d)) policy.statements

@@ -1,4 +1,4 @@
--- The names and numbers of the faults of a document.
+-- The numbers of the faults of a document, and their order.
 use Rattle.std.specs.Prelude.{ℕ, List, [], ◌∷◌, Bool, ◌==◌}
 use Rattle.iam_policy.specs.declared.fault.Fault.{Fault}
 use Rattle.iam_policy.specs.declared.fault.Fault.TheVariants.{NotObject, UnknownElement, BadVersion, NoStatement, BadStatement, BadSid, DuplicateSid, BadEffect, ActionCount, BadAction, PrincipalMisplaced, PrincipalMissing, BadPrincipal, NotPrincipalAllow, ResourceCount, BadResource, BadVariable, UnknownOperator, BadCondition, BadValue, TooMany, OutOfMemory}

@@ -9,7 +9,7 @@ use crate::grammar::Form;
 use serde_json::Value;
 use std::slice;
 
-/// How many members a list of a document may have.
+/// How many statements a document may have, and how many members a list of a statement.
 pub const MOST: usize = 4096;
 
 /// What stands in a list of texts, where one text may stand without brackets.

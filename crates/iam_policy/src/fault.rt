@@ -48,7 +48,7 @@ pub enum Fault {
     OutOfMemory,
 }
 
-/// What a document is attached to.
+/// How a document is read.
 #[derive(Clone, Copy, Debug, PartialEq, Eq)]
 pub enum Kind {
     /// An identity policy, a permissions boundary or a session policy.

@@ -20,6 +20,7 @@ pub fn least_fault(document: &Value, kind: Kind) -> Option<Refused>
         });
     }
     match first_statement_fault(statements_in(document), kind) {
+        // A document of more statements than a u32 counts has a fault of its own.
         Some((number, fault)) => Some(Refused {
             statement: Some(number as u32),
             fault,
@@ -28,7 +29,7 @@ pub fn least_fault(document: &Value, kind: Kind) -> Option<Refused>
     }
 }
 
-/// The first statement that is at fault, and its first fault.
+/// The first statement that is at fault, and its least fault.
 fn first_statement_fault(statements: &[Value], kind: Kind) -> Option<(usize, Fault)>
     ensures { MatchOption result (AreFaultless kind (map view statements.now) (length statements.now))
         (λ p. (p.0 < length statements.now) × IsFirstFault kind (map view statements.now) p.0 p.1) }

@@ -101,7 +101,7 @@ impl Policy {
     ghost use Rattle.iam_policy.specs.Reading.{Reads};
 
     /// The policy of a document, or the document's least fault: those of the document first, then by
-    /// statement, then by number. `OutOfMemory` comes only where the allocator refused a growth.
+    /// statement, then by number. `OutOfMemory` is answered only for a document without a fault.
     ///
     /// AWS IAM User Guide, "Grammar of the IAM JSON policy language".
     pub fn read(alloc: Global, value: &Value, kind: Kind) -> Result<Policy, Refused>

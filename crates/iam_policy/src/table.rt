@@ -5,7 +5,7 @@ ghost use Rattle.serde_json.specs.Find.{get};
 ghost use Rattle.iam_policy.specs.Element.{has_other};
 ghost use Rattle.iam_policy.specs.Table.{table};
 ghost use Rattle.iam_policy.specs.Level.{knows};
-ghost use Rattle.iam_policy.specs.Fault.{is_document_name, is_statement_name, has_unknown_member, is_no_statement, statements_of, both, neither, wants_resource, document_line, statement_line, statement_has_too_long, document_has, statement_has};
+ghost use Rattle.iam_policy.specs.Fault.{is_document_name, is_statement_name, has_unknown_member, is_bad_statement, statements_of, both, neither, wants_resource, document_line, statement_line, statement_has_too_long, document_has, statement_has};
 
 use crate::element::{MOST, has_text, is_bad_list, is_this, is_too_long};
 use crate::fault::{Fault, Kind};
@@ -13,7 +13,7 @@ use crate::grammar::Form;
 use serde_json::{Map, Value};
 use std::slice;
 
-/// The faults of the table, in the order of their numbers.
+/// All faults but want of memory, in the order of their numbers.
 const TABLE: [Fault; 21] = [
     Fault::NotObject,
     Fault::UnknownElement,
@@ -38,7 +38,7 @@ const TABLE: [Fault; 21] = [
     Fault::TooMany,
 ];
 
-/// Whose member names are known.
+/// The object whose known member names are asked for.
 #[derive(Clone, Copy)]
 pub enum Level {
     Document,
@@ -79,8 +79,8 @@ fn has_unknown_member(of: &Value, level: Level) -> bool
     }
 }
 
-fn is_no_statement(document: &Value) -> bool
-    ensures { result ≡ is_no_statement (get (codes "Statement") (view document.now)) }
+fn is_bad_statement(document: &Value) -> bool
+    ensures { result ≡ is_bad_statement (get (codes "Statement") (view document.now)) }
 {
     match document.get("Statement") {
         Some(value) => !value.is_object() && !value.is_array(),
@@ -121,7 +121,7 @@ fn document_line(document: &Value, kind: Kind, fault: Fault) -> bool
         Fault::UnknownElement => has_unknown_member(document, Level::Document),
         Fault::BadVersion => !is_this(document, "Version", "2012-10-17"),
         Fault::NoStatement => document.get("Statement").is_none(),
-        Fault::BadStatement => is_no_statement(document),
+        Fault::BadStatement => is_bad_statement(document),
         Fault::TooMany => statements_in(document).len() > MOST,
         _ => false,
     }

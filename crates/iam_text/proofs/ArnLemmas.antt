@@ -110,7 +110,7 @@ join-colons (suc n) (x ∷ []) long = absurd (omega arith)
 join-colons (suc n) (x ∷ x' ∷ ps) long =
     let rest : n ≤ count (join_with_byte colon (x' ∷ ps)) = join-colons n (x' ∷ ps) (omega arith) in
     let all : count (x ++ (colon ∷ join_with_byte colon (x' ∷ ps))) ≡ count x + (1 + count (join_with_byte colon (x' ∷ ps))) =
-        count-append x (colon ∷ join_with_byte colon (x' ∷ ps)) in
+    count-append x (colon ∷ join_with_byte colon (x' ∷ ps)) in
     omega arith
 
 -- six parts want five colons
@@ -128,11 +128,10 @@ few_parts (Some x) text few = tt
 -- five cuts give six parts
 pub five_cuts : (text r₁ r₂ r₃ r₄ a b c d e f : List ℕ) → IsCutFirst text a r₁ → IsCutFirst r₁ b r₂ → IsCutFirst r₂ c r₃ → IsCutFirst r₃ d r₄
     → IsCutFirst r₄ e f → IsArn (a ∷ (b ∷ (c ∷ (d ∷ (e ∷ (f ∷ [])))))) text
-five_cuts text r₁ r₂ r₃ r₄ a b c d e f p q r s t =
-    (
-        refl,
-        (p.0, (q.0, (r.0, (s.0, (t.0, tt))))),
-        sym (
-          p.1 ∙ ap (λ x. a ++ (colon ∷ x)) (q.1 ∙ ap (λ x. b ++ (colon ∷ x)) (r.1 ∙ ap (λ x. c ++ (colon ∷ x)) (s.1 ∙ ap (λ x. d ++ (colon ∷ x)) t.1)))
-        )
-    )
+five_cuts text r₁ r₂ r₃ r₄ a b c d e f p q r s t = (
+  refl,
+  (p.0, (q.0, (r.0, (s.0, (t.0, tt))))),
+  sym (
+      p.1 ∙ ap (λ x. a ++ (colon ∷ x)) (q.1 ∙ ap (λ x. b ++ (colon ∷ x)) (r.1 ∙ ap (λ x. c ++ (colon ∷ x)) (s.1 ∙ ap (λ x. d ++ (colon ∷ x)) t.1)))
+      ),
+)

@@ -11,10 +11,11 @@ colon = 58
 abbrev pub colons : List ℕ → ℕ
 colons text = count_by (λ b. b == colon) text
 
+-- a text without a colon
 abbrev pub HasNoColon : List ℕ → Type 0
 HasNoColon text = colons text ≡ 0
 
--- six parts, the first five without a colon, that joined by colons are the text
+-- six parts, the first five without a colon, that joined by colons are the text; the first need not be `arn`
 abbrev pub IsArn : List (List ℕ) → List ℕ → Type 0
 IsArn parts text =
     (length parts ≡ 6) × AllByRecursion HasNoColon (take 5 parts) × (join_with_byte colon parts ≡ text)

@@ -3,7 +3,7 @@ use Rattle.std.specs.Prelude.{ℕ, List, Option, map}
 use Rattle.iam_text.specs.declared.sign.Sign.{Sign}
 
 -- a piece of such a text: a sign of a pattern, a character written as `${*}`, `${?}` or `${$}`, or a variable by
--- its key and its default. Key and default are lists of bytes, the others are characters
+-- its key and its default. Key and default are lists of bytes, an escaped piece is a character
 pub data Piece : Type 0 where
   Plain : Sign → Piece
   Escaped : ℕ → Piece

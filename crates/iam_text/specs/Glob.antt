@@ -10,7 +10,7 @@ use Rattle.iam_text.specs.declared.sign.Sign.TheVariants.{Given, One, Any}
 abbrev pub wild_sign : ℕ → Sign
 wild_sign c = if c == 42 then Any else (if c == 63 then One else Given c)
 
--- a character of a pattern where none stand
+-- a character of a pattern where wildcards do not stand
 abbrev pub plain_sign : ℕ → Sign
 plain_sign c = Given c
 
@@ -28,7 +28,7 @@ Matches signs text = (parts : List (List ℕ)) × AllZip Fits signs parts × (co
 abbrev pub folded : ℕ → ℕ
 folded c = to_ascii_lowercase c
 
--- the sign with `f` done to its given character
+-- the sign with `f` applied to its given character
 abbrev pub sign_by : (ℕ → ℕ) → Sign → Sign
 sign_by f (Given c) = Given (f c)
 sign_by f One = One

@@ -58,13 +58,13 @@ IsFront f signs text Whole = Walks f signs text
 IsFront f signs text (Star signs' text') = Reaches f signs text signs'.now (chars text'.now)
 IsFront f signs text Off = ¬ Walks f signs text
 
--- what a place tells of a question: yes, no, or as the signs behind an `Any` match some end of the text
+-- what a walk settles of a question: yes, no, or as the signs behind an `Any` match some end of the text
 abbrev pub Settles : (ℕ → ℕ) → Type 0 → Front → Type 0
 Settles f P Whole = P
 Settles f P (Star signs text) = P ↔ Later (Walks f signs.now) (chars text.now)
 Settles f P Off = ¬ P
 
--- how many signs, and one for the `Any` before them, are still to be placed
+-- how many signs, and one for the `Any` before them, are still to be placed: fewer with each turn of the matcher
 abbrev pub signs_left : Front → ℕ
 signs_left Whole = 0
 signs_left (Star signs text) = suc (length signs.now)

@@ -7,7 +7,7 @@ ghost use Rattle.iam_text.specs.Cut.{IsCutFirst};
 /// AWS IAM User Guide, "IAM identifiers".
 #[derive(Clone, Copy, Debug, PartialEq, Eq)]
 pub struct Arn<'a> {
-    /// The first part, `arn` in every ARN.
+    /// The first part, `arn` in a true ARN.
     pub prefix: &'a str,
     pub partition: &'a str,
     pub service: &'a str,
@@ -22,14 +22,12 @@ impl<'a> Arn<'a> {
     ghost use Rattle.iam_text.specs.Arn.{IsArn, colons};
     ghost use Rattle.iam_text.specs.Parts.{parts_of};
 
-    /// The six parts of a text, cut at its first five colons; `None` where it has fewer.
+    /// The six parts of a text, cut at its first five colons, and no others are; `None` where it has fewer colons.
     ///
     /// It does not test that the first part is `arn`.
     pub fn cut(text: &'a str) -> Option<Arn<'a>>
         ensures parts { IfSome result (λ a. IsArn (parts_of a) text.entry.now) }
-        ensures only {
-            IfSome result (λ a. (parts : List (List ℕ)) → IsArn parts text.entry.now → parts_of a ≡ parts)
-        }
+        ensures only { IfSome result (λ a. (parts : List (List ℕ)) → IsArn parts text.entry.now → parts_of a ≡ parts) }
         ensures no_parts { IfNone result ((parts : List (List ℕ)) → ¬ IsArn parts text.entry.now) }
         ensures none { IsNone result ↔ (colons text.entry.now < 5) }
     {

@@ -32,7 +32,7 @@ impl Glob {
         Ok(Glob { signs })
     }
 
-    /// The pattern that matches this text alone: `*` and `?` are plain characters.
+    /// The pattern of a text whose characters are all given, `*` and `?` too.
     pub fn plain(alloc: Global, text: &str) -> Result<Glob, OutOfMemory>
         ensures { IfOk result (λ g. g ≡ map plain_sign (chars text.now)) }
     {

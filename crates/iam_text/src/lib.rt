@@ -11,5 +11,5 @@ mod walk;
 pub use arn::Arn;
 pub use glob::Glob;
 pub use sign::Sign;
-/// The allocator refused a growth.
+/// The error of an allocator that refused a growth.
 pub use std::alloc::AllocError as OutOfMemory;

@@ -82,7 +82,7 @@ fn walk_front<'a>(signs: &'a [Sign], text: &'a str, case: Case) -> Front<'a>
     }
 }
 
-/// The first place of the text from which the front of the signs can be walked.
+/// The first place in the text from which the front of the signs can be walked.
 fn first_place<'a>(signs: &'a [Sign], text: &'a str, case: Case) -> Front<'a>
     ensures settles { Settles (char_in case) (Later (Walks (char_in case) signs.entry.now) (chars text.entry.now)) result }
     ensures fewer { signs_left result ≤ length signs.entry.now }
@@ -102,8 +102,8 @@ fn first_place<'a>(signs: &'a [Sign], text: &'a str, case: Case) -> Front<'a>
 
 /// Whether the signs match the whole text.
 ///
-/// Each `Any` gives up its text for good once the signs up to the next `Any` fit somewhere, so a
-/// character is compared at most once with each sign.
+/// Each `Any` gives up its text for good once the signs up to the next `Any` fit somewhere, so at each
+/// position a character is compared at most once with each sign (the count is not proved).
 pub fn matches(signs: &[Sign], text: &str, case: Case) -> bool
     ensures { IsTrue result ↔ Walks (char_in case) signs.now (chars text.now) }
 {
