@@ -58,11 +58,13 @@ with_offer cell v = record v { offers = v.offers ++ cell ∷ [] }
 abbrev pub with_look : ℕ → LaneView → LaneView
 with_look cell v = record v { looks = v.looks ++ cell ∷ [] }
 
--- what a take that finds the count n of a lane leaves of a view: it gains the number n where n is below the lane's length, and else an end
+-- what a take that finds the count n of a lane leaves of a view: it gains the number n where n is below the lane's
+-- length, and else an end
 abbrev pub after_take : List ℕ → ℕ → ℕ → LaneView → LaneView
 after_take lengths lane n v = if nat_lt n (slice_index lengths lane) then with_number lane n v else with_end lane v
 
--- A take of a lane by the seat `id`, whose view v has no end of it: the view gains the count or an end, and the count rises by one either way
+-- A take of a lane by the seat `id`: its view v gains the count or an end, and the count rises by one either way. Who
+-- takes the step owes that v is the view of `id` and has no end of the lane
 abbrev pub take : List ℕ → ℕ → ℕ → LaneView → LaneState → LaneState
 take lengths lane id v s = record {
   counts = λ k. if k == lane then s.counts lane + 1 else s.counts k;
@@ -70,11 +72,11 @@ take lengths lane id v s = record {
   views = slice_set s.views id (after_take lengths lane (s.counts lane) v);
 }
 
--- An offer of a cell: the bound falls to the cell where that is less, and the view gains the offer
+-- An offer of a cell by the seat `id`: the bound falls to the cell where that is less, and its view v gains the offer
 abbrev pub offer : ℕ → ℕ → LaneView → LaneState → LaneState
 offer cell id v s = record { counts = s.counts; bound = min s.bound cell; views = slice_set s.views id (with_offer cell v) }
 
--- A look: the view gains the bound
+-- A look by the seat `id`: its view v gains the bound
 abbrev pub look : ℕ → LaneView → LaneState → LaneState
 look id v s = record { counts = s.counts; bound = s.bound; views = slice_set s.views id (with_look s.bound v) }
 
@@ -94,7 +96,8 @@ pub record SeatsAddUp (all : ℕ) (s : LaneState) : Type 0 where
   pub fair : (id : ℕ) (v : LaneView) → get_elem? s.views id ≡ some v → IsSeated v
   pub whole : seats_in s ≡ all
 
--- no offer is below the bound, the bound is an offer unless it says that there is none, and no offer says so
+-- no offer is below the bound, the bound is an offer unless it says that there is none, and no offer says so. The bound
+-- is a word of 64 bits, so at most `no_cell`
 pub record BoundIsLeast (s : LaneState) : Type 0 where
   pub below : (cell : ℕ) → cell < s.bound → offers_in cell s ≡ 0
   pub offered : s.bound < no_cell → 0 < offers_in s.bound s
@@ -106,7 +109,8 @@ pub record LaneRule (lengths : List ℕ) (all : ℕ) (s : LaneState) : Type 0 wh
   pub ends : (lane : ℕ) → ends_in lane s ≡ s.counts lane - slice_index lengths lane
   -- 2. each number below both length and count was taken once, and no other number
   pub numbers : NumbersStandOnce lengths s
-  -- 3. few ends in each view, nothing in a view without a seat, and the seats add up
+  -- 3. few ends in each view, nothing in a view without a seat, and the seats add up. With 1 no count is past the
+  --    lane's length and the seats together
   pub seats : SeatsAddUp all s
   -- 4. the bound is the least offer of all views
   pub bound : BoundIsLeast s

@@ -150,10 +150,10 @@ impl Lanes {
         Ok((Lanes { table, plan }, seats))
     }
 
-    /// Takes a number of a lane that no seat had, one above all numbers of this lane that this seat had.
+    /// Takes a number of a lane that no seat had, greater than every number of this lane that this seat had.
     ///
     /// The answer is `None` where the lane has ended, and for this seat it has then ended for good: no later
-    /// call with this seat and lane gives a number, nor does it take a step on the lane.
+    /// call with this seat and lane gives a number or raises the lane's count.
     ///
     /// The seat has to be one of these lanes, and the lane below their number.
     pub fn take(&self, seat: &mut LaneSeat, lane: usize) -> Option<u64>

@@ -215,3 +215,15 @@ faultless_more kind ss i here clean at none k s below found =
       | inr (inl before) ↦ clean k s before found
       | inr (inr after) ↦ absurd (omega arith)
     ]
+
+-- an accepted document has few statements
+pub accepted_few : (kind : Kind) (d : Data) → IsAccepted kind d → length (statements d) ≤ 4096
+accepted_few kind d accepted = go (is_some (as_object d)) (accepted None NotObject) (accepted None TooMany)
+  where
+    few : (b : Bool) → nat_lt 4096 (length (statements d)) ≡ b → ¬ IsTrue b → length (statements d) ≤ 4096
+    few true e not_many = absurd (not_many refl)
+    few false e not_many = ltb-false 4096 (length (statements d)) e
+
+    go : (b : Bool) → ¬ IsTrue (cond b false true) → ¬ IsTrue (cond b (nat_lt 4096 (length (statements d))) false) → length (statements d) ≤ 4096
+    go true whole not_many = few (nat_lt 4096 (length (statements d))) refl not_many
+    go false whole not_many = absurd (whole refl)

@@ -1,4 +1,4 @@
-ghost use Rattle.std.specs.Prelude.{◌≡◌, map, codes, IfOk, Some};
+ghost use Rattle.std.specs.Prelude.{◌≡◌, map, codes, IfOk, Some, length, vec_len};
 ghost use Rattle.std.specs.List.{AllByRecursion, AllZip, filter_map};
 ghost use Rattle.serde_json.specs.Data.{string};
 ghost use Rattle.serde_json.specs.Find.{get, as_str};
@@ -87,15 +87,18 @@ pub struct Policy {
 }
 
 impl Model for Policy {
+    ghost use Rattle.std.specs.Prelude.{◌≤◌, vec_len};
     ghost use Rattle.iam_policy.specs.Reading.{PolicyValue};
 
     ghost Value = { PolicyValue };
 
     ghost view = { λ p. record { statements = p.statements.items } };
+
+    ghost invariant = { λ p. vec_len p.statements ≤ 4096 };
 }
 
 impl Policy {
-    ghost use Rattle.std.specs.Prelude.{◌≡◌, ◌≢◌, IfOk, IfErr, None};
+    ghost use Rattle.std.specs.Prelude.{◌≡◌, ◌≢◌, ◌≤◌, IfOk, IfErr, None, length};
     ghost use Rattle.serde_json.specs.View.{view};
     ghost use Rattle.iam_policy.specs.Fault.{IsAccepted, IsLeastFault};
     ghost use Rattle.iam_policy.specs.Reading.{Reads};
@@ -119,9 +122,10 @@ impl Policy {
         }
     }
 
-    /// The statements, in order.
+    /// The statements, in order, at most 4,096.
     pub fn statements(&self) -> &[Statement]
-        ensures { result.now ≡ self.now.statements }
+        ensures value { result.now ≡ self.now.statements }
+        ensures few { length result.now ≤ 4096 }
     {
         self.statements.as_slice()
     }
@@ -143,8 +147,9 @@ impl From<OutOfMemory> for Refused {
 
 /// Reads statements that have no fault.
 fn read_statements(alloc: Global, statements: &[Value]) -> Result<Vec<Statement>, OutOfMemory>
-    ensures { IfOk result (λ read. AllByRecursion HasEffect (map view statements.now)
+    ensures read { IfOk result (λ read. AllByRecursion HasEffect (map view statements.now)
         → AllZip ReadsStatement (map view statements.now) read.items) }
+    ensures len { IfOk result (λ read. vec_len read ≡ length statements.now) }
 {
     let mut read = Vec::new(alloc);
     for statement in statements {

@@ -3,6 +3,7 @@
 
 mod arn;
 mod glob;
+mod items;
 mod sign;
 #[cfg(test)]
 mod tests;
@@ -10,6 +11,7 @@ mod walk;
 
 pub use arn::Arn;
 pub use glob::Glob;
+pub use items::Items;
 pub use sign::Sign;
 /// The error of an allocator that refused a growth.
 pub use std::alloc::AllocError as OutOfMemory;

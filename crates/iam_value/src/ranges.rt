@@ -34,7 +34,7 @@ impl Model for Address {
 }
 
 impl Address {
-    /// The address that the text writes: four decimal numbers without leading zeros, joined by dots, or one of the
+    /// The address that the text writes: four decimal numbers of 0 to 255 without leading zeros, joined by dots, or one of the
     /// forms of RFC 4291 section 2.2. `None` for any other text, and so for a zone or a prefix length.
     pub fn read(text: &str) -> Option<Address>
         ensures value { IsReading result (IsAddress text.now) }

@@ -1,0 +1,2 @@
+pub mod ScanLemmas
+pub mod VerdictLemmas

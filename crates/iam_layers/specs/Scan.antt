@@ -1,0 +1,39 @@
+-- What a scan of the applicable policies finds, beside the set that it is read from (`Matched`).
+use Rattle.std.specs.Prelude.{◌≡◌, ◌<◌, ◌^◌, ℕ, List, ◌++◌, map, option_map, length}
+use Rattle.std.specs.List.{AllByRecursion}
+use Rattle.iam_match.specs.Statement.{RequestValue}
+use Rattle.iam_layers.specs.Applicable.{ApplicableValue}
+use Rattle.iam_layers.specs.Matched.{Placed, IsMatched, Selects}
+use Rattle.iam_layers.specs.declared.applicable.Applicable.{Applicable}
+use Rattle.iam_layers.specs.declared.scan.Matched.{Matched}
+
+-- the applicable policies without where they lie in memory
+abbrev pub value_of : Applicable → ApplicableValue
+value_of a = record {
+  org = map (λ level. level.items) a.org.now;
+  resource = option_map (λ policy. policy.now) a.resource;
+  identity = a.identity.now;
+  boundary = option_map (λ policy. policy.now) a.boundary;
+  session = a.session.now;
+  same_account = a.same_account;
+  sealed = a.sealed;
+}
+
+-- what the scan keeps of a statement
+abbrev pub item_of : Placed → Matched
+item_of s = record { place = s.place; effect = s.statement.effect }
+
+-- the matched ones of these statements were added
+abbrev pub Adds : RequestValue → List Placed → List Matched → List Matched → Type 0
+Adds q statements old new = (chosen : List Placed) × Selects (IsMatched q) statements chosen × (new ≡ old ++ map item_of chosen)
+
+-- the list has numbers of 32 bits
+abbrev pub IsCountable : {X : Type 0} → List X → Type 0
+IsCountable xs = length xs < 2 ^ 32
+
+-- the lists of the applicable policies have numbers of 32 bits
+pub record IsNumbered (a : ApplicableValue) : Type 0 where
+  pub levels : IsCountable a.org
+  pub org : AllByRecursion IsCountable a.org
+  pub identity : IsCountable a.identity
+  pub session : IsCountable a.session
