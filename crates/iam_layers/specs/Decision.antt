@@ -1,5 +1,5 @@
--- Decision, deciding statements and lacks: AWS IAM User Guide, "Policy evaluation logic". What each grant of a resource
--- policy passes by in the same account is our choice.
+-- Decision: AWS IAM User Guide, "Policy evaluation logic". What each grant of a resource policy passes by in the same
+-- account, the deciding statements and the lacks are our choices.
 use Rattle.std.specs.Prelude.{◌≡◌, ◌⊎◌, ◌<◌, ◌≤◌, ℕ, List, [], ◌∷◌, Bool, true, false, Option, Some, None, map, length}
 use Rattle.std.specs.List.{Any}
 use Rattle.iam_policy.specs.declared.effect.Effect.{Effect}
@@ -37,7 +37,7 @@ abbrev pub Grants : ApplicableValue → RequestValue → ℕ → Type 0
 Grants a q strength =
     Any (λ s. Says q Allow s × (s.place.layer ≡ Resource) × (strength ≤ grant_of s.statement.principal q.requester)) (placed a)
 
--- what may allow in a layer at a level, and how strongly the resource's policy may grant
+-- whether a layer allows at a level
 abbrev pub Allowing : Type 1
 Allowing = Layer → ℕ → Type 0
 

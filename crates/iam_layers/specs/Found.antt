@@ -1,4 +1,4 @@
--- The same of what a scan has found: what denies, allows and grants among the matched statements.
+-- What denies, allows and grants among the statements that a scan has found: `Decision` says it of all statements.
 use Rattle.std.specs.Prelude.{◌≡◌, ℕ, List, map}
 use Rattle.std.specs.List.{Any}
 use Rattle.iam_policy.specs.declared.effect.Effect.{Effect}

@@ -32,7 +32,7 @@ abbrev pub as_list : Option PolicyValue → List PolicyValue
 as_list None = []
 as_list (Some policy) = policy ∷ []
 
--- all statements of the applicable policies, in place order; a layer without levels has one
+-- all statements of the applicable policies, in place order; all but those of the organisation stand at level 0
 abbrev pub placed : ApplicableValue → List Placed
 placed a =
     in_layer Org a.org
@@ -45,6 +45,6 @@ abbrev pub Selects : {X : Type 0} → (X → Type 0) → List X → List X → T
 Selects P [] chosen = chosen ≡ []
 Selects P (x ∷ xs) chosen = (P x × ((rest : List _) × (chosen ≡ x ∷ rest) × Selects P xs rest)) ⊎ (¬ P x × Selects P xs chosen)
 
--- the statement matches the request
+-- the statement, which is of an applicable policy, matches the request
 abbrev pub IsMatched : RequestValue → Placed → Type 0
 IsMatched q s = StatementMatches s.statement q

@@ -1,4 +1,4 @@
--- What a scan of the applicable policies finds, beside the set that it is read from (`Matched`).
+-- The lent policies as values, and what a scan of them adds to a list.
 use Rattle.std.specs.Prelude.{◌≡◌, ◌<◌, ◌^◌, ℕ, List, ◌++◌, map, option_map, length}
 use Rattle.std.specs.List.{AllByRecursion}
 use Rattle.iam_match.specs.Statement.{RequestValue}

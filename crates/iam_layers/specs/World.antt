@@ -1,5 +1,5 @@
 -- A world: accounts with organisation policies, principals and resources with their policies, actions and a moment.
--- A text is the list of its bytes. What is not read yet is absent: empty, or none.
+-- A text is the list of its bytes. What is not read yet is absent: empty, none or false.
 use Rattle.std.specs.Prelude.{ℕ, List, Bool, Option}
 use Rattle.iam_policy.specs.Reading.{PolicyValue}
 use Rattle.iam_match.specs.Requester.{RequesterValue}

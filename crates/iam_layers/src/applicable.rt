@@ -15,9 +15,11 @@ pub struct Applicable<'a> {
     pub org: &'a [Vec<Policy>],
     /// The policy of the resource.
     pub resource: Option<&'a Policy>,
+    /// The policies attached to the requester.
     pub identity: &'a [Policy],
     /// The permissions boundary of the requester.
     pub boundary: Option<&'a Policy>,
+    /// The session policies of the requester.
     pub session: &'a [Policy],
     /// Whether requester and resource are of one account.
     pub same_account: bool,
@@ -33,9 +35,10 @@ impl Applicable<'_> {
 
     /// The verdict of these policies on the request, by a scan of all their statements.
     ///
-    /// Each list of policies has to have fewer than 2^32 members.
+    /// The list of levels and each list of policies have to have fewer than 2^32 members. `OutOfMemory` comes where
+    /// the found statements or the answer find no memory.
     ///
-    /// AWS IAM User Guide, "Policy evaluation logic".
+    /// AWS IAM User Guide, "Policy evaluation logic"; the deciding statements and the lacks are our choices.
     pub fn decide(&self, alloc: Global, request: &Request<'_>) -> Result<Verdict, OutOfMemory>
         requires { IsNumbered (value_of self.now) }
         ensures { IfOk result (λ v. IsVerdict (value_of self.now) (request_of request.now) v.decision v.statements v.lacks) }

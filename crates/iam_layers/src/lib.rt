@@ -1,4 +1,4 @@
-//! Worlds, and the verdict of the policies on each request.
+//! The verdict of the applicable policies on a request.
 #![tactic(auto)]
 
 mod applicable;

@@ -13,12 +13,15 @@ pub enum Layer {
     Session,
 }
 
-/// Where a statement stands. A part that its layer does not have is 0.
+/// Where a statement stands, numbered from 0. A part that its layer does not have is 0.
 #[derive(Clone, Copy, Debug, PartialEq, Eq)]
 pub struct Place {
+    /// The layer of its policy.
     pub layer: Layer,
     /// The level of an organisation policy, from the root.
     pub level: u32,
+    /// The number of its policy in the level.
     pub policy: u32,
+    /// Its number in the policy.
     pub statement: u32,
 }

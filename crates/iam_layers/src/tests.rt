@@ -129,17 +129,20 @@ fn another_account_has_to_grant(rt: HostRuntime) -> Result<(), Fail> {
 
 #[test]
 fn each_check_that_fails_is_lacking(rt: HostRuntime) -> Result<(), Fail> {
-    let ec2 = policy(rt.alloc(), ALLOWS_EC2)?;
+    let alloc = rt.alloc();
+    let ec2 = policy(alloc, ALLOWS_EC2)?;
+    let levels = [Vec::from_array(alloc, [policy(alloc, ALLOWS_EC2)?])?];
     let applicable = Applicable {
         boundary: Some(&ec2),
         session: slice::from_ref(&ec2),
         sealed: true,
-        ..identity(&[])
+        ..with_org(levels.as_slice(), &[])
     };
-    let answer = verdict(rt.alloc(), &applicable)?;
+    let answer = verdict(alloc, &applicable)?;
     assert_eq!(rt; answer.decision, Decision::ImplicitDeny);
     assert_eq!(rt; answer.statements.as_slice(), [].as_slice());
     let lacks = [
+        Layer::Org,
         Layer::Resource,
         Layer::Identity,
         Layer::Boundary,

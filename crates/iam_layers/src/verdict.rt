@@ -4,6 +4,7 @@ use iam_text::Items;
 /// What the policies decide of a request.
 #[derive(Clone, Copy, Debug, PartialEq, Eq)]
 pub enum Decision {
+    /// Nothing denies, and what has to allow does.
     Allowed,
     /// A matched statement denies.
     ExplicitDeny,
@@ -14,6 +15,7 @@ pub enum Decision {
 /// The answer to a request.
 #[derive(Debug, Drop)]
 pub struct Verdict {
+    /// The decision word.
     pub decision: Decision,
     /// Where the deciding statements stand, in place order: all matched denies of an explicit deny, else all matched
     /// allows.
