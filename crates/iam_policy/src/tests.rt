@@ -149,6 +149,13 @@ fn reads_statements(rt: HostRuntime) -> Result<(), Fail> {
         None
     );
 
+    let document = Value::from_str(alloc, r#"{"Version":"2012-10-17","Statement":[]}"#)?;
+    assert!(rt;
+        Policy::read(alloc, &document, Kind::Identity)?
+            .statements()
+            .is_empty()
+    );
+
     let document = Value::from_str(
         alloc,
         r#"{"Version":"2012-10-17","Statement":[
