@@ -1,14 +1,13 @@
 -- What holds of the statements that were found holds of the matched statements of the applicable policies.
-use Rattle.std.proofs.Common.{◌≡◌, ◌⊎◌, inl, inr, ◌↔◌, ℕ, suc, zero, ◌+◌, ◌<◌, ◌≤◌, List, [], ◌∷◌, ◌++◌, map, length, get_or, refl, sym, ap, ◌∙◌, subst, arith}
+use Rattle.std.proofs.Common.{◌≡◌, ◌⊎◌, inl, inr, ◌↔◌, ℕ, suc, zero, ◌<◌, ◌≤◌, List, [], ◌∷◌, map, length, refl, sym, ap, ◌∙◌, subst, arith}
 use Rattle.std.specs.List.{Any}
-use Rattle.iam_policy.specs.declared.effect.Effect.{Effect}
 use Rattle.iam_policy.specs.declared.effect.Effect.TheVariants.{Allow, Deny}
 use Rattle.iam_match.specs.Statement.{RequestValue}
 use Rattle.iam_layers.specs.Applicable.{ApplicableValue}
 use Rattle.iam_layers.specs.Matched.{Placed, IsMatched, Selects, placed}
 use Rattle.iam_layers.specs.Scan.{Adds, item_of}
 use Rattle.iam_layers.specs.Found.{DeniesIn, AllowsIn, GrantsNothing, ArePlaces}
-use Rattle.iam_layers.specs.Decision.{Says, Denies, Allows, Grants, Allowing, OrgHolds, BoundaryHolds, SessionHolds, MustGrant, AllHold, GrantSuffices, IsAllowed, IsDecided, Fails, AreLacking, AreDeciding, deciding_effect, layers_in_order}
+use Rattle.iam_layers.specs.Decision.{Says, Denies, Allows, Grants, OrgHolds, BoundaryHolds, SessionHolds, AllHold, GrantSuffices, IsAllowed, IsDecided, Fails, AreLacking, AreDeciding, deciding_effect, layers_in_order}
 use Rattle.iam_layers.specs.declared.place.Layer.{Layer}
 use Rattle.iam_layers.specs.declared.place.Layer.TheVariants.{Org, Resource, Identity, Boundary, Session}
 use Rattle.iam_layers.specs.declared.place.Place.{Place}

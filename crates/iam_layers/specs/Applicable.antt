@@ -1,5 +1,5 @@
 -- The policies that apply to a request: AWS IAM User Guide, "Policy evaluation logic".
-use Rattle.std.specs.Prelude.{◌≡◌, ℕ, List, [], Bool, true, false, Option, Some, None, if◌then◌else◌}
+use Rattle.std.specs.Prelude.{List, [], Bool, Option, Some, None, if◌then◌else◌}
 use Rattle.std.specs.List.{find}
 use Rattle.std.specs.Str.{bytes_eq}
 use Rattle.iam_policy.specs.Reading.{PolicyValue}

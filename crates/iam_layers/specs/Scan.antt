@@ -1,5 +1,5 @@
 -- The lent policies as values, and what a scan of them adds to a list.
-use Rattle.std.specs.Prelude.{◌≡◌, ◌<◌, ◌^◌, ℕ, List, ◌++◌, map, option_map, length}
+use Rattle.std.specs.Prelude.{◌≡◌, ◌<◌, ◌^◌, List, ◌++◌, map, option_map, length}
 use Rattle.std.specs.List.{AllByRecursion}
 use Rattle.iam_match.specs.Statement.{RequestValue}
 use Rattle.iam_layers.specs.Applicable.{ApplicableValue}

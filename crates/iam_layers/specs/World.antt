@@ -1,6 +1,7 @@
 -- A world: accounts with organisation policies, principals and resources with their policies, actions and a moment.
 -- A text is the list of its bytes. What is not read yet is absent: empty, none or false.
-use Rattle.std.specs.Prelude.{ℕ, List, Bool, Option}
+use Rattle.std.specs.Prelude.{ℕ, ◌*◌, List, Bool, Option, length}
+use Rattle.std.specs.List.{sum_by}
 use Rattle.iam_policy.specs.Reading.{PolicyValue}
 use Rattle.iam_match.specs.Requester.{RequesterValue}
 
@@ -8,7 +9,7 @@ use Rattle.iam_match.specs.Requester.{RequesterValue}
 abbrev pub ContextValue : Type 0
 ContextValue = List (List ℕ × List (List ℕ))
 
--- an account: its number, whether it manages its organisation, and the organisation policies by level from the root
+-- an account: its id, whether it manages its organisation, and the organisation policies by level from the root
 pub record AccountValue : Type 0 where
   pub id : List ℕ
   pub management : Bool
@@ -38,3 +39,15 @@ pub record WorldValue : Type 0 where
   pub actions : List (List ℕ)
   pub resources : List ResourceValue
   pub context : ContextValue
+
+-- how many statements the identity policies of a principal have; no other policies are read yet
+abbrev pub principal_statements : PrincipalValue → ℕ
+principal_statements principal = sum_by (λ policy. length policy.statements) principal.identity
+
+-- how many statements the policies of a world have
+abbrev pub world_statements : WorldValue → ℕ
+world_statements world = sum_by principal_statements world.principals
+
+-- how many cells the matrix of a world has
+abbrev pub world_cells : WorldValue → ℕ
+world_cells world = length world.principals * length world.actions * length world.resources

@@ -1,11 +1,11 @@
 -- Elements of a statement as the code holds them, patterns in place of texts.
-use Rattle.std.proofs.Common.{◌≡◌, ◌↔◌, ℕ, suc, zero, ◌<◌, List, [], ◌∷◌, Bool, true, false, Option, Some, None, map, length, get_or, refl, sym, ap, ◌∙◌, subst, arith, IsTrue}
+use Rattle.std.proofs.Common.{◌≡◌, ◌↔◌, ℕ, ◌<◌, List, [], ◌∷◌, Bool, false, Option, Some, map, length, refl, sym, ap, ◌∙◌, subst, arith, IsTrue}
 use Rattle.std.proofs.lemmas.List.{get_or-map, length-map}
 use Rattle.std.specs.List.{Any}
 use Rattle.std.specs.Str.{chars}
 use Rattle.iam_text.specs.declared.sign.Sign.{Sign}
 use Rattle.iam_text.specs.Glob.{Matches, MatchesFold}
-use Rattle.iam_text.specs.Draft.{Piece, plain_draft}
+use Rattle.iam_text.specs.Draft.{plain_draft}
 use Rattle.iam_policy.specs.Reading.{ActionElement, ResourceElement, StatementValue}
 use Rattle.iam_match.specs.Statement.{ActionMatches, ResourceMatches, TextMatches, RequestValue, StatementMatches}
 

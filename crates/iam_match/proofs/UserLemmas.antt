@@ -1,15 +1,14 @@
 -- A user's ARN by its parts.
-use Rattle.std.proofs.Common.{◌≡◌, ◌≢◌, ◌⊎◌, inl, inr, ℕ, suc, ◌+◌, ◌<◌, List, [], ◌∷◌, ◌++◌, Bool, true, false, ◌&&◌, ◌||◌, ◌==◌, cond, Option, Some, None, length, take, drop, get_or, refl, sym, ap, ◌∙◌, subst, arith, IsTrue, codes, count_by, eqb-true}
+use Rattle.std.proofs.Common.{◌≡◌, ℕ, ◌+◌, List, [], ◌∷◌, ◌++◌, Bool, true, false, ◌&&◌, ◌||◌, ◌==◌, cond, None, length, refl, sym, ap, ◌∙◌, codes, eqb-true}
 use Rattle.std.proofs.lemmas.List.Recursion.{is_count_by}
 use Rattle.std.proofs.lemmas.List.{nil_from_length}
 use Rattle.std.proofs.lemmas.Slice.Eq.{bytes_eq-Decides}
 use Rattle.std.specs.Bool.{Decides}
 use Rattle.std.specs.Str.{bytes_eq}
-use Rattle.std.specs.List.{list_all, AllByRecursion}
+use Rattle.std.specs.List.{list_all}
 use Rattle.std.specs.Char.{is_ascii_alphanumeric, is_ascii_digit}
-use Rattle.iam_text.specs.Arn.{IsArn, HasNoColon, colons}
-use Rattle.iam_policy.specs.Grammar.{is_run}
-use Rattle.iam_match.specs.Requester.{RequesterValue, IsUser, IsPath, is_account, is_partition, user_arn}
+use Rattle.iam_text.specs.Arn.{IsArn, HasNoColon}
+use Rattle.iam_match.specs.Requester.{RequesterValue, IsUser, is_account, is_partition}
 use Rattle.iam_match.specs.Tests.{path_from, is_of_user}
 use Rattle.iam_match.proofs.PathLemmas.{path_test}
 
@@ -103,3 +102,15 @@ parts_pass r text prefix partition service region account resource u same =
     let of_partition : (bytes_eq prefix (codes "arn") && bytes_eq service (codes "iam") && (length region == 0) && is_partition partition) ≡ true =
     ap (λ b. b && is_partition partition) named ∙ ap is_partition partition_is ∙ u.partition in
     (ap (λ b. b && is_account account) of_partition ∙ ap is_account account_is ∙ u.account, resource_is)
+
+-- the user of these parts is the only one
+pub same_user : (r : RequesterValue) (prefix partition service region account resource path : List ℕ)
+    → prefix ∷ (partition ∷ (service ∷ (region ∷ (account ∷ (resource ∷ []))))) ≡ parts_of_user r → r.session ≡ None
+    → resource ≡ codes "user/" ++ path → r ≡ record { partition = partition; account = account; path = path; session = None }
+same_user r prefix partition service region account resource path same session behind =
+    let partition_is : r.partition ≡ partition = cc in
+    let account_is : r.account ≡ account = cc in
+    let resource_is : resource ≡ codes "user/" ++ r.path = cc in
+    let paths : codes "user/" ++ r.path ≡ codes "user/" ++ path = sym resource_is ∙ behind in
+    let path_is : r.path ≡ path = cc in
+    λ i. record { partition = partition_is i; account = account_is i; path = path_is i; session = session i }

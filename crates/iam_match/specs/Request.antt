@@ -1,7 +1,5 @@
 -- A request: who asks for which action on which resource.
-use Rattle.std.specs.Prelude.{ℕ, List}
 use Rattle.iam_match.specs.declared.request.Request.{Request}
-use Rattle.iam_match.specs.Requester.{RequesterValue}
 use Rattle.iam_match.specs.Statement.{RequestValue}
 
 -- a request without where it lies in memory

@@ -1,4 +1,4 @@
-ghost use Rattle.std.specs.Prelude.{◌≡◌, ◌||◌, ◌==◌, ◌↔◌, [], IsTrue, MatchOption, None, false, codes};
+ghost use Rattle.std.specs.Prelude.{◌≡◌, ◌||◌, ◌==◌, ◌↔◌, [], IsTrue, IfSome, MatchOption, None, false, codes};
 ghost use Rattle.std.specs.List.{list_all};
 ghost use Rattle.std.specs.Char.{is_ascii_alphanumeric, is_ascii_digit};
 ghost use Rattle.iam_match.specs.Tests.{is_of_user, path_from};
@@ -39,14 +39,15 @@ impl Model for Requester {
 }
 
 impl Requester {
-    ghost use Rattle.std.specs.Prelude.{◌≡◌, MatchOption, IfOk, IsSomeAnd};
+    ghost use Rattle.std.specs.Prelude.{◌≡◌, MatchOption, IfOk, IfSome, IsSomeAnd};
     ghost use Rattle.iam_match.specs.Requester.{RequesterValue, IsUser, user_arn, IsLastSegment};
 
-    /// The user with this ARN, `arn:PARTITION:iam::ACCOUNT:user/PATH`; `None` for any other text.
+    /// The one user with this ARN, `arn:PARTITION:iam::ACCOUNT:user/PATH`; `None` for any other text.
     ///
     /// AWS IAM User Guide, "IAM identifiers".
     pub fn user(alloc: Global, arn: &str) -> Result<Option<Requester>, OutOfMemory>
-        ensures { IfOk result (λ found. MatchOption found ((r : RequesterValue) → ¬ IsUser arn.now r) (λ r. IsUser arn.now r)) }
+        ensures value { IfOk result (λ found. MatchOption found ((r : RequesterValue) → ¬ IsUser arn.now r) (λ r. IsUser arn.now r)) }
+        ensures only { IfOk result (λ found. IfSome found (λ r. (other : RequesterValue) → IsUser arn.now other → other ≡ r)) }
     {
         match user_parts(arn) {
             Some(parts) => Ok(Some(Requester {
@@ -108,13 +109,19 @@ struct UserParts<'a> {
 
 /// The parts of a user's ARN; `None` for any other text.
 fn user_parts(arn: &str) -> Option<UserParts<'_>>
-    ensures { MatchOption result ((r : RequesterValue) → ¬ IsUser arn.entry.now r)
+    ensures value { MatchOption result ((r : RequesterValue) → ¬ IsUser arn.entry.now r)
         (λ p. IsUser arn.entry.now (record {
           partition = p.partition.now;
           account = p.account.now;
           path = p.path.now;
           session = None;
         })) }
+    ensures only { IfSome result (λ p. (other : RequesterValue) → IsUser arn.entry.now other → other ≡ record {
+      partition = p.partition.now;
+      account = p.account.now;
+      path = p.path.now;
+      session = None;
+    }) }
 {
     let parts = Arn::cut(arn)?;
     let path = parts.resource.strip_prefix("user/")?;

@@ -1,5 +1,5 @@
--- The numbers of the faults of a document, and their order.
-use Rattle.std.specs.Prelude.{ℕ, List, [], ◌∷◌, Bool, ◌==◌}
+-- The numbers and the names of the faults of a document, and their order.
+use Rattle.std.specs.Prelude.{ℕ, List, [], ◌∷◌, Bool, ◌==◌, codes}
 use Rattle.iam_policy.specs.declared.fault.Fault.{Fault}
 use Rattle.iam_policy.specs.declared.fault.Fault.TheVariants.{NotObject, UnknownElement, BadVersion, NoStatement, BadStatement, BadSid, DuplicateSid, BadEffect, ActionCount, BadAction, PrincipalMisplaced, PrincipalMissing, BadPrincipal, NotPrincipalAllow, ResourceCount, BadResource, BadVariable, UnknownOperator, BadCondition, BadValue, TooMany, OutOfMemory}
 
@@ -27,6 +27,31 @@ number_of BadCondition = 19
 number_of BadValue = 20
 number_of TooMany = 21
 number_of OutOfMemory = 22
+
+-- the name of a fault
+abbrev pub name_of : Fault → List ℕ
+name_of NotObject = codes "NotObject"
+name_of UnknownElement = codes "UnknownElement"
+name_of BadVersion = codes "BadVersion"
+name_of NoStatement = codes "NoStatement"
+name_of BadStatement = codes "BadStatement"
+name_of BadSid = codes "BadSid"
+name_of DuplicateSid = codes "DuplicateSid"
+name_of BadEffect = codes "BadEffect"
+name_of ActionCount = codes "ActionCount"
+name_of BadAction = codes "BadAction"
+name_of PrincipalMisplaced = codes "PrincipalMisplaced"
+name_of PrincipalMissing = codes "PrincipalMissing"
+name_of BadPrincipal = codes "BadPrincipal"
+name_of NotPrincipalAllow = codes "NotPrincipalAllow"
+name_of ResourceCount = codes "ResourceCount"
+name_of BadResource = codes "BadResource"
+name_of BadVariable = codes "BadVariable"
+name_of UnknownOperator = codes "UnknownOperator"
+name_of BadCondition = codes "BadCondition"
+name_of BadValue = codes "BadValue"
+name_of TooMany = codes "TooMany"
+name_of OutOfMemory = codes "OutOfMemory"
 
 -- the faults of the table, in the order of their numbers
 abbrev pub table : List Fault

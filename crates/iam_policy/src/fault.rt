@@ -1,8 +1,8 @@
-/// Why a document is refused. The order is that of the numbers, from 1.
+/// Why a document is refused; [`Fault::number`] gives the number.
 #[derive(Clone, Copy, Debug, PartialEq, Eq)]
 pub enum Fault {
     /// The document is not an object.
-    NotObject = 1,
+    NotObject,
     /// A member that the document or the statement does not know.
     UnknownElement,
     /// `Version` is absent or not `2012-10-17`.
@@ -46,6 +46,71 @@ pub enum Fault {
     TooMany,
     /// The allocator refused a growth.
     OutOfMemory,
+}
+
+impl Fault {
+    ghost use Rattle.std.specs.Prelude.{◌≡◌};
+    ghost use Rattle.iam_policy.specs.Table.{number_of, name_of};
+
+    /// The number of the fault, from 1 in the order of declaration.
+    pub fn number(self) -> u32
+        ensures { result ≡ number_of self }
+    {
+        match self {
+            Fault::NotObject => 1,
+            Fault::UnknownElement => 2,
+            Fault::BadVersion => 3,
+            Fault::NoStatement => 4,
+            Fault::BadStatement => 5,
+            Fault::BadSid => 6,
+            Fault::DuplicateSid => 7,
+            Fault::BadEffect => 8,
+            Fault::ActionCount => 9,
+            Fault::BadAction => 10,
+            Fault::PrincipalMisplaced => 11,
+            Fault::PrincipalMissing => 12,
+            Fault::BadPrincipal => 13,
+            Fault::NotPrincipalAllow => 14,
+            Fault::ResourceCount => 15,
+            Fault::BadResource => 16,
+            Fault::BadVariable => 17,
+            Fault::UnknownOperator => 18,
+            Fault::BadCondition => 19,
+            Fault::BadValue => 20,
+            Fault::TooMany => 21,
+            Fault::OutOfMemory => 22,
+        }
+    }
+
+    /// The name of the fault, as it is declared.
+    pub fn name(self) -> &'static str
+        ensures { result.now ≡ name_of self }
+    {
+        match self {
+            Fault::NotObject => "NotObject",
+            Fault::UnknownElement => "UnknownElement",
+            Fault::BadVersion => "BadVersion",
+            Fault::NoStatement => "NoStatement",
+            Fault::BadStatement => "BadStatement",
+            Fault::BadSid => "BadSid",
+            Fault::DuplicateSid => "DuplicateSid",
+            Fault::BadEffect => "BadEffect",
+            Fault::ActionCount => "ActionCount",
+            Fault::BadAction => "BadAction",
+            Fault::PrincipalMisplaced => "PrincipalMisplaced",
+            Fault::PrincipalMissing => "PrincipalMissing",
+            Fault::BadPrincipal => "BadPrincipal",
+            Fault::NotPrincipalAllow => "NotPrincipalAllow",
+            Fault::ResourceCount => "ResourceCount",
+            Fault::BadResource => "BadResource",
+            Fault::BadVariable => "BadVariable",
+            Fault::UnknownOperator => "UnknownOperator",
+            Fault::BadCondition => "BadCondition",
+            Fault::BadValue => "BadValue",
+            Fault::TooMany => "TooMany",
+            Fault::OutOfMemory => "OutOfMemory",
+        }
+    }
 }
 
 /// How a document is read.

@@ -1,4 +1,4 @@
-use Rattle.std.proofs.Common.{◌≡◌, List, take, ◌+◌, sym, ◌∙◌, ap, subst}
+use Rattle.std.proofs.Common.{List, take, ◌+◌, sym, ◌∙◌, ap, subst}
 use Rattle.iam_layers.specs.Matched.{Selects}
 use Rattle.iam_layers.specs.Scan.{value_of}
 use Rattle.iam_layers.specs.Found.{AllowsIn, GrantsNothing}

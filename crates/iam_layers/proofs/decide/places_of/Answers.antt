@@ -1,8 +1,7 @@
-use Rattle.std.proofs.Common.{◌≡◌, List, take, ◌+◌, ◌∷◌, [], ◌++◌, map, get_or, sym, ◌∙◌, ap, subst}
+use Rattle.std.proofs.Common.{◌≡◌, ◌∷◌, [], ◌++◌, get_or, sym, ◌∙◌, ap}
 use Rattle.std.proofs.lemmas.List.{map-append}
 use Rattle.iam_policy.specs.declared.effect.Effect.TheVariants.{Allow}
 use Rattle.iam_layers.specs.declared.place.Layer.TheVariants.{Org}
-use Rattle.iam_layers.specs.declared.place.Place.{Place}
 use Rattle.iam_layers.specs.declared.scan.Matched.{Matched}
 use Rattle.iam_layers.proofs.ScanLemmas.{select_more, select_skip}
 use Rattle.iam_layers.proofs.decide.places_of.Goals as goal

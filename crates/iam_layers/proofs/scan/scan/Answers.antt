@@ -1,4 +1,4 @@
-use Rattle.std.proofs.Common.{◌≡◌, ◌++◌, [], List, subst}
+use Rattle.std.proofs.Common.{[], List, subst}
 use Rattle.iam_match.specs.Request.{request_of}
 use Rattle.iam_layers.specs.Matched.{as_list, in_layer, in_level}
 use Rattle.iam_layers.specs.Scan.{Adds, value_of}

@@ -1,10 +1,9 @@
-use Rattle.std.proofs.Common.{◌≡◌, ◌<◌, ℕ, List, map, length, sym, ◌∙◌, subst, arith}
+use Rattle.std.proofs.Common.{◌≡◌, ◌<◌, ℕ, List, map, length, sym, subst, arith}
 use Rattle.std.proofs.lemmas.List.{length-map}
 use Rattle.iam_policy.specs.Reading.{PolicyValue}
 use Rattle.iam_match.specs.Request.{request_of}
 use Rattle.iam_layers.specs.Matched.{in_level}
 use Rattle.iam_layers.specs.Scan.{Adds, IsCountable}
-use Rattle.iam_layers.specs.declared.scan.Matched.{Matched}
 use Rattle.iam_layers.specs.declared.place.Layer.TheVariants.{Org}
 use Rattle.iam_layers.proofs.ScanLemmas.{scan_more, all_at, at_map}
 use Rattle.iam_layers.proofs.scan.scan_org.Goals as goal

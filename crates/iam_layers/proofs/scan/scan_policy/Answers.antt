@@ -1,9 +1,9 @@
-use Rattle.std.proofs.Common.{◌≡◌, ◌∷◌, [], ◌++◌, ℕ, List, sym, ◌∙◌, ap, subst, true, false}
+use Rattle.std.proofs.Common.{◌≡◌, ◌∷◌, [], ◌++◌, ℕ, List, sym, ◌∙◌, ap, subst}
 use Rattle.iam_policy.specs.Reading.{StatementValue}
 use Rattle.iam_policy.specs.declared.effect.Effect.{Effect}
 use Rattle.iam_match.specs.Request.{request_of}
 use Rattle.iam_layers.specs.Matched.{Placed}
-use Rattle.iam_layers.specs.Scan.{Adds, item_of}
+use Rattle.iam_layers.specs.Scan.{Adds}
 use Rattle.iam_layers.specs.declared.scan.Matched.{Matched}
 use Rattle.iam_layers.proofs.ScanLemmas.{scan_more, adds_matched, adds_unmatched}
 use Rattle.iam_layers.proofs.scan.scan_policy.Goals as goal

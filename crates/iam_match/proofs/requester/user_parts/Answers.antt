@@ -1,13 +1,12 @@
-use Rattle.std.proofs.Common.{◌≡◌, ◌++◌, ℕ, List, true, false, sym, ◌∙◌, ap, codes, drop}
-use Rattle.iam_match.specs.Requester.{RequesterValue, IsUser}
+use Rattle.std.proofs.Common.{◌≡◌, ◌++◌, true, false, sym, ◌∙◌, ap, codes, drop}
 use Rattle.iam_match.specs.Tests.{is_of_user, path_from}
 use Rattle.iam_match.proofs.PathLemmas.{path_test}
-use Rattle.iam_match.proofs.UserLemmas.{parts_of_user, user-is_arn, user_from_parts, parts_pass}
+use Rattle.iam_match.proofs.UserLemmas.{parts_of_user, user-is_arn, user_from_parts, parts_pass, same_user}
 use Rattle.iam_match.proofs.requester.user_parts.Goals as goal
 use Rattle.iam_match.proofs.requester.user_parts.Goals.{else-is_of_user-via-then-is_of_user+else-is_path, else-is_of_user-via-else-is_of_user}
 
-pub returns-in_err-path : goal.returns-in_err-path
-returns-in_err-path c =
+pub returns-in_err-path-clause-value : goal.returns-in_err-path-clause-value
+returns-in_err-path-clause-value c =
     rw c.from_residual-in_err-path.ensures
     (
     λ r u.
@@ -18,8 +17,8 @@ returns-in_err-path c =
     c.in_err-path.ensures.cases r.path pass.1
     )
 
-pub returns-then-is_path : goal.returns-then-is_path
-returns-then-is_path c =
+pub returns-then-is_path-clause-value : goal.returns-then-is_path-clause-value
+returns-then-is_path-clause-value c =
     let a = c.in_ok-parts.parts in
     let strip = c.in_ok-path.ensures.cases in
     let path_is : c.in_ok-path.path.now ≡ drop strip.0 a.resource.now = strip.2 in
@@ -28,8 +27,16 @@ returns-then-is_path c =
     (strip.1.1 ∙ ap (λ p. codes "user/" ++ p) (sym path_is))
     (ap (path_from false) (sym c.as_bytes.ensures.value) ∙ sym c.is_path.ensures ∙ c.if-is_path.true)
 
-pub returns-else-is_of_user : goal.returns-else-is_of_user
-returns-else-is_of_user c = λ r u.
+pub returns-then-is_path-clause-only : goal.returns-then-is_path-clause-only
+returns-then-is_path-clause-only c = λ other u.
+    let a = c.in_ok-parts.parts in
+    let strip = c.in_ok-path.ensures.cases in
+    same_user other a.prefix.now a.partition.now a.service.now a.region.now a.account.now a.resource.now c.in_ok-path.path.now
+    (c.in_ok-parts.ensures.only (parts_of_user other) (user-is_arn c.args.arn.now other u)) u.session
+    (strip.1.1 ∙ ap (λ p. codes "user/" ++ p) (sym strip.2))
+
+pub returns-else-is_of_user-clause-value : goal.returns-else-is_of_user-clause-value
+returns-else-is_of_user-clause-value c = λ r u.
     let a = c.in_ok-parts.parts in
     let pass =
     parts_pass r c.args.arn.now a.prefix.now a.partition.now a.service.now a.region.now a.account.now a.resource.now u

@@ -1,9 +1,9 @@
-use Rattle.std.proofs.Common.{◌≡◌, [], List, sym, ◌∙◌, subst}
+use Rattle.std.proofs.Common.{[], List, sym, subst}
 use Rattle.iam_policy.specs.declared.effect.Effect.{Effect}
 use Rattle.iam_match.specs.Request.{request_of}
 use Rattle.iam_layers.specs.Matched.{placed}
 use Rattle.iam_layers.specs.Scan.{Adds, value_of}
-use Rattle.iam_layers.specs.Found.{AllowsIn, ArePlaces, GrantsNothing}
+use Rattle.iam_layers.specs.Found.{ArePlaces}
 use Rattle.iam_layers.specs.Decision.{AreDeciding, AreLacking, Allows, Grants}
 use Rattle.iam_layers.specs.declared.place.Layer.{Layer}
 use Rattle.iam_layers.specs.declared.place.Place.{Place}

@@ -1,0 +1,53 @@
+-- The numbers of the faults of a run, and the line that tells of one. It has no line feed at its end.
+use Rattle.std.specs.Prelude.{Option, ℕ, List, [], ◌++◌, codes, decimal, Some, None}
+use Rattle.iam_policy.specs.Table.{number_of, name_of}
+use Rattle.iam_policy.specs.declared.fault.Refused.{Refused}
+use Rattle.iam_layers.specs.Path.{path_text}
+use Rattle.iam_layers.specs.WorldFault.{world_number_of, world_name_of}
+use Rattle.iam_layers.specs.declared.fault.WorldFault.{WorldFault}
+use Rattle.iam_layers.specs.declared.fault.WorldFault.TheVariants as w
+use Rattle.iam_app.specs.declared.fault.RunFault.{RunFault}
+use Rattle.iam_app.specs.declared.fault.RunFault.TheVariants.{Read, World, Write, NoSuchCell, OutOfMemory}
+
+-- the number of a fault; 3 and 6 are those of a matrix and of a cut, which are not there yet
+abbrev pub run_number_of : RunFault → ℕ
+run_number_of Read = 1
+run_number_of (World fault) = 2
+run_number_of Write = 4
+run_number_of NoSuchCell = 5
+run_number_of OutOfMemory = 7
+
+-- the statement that has the fault, or the document itself
+abbrev pub statement_text : Option ℕ → List ℕ
+statement_text None = codes "document"
+statement_text (Some i) = codes "statement " ++ decimal i
+
+-- `document: 3 BadVersion`, `statement 1: 20 BadValue`
+abbrev pub refused_text : Refused → List ℕ
+refused_text refused =
+    statement_text refused.statement
+    ++ (codes ": " ++ (decimal (number_of refused.fault) ++ (codes " " ++ name_of refused.fault)))
+
+-- what follows the number and the name of a world's fault
+abbrev pub place_text : WorldFault → List ℕ
+place_text w.NotJson = []
+place_text (w.BadShape path) = codes " at " ++ path_text path
+place_text (w.BadRequester path) = codes " at " ++ path_text path
+place_text (w.BadAction path) = codes " at " ++ path_text path
+place_text (w.BadResourceArn path) = codes " at " ++ path_text path
+place_text (w.UnknownAccount path) = codes " at " ++ path_text path
+place_text (w.Policy path refused) = codes " at " ++ (path_text path ++ (codes ": " ++ refused_text refused))
+place_text w.TooLarge = []
+place_text w.OutOfMemory = []
+
+-- `1 NotJson`, `2 BadShape at moment`
+abbrev pub world_text : WorldFault → List ℕ
+world_text fault = decimal (world_number_of fault) ++ (codes " " ++ (world_name_of fault ++ place_text fault))
+
+-- the line of a fault
+abbrev pub fault_text : RunFault → List ℕ
+fault_text Read = codes "fault 1 Read"
+fault_text (World fault) = codes "fault 2 World: " ++ world_text fault
+fault_text Write = codes "fault 4 Write"
+fault_text NoSuchCell = codes "fault 5 NoSuchCell"
+fault_text OutOfMemory = codes "fault 7 OutOfMemory"

@@ -1,0 +1,3 @@
+pub mod FaultLine
+pub mod Output
+pub mod Streams

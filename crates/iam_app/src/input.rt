@@ -1,0 +1,54 @@
+ghost use Rattle.std.specs.Prelude.{◌≡◌, ◌+◌, ◌≤◌, IfOk, Err, length};
+ghost use Rattle.iam_app.specs.Streams.{AllRemained, ConsumesAtMost, MoreRemained};
+ghost use Rattle.iam_app.specs.declared.input.InputFault.TheVariants as InputFault;
+
+use std::alloc::Global;
+use std::io::Read;
+use thiserror::Error;
+
+/// The longest input that is taken, in bytes.
+const MOST: usize = 8_388_608;
+
+/// The bytes that are asked for at once.
+const ROOM: usize = 4096;
+
+/// Why input is not taken.
+#[derive(Clone, Copy, Debug, PartialEq, Eq, Error)]
+pub enum InputFault {
+    /// The reader failed.
+    #[error("the input can't be read")]
+    Read,
+    /// Over 8,388,608 bytes.
+    #[error("the input has over 8,388,608 bytes")]
+    TooLarge,
+    /// The allocator refused a growth.
+    #[error("no memory for the input")]
+    OutOfMemory,
+}
+
+/// All input up to its end, a read of no bytes. At most 8,388,609 bytes are read.
+pub fn read_input<R: Read>(alloc: Global, reader: &mut R) -> Result<Vec<u8>, InputFault>
+    ensures ok { IfOk result (λ bytes. AllRemained (R.remaining reader.old) bytes.items) }
+    ensures fits { IfOk result (λ bytes. length bytes.items ≤ MOST) }
+    ensures most { ConsumesAtMost (R.remaining reader.old) (R.remaining reader.new) (MOST + 1) }
+    ensures large { result ≡ Err InputFault.TooLarge → MoreRemained (R.remaining reader.old) MOST }
+{
+    let mut bytes = Vec::new(alloc);
+    let mut buffer = [0u8; ROOM];
+    while bytes.len() <= MOST {
+        let room = (MOST + 1 - bytes.len()).min(ROOM);
+        let Ok(count) = reader.read(&mut buffer[..room]) else {
+            return Err(InputFault::Read);
+        };
+        if count == 0 {
+            return Ok(bytes);
+        }
+        if bytes.extend_from_slice(&buffer[..count]).is_err() {
+            return Err(InputFault::OutOfMemory);
+        }
+    }
+    Err(InputFault::TooLarge)
+}
+
+#[cfg(test)]
+mod tests;

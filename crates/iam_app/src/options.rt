@@ -1,0 +1,104 @@
+use clap::error::ErrorKind;
+use clap::{Arg, ArgMatches, Command, Error, value_parser};
+use std::alloc::{AllocError, Global};
+
+const ABOUT: &str =
+    "Answers who may do what in AWS, from policy documents alone, before they are put in force.
+The world comes on standard input: one JSON document with the accounts, the principals, the
+actions, the resources and their policies. The answer goes to standard output.";
+
+/// What the command line asks for.
+#[derive(Clone, Copy, Debug, PartialEq, Eq)]
+pub struct Options {
+    /// The command.
+    pub task: Task,
+}
+
+/// A command.
+#[derive(Clone, Copy, Debug, PartialEq, Eq)]
+pub enum Task {
+    /// Decide one request: the numbers of its principal, its action and its resource.
+    Decide(u64, u64, u64),
+}
+
+/// Why a command line gives no options.
+#[derive(Debug, Drop)]
+pub enum Usage {
+    /// Help was asked for; this is its text.
+    Help(String),
+    /// The command line is refused, with this text.
+    Refused(String),
+    /// The allocator refused a growth.
+    OutOfMemory,
+}
+
+impl From<AllocError> for Usage {
+    ghost use Rattle.std.specs.Prelude.{◌≡◌};
+    ghost use Rattle.iam_app.specs.declared.options.Usage.TheVariants as usage;
+
+    ghost from_gives = { λ _ answer. answer ≡ usage.OutOfMemory };
+
+    fn from(_: AllocError) -> Usage {
+        Usage::OutOfMemory
+    }
+}
+
+/// Reads a command line; `words` are those after the program's name.
+pub fn options_of(alloc: Global, words: &[&str]) -> Result<Options, Usage> {
+    let mut command = iamsim(alloc)?;
+    match command.try_get_matches_from_mut(words) {
+        Ok(matches) => match task_of(&matches) {
+            Some(task) => Ok(Options { task }),
+            None => Err(Usage::Refused(command.render_usage()?)),
+        },
+        Err(error) => Err(usage_of(alloc, &error)),
+    }
+}
+
+/// The command that was read. `None`, where a command or a number is absent, does not come: that is refused before.
+fn task_of(matches: &ArgMatches<'_>) -> Option<Task> {
+    let (_, decide) = matches.subcommand()?;
+    let principal = decide.get_one("P")?;
+    let action = decide.get_one("A")?;
+    let resource = decide.get_one("R")?;
+    Some(Task::Decide(principal, action, resource))
+}
+
+fn usage_of(alloc: Global, error: &Error) -> Usage {
+    let kind = error.kind();
+    let Ok(text) = error.to_string(alloc) else {
+        return Usage::OutOfMemory;
+    };
+    match kind {
+        ErrorKind::OutOfMemory => Usage::OutOfMemory,
+        ErrorKind::DisplayHelp => Usage::Help(text),
+        _ => Usage::Refused(text),
+    }
+}
+
+fn iamsim<'a>(alloc: Global) -> Result<Command<'a>, AllocError> {
+    Command::new(alloc, "iamsim")
+        .no_binary_name(true)
+        .bin_name("iamsim")?
+        .about(ABOUT)
+        .subcommand_required(true)
+        .subcommand(decide(alloc)?)
+}
+
+fn decide<'a>(alloc: Global) -> Result<Command<'a>, AllocError> {
+    Command::new(alloc, "decide")
+        .about("Decide one request: may principal P do action A on resource R?")
+        .arg(number(alloc, "P", "The principal's number in the world, from 0"))?
+        .arg(number(alloc, "A", "The action's number in the world, from 0"))?
+        .arg(number(alloc, "R", "The resource's number in the world, from 0"))
+}
+
+fn number<'a>(alloc: Global, name: &'static str, help: &'static str) -> Arg<'a> {
+    Arg::new(alloc, name)
+        .required(true)
+        .value_parser(value_parser!(u64))
+        .help(help)
+}
+
+#[cfg(test)]
+mod tests;

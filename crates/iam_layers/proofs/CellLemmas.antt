@@ -1,0 +1,38 @@
+-- The numbers of cells.
+use Rattle.std.proofs.Common.{◌≡◌, ℕ, suc, zero, ◌+◌, ◌*◌, ◌/◌, ◌%◌, ◌<◌, ◌≤◌, sym, ap, ◌∙◌, subst, arith}
+use Rattle.std.proofs.Math.Nat.{div-lt_iff_lt-mul, mul-add-div_right, div-eq_of_lt, div-add-mod, mod-lt, mul_comm, mul-le-mul_left, mul-one, mul-zero}
+
+-- a place in one of m rows of n places
+row-below : (m n i j : ℕ) → i < m → j < n → i * n + j < m * n
+row-below m n i j row place =
+    let some : 0 < n = omega arith in
+    let at : (i * n + j) / n ≡ i = mul-add-div_right some i j ∙ ap (λ k. i + k) (div-eq_of_lt place) ∙ (omega arith) in
+    (div-lt_iff_lt-mul some).0 (subst (λ k. k < m) (sym at) row)
+
+-- the number of a cell is below that of all
+pub cell_below : (P A R p a r : ℕ) → p < P → a < A → r < R → (p * A + a) * R + r < P * A * R
+cell_below P A R p a r principal action resource = row-below (P * A) R (p * A + a) r (row-below P A p a principal action) resource
+
+some-factor : (m n k : ℕ) → k < m * n → 0 < n
+some-factor m zero k below = let none : m * zero ≡ 0 = mul-zero m in absurd (omega arith)
+some-factor m (suc n) k below = omega arith
+
+-- the parts of the number of a cell
+pub cell_parts : (P A R cell : ℕ) → cell < P * A * R
+    → (cell / R / A < P) × (cell / R % A < A) × (cell % R < R) × (cell ≡ (cell / R / A * A + cell / R % A) * R + cell % R)
+cell_parts P A R cell below =
+    let resources : 0 < R = some-factor (P * A) R cell below in
+    let row : cell / R < P * A = (div-lt_iff_lt-mul resources).1 below in
+    let actions : 0 < A = some-factor P A (cell / R) row in
+    let rows : cell / R / A * A + cell / R % A ≡ cell / R =
+    ap (λ k. k + cell / R % A) (mul_comm (cell / R / A) A) ∙ div-add-mod (cell / R) A in
+    let whole : cell / R * R + cell % R ≡ cell = ap (λ k. k + cell % R) (mul_comm (cell / R) R) ∙ div-add-mod cell R in (
+      (div-lt_iff_lt-mul actions).1 row,
+      mod-lt (cell / R) actions,
+      mod-lt cell resources,
+      sym (ap (λ k. k * R + cell % R) rows ∙ whole),
+    )
+
+-- a row has no more rows before it than cells
+pub rows-le : (row R : ℕ) → 0 < R → row ≤ row * R
+rows-le row R some = let more : row * 1 ≤ row * R = mul-le-mul_left row some in let one : row * 1 ≡ row = mul-one row in omega arith

@@ -1,0 +1,25 @@
+-- How many values a JSON value holds: the bound on the lists of a world, for the proofs of the code.
+use Rattle.std.specs.Prelude.{ℕ, suc, ◌+◌, ◌<◌, ◌^◌}
+use Rattle.serde_json.specs.Data.{Data, null, boolean, number, string, array, object, Items, no_items, item, Members, no_members, member}
+
+-- the number of values that a value holds, with itself
+abbrev mutual
+  pub size : Data → ℕ
+  size null = 1
+  size (boolean b) = 1
+  size (number n) = 1
+  size (string s) = 1
+  size (array ds) = suc (items_size ds)
+  size (object ms) = suc (members_size ms)
+
+  pub items_size : Items → ℕ
+  items_size no_items = 0
+  items_size (item d ds) = size d + items_size ds
+
+  pub members_size : Members → ℕ
+  members_size no_members = 0
+  members_size (member k d ms) = size d + members_size ms
+
+-- the value holds so few values that each of its lists has numbers of 32 bits
+abbrev pub IsSmall : Data → Type 0
+IsSmall d = size d < 2 ^ 32

@@ -1,0 +1,3 @@
+pub mod CsvRow
+pub mod Report
+pub mod Written
