@@ -1,10 +1,15 @@
-.PHONY: run test fmt
+.PHONY: run build test fmt
 
-# The main job. The program that decides one request is not built yet, so this says so.
-run:
-	@echo 'iamsim is not built yet; README.md says which of its libraries are proved.'
+# The main job: one decision on the smallest example world.
+run: build
+	./iamsim decide 0 0 0 < examples/smallest.json
 
-# The gate: every proof from nothing, the must-fail edits and the tests.
+# The program, proved and built, as ./iamsim.
+build:
+	cd crates/iamsim && rt run -- --help > /dev/null
+	cp crates/iamsim/out/iamsim iamsim
+
+# The gate: every proof from nothing, the must-fail edits, the tests, and the stored run of the program.
 test:
 	rt ci
 
