@@ -1,5 +1,6 @@
 pub mod CellLemmas
 pub mod CheckLemmas
+pub mod Determined
 pub mod DocumentLemmas
 pub mod ScanLemmas
 pub mod ShapeLemmas
