@@ -8,9 +8,7 @@ mod output;
 mod program;
 
 pub use fault::{RunFault, fault_line, status};
-pub use input::{InputFault, read_input};
 pub use options::{Options, Task, Usage, options_of};
-pub use output::{OutputFault, write_output};
 pub use program::run;
 /// The allocator refused a growth.
 pub use std::alloc::AllocError as OutOfMemory;

@@ -86,3 +86,6 @@ pub fn run<R: Read, W: Write>(
         Err(_) => Err(RunFault::Write),
     }
 }
+
+#[cfg(test)]
+mod tests;

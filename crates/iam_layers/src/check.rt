@@ -2,6 +2,7 @@ ghost use Rattle.std.specs.Prelude.{◌≡◌, ◌≢◌, ◌||◌, ◌==◌, �
 ghost use Rattle.std.specs.BTreeSet.{contains_text};
 ghost use Rattle.std.specs.List.{AllZip, list_all, position};
 ghost use Rattle.std.specs.Char.{is_ascii_alphanumeric};
+ghost use Rattle.serde_json.specs.Data.{Data};
 ghost use Rattle.serde_json.specs.View.{view};
 ghost use Rattle.iam_match.specs.Requester.{IsUser, RequesterValue};
 ghost use Rattle.iam_layers.specs.Shape.{ids_of, text_at, text_of};
@@ -20,7 +21,7 @@ use std::alloc::Global;
 use std::collections::BTreeSet;
 
 /// The requesters of the principals, in order.
-pub fn read_requesters(alloc: Global, principals: &[Value]) -> Result<Vec<Requester>, WorldFault>
+fn read_requesters(alloc: Global, principals: &[Value]) -> Result<Vec<Requester>, WorldFault>
     ensures ok { IfOk result (λ requesters. AreRequesters (map view principals.now) requesters.items) }
     ensures fault { IfErr result (λ fault. fault ≢ w.OutOfMemory → IsNoUserFault (map view principals.now) fault) }
 {
@@ -112,14 +113,14 @@ fn at(list: Name, number: Option<usize>) -> Option<Path>
 }
 
 /// The first value that is no action.
-pub fn bad_action(world: &Value) -> Option<Path>
+fn bad_action(world: &Value) -> Option<Path>
     ensures { result ≡ bad_action (view world.now) }
 {
     at(Name::Actions, first_no_action(items(world, Name::Actions)))
 }
 
 /// The first resource whose text is neither `*` nor an ARN.
-pub fn bad_arn(world: &Value) -> Option<Path>
+fn bad_arn(world: &Value) -> Option<Path>
     ensures { result ≡ bad_arn (view world.now) }
 {
     at(
@@ -129,15 +130,14 @@ pub fn bad_arn(world: &Value) -> Option<Path>
 }
 
 /// The first requester whose account is none of these.
-pub fn unknown_user(world: &Value, requesters: &[Requester], ids: &BTreeSet<String>) -> Option<Path>
-    requires { HasIds ids.now (ids_of (view world.now)) }
-    ensures { result ≡ unknown_user (view world.now) requesters.now }
+fn unknown_user(requesters: &[Requester], ids: &BTreeSet<String>) -> Option<Path>
+    ensures { (d : Data) → HasIds ids.now (ids_of d) → result ≡ unknown_user d requesters.now }
 {
     at(Name::Principals, first_unknown_user(requesters, ids))
 }
 
 /// The first resource whose account is none of these.
-pub fn unknown_owner(world: &Value, ids: &BTreeSet<String>) -> Option<Path>
+fn unknown_owner(world: &Value, ids: &BTreeSet<String>) -> Option<Path>
     requires { HasIds ids.now (ids_of (view world.now)) }
     ensures { result ≡ unknown_owner (view world.now) }
 {
@@ -159,7 +159,7 @@ fn bad_name(world: &Value, requesters: &[Requester], ids: &BTreeSet<String>) -> 
     if let Some(path) = bad_arn(world) {
         return Some(WorldFault::BadResourceArn(path));
     }
-    if let Some(path) = unknown_user(world, requesters, ids) {
+    if let Some(path) = unknown_user(requesters, ids) {
         return Some(WorldFault::UnknownAccount(path));
     }
     if let Some(path) = unknown_owner(world, ids) {

@@ -22,9 +22,9 @@ fn lines_of_a_run(rt: HostRuntime) -> Result<(), Fail> {
 #[test]
 fn lines_of_a_world(rt: HostRuntime) -> Result<(), Fail> {
     let moment = Path::Member(Name::Moment);
-    let user = Path::Field(Name::Principals, 1, Name::User);
+    let principal = Path::Item(Name::Principals, 1);
     let action = Path::Item(Name::Actions, 0);
-    let arn = Path::Field(Name::Resources, 2, Name::Arn);
+    let resource = Path::Item(Name::Resources, 2);
     let rows = [
         (WorldFault::NotJson, "fault 2 World: 1 NotJson"),
         (
@@ -36,16 +36,16 @@ fn lines_of_a_world(rt: HostRuntime) -> Result<(), Fail> {
             "fault 2 World: 2 BadShape at .",
         ),
         (
-            WorldFault::BadRequester(user),
-            "fault 2 World: 3 BadRequester at principals/1/user",
+            WorldFault::BadRequester(principal),
+            "fault 2 World: 3 BadRequester at principals/1",
         ),
         (
             WorldFault::BadAction(action),
             "fault 2 World: 4 BadAction at actions/0",
         ),
         (
-            WorldFault::BadResourceArn(arn),
-            "fault 2 World: 5 BadResourceArn at resources/2/arn",
+            WorldFault::BadResourceArn(resource),
+            "fault 2 World: 5 BadResourceArn at resources/2",
         ),
         (
             WorldFault::UnknownAccount(Path::Item(Name::Resources, 0)),
