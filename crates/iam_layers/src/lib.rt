@@ -16,6 +16,8 @@ mod shape;
 mod tests;
 mod verdict;
 mod world;
+#[cfg(test)]
+mod world_tests;
 
 pub use applicable::Applicable;
 pub use fault::WorldFault;
