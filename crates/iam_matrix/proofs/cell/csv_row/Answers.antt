@@ -18,8 +18,7 @@ returns c =
     (
     λ text is p a r at.
     let Q : ℕ × ℕ × ℕ → Type 0 = λ t. IsCsvRow c.args.world.now cell t.0 t.1 t.2 v.decision v.statements v.lacks text.items in
-    subst Q (c.triple-p.ensures.only p a r at)
-    (
+    subst Q (c.triple-p.ensures.only p a r at) (
       principal.0,
       action,
       resource.0,
