@@ -2,12 +2,12 @@
 
 # The main job: one decision on the smallest example world.
 run: build
-	./iamsim decide 0 0 0 < examples/smallest.json
+	@./iamsim decide 0 0 0 < examples/smallest.json
 
 # The program, proved and built, as ./iamsim.
 build:
-	cd crates/iamsim && rt run -- --help > /dev/null
-	cp crates/iamsim/out/iamsim iamsim
+	@cd crates/iamsim && rt run -- --help > /dev/null
+	@cp crates/iamsim/out/iamsim iamsim
 
 # The gate: every proof from nothing, the must-fail edits, the tests, and the stored run of the program.
 test:

@@ -3,11 +3,9 @@ ghost use Rattle.std.specs.Io.KnownBytes.{Appends};
 ghost use Rattle.iam_app.specs.Streams.{AppendsBeginning};
 
 use std::io::Write;
-use thiserror::Error;
 
 /// A write or the flush failed, or a write took no bytes.
-#[derive(Clone, Copy, Debug, PartialEq, Eq, Error)]
-#[error("the output can't be written")]
+#[derive(Clone, Copy, Debug, PartialEq, Eq)]
 pub struct OutputFault;
 
 /// Writes the whole text, and then flushes. After a fault the writer gained a beginning of the text.

@@ -1,7 +1,6 @@
-ghost use Rattle.std.specs.Prelude.{◌≡◌, ◌≢◌, ℕ, List, ◌↔◌, IsTrue, IfOk, IfErr, OnOk};
-ghost use Rattle.iam_layers.specs.Reads.{IsWorld};
-ghost use Rattle.iam_layers.specs.World.{WorldValue};
+ghost use Rattle.std.specs.Prelude.{◌≡◌, ◌≢◌, ◌↔◌, IsTrue, IfOk, IfErr, OnOk};
 ghost use Rattle.iam_app.specs.Output.{EndsBy, HasTriple, IsAnswer, IsOutput, IsRefusal, WritesOutput, fault_of_input};
+ghost use Rattle.iam_app.specs.Streams.{ConsumesAtMost};
 ghost use Rattle.iam_app.specs.declared.fault.RunFault.TheVariants as f;
 
 use crate::fault::RunFault;
@@ -65,7 +64,7 @@ fn input_fault(fault: InputFault) -> RunFault
 }
 
 /// Reads a world, and writes the report that the options ask for: the whole report is made before its first byte is
-/// written. The first fault in this order ends the run: `Read`, `World`, `NoSuchCell`, `Write`; `OutOfMemory` can come at any
+/// written. At most 8,388,609 bytes are read. The first fault in this order ends the run: `Read`, `World`, `NoSuchCell`, `Write`; `OutOfMemory` can come at any
 /// point before the writing. After every fault but `Write` nothing was written; after `Write` a beginning of the report.
 pub fn run<R: Read, W: Write>(
     alloc: Global,
@@ -73,6 +72,7 @@ pub fn run<R: Read, W: Write>(
     reader: &mut R,
     writer: &mut W,
 ) -> Result<(), RunFault>
+    ensures most { ConsumesAtMost (R.remaining reader.old) (R.remaining reader.new) 8388609 }
     ensures done { OnOk result (WritesOutput options.now.task (R.remaining reader.old) (W.contents writer.old) (W.contents writer.new)) }
     ensures fault { IfErr result (λ fault. EndsBy options.now.task (R.remaining reader.old) (W.contents writer.old) (W.contents writer.new) fault) }
 {

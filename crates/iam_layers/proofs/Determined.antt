@@ -1,10 +1,9 @@
 -- The bytes of a world have no first fault, and they are those of one world.
-use Rattle.std.proofs.Common.{◌≡◌, ◌≢◌, ◌⊎◌, inl, inr, ℕ, ◌+◌, ◌<◌, ◌≤◌, List, [], ◌∷◌, ◌++◌, Option, Some, None, true, false, codes, length, refl, sym, ap, ◌∙◌, subst, arith}
+use Rattle.std.proofs.Common.{◌≡◌, inl, inr, ℕ, ◌+◌, List, [], ◌∷◌, ◌++◌, Some, None, true, false, codes, refl, sym, ap, ◌∙◌, subst, arith}
 use Rattle.std.specs.List.{AllByRecursion, AllZip}
 use Rattle.std.specs.Str.{bytes_eq}
-use Rattle.serde_json.specs.Data.{Data, Num, unsigned, number, string}
+use Rattle.serde_json.specs.Data.{Data, unsigned, number, string}
 use Rattle.serde_json.specs.Find.{get}
-use Rattle.serde_json.specs.Read.{read}
 use Rattle.iam_text.proofs.ArnLemmas.{arn_unique}
 use Rattle.iam_policy.specs.Fault.{statements_of}
 use Rattle.iam_policy.specs.declared.effect.Effect.{Effect}

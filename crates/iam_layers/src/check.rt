@@ -1,11 +1,10 @@
-ghost use Rattle.std.specs.Prelude.{◌≡◌, ◌≢◌, ◌||◌, ◌==◌, ◌+◌, ℕ, List, Some, None, map, IfOk, IfErr, MatchOption, not, option_map};
+ghost use Rattle.std.specs.Prelude.{◌≡◌, ◌≢◌, ◌||◌, ◌==◌, map, IfOk, IfErr, MatchOption, not, option_map};
 ghost use Rattle.std.specs.BTreeSet.{contains_text};
-ghost use Rattle.std.specs.List.{AllZip, list_all, position};
+ghost use Rattle.std.specs.List.{list_all, position};
 ghost use Rattle.std.specs.Char.{is_ascii_alphanumeric};
 ghost use Rattle.serde_json.specs.Data.{Data};
 ghost use Rattle.serde_json.specs.View.{view};
-ghost use Rattle.iam_match.specs.Requester.{IsUser, RequesterValue};
-ghost use Rattle.iam_layers.specs.Shape.{ids_of, text_at, text_of};
+ghost use Rattle.iam_layers.specs.Shape.{ids_of, text_at};
 ghost use Rattle.iam_layers.specs.WorldFault.{AreRequesters, HasRequesters, IsFirstFault, IsOwned, bad_action, bad_arn, is_action, is_action_name, is_action_text, is_prefix, is_resource, is_resource_text, unknown_owner, unknown_user};
 ghost use Rattle.iam_layers.specs.CheckCode.{IsNoUserFault};
 ghost use Rattle.iam_layers.specs.ShapeCode.{HasIds};

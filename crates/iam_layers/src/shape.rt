@@ -1,20 +1,16 @@
-ghost use Rattle.std.specs.Prelude.{◌≡◌, ◌≢◌, ◌⊎◌, ℕ, List, Bool, true, false, Option, Some, None, map, codes, IfOk, IfErr, OnOk, ◌||◌, option_map, take};
-ghost use Rattle.serde_json.specs.Data.{Data};
+ghost use Rattle.std.specs.Prelude.{◌≡◌, ◌≢◌, ℕ, List, Some, None, map, IfOk, IfErr, OnOk, ◌||◌, option_map};
 ghost use Rattle.serde_json.specs.View.{view, members_view};
 ghost use Rattle.iam_policy.specs.Element.{has_other};
-ghost use Rattle.iam_layers.specs.Shape.{account_checks, action_checks, each, first_bad, has_only, head_checks, ids_of, is_among, is_id, is_list, is_list_or_absent, is_moment, is_name, is_text, items, list_checks, member, principal_checks, resource_checks, rest_checks, shape_checks, text_at, text_of, values};
+ghost use Rattle.iam_layers.specs.Shape.{account_checks, action_checks, each, first_bad, has_only, head_checks, ids_of, is_id, is_list, is_list_or_absent, is_moment, is_name, is_text, items, list_checks, member, principal_checks, resource_checks, rest_checks, shape_checks, text_at, text_of, values};
 ghost use Rattle.iam_layers.specs.ShapeCode.{AreAccounts, HasIds, IsAccountsFault, checks_of};
-ghost use Rattle.iam_match.specs.Requester.{is_account};
 ghost use Rattle.std.specs.BTreeSet.{contains_text};
-ghost use Rattle.std.specs.List.{list_all};
 ghost use Rattle.std.specs.Str.{bytes_eq};
-ghost use Rattle.std.specs.Char.{is_ascii_digit};
 ghost use Rattle.iam_layers.specs.WorldFault.{IsFirstFault};
 ghost use Rattle.iam_layers.specs.declared.fault.WorldFault.TheVariants as w;
 
 use crate::fault::WorldFault;
 use crate::path::{Name, Path};
-use iam_match::OutOfMemory;
+use iam_match::{OutOfMemory, is_account};
 use serde_json::{Map, Value};
 use std::alloc::Global;
 use std::collections::BTreeSet;
@@ -113,24 +109,11 @@ fn is_id(account: &Value) -> bool
 {
     match member(account, Name::Id) {
         Some(value) => match value.as_str() {
-            Some(text) => is_id_text(text),
+            Some(text) => is_account(text),
             None => false,
         },
         None => false,
     }
-}
-
-/// Twelve digits.
-fn is_id_text(text: &str) -> bool
-    ensures { result ≡ is_account text.now }
-{
-    text.len() == 12 && all_digits(text.as_bytes())
-}
-
-fn all_digits(text: &[u8]) -> bool
-    ensures { result ≡ list_all is_ascii_digit text.now }
-{
-    text.iter().all(|c| c.is_ascii_digit())
 }
 
 fn is_name(names: &[Name], text: &str) -> bool

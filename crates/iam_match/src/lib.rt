@@ -9,5 +9,5 @@ mod tests;
 
 pub use iam_text::OutOfMemory;
 pub use request::Request;
-pub use requester::Requester;
+pub use requester::{Requester, is_account};
 pub use statement::statement_matches;

@@ -188,7 +188,8 @@ fn all_partition_characters(text: &[u8]) -> bool
     text.iter().all(|&c| c.is_ascii_alphanumeric() || c == b'-')
 }
 
-fn is_account(text: &str) -> bool
+/// Whether the text is an account's id: twelve ASCII digits.
+pub fn is_account(text: &str) -> bool
     ensures { result ≡ is_account text.now }
 {
     text.len() == 12 && all_digits(text.as_bytes())

@@ -10,7 +10,7 @@ use iam_layers::Verdict;
 use iam_text::OutOfMemory;
 use std::alloc::Global;
 
-/// Writes a row of these fields. Over a `Vec` the writer fails for want of memory alone.
+/// Writes a row of these fields. All rows have seven; then, over a `Vec`, the writer fails for want of memory alone.
 #[tactic(auto, unfolding(crate::specs::Written::line, crate::specs::Written::AddsLine))]
 fn write_line(writer: &mut Writer<Vec<u8>>, fields: &[&[u8]]) -> Result<(), OutOfMemory>
     ensures { OnOk result (AddsLine writer.old writer.new (map (λ field. field.now) fields.now)) }
