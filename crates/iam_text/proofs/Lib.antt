@@ -1,2 +1,4 @@
 pub mod ArnLemmas
+pub mod DraftLemmas
+pub mod FormLemmas
 pub mod WalkLemmas

@@ -1,4 +1,6 @@
 pub mod Arn
+pub mod Characters
+pub mod Code
 pub mod Cut
 pub mod Draft
 pub mod Glob

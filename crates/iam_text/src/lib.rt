@@ -1,17 +1,24 @@
-//! Texts of IAM policies: patterns with wildcards, and the parts of an ARN.
+//! Texts of IAM policies: patterns with wildcards, texts with variables, and the parts of an ARN.
 #![tactic(auto)]
 
 mod arn;
+mod characters;
+mod draft;
+mod form;
 mod glob;
 mod items;
+mod laws;
 mod sign;
-#[cfg(test)]
-mod tests;
+mod text;
 mod walk;
 
 pub use arn::Arn;
+pub use characters::{is_account, is_label};
+pub use draft::{Draft, Piece, has_draft};
 pub use glob::Glob;
 pub use items::Items;
+pub use laws::{one_arn, one_draft};
 pub use sign::Sign;
+pub use text::Text;
 /// The error of an allocator that refused a growth.
 pub use std::alloc::AllocError as OutOfMemory;

@@ -47,6 +47,3 @@ pub fn bytes(alloc: Global, text: &str) -> Result<Option<Vec<u8>>, OutOfMemory>
         Err(DecodeAllocError::DecodeError(_)) => Ok(None),
     }
 }
-
-#[cfg(test)]
-mod tests;

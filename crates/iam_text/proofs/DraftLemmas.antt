@@ -1,0 +1,252 @@
+-- What a text begins with, and that its draft is the only one.
+use Rattle.std.proofs.Common.{◌≡◌, ◌≢◌, ℕ, ◌<◌, List, [], ◌∷◌, ◌++◌, Bool, true, false, ◌==◌, not, length, replicate, Some, None, refl, sym, ap, ◌∙◌, subst, arith, codes, inl, inr, ◌⊎◌, length-append, IsTrue, ◌||◌}
+use Rattle.std.proofs.lemmas.List.{append-nil, append_assoc}
+use Rattle.std.proofs.lemmas.Str.{length-encode, len_utf8_bounds}
+use Rattle.std.specs.Char.{encode_utf8}
+use Rattle.std.specs.List.{list_all}
+use Rattle.iam_text.specs.declared.draft.Piece.{Piece}
+use Rattle.iam_text.specs.declared.draft.Piece.TheVariants.{Plain, Escaped, Variable}
+use Rattle.iam_text.specs.declared.sign.Sign.{Sign}
+use Rattle.iam_text.specs.Draft.{BeginsWith, IsDraft, IsWritten, is_key, is_key_character, sign_of}
+use Rattle.iam_text.specs.Code.Forms.{HasClosed, HasDefault, HasForm, IsClosed, IsQuoted}
+use Rattle.iam_text.proofs.FormLemmas.{all-absent, and-both, closed-avoids, default-cut, key-all, literal-no_key, one_character, run-unique, spaces-unique}
+
+-- each piece is written with one character at least
+part-some : (wild : Bool) (piece : Piece) (part : List ℕ) → IsWritten wild piece part → 0 < length part
+part-some wild (Plain sign) part (c, read, is) = omega (arith, ap length is, length-encode c, (len_utf8_bounds c).0)
+part-some wild (Escaped c) part (literal, is) = omega (arith, ap length is)
+part-some wild (Variable key None) part (fits, is) = omega (arith, ap length is)
+part-some wild (Variable key (Some default)) part (n, fits, plain, is) = omega (arith, ap length is)
+
+pub begins-shorter : (wild : Bool) (text : List ℕ) (piece : Piece) (rest : List ℕ) → BeginsWith wild text piece rest → length rest < length text
+begins-shorter wild text piece rest b = omega (arith, ap length b.joined, length-append b.part rest, part-some wild piece b.part b.written)
+
+pub begins-some : (wild : Bool) (text : List ℕ) (piece : Piece) (rest : List ℕ) → BeginsWith wild text piece rest → text ≢ []
+begins-some wild text piece rest b none = omega (arith, begins-shorter wild text piece rest b, ap length none)
+
+-- how a variable with a default is written, and what stands behind it
+whole : (key default rest : List ℕ) (n : ℕ)
+    → (key ++ (codes "," ++ (replicate n 32 ++ (codes "'" ++ (default ++ codes "'}"))))) ++ rest
+    ≡ key ++ (44 ∷ (replicate n 32 ++ (39 ∷ (default ++ (39 ∷ (125 ∷ rest))))))
+whole key default rest n =
+    append_assoc key (codes "," ++ (replicate n 32 ++ (codes "'" ++ (default ++ codes "'}")))) rest
+    ∙ ap (λ t. key ++ (44 ∷ t)) (
+    append_assoc (replicate n 32) (codes "'" ++ (default ++ codes "'}")) rest
+    ∙ ap (λ t. replicate n 32 ++ (39 ∷ t)) (append_assoc default (codes "'}") rest)
+    )
+
+-- a text that begins with a form
+pub begins-from_form : (wild : Bool) (piece : Piece) (text inside rest : List ℕ) → text ≡ codes "${" ++ inside → HasForm piece inside rest
+    → BeginsWith wild text piece rest
+begins-from_form wild (Plain sign) text inside rest starts (inl (between, closed, joined)) = absurd closed
+begins-from_form wild (Plain sign) text inside rest starts (inr default) = absurd default
+begins-from_form wild (Escaped c) text inside rest starts (inl (between, (literal, is), joined)) = record {
+  part = codes "${" ++ (c ∷ codes "}");
+  written = (literal, refl);
+  joined = starts ∙ ap (λ t. codes "${" ++ t) (joined ∙ ap (λ t. t ++ (125 ∷ rest)) is);
+  apart = λ same more e. let no : ⊥ = cc in no;
+}
+begins-from_form wild (Escaped c) text inside rest starts (inr default) = absurd default
+begins-from_form wild (Variable key None) text inside rest starts (inl (between, (fits, is), joined)) = record {
+  part = codes "${" ++ (key ++ codes "}");
+  written = (fits, refl);
+  joined = starts ∙ ap (λ t. codes "${" ++ t) (joined ∙ ap (λ t. t ++ (125 ∷ rest)) is ∙ sym (append_assoc key (codes "}") rest));
+  apart = λ same more e. let no : ⊥ = cc in no;
+}
+begins-from_form wild (Variable key None) text inside rest starts (inr default) = absurd default
+begins-from_form wild (Variable key (Some default)) text inside rest starts (inl (between, closed, joined)) = absurd closed
+begins-from_form wild (Variable key (Some default)) text inside rest starts (inr (behind, fits, joined, (n, plain, quoted))) = record {
+  part = codes "${" ++ (key ++ (codes "," ++ (replicate n 32 ++ (codes "'" ++ (default ++ codes "'}")))));
+  written = (n, fits, plain, refl);
+  joined = starts ∙ ap (λ t. codes "${" ++ t) (joined ∙ ap (λ t. key ++ (44 ∷ t)) quoted ∙ sym (whole key default rest n));
+  apart = λ same more e. let no : ⊥ = cc in no;
+}
+
+-- a character by itself does not begin a form
+no-character : (wild : Bool) (sign : Sign) (text inside rest : List ℕ) → text ≡ codes "${" ++ inside → BeginsWith wild text (Plain sign) rest → ⊥
+unfolding encode_utf8
+no-character wild sign text inside rest starts b = go b.written
+  where
+    go : (c : ℕ) × (sign ≡ sign_of wild c) × (b.part ≡ encode_utf8 c) → ⊥
+    go (c, read, is) =
+        let split = one_character c 36 rest (123 ∷ inside) (ap (λ t. t ++ rest) (sym is) ∙ sym b.joined ∙ starts) in
+        b.apart (is ∙ ap encode_utf8 split.0) inside split.1
+
+pub form-from_begins : (wild : Bool) (piece : Piece) (text inside rest : List ℕ) → text ≡ codes "${" ++ inside → BeginsWith wild text piece rest
+    → HasForm piece inside rest
+form-from_begins wild (Plain sign) text inside rest starts b = absurd (no-character wild sign text inside rest starts b)
+form-from_begins wild (Escaped c) text inside rest starts b =
+    let same : codes "${" ++ inside ≡ codes "${" ++ (c ∷ (125 ∷ rest)) = sym starts ∙ b.joined ∙ ap (λ t. t ++ rest) b.written.1 in
+    inl (c ∷ [], (b.written.0, refl), (let behind : inside ≡ c ∷ (125 ∷ rest) = cc in behind))
+form-from_begins wild (Variable key None) text inside rest starts b =
+    let same : codes "${" ++ inside ≡ codes "${" ++ ((key ++ codes "}") ++ rest) = sym starts ∙ b.joined ∙ ap (λ t. t ++ rest) b.written.1 in
+    let behind : inside ≡ (key ++ codes "}") ++ rest = cc in
+    inl (key, (b.written.0, refl), behind ∙ append_assoc key (codes "}") rest)
+form-from_begins wild (Variable key (Some default)) text inside rest starts b =
+    let n = b.written.0 in
+    let same : codes "${" ++ inside ≡ codes "${" ++ ((key ++ (codes "," ++ (replicate n 32 ++ (codes "'" ++ (default ++ codes "'}"))))) ++ rest) =
+    sym starts ∙ b.joined ∙ ap (λ t. t ++ rest) b.written.3 in
+    let behind : inside ≡ (key ++ (codes "," ++ (replicate n 32 ++ (codes "'" ++ (default ++ codes "'}"))))) ++ rest = cc in
+    inr (
+      replicate n 32 ++ (39 ∷ (default ++ (39 ∷ (125 ∷ rest)))),
+      b.written.1,
+      behind ∙ whole key default rest n,
+      (n, b.written.2, refl),
+    )
+
+-- a key does not begin with `*`, `?` or `$`
+literal-before : (c : ℕ) (key more rest : List ℕ) → IsTrue (c == 42 || c == 63 || c == 36) → IsTrue (is_key key) → c ∷ more ≡ key ++ rest → ⊥
+literal-before c [] more rest literal fits e = let no : ⊥ = cc in no
+literal-before c (k ∷ key) more rest literal fits e =
+    let heads : c ≡ k = cc in
+    let wrong : true ≡ false = sym (and-both (is_key_character k) (list_all is_key_character key) (key-all (k ∷ key) fits)).0 ∙ ap is_key_character (sym heads) ∙ literal-no_key c literal in
+    let no : ⊥ = cc in
+    no
+
+literal-key : (c : ℕ) (key : List ℕ) → IsTrue (c == 42 || c == 63 || c == 36) → IsTrue (is_key key) → key ≡ c ∷ [] → ⊥
+literal-key c key literal fits same = literal-before c key [] [] literal fits (sym same ∙ sym (append-nil key))
+
+-- what stands between `${` and `}` is one piece
+closed-unique : (p q : Piece) (inside : List ℕ) → IsClosed p inside → IsClosed q inside → p ≡ q
+closed-unique (Plain s) q inside a b = absurd a
+closed-unique (Variable key (Some default)) q inside a b = absurd a
+closed-unique (Escaped c) (Plain s) inside a b = absurd b
+closed-unique (Escaped c) (Variable key (Some default)) inside a b = absurd b
+closed-unique (Variable key None) (Plain s) inside a b = absurd b
+closed-unique (Variable key None) (Variable key' (Some default)) inside a b = absurd b
+closed-unique (Escaped c) (Escaped d) inside a b =
+    let same : c ∷ [] ≡ d ∷ [] = sym a.1 ∙ b.1 in
+    let one : c ≡ d = cc in
+    ap Escaped one
+closed-unique (Escaped c) (Variable key None) inside a b = absurd (literal-key c key a.0 b.0 (sym b.1 ∙ a.1))
+closed-unique (Variable key None) (Escaped c) inside a b = absurd (literal-key c key b.0 a.0 (sym a.1 ∙ b.1))
+closed-unique (Variable key None) (Variable key' None) inside a b = ap (λ k. Variable k None) (sym a.1 ∙ b.1)
+
+-- a form with a default is none without one
+closed-default : (p q : Piece) (text r t : List ℕ) → HasClosed p text r → HasDefault q text t → ⊥
+closed-default (Plain s) q text r t (inside, closed, joined) has = closed
+closed-default (Variable key (Some default)) q text r t (inside, closed, joined) has = closed
+closed-default (Escaped c) q text r t (inside, (literal, is), joined) has =
+    let d = default-cut q text t has in
+    literal-before c d.0 (125 ∷ r) (44 ∷ d.2) literal d.3 (ap (λ i. i ++ (125 ∷ r)) (sym is) ∙ sym joined ∙ d.4)
+closed-default (Variable key None) q text r t (inside, (fits, is), joined) has =
+    let d = default-cut q text t has in
+    let cut =
+    run-unique is_key_character key d.0 125 44 r d.2 (key-all key fits) (key-all d.0 d.3) refl refl
+    (ap (λ i. i ++ (125 ∷ r)) (sym is) ∙ sym joined ∙ d.4) in
+    let wrong : ◌≡◌ {A = ℕ} 125 44 = cut.1 in
+    omega arith
+
+quote-first : (inside more : List ℕ) → 39 ∷ inside ≢ 32 ∷ more
+quote-first inside more e =
+    let heads : ◌≡◌ {A = ℕ} 39 32 = cc in
+    omega arith
+
+quoted-unique : (text d e r t : List ℕ) → IsQuoted text d r → IsQuoted text e t → (d ≡ e) × (r ≡ t)
+quoted-unique text d e r t (n, plain, is) (m, plain', is') =
+    let inner : 39 ∷ (d ++ (39 ∷ (125 ∷ r))) ≡ 39 ∷ (e ++ (39 ∷ (125 ∷ t))) =
+    spaces-unique n m (39 ∷ (d ++ (39 ∷ (125 ∷ r)))) (39 ∷ (e ++ (39 ∷ (125 ∷ t)))) (quote-first (d ++ (39 ∷ (125 ∷ r)))) (quote-first (e ++ (39 ∷ (125 ∷ t)))) (sym is ∙ is') in
+    let cut =
+    run-unique (λ c. not (c == 39)) d e 39 39 (125 ∷ r) (125 ∷ t) plain plain' refl refl
+    (let tails : d ++ (39 ∷ (125 ∷ r)) ≡ e ++ (39 ∷ (125 ∷ t)) = cc in tails) in
+    let ends : 125 ∷ r ≡ 125 ∷ t = cut.2 in
+    (cut.0, (let rests : r ≡ t = cc in rests))
+
+default-unique : (p q : Piece) (text r t : List ℕ) → HasDefault p text r → HasDefault q text t → (p ≡ q) × (r ≡ t)
+default-unique (Plain s) q text r t a b = absurd a
+default-unique (Escaped c) q text r t a b = absurd a
+default-unique (Variable key None) q text r t a b = absurd a
+default-unique (Variable key (Some default)) (Plain s) text r t a b = absurd b
+default-unique (Variable key (Some default)) (Escaped c) text r t a b = absurd b
+default-unique (Variable key (Some default)) (Variable key' None) text r t a b = absurd b
+default-unique (Variable key (Some default)) (Variable key' (Some default')) text r t (behind, fits, joined, quoted) (behind', fits', joined', quoted') =
+    let cut = run-unique is_key_character key key' 44 44 behind behind' (key-all key fits) (key-all key' fits') refl refl (sym joined ∙ joined') in
+    let P : List ℕ → Type 0 = λ b. IsQuoted b default r in
+    let inner = quoted-unique behind' default default' r t (subst P cut.2 quoted) quoted' in
+    (ap (λ k. Variable k (Some default)) cut.0 ∙ ap (λ d. Variable key' (Some d)) inner.0, inner.1)
+
+form-unique : (p q : Piece) (text r t : List ℕ) → HasForm p text r → HasForm q text t → (p ≡ q) × (r ≡ t)
+form-unique p q text r t (inl a) (inr b) = absurd (closed-default p q text r t a b)
+form-unique p q text r t (inr a) (inl b) = absurd (closed-default q p text t r b a)
+form-unique p q text r t (inr a) (inr b) = default-unique p q text r t a b
+form-unique p q text r t (inl (inside, closed, joined)) (inl (inside', closed', joined')) =
+    let cut =
+    run-unique (λ c. not (c == 125)) inside inside' 125 125 r t (all-absent 125 inside (closed-avoids p inside closed))
+    (all-absent 125 inside' (closed-avoids q inside' closed')) refl refl (sym joined ∙ joined') in
+    let P : List ℕ → Type 0 = λ i. IsClosed p i in
+    (closed-unique p q inside' (subst P cut.0 closed) closed', cut.2)
+
+-- a piece is a character by itself, or begins with `${`
+piece-cases : (wild : Bool) (piece : Piece) (part : List ℕ) → IsWritten wild piece part
+    → ((sign : Sign) × (c : ℕ) × (piece ≡ Plain sign) × (sign ≡ sign_of wild c) × (part ≡ encode_utf8 c)) ⊎ ((inside : List ℕ) × (part ≡ codes "${" ++ inside))
+piece-cases wild (Plain sign) part (c, read, is) = inl (sign, c, refl, read, is)
+piece-cases wild (Escaped c) part (literal, is) = inr (c ∷ codes "}", is)
+piece-cases wild (Variable key None) part (fits, is) = inr (key ++ codes "}", is)
+piece-cases wild (Variable key (Some default)) part (n, fits, plain, is) =
+    inr (key ++ (codes "," ++ (replicate n 32 ++ (codes "'" ++ (default ++ codes "'}")))), is)
+
+-- a text begins with one piece
+begins-unique : (wild : Bool) (text : List ℕ) (p q : Piece) (r t : List ℕ) → BeginsWith wild text p r → BeginsWith wild text q t → (p ≡ q) × (r ≡ t)
+begins-unique wild text p q r t a b = go (piece-cases wild p a.part a.written) (piece-cases wild q b.part b.written)
+  where
+    from_form : (inside : List ℕ) → text ≡ codes "${" ++ inside → (p ≡ q) × (r ≡ t)
+    from_form inside starts = form-unique p q inside r t (form-from_begins wild p text inside r starts a) (form-from_begins wild q text inside t starts b)
+
+    go : ((sign : Sign) × (c : ℕ) × (p ≡ Plain sign) × (sign ≡ sign_of wild c) × (a.part ≡ encode_utf8 c)) ⊎ ((inside : List ℕ) × (a.part ≡ codes "${" ++ inside))
+        → ((sign : Sign) × (c : ℕ) × (q ≡ Plain sign) × (sign ≡ sign_of wild c) × (b.part ≡ encode_utf8 c)) ⊎ ((inside : List ℕ) × (b.part ≡ codes "${" ++ inside))
+        → (p ≡ q) × (r ≡ t)
+    go (inr (inside, is)) second = from_form (inside ++ r) (a.joined ∙ ap (λ x. x ++ r) is)
+    go (inl first) (inr (inside, is)) = from_form (inside ++ t) (b.joined ∙ ap (λ x. x ++ t) is)
+    go (inl (sign, c, plain, read, is)) (inl (sign', d, plain', read', is')) =
+        let split = one_character c d r t (ap (λ x. x ++ r) (sym is) ∙ sym a.joined ∙ b.joined ∙ ap (λ x. x ++ t) is') in
+        (plain ∙ ap Plain (read ∙ ap (sign_of wild) split.0 ∙ sym read') ∙ sym plain', split.1)
+
+-- a text has one draft
+pub draft_unique : (wild : Bool) (text : List ℕ) (ps qs : List Piece) → IsDraft wild text ps → IsDraft wild text qs → ps ≡ qs
+draft_unique wild text [] [] a b = refl
+draft_unique wild text [] (q ∷ qs) a (t, first, more) = absurd (begins-some wild text q t first a)
+draft_unique wild text (p ∷ ps) [] (r, first, more) b = absurd (begins-some wild text p r first b)
+draft_unique wild text (p ∷ ps) (q ∷ qs) (r, first, more) (t, first', more') =
+    let one = begins-unique wild text p q r t first first' in
+    let P : List ℕ → Type 0 = λ x. IsDraft wild x ps in
+    let rest = draft_unique wild t ps qs (subst P one.1 more) more' in
+    ap (λ x. x ∷ ps) one.0 ∙ ap (λ xs. q ∷ xs) rest
+
+-- how far a text was read: what is left makes the draft whole, and a draft of the text leaves one of what is left
+pub record Along (wild : Bool) (text : List ℕ) (pieces : List Piece) (rest : List ℕ) : Type 0 where
+  pub on : (tail : List Piece) → IsDraft wild rest tail → IsDraft wild text (pieces ++ tail)
+  pub back : (all : List Piece) → IsDraft wild text all → (tail : List Piece) × IsDraft wild rest tail
+
+pub along-none : (wild : Bool) (text : List ℕ) → Along wild text [] text
+along-none wild text = record { on = λ tail draft. draft; back = λ all draft. (all, draft) }
+
+pub along-more : (wild : Bool) (text : List ℕ) (pieces : List Piece) (rest behind : List ℕ) (piece : Piece) → Along wild text pieces rest
+    → BeginsWith wild rest piece behind → Along wild text (pieces ++ piece ∷ []) behind
+along-more wild text pieces rest behind piece a begins = record {
+  on = λ tail draft.
+      let P : List Piece → Type 0 = λ all. IsDraft wild text all in
+      subst P (sym (append_assoc pieces (piece ∷ []) tail)) (a.on (piece ∷ tail) (behind, begins, draft));
+  back = λ all draft. let left = a.back all draft in after left.0 left.1;
+}
+  where
+    after : (tail : List Piece) → IsDraft wild rest tail → (more : List Piece) × IsDraft wild behind more
+    after [] none = absurd (begins-some wild rest piece behind begins none)
+    after (p ∷ tail) (behind', begins', draft) =
+        let one = begins-unique wild rest piece p behind behind' begins begins' in
+        let P : List ℕ → Type 0 = λ b. IsDraft wild b tail in
+        (tail, subst P (sym one.1) draft)
+
+-- at the end of the text
+pub along-end : (wild : Bool) (text : List ℕ) (pieces : List Piece) (rest : List ℕ) → Along wild text pieces rest → rest ≡ [] → IsDraft wild text pieces
+along-end wild text pieces rest a none =
+    let P : List Piece → Type 0 = λ all. IsDraft wild text all in
+    subst P (append-nil pieces) (a.on [] none)
+
+-- where no piece begins what is left of it
+pub along-off : (wild : Bool) (text : List ℕ) (pieces : List Piece) (rest : List ℕ) → Along wild text pieces rest → rest ≢ []
+    → ((piece : Piece) (behind : List ℕ) → ¬ BeginsWith wild rest piece behind) → (all : List Piece) → ¬ IsDraft wild text all
+along-off wild text pieces rest a some off all draft = let left = a.back all draft in go left.0 left.1
+  where
+    go : (tail : List Piece) → IsDraft wild rest tail → ⊥
+    go [] none = some none
+    go (p ∷ tail) (behind, begins, more) = off p behind begins

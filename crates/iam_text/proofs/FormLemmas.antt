@@ -1,0 +1,175 @@
+-- What a text begins with is determined.
+use Rattle.std.proofs.Common.{◌≡◌, ◌≢◌, ℕ, ◌<◌, ◌≤◌, zero, suc, List, [], ◌∷◌, ◌++◌, Bool, true, false, ◌&&◌, ◌||◌, ◌==◌, not, length, drop, replicate, Option, Some, None, refl, sym, ap, ◌∙◌, subst, arith, IsTrue, eqb-true, eq-eqb, get_or, inl, inr, ◌⊎◌, MatchOption, nat_lt}
+use Rattle.std.proofs.lemmas.Bool.{cases_lt}
+use Rattle.std.proofs.lemmas.List.{append-nil, append_cancel_left}
+use Rattle.std.proofs.lemmas.Str.{cons_from_encodes}
+use Rattle.std.specs.Str.{encode_utf8_all}
+use Rattle.std.specs.Char.{encode_utf8}
+use Rattle.std.specs.List.{list_all}
+use Rattle.iam_text.specs.declared.draft.Piece.{Piece}
+use Rattle.iam_text.specs.declared.draft.Piece.TheVariants.{Plain, Escaped, Variable}
+use Rattle.iam_text.specs.Draft.{is_key, is_key_character}
+use Rattle.iam_text.specs.Code.Forms.{HasDefault, IsClosed, IsQuoted}
+
+pub and-both : (a b : Bool) → (a && b) ≡ true → (a ≡ true) × (b ≡ true)
+and-both true b e = (refl, e)
+and-both false b e = cc
+
+-- a run of characters that pass, up to one that does not, is the only one
+pub run-unique : (test : ℕ → Bool) (xs ys : List ℕ) (c d : ℕ) (us vs : List ℕ) → list_all test xs ≡ true → list_all test ys ≡ true
+    → test c ≡ false → test d ≡ false → xs ++ (c ∷ us) ≡ ys ++ (d ∷ vs) → (xs ≡ ys) × (c ≡ d) × (us ≡ vs)
+run-unique test [] [] c d us vs all all' off off' e = (refl, (let heads : c ≡ d = cc in heads), (let tails : us ≡ vs = cc in tails))
+run-unique test [] (y ∷ ys) c d us vs all all' off off' e =
+    let heads : c ≡ y = cc in
+    let wrong : true ≡ false = sym (and-both (test y) (list_all test ys) all').0 ∙ ap test (sym heads) ∙ off in
+    absurd (let no : ⊥ = cc in no)
+run-unique test (x ∷ xs) [] c d us vs all all' off off' e =
+    let heads : x ≡ d = cc in
+    let wrong : true ≡ false = sym (and-both (test x) (list_all test xs) all).0 ∙ ap test heads ∙ off' in
+    absurd (let no : ⊥ = cc in no)
+run-unique test (x ∷ xs) (y ∷ ys) c d us vs all all' off off' e =
+    let heads : x ≡ y = cc in
+    let rest = run-unique test xs ys c d us vs (and-both (test x) (list_all test xs) all).1 (and-both (test y) (list_all test ys) all').1 off off'
+    (let tails : xs ++ (c ∷ us) ≡ ys ++ (d ∷ vs) = cc in tails) in
+    let same : xs ≡ ys = rest.0 in
+    ((let whole : x ∷ xs ≡ y ∷ ys = cc in whole), rest.1, rest.2)
+
+-- the shorter of two beginnings of one text begins the longer one
+begins : (xs ys r t : List ℕ) → xs ++ r ≡ ys ++ t → length xs ≤ length ys → ys ≡ xs ++ drop (length xs) ys
+begins [] ys r t e short = refl
+begins (x ∷ xs) [] r t e short = absurd (omega arith)
+begins (x ∷ xs) (y ∷ ys) r t e short =
+    let heads : x ≡ y = cc in
+    let rest : ys ≡ xs ++ drop (length xs) ys = begins xs ys r t (let tails : xs ++ r ≡ ys ++ t = cc in tails) (omega arith) in
+    ap (λ z. z ∷ ys) (sym heads) ∙ ap (λ z. x ∷ z) rest
+
+within : (c d : ℕ) (r t : List ℕ) → encode_utf8 c ++ r ≡ encode_utf8 d ++ t → length (encode_utf8 c) ≤ length (encode_utf8 d) → c ≡ d
+within c d r t e short =
+    let whole : encode_utf8_all (d ∷ []) ≡ encode_utf8 c ++ drop (length (encode_utf8 c)) (encode_utf8 d) =
+    append-nil (encode_utf8 d) ∙ begins (encode_utf8 c) (encode_utf8 d) r t e short in
+    let found = cons_from_encodes (d ∷ []) (drop (length (encode_utf8 c)) (encode_utf8 d)) c whole in
+    let same : d ∷ [] ≡ c ∷ found.0 = found.1 in
+    let heads : c ≡ d = cc in
+    heads
+
+-- a text begins with one character
+pub one_character : (c d : ℕ) (r t : List ℕ) → encode_utf8 c ++ r ≡ encode_utf8 d ++ t → (c ≡ d) × (r ≡ t)
+one_character c d r t e = go (cases_lt (length (encode_utf8 c)) (length (encode_utf8 d)))
+  where
+    finish : c ≡ d → (c ≡ d) × (r ≡ t)
+    finish same = (same, append_cancel_left (encode_utf8 c) r t (e ∙ ap (λ x. encode_utf8 x ++ t) (sym same)))
+
+    go : (length (encode_utf8 c) < length (encode_utf8 d)) ⊎ (length (encode_utf8 d) ≤ length (encode_utf8 c)) → (c ≡ d) × (r ≡ t)
+    go (inl short) = finish (within c d r t e (omega arith))
+    go (inr long) = finish (sym (within d c t r (sym e) long))
+
+-- one more space
+pub spaces-more : (n : ℕ) (rest : List ℕ) → replicate n 32 ++ (32 ∷ rest) ≡ replicate (suc n) 32 ++ rest
+spaces-more zero rest = refl
+spaces-more (suc n) rest = ap (λ t. 32 ∷ t) (spaces-more n rest)
+
+-- what stands behind all spaces
+pub spaces-unique : (n m : ℕ) (t u : List ℕ) → ((rest : List ℕ) → t ≢ 32 ∷ rest) → ((rest : List ℕ) → u ≢ 32 ∷ rest)
+    → replicate n 32 ++ t ≡ replicate m 32 ++ u → t ≡ u
+spaces-unique zero zero t u off off' e = e
+spaces-unique zero (suc m) t u off off' e = absurd (off (replicate m 32 ++ u) e)
+spaces-unique (suc n) zero t u off off' e = absurd (off' (replicate n 32 ++ t) (sym e))
+spaces-unique (suc n) (suc m) t u off off' e =
+    spaces-unique n m t u off off' (let tails : replicate n 32 ++ t ≡ replicate m 32 ++ u = cc in tails)
+
+other : (c d : ℕ) → c ≢ d → not (c == d) ≡ true
+other c d differs = go (c == d) refl
+  where
+    go : (b : Bool) → (c == d) ≡ b → not b ≡ true
+    go false e = refl
+    go true e = absurd (differs (eqb-true c d e))
+
+differs : (c d : ℕ) → not (c == d) ≡ true → c ≢ d
+differs c d test same = let wrong : true ≡ false = sym test ∙ ap not (eq-eqb c d same) in absurd (let no : ⊥ = cc in no)
+
+-- no character of the text is `d`, by test and by index
+pub absent : (d : ℕ) (text : List ℕ) → list_all (λ c. not (c == d)) text ≡ true → (i : ℕ) → i < length text → get_or text i 0 ≢ d
+absent d [] all i below = absurd (omega arith)
+absent d (c ∷ text) all zero below = differs c d (and-both (not (c == d)) (list_all (λ x. not (x == d)) text) all).0
+absent d (c ∷ text) all (suc i) below = absent d text (and-both (not (c == d)) (list_all (λ x. not (x == d)) text) all).1 i (omega arith)
+
+pub all-absent : (d : ℕ) (text : List ℕ) → ((i : ℕ) → i < length text → get_or text i 0 ≢ d) → list_all (λ c. not (c == d)) text ≡ true
+all-absent d [] none = refl
+all-absent d (c ∷ text) none =
+    ap (λ b. b && list_all (λ x. not (x == d)) text) (other c d (none 0 (omega arith))) ∙ all-absent d text (λ i below. none (suc i) (omega arith))
+
+-- a default in quotes, behind the spaces
+pub quoted-behind : (text inside default rest : List ℕ) (n : ℕ) → text ≡ replicate n 32 ++ inside → ((more : List ℕ) → inside ≢ 32 ∷ more)
+    → IsQuoted text default rest → IsTrue (list_all (λ c. not (c == 39)) default) × (inside ≡ 39 ∷ (default ++ (39 ∷ (125 ∷ rest))))
+quoted-behind text inside default rest n spaces off (m, plain, joined) = (
+  plain,
+  spaces-unique n m inside (39 ∷ (default ++ (39 ∷ (125 ∷ rest)))) off (λ more e. let wrong : ◌≡◌ {A = ℕ} 39 32 = cc in absurd (omega arith)) (sym spaces ∙ joined),
+)
+
+-- no character of a run is one that does not pass
+avoids : (test : ℕ → Bool) (d : ℕ) → test d ≡ false → (text : List ℕ) → list_all test text ≡ true → (i : ℕ) → i < length text → get_or text i 0 ≢ d
+avoids test d off [] all i below = absurd (omega arith)
+avoids test d off (c ∷ text) all zero below = λ same.
+    let wrong : true ≡ false = sym (and-both (test c) (list_all test text) all).0 ∙ ap test same ∙ off in
+    let no : ⊥ = cc in
+    no
+avoids test d off (c ∷ text) all (suc i) below = avoids test d off text (and-both (test c) (list_all test text) all).1 i (omega arith)
+
+pub key-all : (key : List ℕ) → is_key key ≡ true → list_all is_key_character key ≡ true
+key-all key is = (and-both (nat_lt 0 (length key)) (list_all is_key_character key) is).1
+
+pub key-avoids : (d : ℕ) → is_key_character d ≡ false → (key : List ℕ) → is_key key ≡ true → (i : ℕ) → i < length key → get_or key i 0 ≢ d
+key-avoids d off key is = avoids is_key_character d off key (key-all key is)
+
+-- `*`, `?` and `$`
+abbrev is_literal : ℕ → Bool
+is_literal c = c == 42 || c == 63 || c == 36
+
+literal-cases : (c : ℕ) → is_literal c ≡ true → (c ≡ 42) ⊎ ((c ≡ 63) ⊎ (c ≡ 36))
+literal-cases c is = go (c == 42) (c == 63) (c == 36) refl refl refl is
+  where
+    go : (x y z : Bool) → (c == 42) ≡ x → (c == 63) ≡ y → (c == 36) ≡ z → (x || y || z) ≡ true → (c ≡ 42) ⊎ ((c ≡ 63) ⊎ (c ≡ 36))
+    go true y z e f g t = inl (eqb-true c 42 e)
+    go false true z e f g t = inr (inl (eqb-true c 63 f))
+    go false false true e f g t = inr (inr (eqb-true c 36 g))
+    go false false false e f g t = absurd (let no : ⊥ = cc in no)
+
+pub literal-no_key : (c : ℕ) → is_literal c ≡ true → is_key_character c ≡ false
+literal-no_key c is = go (literal-cases c is)
+  where
+    go : (c ≡ 42) ⊎ ((c ≡ 63) ⊎ (c ≡ 36)) → is_key_character c ≡ false
+    go (inl e) = ap is_key_character e
+    go (inr (inl e)) = ap is_key_character e
+    go (inr (inr e)) = ap is_key_character e
+
+literal-open : (c : ℕ) → is_literal c ≡ true → c ≢ 125
+literal-open c is same = go (literal-cases c is)
+  where
+    go : (c ≡ 42) ⊎ ((c ≡ 63) ⊎ (c ≡ 36)) → ⊥
+    go (inl e) = omega arith
+    go (inr (inl e)) = omega arith
+    go (inr (inr e)) = omega arith
+
+-- no `}` stands in what is closed by one
+pub closed-avoids : (piece : Piece) (inside : List ℕ) → IsClosed piece inside → (i : ℕ) → i < length inside → get_or inside i 0 ≢ 125
+closed-avoids (Plain sign) inside closed = absurd closed
+closed-avoids (Escaped c) inside (literal, is) =
+    let P : List ℕ → Type 0 = λ t. (i : ℕ) → i < length t → get_or t i 0 ≢ 125 in
+    subst P (sym is) (absent 125 (c ∷ []) (ap (λ b. b && true) (other c 125 (literal-open c literal))))
+closed-avoids (Variable key None) inside (is, same) =
+    let P : List ℕ → Type 0 = λ t. (i : ℕ) → i < length t → get_or t i 0 ≢ 125 in
+    subst P (sym same) (key-avoids 125 refl key is)
+closed-avoids (Variable key (Some default)) inside closed = absurd closed
+
+-- the parts of a variable with a default
+pub default-cut : (piece : Piece) (text rest : List ℕ) → HasDefault piece text rest
+    → (key : List ℕ) × (default : List ℕ) × (behind : List ℕ) × IsTrue (is_key key) × (text ≡ key ++ (44 ∷ behind)) × IsQuoted behind default rest
+default-cut (Plain sign) text rest has = absurd has
+default-cut (Escaped c) text rest has = absurd has
+default-cut (Variable key None) text rest has = absurd has
+default-cut (Variable key (Some default)) text rest (behind, is, joined, quoted) = (key, default, behind, is, joined, quoted)
+
+-- what follows on both sides
+pub match-weaker : {X : Type 0} (r : Option X) (P P' : Type 0) (Q Q' : X → Type 0) → (P → P') → ((x : X) → Q x → Q' x) → MatchOption r P Q → MatchOption r P' Q'
+match-weaker None P P' Q Q' none some m = none m
+match-weaker (Some x) P P' Q Q' none some m = some x m

@@ -1,0 +1,110 @@
+ghost use Rattle.std.specs.Prelude.{◌≡◌, ◌↔◌, List, Bool, IsTrue, IfOk};
+ghost use Rattle.iam_text.specs.declared.draft.Piece.{Piece};
+ghost use Rattle.iam_text.specs.Draft.{IsDraft, sign_of};
+ghost use Rattle.iam_text.specs.Code.Forms.{piece_of};
+
+use crate::OutOfMemory;
+use crate::form::{Form, first_form};
+use crate::sign::Sign;
+use crate::text::Text;
+use std::alloc::Global;
+use std::marker::Model;
+
+/// A piece of a text that may hold variables.
+#[derive(Debug, Drop)]
+pub enum Piece {
+    /// A character of the text, read as a sign of a pattern.
+    Plain(Sign),
+    /// The character that `${*}`, `${?}` or `${$}` stands for.
+    Escaped(char),
+    /// A variable by its key and its default.
+    Variable(Text, Option<Text>),
+}
+
+/// A text that may hold variables, read into its pieces.
+///
+/// AWS IAM User Guide, "IAM policy elements: Variables and tags".
+#[derive(Debug, Drop)]
+pub struct Draft {
+    pieces: Vec<Piece>,
+}
+
+impl Model for Draft {
+    ghost use Rattle.std.specs.Prelude.{List};
+    ghost use Rattle.iam_text.specs.declared.draft.Piece.{Piece};
+
+    ghost Value = { List Piece };
+
+    ghost view = { λ draft. draft.pieces.items };
+}
+
+impl Draft {
+    ghost use Rattle.std.specs.Prelude.{◌≡◌, List, MatchOption, IfOk};
+    ghost use Rattle.iam_text.specs.declared.draft.Piece.{Piece};
+    ghost use Rattle.iam_text.specs.Draft.{IsDraft};
+
+    /// The one draft of the text, in which `*` and `?` are wildcards where `wild` says so; `None` where some `${`
+    /// begins none of `${*}`, `${?}`, `${$}`, `${key}` and `${key, 'default'}`.
+    pub fn read(alloc: Global, text: &str, wild: bool) -> Result<Option<Draft>, OutOfMemory>
+        ensures { IfOk result (λ found. MatchOption found ((pieces : List Piece) → ¬ IsDraft wild text.now pieces) (IsDraft wild text.now)) }
+    {
+        let mut pieces = Vec::new(alloc);
+        let mut rest = text;
+        while !rest.is_empty() {
+            match first_form(rest) {
+                Some((form, behind)) => {
+                    pieces.push(piece_of(alloc, form, wild)?)?;
+                    rest = behind;
+                }
+                None => return Ok(None),
+            }
+        }
+        Ok(Some(Draft { pieces }))
+    }
+
+    /// The pieces, in order.
+    pub fn pieces(&self) -> &[Piece]
+        ensures { result.now ≡ self.now }
+    {
+        self.pieces.as_slice()
+    }
+}
+
+/// Whether the text has a draft: each `${` begins one of `${*}`, `${?}`, `${$}`, `${key}` and `${key, 'default'}`.
+pub fn has_draft(text: &str) -> bool
+    ensures { (wild : Bool) → IsTrue result ↔ ((pieces : List Piece) × IsDraft wild text.now pieces) }
+{
+    let mut rest = text;
+    while !rest.is_empty() {
+        match first_form(rest) {
+            Some((_, behind)) => rest = behind,
+            None => return false,
+        }
+    }
+    true
+}
+
+/// The piece of a form.
+fn piece_of(alloc: Global, form: Form<'_>, wild: bool) -> Result<Piece, OutOfMemory>
+    ensures { IfOk result (λ piece. piece ≡ piece_of wild form.entry) }
+{
+    match form {
+        Form::Character(character) => Ok(Piece::Plain(sign(character, wild))),
+        Form::Literal(character) => Ok(Piece::Escaped(character)),
+        Form::Named(key, Some(default)) => Ok(Piece::Variable(
+            Text::read(alloc, key)?,
+            Some(Text::read(alloc, default)?),
+        )),
+        Form::Named(key, None) => Ok(Piece::Variable(Text::read(alloc, key)?, None)),
+    }
+}
+
+fn sign(character: char, wild: bool) -> Sign
+    ensures { result ≡ sign_of wild character }
+{
+    if wild {
+        Sign::wild(character)
+    } else {
+        Sign::Given(character)
+    }
+}
