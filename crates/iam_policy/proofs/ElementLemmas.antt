@@ -1,45 +1,14 @@
--- The values of JSON lists, and lists of texts.
-use Rattle.std.proofs.Common.{◌≡◌, ℕ, List, [], ◌∷◌, Bool, true, false, ◌||◌, refl, sym, ap, ◌∙◌, map, Some, None, is_some, length, ◌==◌, ◌<◌, suc, zero, get_or, arith}
-use Rattle.std.specs.List.{list_any, slice_get}
-use Rattle.serde_json.specs.Data.{Data, null, boolean, number, string, array, object}
-use Rattle.serde_json.specs.Find.{as_array, as_str}
-use Rattle.serde_json.specs.View.{items_of}
-use Rattle.std.specs.List.{list_all}
+-- Lists of texts, and the elements of lists.
+use Rattle.std.proofs.Common.{◌≡◌, ℕ, suc, List, [], ◌∷◌, ◌++◌, ◌+◌, Bool, false, ◌||◌, refl, sym, ap, ◌∙◌, map, take, drop, Option, Some, None, cond, length, ◌==◌, ◌<◌, get_or, add-one}
+use Rattle.std.proofs.Math.Seq.{drop-cons}
+use Rattle.std.proofs.lemmas.List.{take_more}
+use Rattle.std.proofs.lemmas.List.Elements.{filter_map-append}
 use Rattle.std.proofs.lemmas.List.Folds.{list_all-map}
-use Rattle.iam_policy.specs.Element.{list_of, listed, is_text, are_texts}
-use Rattle.iam_policy.specs.Fault.{statements_of}
-
--- a list and back
-pub list_of-items_of : (ds : List Data) → list_of (items_of ds) ≡ ds
-list_of-items_of [] = refl
-list_of-items_of (d ∷ ds) = ap (λ rest. d ∷ rest) (list_of-items_of ds)
-
--- what stands in a JSON list
-pub listed_array : (d : Data) (vs : List Data) → Some (items_of vs) ≡ as_array d → vs ≡ listed (Some d)
-listed_array null vs e = cc
-listed_array (boolean b) vs e = cc
-listed_array (number n) vs e = cc
-listed_array (string s) vs e = cc
-listed_array (array ds) vs e = let same : items_of vs ≡ ds = cc in sym (list_of-items_of vs) ∙ ap list_of same
-listed_array (object ms) vs e = cc
-
--- what stands in a text
-pub listed_text : (d : Data) → is_some (as_str d) ≡ true → d ∷ [] ≡ listed (Some d)
-listed_text null e = cc
-listed_text (boolean b) e = cc
-listed_text (number n) e = cc
-listed_text (string s) e = refl
-listed_text (array ds) e = cc
-listed_text (object ms) e = cc
-
--- what stands in any other value
-pub listed_other : (d : Data) → None ≡ as_array d → is_some (as_str d) ≡ false → [] ≡ listed (Some d)
-listed_other null a e = refl
-listed_other (boolean b) a e = refl
-listed_other (number n) a e = refl
-listed_other (string s) a e = cc
-listed_other (array ds) a e = cc
-listed_other (object ms) a e = refl
+use Rattle.std.proofs.lemmas.Option.{slice_get_within, slice_get_read, get_or_from_slice_get, slice_get-map}
+use Rattle.std.specs.List.{list_all, list_any, filter_map, find, slice_get, cons_option}
+use Rattle.std.specs.Option.{option_map, option_to_list}
+use Rattle.serde_json.specs.Data.{Data}
+use Rattle.iam_policy.specs.Element.{is_text, are_texts}
 
 -- a test of each element of a mapped list
 pub list_any-map : {X : Type 0} (p : X → Bool) → {Y : Type 0} (h : Y → X) (ys : List Y) → list_any p (map h ys) ≡ list_any (λ y. p (h y)) ys
@@ -52,17 +21,29 @@ pub are_texts-map : {Y : Type 0} (test : List ℕ → Bool) (h : Y → Data) (ys
 are_texts-map test h [] r some e = cc
 are_texts-map test h (y ∷ ys) r some e = e ∙ sym (list_all-map (is_text test) h (y ∷ ys))
 
--- the statements of a JSON list
-pub statements_array : (d : Data) (vs : List Data) → Some (items_of vs) ≡ as_array d → vs ≡ statements_of (Some d)
-statements_array null vs e = cc
-statements_array (boolean b) vs e = cc
-statements_array (number n) vs e = cc
-statements_array (string s) vs e = cc
-statements_array (array ds) vs e = let same : items_of vs ≡ ds = cc in sym (list_of-items_of vs) ∙ ap list_of same
-statements_array (object ms) vs e = cc
-
 -- an element of a mapped list
-pub slice_get-map : {X : Type 0} {Y : Type 0} (f : X → Y) (xs : List X) (k : ℕ) (x : X) → k < length xs → x ≡ get_or xs k x → slice_get (map f xs) k ≡ Some (f x)
-slice_get-map f [] k x below is = absurd (omega arith)
-slice_get-map f (y ∷ xs) zero x below is = ap (λ z. Some (f z)) (sym is)
-slice_get-map f (y ∷ xs) (suc k) x below is = let rest : k < length xs = omega arith in slice_get-map f xs k x rest is
+pub item_at : {X Y : Type 0} (f : X → Y) (xs : List X) (ys : List Y) (k : ℕ) (x : X) → map f xs ≡ ys → k < length xs → x ≡ get_or xs k x → slice_get ys k ≡ Some (f x)
+item_at f xs ys k x same below is =
+    ap (λ zs. slice_get zs k) (sym same) ∙ slice_get-map f xs k ∙ ap (option_map f) (slice_get_read xs (length xs) k x refl below is)
+
+-- one more element of a front
+pub take_next : {X : Type 0} (xs : List X) (i : ℕ) (x : X) → slice_get xs i ≡ Some x → take (i + 1) xs ≡ take i xs ++ (x ∷ [])
+take_next xs i x at =
+    take_more xs i x (slice_get_within xs i x at) ∙ ap (λ y. take i xs ++ (y ∷ [])) (get_or_from_slice_get xs i x x at)
+
+-- what one more element of a front gives
+pub filter_map-next : {X Y : Type 0} (h : X → Option Y) (xs : List X) (i : ℕ) (x : X) → slice_get xs i ≡ Some x
+    → filter_map h (take (i + 1) xs) ≡ filter_map h (take i xs) ++ option_to_list (h x)
+filter_map-next h xs i x at =
+    ap (filter_map h) (take_next xs i x at) ∙ filter_map-append h (take i xs) (x ∷ []) ∙ ap (λ ys. filter_map h (take i xs) ++ ys) (one (h x))
+  where
+    one : {Y : Type 0} (o : Option Y) → cons_option o [] ≡ option_to_list o
+    one None = refl
+    one (Some y) = refl
+
+-- the first element of the rest that passes: the next, or one behind it
+pub find-next : {X : Type 0} (p : X → Bool) (xs : List X) (i : ℕ) (d : X) (b : Bool) → i < length xs → p (get_or xs i d) ≡ b
+    → find p (drop i xs) ≡ cond b (Some (get_or xs i d)) (find p (drop (i + 1) xs))
+find-next p xs i d b below is =
+    ap (find p) (drop-cons xs i d below) ∙ ap (λ c. cond c (Some (get_or xs i d)) (find p (drop (suc i) xs))) is
+    ∙ ap (λ n. cond b (Some (get_or xs i d)) (find p (drop n xs))) (sym (add-one i))

@@ -1,20 +1,19 @@
 -- Statements that are read one after the other.
-use Rattle.std.proofs.Common.{◌≡◌, inl, inr, ℕ, suc, zero, ◌+◌, ◌<◌, List, [], ◌∷◌, ◌++◌, Bool, true, false, not, ◌||◌, cond, Option, Some, None, is_some, map, take, length, get_or, refl, sym, ap, ◌∙◌, subst, arith, IsTrue, codes}
-use Rattle.std.proofs.lemmas.List.{take_more, map-append}
-use Rattle.std.proofs.lemmas.Slice.Eq.{bytes_eq-Decides}
-use Rattle.std.specs.Bool.{Decides}
-use Rattle.std.specs.Str.{bytes_eq}
-use Rattle.std.specs.Option.{option_map_or}
-use Rattle.std.specs.List.{AllByRecursion, AllZip, slice_get}
-use Rattle.serde_json.specs.Data.{Data, null, boolean, number, string, array, object}
-use Rattle.serde_json.specs.Find.{get, as_object}
-use Rattle.iam_policy.specs.declared.fault.Fault.{Fault}
-use Rattle.iam_policy.specs.declared.fault.Fault.TheVariants.{BadStatement, BadEffect}
+use Rattle.std.proofs.Common.{◌≡◌, ℕ, suc, ◌+◌, ◌<◌, List, [], ◌∷◌, ◌++◌, Bool, true, false, ◌||◌, Option, Some, None, is_some, is_none, IsSome, map, take, length, get_or, refl, sym, ap, ◌∙◌, subst, codes, drop, add-one, append_assoc}
+use Rattle.std.proofs.Math.Seq.{drop-cons}
+use Rattle.std.specs.List.{AllZip, flat_map, slice_get}
+use Rattle.serde_json.specs.Data.{Data}
+use Rattle.serde_json.specs.Find.{get}
+use Rattle.iam_policy.specs.declared.effect.Effect.{Effect}
+use Rattle.iam_policy.specs.declared.fault.Fault.TheVariants.{BadEffect, ActionCount}
 use Rattle.iam_policy.specs.declared.fault.Kind.{Kind}
-use Rattle.iam_policy.specs.Element.{is_this}
-use Rattle.iam_policy.specs.Fault.{IsAccepted, statement_has}
-use Rattle.iam_policy.specs.Reading.{HasEffect}
-use Rattle.iam_policy.proofs.FaultLaws.{statements}
+use Rattle.iam_text.specs.Draft.{plain_draft}
+use Rattle.iam_policy.specs.Element.{both, neither, effect_of, texts_of}
+use Rattle.iam_policy.specs.Reading.{ResourceElement, ReadsResource, ReadsText, resource_name, pattern_of}
+use Rattle.iam_policy.specs.Code.First.{fault_of}
+use Rattle.iam_policy.specs.Code.Readable.{IsReadable}
+use Rattle.iam_policy.proofs.ElementLemmas.{take_next}
+use Rattle.iam_policy.proofs.FaultLaws.{no_line}
 
 zip_push : {A B : Type 0} (R : A → B → Type 0) (xs : List A) (ys : List B) (x : A) (y : B) → AllZip R xs ys → R x y → AllZip R (xs ++ (x ∷ [])) (ys ++ (y ∷ []))
 zip_push R [] [] x y zip here = (here, tt)
@@ -22,61 +21,58 @@ zip_push R [] (b ∷ ys) x y zip here = absurd zip
 zip_push R (a ∷ xs) [] x y zip here = absurd zip
 zip_push R (a ∷ xs) (b ∷ ys) x y zip here = (zip.0, zip_push R xs ys x y zip.1 here)
 
-map_take-more : {V D : Type 0} (f : V → D) (vs : List V) (i : ℕ) (v : V) → i < length vs → v ≡ get_or vs i v → map f (take (i + 1) vs) ≡ map f (take i vs) ++ (f v ∷ [])
-map_take-more f vs i v below is =
-    ap (map f) (take_more vs i v below) ∙ map-append f (take i vs) (get_or vs i v ∷ []) ∙ ap (λ z. map f (take i vs) ++ (f z ∷ [])) (sym is)
+-- one more statement read
+pub zip_more : {A B : Type 0} (R : A → B → Type 0) (xs : List A) (i : ℕ) (x : A) (ys : List B) (y : B) → slice_get xs i ≡ Some x
+    → AllZip R (take i xs) ys → R x y → AllZip R (take (i + 1) xs) (ys ++ (y ∷ []))
+zip_more {A} {B} R xs i x ys y at zip here =
+    let P : List A → Type 0 = λ front. AllZip R front (ys ++ (y ∷ [])) in
+    subst P (sym (take_next xs i x at)) (zip_push R (take i xs) ys x y zip here)
 
--- one more value read
-pub zip_more : {V D B : Type 0} (R : D → B → Type 0) (f : V → D) (vs : List V) (i : ℕ) (v : V) (ys : List B) (y : B) → i < length vs → v ≡ get_or vs i v
-    → AllZip R (map f (take i vs)) ys → R (f v) y → AllZip R (map f (take (i + 1) vs)) (ys ++ (y ∷ []))
-zip_more {V} {D} {B} R f vs i v ys y below is zip here =
-    let P : List D → Type 0 = λ xs. AllZip R xs (ys ++ (y ∷ [])) in
-    subst P (sym (map_take-more f vs i v below is)) (zip_push R (map f (take i vs)) ys (f v) y zip here)
+-- each element with its value
+pub zip_map : {A B : Type 0} (R : A → B → Type 0) (f : A → B) → ((x : A) → R x (f x)) → (xs : List A) → AllZip R xs (map f xs)
+zip_map R f each [] = tt
+zip_map R f each (x ∷ xs) = (each x, zip_map R f each xs)
 
-pub all_at : {V D : Type 0} (P : D → Type 0) (f : V → D) (vs : List V) (i : ℕ) (v : V) → i < length vs → v ≡ get_or vs i v → AllByRecursion P (map f vs) → P (f v)
-all_at P f [] i v below is all = absurd (omega arith)
-all_at P f (x ∷ vs) zero v below is all = subst (λ z. P (f z)) (sym is) all.0
-all_at P f (x ∷ vs) (suc i) v below is all = let rest : i < length vs = omega arith in all_at P f vs i v rest is all.1
-
-is_this-is : (text : List ℕ) (element : Option Data) → is_this text element ≡ true → element ≡ Some (string text)
-is_this-is text None e = cc
-is_this-is text (Some null) e = cc
-is_this-is text (Some (boolean b)) e = cc
-is_this-is text (Some (number n)) e = cc
-is_this-is text (Some (string t)) e =
-    let decided : Decides (bytes_eq t text) (t ≡ text) = bytes_eq-Decides t text in
-    ap (λ z. Some (string z)) (decided.0 e)
-is_this-is text (Some (array ds)) e = cc
-is_this-is text (Some (object ms)) e = cc
-
-all_from : (P : Data → Type 0) (ss : List Data) → ((i : ℕ) (s : Data) → slice_get ss i ≡ Some s → P s) → AllByRecursion P ss
-all_from P [] each = tt
-all_from P (s ∷ ss) each = (each 0 s refl, all_from P ss (λ i t at. each (suc i) t at))
-
--- a statement that has neither fault has an effect
-effect_there : (kind : Kind) (s : Data) → statement_has kind s BadStatement ≡ false → statement_has kind s BadEffect ≡ false → HasEffect s
-effect_there kind s whole effect = go (is_some (as_object s)) whole effect
+-- a statement that has no fault has an effect, and one of the two action elements
+pub readable : (kind : Kind) (d : Data) (i : ℕ) (s : Data) → fault_of kind d i s ≡ None → IsReadable s
+readable kind d i s none = record {
+  effect = effect (effect_of s) (no_line kind d i s BadEffect none);
+  action =
+      action (both (get (codes "Action") s) (get (codes "NotAction") s)) (neither (get (codes "Action") s) (get (codes "NotAction") s))
+      (no_line kind d i s ActionCount none);
+}
   where
-    words : (a d : Bool) → is_this (codes "Allow") (get (codes "Effect") s) ≡ a → is_this (codes "Deny") (get (codes "Effect") s) ≡ d
-        → not (a || d) ≡ false → HasEffect s
-    words true d allow deny e = inl (is_this-is (codes "Allow") (get (codes "Effect") s) allow)
-    words false true allow deny e = inr (is_this-is (codes "Deny") (get (codes "Effect") s) deny)
-    words false false allow deny e = cc
+    effect : (o : Option Effect) → is_none o ≡ false → IsSome o
+    effect None e = cc
+    effect (Some word) e = refl
 
-    go : (b : Bool) → cond b false true ≡ false
-        → cond b (not (is_this (codes "Allow") (get (codes "Effect") s) || is_this (codes "Deny") (get (codes "Effect") s))) false ≡ false → HasEffect s
-    go true whole effect = words (is_this (codes "Allow") (get (codes "Effect") s)) (is_this (codes "Deny") (get (codes "Effect") s)) refl refl effect
-    go false whole effect = cc
+    action : (a b : Bool) → (a || b) ≡ false → b ≡ false
+    action true b e = cc
+    action false b e = e
 
--- the statements of an accepted document have effects
-pub accepted_effects : (kind : Kind) (d : Data) → IsAccepted kind d → AllByRecursion HasEffect (statements d)
-accepted_effects kind d accepted = all_from HasEffect (statements d) (λ i s at. effect_there kind s (clean i s at BadStatement) (clean i s at BadEffect))
-  where
-    decide : (i : ℕ) (s : Data) (fault : Fault) (b : Bool) → slice_get (statements d) i ≡ Some s → statement_has kind s fault ≡ b → b ≡ false
-    decide i s fault false at e = refl
-    decide i s fault true at e =
-        let P : Option Data → Type 0 = λ o. IsTrue (option_map_or (λ t. statement_has kind t fault) o false) in
-        absurd (accepted (Some i) fault (subst P (sym at) e))
+-- the items of one more element of a list
+pub flat_map_next : {K N : Type 0} (f : K → List N) (ks : List K) (i : ℕ) (d : K) (whole done next here : List N) → i < length ks
+    → whole ≡ done ++ flat_map f (drop i ks) → next ≡ done ++ here → here ≡ f (get_or ks i d) → whole ≡ next ++ flat_map f (drop (i + 1) ks)
+flat_map_next {K} {N} f ks i d whole done next here below all more is =
+    let step : drop i ks ≡ get_or ks i d ∷ drop (suc i) ks = drop-cons ks i d below in
+    let one : i + 1 ≡ suc i = add-one i in
+    let rest : flat_map f (drop i ks) ≡ f (get_or ks i d) ++ flat_map f (drop (i + 1) ks) =
+    ap (flat_map f) step ∙ ap (λ n. f (get_or ks i d) ++ flat_map f (drop n ks)) (sym one) in
+    let apart : (done ++ f (get_or ks i d)) ++ flat_map f (drop (i + 1) ks) ≡ done ++ (f (get_or ks i d) ++ flat_map f (drop (i + 1) ks)) =
+    append_assoc done (f (get_or ks i d)) (flat_map f (drop (i + 1) ks)) in
+    let now : next ≡ done ++ f (get_or ks i d) = more ∙ ap (λ xs. done ++ xs) is in
+    all ∙ ap (λ xs. done ++ xs) rest ∙ sym apart ∙ ap (λ xs. xs ++ flat_map f (drop (i + 1) ks)) (sym now)
 
-    clean : (i : ℕ) (s : Data) → slice_get (statements d) i ≡ Some s → (fault : Fault) → statement_has kind s fault ≡ false
-    clean i s at fault = decide i s fault (statement_has kind s fault) at refl
+-- the resource element that stands in a statement
+pub resource_read : (d s : Data) (r : ResourceElement) (negated : Bool) (value : Data) → get (resource_name negated) s ≡ Some value
+    → r ≡ record { negated = negated; texts = map (λ t. plain_draft (pattern_of t)) (texts_of (Some value)) } → ReadsResource d s (Some r)
+resource_read d s r negated value stands is =
+    let P : ResourceElement → Type 0 = λ e. ReadsResource d s (Some e) in
+    let here : IsSome (get (resource_name negated) s) × AllZip (ReadsText d) (texts_of (get (resource_name negated) s)) (map (λ t. plain_draft (pattern_of t)) (texts_of (Some value))) = (
+      ap is_some stands,
+      (
+          let Q : Option Data → Type 0 = λ o. AllZip (ReadsText d) (texts_of o) (map (λ t. plain_draft (pattern_of t)) (texts_of (Some value))) in
+          subst Q (sym stands) (zip_map (ReadsText d) (λ t. plain_draft (pattern_of t)) (λ t. refl) (texts_of (Some value)))
+          ),
+    ) in
+    subst P (sym is) here

@@ -1,39 +1,47 @@
 -- Elements of a document, as JSON values: AWS IAM User Guide, "IAM JSON policy elements reference".
 -- An element that is absent is `None`.
-use Rattle.std.specs.Prelude.{ℕ, List, [], ◌∷◌, Bool, false, not, ◌&&◌, ◌||◌, length, nat_lt, Option, Some, None, is_some}
+use Rattle.std.specs.Prelude.{ℕ, List, [], ◌∷◌, Bool, false, not, ◌&&◌, codes, length, nat_lt, Option, Some, None, is_some, is_none, option_and_then, unwrap_or, if◌then◌else◌}
 use Rattle.std.specs.List.{list_all, list_any, filter_map}
 use Rattle.std.specs.Option.{option_map_or}
 use Rattle.std.specs.Str.{bytes_eq}
-use Rattle.serde_json.specs.Data.{Data, null, boolean, number, string, array, object, Items, no_items, item, Members, no_members, member}
-use Rattle.serde_json.specs.Find.{as_str}
+use Rattle.serde_json.specs.Data.{Data}
+use Rattle.serde_json.specs.Find.{get, as_str}
+use Rattle.iam_json.specs.Look.{values}
+use Rattle.iam_policy.specs.declared.effect.Effect.{Effect}
+use Rattle.iam_policy.specs.declared.effect.Effect.TheVariants.{Allow, Deny}
 
--- the values of a JSON list, in order
-abbrev pub list_of : Items → List Data
-list_of no_items = []
-list_of (item d ds) = d ∷ list_of ds
+-- the element stands there and passes the test
+abbrev pub stands_as : (Data → Bool) → Option Data → Bool
+stands_as test element = option_map_or test element false
 
--- some member of the object has a name that is not known
-abbrev pub has_other : (List ℕ → Bool) → Members → Bool
-has_other is_known no_members = false
-has_other is_known (member name d rest) = not (is_known name) || has_other is_known rest
+-- both stand there
+abbrev pub both : Option Data → Option Data → Bool
+both a b = is_some a && is_some b
 
--- what stands in a list of texts; one text may stand there without brackets, and another value holds nothing
-abbrev pub listed : Option Data → List Data
-listed None = []
-listed (Some null) = []
-listed (Some (boolean b)) = []
-listed (Some (number n)) = []
-listed (Some (string text)) = string text ∷ []
-listed (Some (array ds)) = list_of ds
-listed (Some (object ms)) = []
-
--- the texts among them
-abbrev pub texts_of : Option Data → List (List ℕ)
-texts_of element = filter_map as_str (listed element)
+-- neither stands there
+abbrev pub neither : Option Data → Option Data → Bool
+neither a b = is_none a && is_none b
 
 -- a value that is a text which passes the test
 abbrev pub is_text : (List ℕ → Bool) → Data → Bool
 is_text test d = option_map_or test (as_str d) false
+
+-- the element stands there and is this text
+abbrev pub is_this : List ℕ → Option Data → Bool
+is_this text element = stands_as (is_text (λ t. bytes_eq t text)) element
+
+-- the element stands there and is no text
+abbrev pub is_no_text : Option Data → Bool
+is_no_text element = stands_as (λ d. is_none (as_str d)) element
+
+-- what stands in a list of texts; one text may stand there without brackets, and another value holds nothing
+abbrev pub listed : Option Data → List Data
+listed None = []
+listed (Some d) = unwrap_or (values d) (if is_some (as_str d) then d ∷ [] else [])
+
+-- the texts among them
+abbrev pub texts_of : Option Data → List (List ℕ)
+texts_of element = filter_map as_str (listed element)
 
 -- one or more values, each a text that passes the test
 abbrev pub are_texts : (List ℕ → Bool) → List Data → Bool
@@ -48,11 +56,20 @@ is_bad_list test element = is_some element && not (are_texts test (listed elemen
 abbrev pub has_text : (List ℕ → Bool) → Option Data → Bool
 has_text test element = list_any (is_text test) (listed element)
 
--- the element stands there and is this text
-abbrev pub is_this : List ℕ → Option Data → Bool
-is_this text None = false
-is_this text (Some d) = is_text (λ t. bytes_eq t text) d
-
 -- the list that stands there has over 4,096 members
 abbrev pub is_too_long : Option Data → Bool
 is_too_long element = nat_lt 4096 (length (listed element))
+
+-- the `Sid` of a statement, where it is a text
+abbrev pub sid_of : Data → Option (List ℕ)
+sid_of s = option_and_then as_str (get (codes "Sid") s)
+
+-- the effect that a word names
+abbrev pub effect_named : List ℕ → Option Effect
+effect_named word =
+    if bytes_eq word (codes "Allow") then Some Allow
+    else (if bytes_eq word (codes "Deny") then Some Deny else None)
+
+-- the effect of a statement, where it has one
+abbrev pub effect_of : Data → Option Effect
+effect_of s = option_and_then effect_named (option_and_then as_str (get (codes "Effect") s))

@@ -1,101 +1,125 @@
 -- The faults of a document, as a set: AWS IAM User Guide, "Grammar of the IAM JSON policy language".
--- Each line of the fault table is one case, by itself. Lines 6, 7, 11 to 14 and 18 to 20 have no case yet:
--- the members that they speak of are unknown elements. Variables are not read yet: a resource text with `${`
--- is at fault.
-use Rattle.std.specs.Prelude.{◌≡◌, ℕ, suc, ◌<◌, ◌≤◌, ◌⊎◌, List, [], ◌∷◌, Bool, true, false, not, ◌&&◌, ◌||◌, Option, Some, None, is_some, is_none, IsTrue, codes, if◌then◌else◌, length, nat_lt}
-use Rattle.std.specs.List.{slice_get}
-use Rattle.std.specs.Str.{bytes_eq}
+-- Each line of the fault table is one case, by itself. The operators of conditions are not read yet: each member
+-- of a `Condition` is an unknown one, and BadValue has no case. Nor are variables: a resource text with `${` is at
+-- fault.
+use Rattle.std.specs.Prelude.{◌≡◌, ℕ, suc, ◌<◌, ◌≤◌, ◌⊎◌, List, [], ◌∷◌, Bool, true, false, not, ◌&&◌, ◌||◌, ◌==◌, Option, Some, None, is_some, is_none, IsTrue, codes, if◌then◌else◌, length, nat_lt, take, unwrap_or}
+use Rattle.std.specs.List.{slice_get, filter_map}
 use Rattle.std.specs.Option.{option_map_or}
-use Rattle.serde_json.specs.Data.{Data, null, boolean, number, string, array, object}
+use Rattle.serde_json.specs.Data.{Data}
 use Rattle.serde_json.specs.Find.{get, as_object}
+use Rattle.iam_json.specs.Look.{values, has_unknown, is_one_of}
 use Rattle.iam_policy.specs.declared.fault.Fault.{Fault}
-use Rattle.iam_policy.specs.declared.fault.Fault.TheVariants.{NotObject, UnknownElement, BadVersion, NoStatement, BadStatement, BadEffect, ActionCount, BadAction, ResourceCount, BadResource, BadVariable, TooMany}
+use Rattle.iam_policy.specs.declared.fault.Fault.TheVariants.{NotObject, UnknownElement, BadVersion, NoStatement, BadStatement, BadSid, DuplicateSid, BadEffect, ActionCount, BadAction, PrincipalMisplaced, PrincipalMissing, BadPrincipal, NotPrincipalAllow, ResourceCount, BadResource, BadVariable, UnknownOperator, BadCondition, TooMany}
 use Rattle.iam_policy.specs.declared.fault.Kind.{Kind}
-use Rattle.iam_policy.specs.declared.fault.Kind.TheVariants.{Identity}
-use Rattle.iam_policy.specs.Element.{list_of, has_other, is_this, is_bad_list, has_text, is_too_long}
+use Rattle.iam_policy.specs.declared.fault.Kind.TheVariants.{Identity, Resource, Org}
+use Rattle.iam_policy.specs.Element.{both, neither, stands_as, is_no_text, is_this, is_bad_list, has_text, is_too_long, sid_of, effect_of}
 use Rattle.iam_policy.specs.Grammar.{is_action, is_resource, has_dollar_brace}
+use Rattle.iam_policy.specs.Principal.{is_principal, has_long_kind}
 use Rattle.iam_policy.specs.Table.{number_of, fault_is}
 
--- the names that a document knows
-abbrev pub is_document_name : List ℕ → Bool
-is_document_name name = bytes_eq name (codes "Version") || bytes_eq name (codes "Statement")
+-- the members of a document
+abbrev pub document_names : List (List ℕ)
+document_names = codes "Version" ∷ (codes "Id" ∷ (codes "Statement" ∷ []))
 
--- the names that a statement knows
-abbrev pub is_statement_name : List ℕ → Bool
-is_statement_name name =
-    bytes_eq name (codes "Effect") || bytes_eq name (codes "Action") || bytes_eq name (codes "Resource")
+-- the members of a statement
+abbrev pub statement_names : List (List ℕ)
+statement_names =
+    codes "Sid" ∷ (codes "Effect" ∷ (codes "Action" ∷ (codes "NotAction" ∷ (codes "Resource" ∷ (codes "NotResource"
+    ∷ (codes "Principal" ∷ (codes "NotPrincipal" ∷ (codes "Condition" ∷ []))))))))
 
--- an object with a member of no known name
-abbrev pub has_unknown_member : (List ℕ → Bool) → Data → Bool
-has_unknown_member is_known d = option_map_or (has_other is_known) (as_object d) false
+-- the members of a condition that are known
+abbrev pub operator_names : List (List ℕ)
+operator_names = []
+
+-- whether each statement of this kind must have `Resource` or `NotResource`
+abbrev pub wants_resource : Kind → Bool
+wants_resource Identity = true
+wants_resource Resource = false
+wants_resource Org = true
+
+-- whether each statement of this kind must have `Principal` or `NotPrincipal`; of another kind none may
+abbrev pub wants_principal : Kind → Bool
+wants_principal Identity = false
+wants_principal Resource = true
+wants_principal Org = false
+
+-- whether no two statements of this kind may have the same `Sid`
+abbrev pub wants_distinct_sids : Kind → Bool
+wants_distinct_sids Identity = true
+wants_distinct_sids Resource = false
+wants_distinct_sids Org = true
 
 -- one object stands for a list of one statement
 abbrev pub statements_of : Option Data → List Data
 statements_of None = []
-statements_of (Some null) = []
-statements_of (Some (boolean b)) = []
-statements_of (Some (number n)) = []
-statements_of (Some (string text)) = []
-statements_of (Some (array ds)) = list_of ds
-statements_of (Some (object ms)) = object ms ∷ []
+statements_of (Some d) = unwrap_or (values d) (if is_some (as_object d) then d ∷ [] else [])
 
--- `Statement` stands there, and is neither an object nor a list
-abbrev pub is_bad_statement : Option Data → Bool
-is_bad_statement None = false
-is_bad_statement (Some null) = true
-is_bad_statement (Some (boolean b)) = true
-is_bad_statement (Some (number n)) = true
-is_bad_statement (Some (string text)) = true
-is_bad_statement (Some (array ds)) = false
-is_bad_statement (Some (object ms)) = false
+-- the statements of a document
+abbrev pub statements_in : Data → List Data
+statements_in d = statements_of (get (codes "Statement") d)
 
--- both stand there
-abbrev pub both : Option Data → Option Data → Bool
-both a b = is_some a && is_some b
+-- neither a list nor an object
+abbrev pub is_bad_statement : Data → Bool
+is_bad_statement d = is_none (values d) && is_none (as_object d)
 
--- neither stands there
-abbrev pub neither : Option Data → Option Data → Bool
-neither a b = is_none a && is_none b
+-- the Sids of the statements before statement i
+abbrev pub sids_before : Data → ℕ → List (List ℕ)
+sids_before d i = filter_map sid_of (take i (statements_in d))
 
--- whether a statement of this kind must have `Resource` or `NotResource`
-abbrev pub wants_resource : Kind → Bool
-wants_resource Identity = true
+-- the `Sid` is a text, is not empty, and is one of the earlier ones
+abbrev pub repeats_sid : List (List ℕ) → Data → Bool
+repeats_sid earlier s = option_map_or (λ sid. not (length sid == 0) && is_one_of earlier sid) (sid_of s) false
 
--- a list of actions or resources is too long
-abbrev pub statement_has_too_long : Data → Bool
-statement_has_too_long s =
+-- a list of actions, of resources or of texts of one principal type has over 4,096 members
+abbrev pub has_long_list : Data → Bool
+has_long_list s =
     is_too_long (get (codes "Action") s) || is_too_long (get (codes "NotAction") s)
     || is_too_long (get (codes "Resource") s) || is_too_long (get (codes "NotResource") s)
+    || stands_as has_long_kind (get (codes "Principal") s) || stands_as has_long_kind (get (codes "NotPrincipal") s)
 
 -- the lines of the table for a document that is an object
 abbrev pub document_line : Kind → Data → Fault → Bool
-document_line kind d UnknownElement = has_unknown_member is_document_name d
+document_line kind d UnknownElement = has_unknown document_names d || is_no_text (get (codes "Id") d)
 document_line kind d BadVersion = not (is_this (codes "2012-10-17") (get (codes "Version") d))
 document_line kind d NoStatement = is_none (get (codes "Statement") d)
-document_line kind d BadStatement = is_bad_statement (get (codes "Statement") d)
-document_line kind d TooMany = nat_lt 4096 (length (statements_of (get (codes "Statement") d)))
+document_line kind d BadStatement = stands_as is_bad_statement (get (codes "Statement") d)
+document_line kind d TooMany = nat_lt 4096 (length (statements_in d))
 document_line kind d _ = false
 
--- the lines of the table for a statement that is an object
-abbrev pub statement_line : Kind → Data → Fault → Bool
-statement_line kind s UnknownElement = has_unknown_member is_statement_name s
-statement_line kind s BadEffect =
-    not (is_this (codes "Allow") (get (codes "Effect") s) || is_this (codes "Deny") (get (codes "Effect") s))
-statement_line kind s ActionCount =
+-- the lines of the table for statement i of the document, where it is an object
+abbrev pub statement_line : Kind → Data → ℕ → Data → Fault → Bool
+statement_line kind d i s UnknownElement = has_unknown statement_names s
+statement_line kind d i s BadSid = is_no_text (get (codes "Sid") s)
+statement_line kind d i s DuplicateSid = wants_distinct_sids kind && repeats_sid (sids_before d i) s
+statement_line kind d i s BadEffect = is_none (effect_of s)
+statement_line kind d i s ActionCount =
     both (get (codes "Action") s) (get (codes "NotAction") s)
     || neither (get (codes "Action") s) (get (codes "NotAction") s)
-statement_line kind s BadAction =
+statement_line kind d i s BadAction =
     is_bad_list is_action (get (codes "Action") s) || is_bad_list is_action (get (codes "NotAction") s)
-statement_line kind s ResourceCount =
+statement_line kind d i s PrincipalMisplaced =
+    not (wants_principal kind) && (is_some (get (codes "Principal") s) || is_some (get (codes "NotPrincipal") s))
+statement_line kind d i s PrincipalMissing =
+    wants_principal kind && not (is_some (get (codes "Principal") s) || is_some (get (codes "NotPrincipal") s))
+statement_line kind d i s BadPrincipal =
+    wants_principal kind
+    && (both (get (codes "Principal") s) (get (codes "NotPrincipal") s)
+    || stands_as (λ p. not (is_principal p)) (get (codes "Principal") s)
+    || stands_as (λ p. not (is_principal p)) (get (codes "NotPrincipal") s))
+statement_line kind d i s NotPrincipalAllow =
+    wants_principal kind
+    && (is_some (get (codes "NotPrincipal") s) && is_this (codes "Allow") (get (codes "Effect") s))
+statement_line kind d i s ResourceCount =
     both (get (codes "Resource") s) (get (codes "NotResource") s)
     || (wants_resource kind && neither (get (codes "Resource") s) (get (codes "NotResource") s))
-statement_line kind s BadResource =
+statement_line kind d i s BadResource =
     is_bad_list is_resource (get (codes "Resource") s) || is_bad_list is_resource (get (codes "NotResource") s)
-statement_line kind s BadVariable =
-    has_text has_dollar_brace (get (codes "Resource") s)
-    || has_text has_dollar_brace (get (codes "NotResource") s)
-statement_line kind s TooMany = statement_has_too_long s
-statement_line kind s _ = false
+statement_line kind d i s BadVariable =
+    has_text has_dollar_brace (get (codes "Resource") s) || has_text has_dollar_brace (get (codes "NotResource") s)
+statement_line kind d i s UnknownOperator = stands_as (has_unknown operator_names) (get (codes "Condition") s)
+statement_line kind d i s BadCondition = stands_as (λ c. is_none (as_object c)) (get (codes "Condition") s)
+statement_line kind d i s TooMany = has_long_list s
+statement_line kind d i s _ = false
 
 -- a document that is no object has that fault alone
 abbrev pub document_has : Kind → Data → Fault → Bool
@@ -103,16 +127,15 @@ document_has kind d fault =
     if is_some (as_object d) then document_line kind d fault else fault_is NotObject fault
 
 -- a statement that is no object has that fault alone
-abbrev pub statement_has : Kind → Data → Fault → Bool
-statement_has kind s fault =
-    if is_some (as_object s) then statement_line kind s fault else fault_is BadStatement fault
+abbrev pub statement_has : Kind → Data → ℕ → Data → Fault → Bool
+statement_has kind d i s fault =
+    if is_some (as_object s) then statement_line kind d i s fault else fault_is BadStatement fault
 
 -- the set of faults: a place is the document, or the number of a statement
 abbrev pub HasFault : Kind → Data → Option ℕ → Fault → Type 0
 HasFault kind d None fault = IsTrue (document_has kind d fault)
 HasFault kind d (Some i) fault =
-    IsTrue (option_map_or (λ s. statement_has kind s fault)
-    (slice_get (statements_of (get (codes "Statement") d)) i) false)
+    IsTrue (option_map_or (λ s. statement_has kind d i s fault) (slice_get (statements_in d) i) false)
 
 -- the set is empty
 abbrev pub IsAccepted : Kind → Data → Type 0

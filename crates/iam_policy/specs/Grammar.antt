@@ -1,17 +1,19 @@
 -- Tests on the texts of a document: AWS IAM User Guide, "Grammar of the IAM JSON policy language".
 -- A text is the list of its bytes.
-use Rattle.std.specs.Prelude.{ℕ, List, Bool, ◌&&◌, ◌||◌, ◌==◌, length, nat_lt, nat_eq, codes, [], ◌∷◌, false}
-use Rattle.std.specs.List.{list_all, before_first, after_first, starts_with}
+use Rattle.std.specs.Prelude.{ℕ, List, [], ◌∷◌, Bool, true, false, not, ◌&&◌, ◌||◌, ◌==◌, length, nat_eq, nat_le, codes}
+use Rattle.std.specs.List.{before_first, after_first, starts_with, list_any}
 use Rattle.std.specs.Str.{bytes_eq}
 use Rattle.std.specs.Char.{is_ascii_alphanumeric}
+use Rattle.iam_text.specs.Arn.{colons}
+use Rattle.iam_text.specs.Characters.{is_run, is_label_character, is_account}
 
--- one or more characters that pass the test
-abbrev pub is_run : (ℕ → Bool) → List ℕ → Bool
-is_run test text = nat_lt 0 (length text) && list_all test text
+-- a wildcard: `*` or `?`
+abbrev pub is_wildcard : ℕ → Bool
+is_wildcard c = c == 42 || c == 63
 
 -- a character of the service prefix of an action pattern: an ASCII letter or digit, `-`, `*` or `?`
 abbrev pub is_prefix_character : ℕ → Bool
-is_prefix_character c = is_ascii_alphanumeric c || c == 45 || c == 42 || c == 63
+is_prefix_character c = is_label_character c || is_wildcard c
 
 -- a character of the name of an action pattern: these, `_` and `.`
 abbrev pub is_name_character : ℕ → Bool
@@ -24,12 +26,32 @@ is_action text =
     || (is_run is_prefix_character (before_first (λ c. c == 58) text)
     && is_run is_name_character (after_first (λ c. c == 58) text))
 
+-- a text that begins with `arn:`
+abbrev pub begins_as_arn : List ℕ → Bool
+begins_as_arn text = starts_with nat_eq text (codes "arn:")
+
 -- `*`, or a text that begins with `arn:`
 abbrev pub is_resource : List ℕ → Bool
-is_resource text = bytes_eq text (codes "*") || starts_with nat_eq text (codes "arn:")
+is_resource text = bytes_eq text (codes "*") || begins_as_arn text
 
 -- a `${` stands somewhere in the text
 abbrev pub has_dollar_brace : List ℕ → Bool
 has_dollar_brace [] = false
 has_dollar_brace (c ∷ []) = false
 has_dollar_brace (c ∷ d ∷ text) = (c == 36 && d == 123) || has_dollar_brace (d ∷ text)
+
+-- a text that begins with `arn:`, has six parts, and holds no wildcard
+abbrev pub is_whole_arn : List ℕ → Bool
+is_whole_arn text = begins_as_arn text && nat_le 5 (colons text) && not (list_any is_wildcard text)
+
+-- the unique id of a principal: 1 to 128 ASCII letters or digits
+abbrev pub is_unique_id : List ℕ → Bool
+is_unique_id text = is_run is_ascii_alphanumeric text && nat_le (length text) 128
+
+-- a text under `AWS`: `*`, an account, an ARN or a unique id
+abbrev pub is_aws_name : List ℕ → Bool
+is_aws_name text = bytes_eq text (codes "*") || is_account text || is_whole_arn text || is_unique_id text
+
+-- any text
+abbrev pub is_any_name : List ℕ → Bool
+is_any_name text = true

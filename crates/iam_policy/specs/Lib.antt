@@ -1,8 +1,7 @@
+pub mod Code
 pub mod Element
 pub mod Fault
-pub mod First
-pub mod Form
 pub mod Grammar
-pub mod Level
+pub mod Principal
 pub mod Reading
 pub mod Table

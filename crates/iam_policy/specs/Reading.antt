@@ -1,18 +1,21 @@
 -- What a policy is, and how an accepted document is read: AWS IAM User Guide, "IAM JSON policy elements
 -- reference".
-use Rattle.std.specs.Prelude.{◌≡◌, ◌⊎◌, ℕ, List, [], Bool, false, Option, Some, None, map, codes}
-use Rattle.std.specs.List.{AllZip}
+use Rattle.std.specs.Prelude.{◌≡◌, ℕ, ℤ, List, [], ◌∷◌, Bool, true, false, Option, Some, None, IsSome, map, codes, option_map, if◌then◌else◌}
+use Rattle.std.specs.List.{AllZip, flat_map}
 use Rattle.std.specs.Str.{chars}
-use Rattle.serde_json.specs.Data.{Data, string}
+use Rattle.serde_json.specs.Data.{Data, null, boolean, number, string, array, object}
 use Rattle.serde_json.specs.Find.{get}
 use Rattle.iam_text.specs.declared.sign.Sign.{Sign}
 use Rattle.iam_text.specs.Glob.{wild_sign}
-use Rattle.iam_text.specs.Draft.{Piece, plain_draft}
+use Rattle.iam_text.specs.declared.draft.Piece.{Piece}
+use Rattle.iam_text.specs.Draft.{plain_draft}
 use Rattle.iam_policy.specs.declared.effect.Effect.{Effect}
-use Rattle.iam_policy.specs.declared.effect.Effect.TheVariants.{Allow, Deny}
-use Rattle.iam_policy.specs.Element.{texts_of}
+use Rattle.iam_policy.specs.declared.principals.PrincipalKind.{PrincipalKind}
+use Rattle.iam_policy.specs.declared.principals.PrincipalKind.TheVariants.{Aws}
 use Rattle.iam_policy.specs.declared.fault.Kind.{Kind}
-use Rattle.iam_policy.specs.Fault.{IsAccepted, statements_of}
+use Rattle.iam_policy.specs.Element.{texts_of, effect_of, sid_of}
+use Rattle.iam_policy.specs.Principal.{kind_word, principal_kinds}
+use Rattle.iam_policy.specs.Fault.{IsAccepted, statements_in}
 
 -- `Action`, or `NotAction` where negated, with its patterns
 pub record ActionElement : Type 0 where
@@ -24,16 +27,73 @@ pub record ResourceElement : Type 0 where
   pub negated : Bool
   pub texts : List (List Piece)
 
--- `Principal`, or `NotPrincipal` where negated, with the type (`AWS`, `Service`, ..) and text of each name
+-- a text of a principal element, and the type that it stands under
+pub record PrincipalText : Type 0 where
+  pub kind : PrincipalKind
+  pub text : List ℕ
+
+-- `Principal`, or `NotPrincipal` where negated, with its texts
 pub record PrincipalElement : Type 0 where
   pub negated : Bool
-  pub names : List (List ℕ × List ℕ)
+  pub names : List PrincipalText
 
--- an operator, a key and its values; a value of no string or ARN operator is its text in plain pieces
-pub record ConditionEntry : Type 0 where
-  pub operator : List ℕ
+-- what stands before an operator of a condition
+pub data Quantifier : Type 0 where
+  ForAllValues : Quantifier
+  ForAnyValue : Quantifier
+
+-- an operator of a condition without what stands before and behind it; `Boolean` is written `Bool`
+pub data Base : Type 0 where
+  StringEquals : Base
+  StringNotEquals : Base
+  StringEqualsIgnoreCase : Base
+  StringNotEqualsIgnoreCase : Base
+  StringLike : Base
+  StringNotLike : Base
+  NumericEquals : Base
+  NumericNotEquals : Base
+  NumericLessThan : Base
+  NumericLessThanEquals : Base
+  NumericGreaterThan : Base
+  NumericGreaterThanEquals : Base
+  DateEquals : Base
+  DateNotEquals : Base
+  DateLessThan : Base
+  DateLessThanEquals : Base
+  DateGreaterThan : Base
+  DateGreaterThanEquals : Base
+  Boolean : Base
+  BinaryEquals : Base
+  IpAddress : Base
+  NotIpAddress : Base
+  ArnEquals : Base
+  ArnNotEquals : Base
+  ArnLike : Base
+  ArnNotLike : Base
+  Null : Base
+
+-- an operator of a condition, as `ForAllValues:StringLikeIfExists`
+pub record Operator : Type 0 where
+  pub quantifier : Option Quantifier
+  pub base : Base
+  pub if_exists : Bool
+
+-- a value of a condition, as its operator reads it: a text with its variables, a whole number, nanoseconds since
+-- 1970, a truth value, bytes, or a range of addresses (how many bits an address has, the address as a number, and
+-- how many of its first bits count)
+pub data Operand : Type 0 where
+  Text : List Piece → Operand
+  Whole : ℤ → Operand
+  Moment : ℤ → Operand
+  Truth : Bool → Operand
+  Bytes : List ℕ → Operand
+  Range : ℕ → ℕ → ℕ → Operand
+
+-- an operator, a key under it, and the values of that key
+pub record EntryValue : Type 0 where
+  pub operator : Operator
   pub key : List ℕ
-  pub values : List (List Piece)
+  pub values : List Operand
 
 -- a statement, element by element
 pub record StatementValue : Type 0 where
@@ -42,42 +102,75 @@ pub record StatementValue : Type 0 where
   pub action : ActionElement
   pub resource : Option ResourceElement
   pub principal : Option PrincipalElement
-  pub conditions : List ConditionEntry
+  pub conditions : List EntryValue
 
 -- a policy: its statements, in order
 pub record PolicyValue : Type 0 where
   pub statements : List StatementValue
 
-abbrev pub effect_word : Effect → List ℕ
-effect_word Allow = codes "Allow"
-effect_word Deny = codes "Deny"
+-- the name of an element, by whether it is the negated one of the two
+abbrev pub action_name : Bool → List ℕ
+action_name negated = if negated then codes "NotAction" else codes "Action"
+
+abbrev pub resource_name : Bool → List ℕ
+resource_name negated = if negated then codes "NotResource" else codes "Resource"
+
+abbrev pub principal_name : Bool → List ℕ
+principal_name negated = if negated then codes "NotPrincipal" else codes "Principal"
 
 -- the pattern of a text in which `*` and `?` are wildcards
 abbrev pub pattern_of : List ℕ → List Sign
 pattern_of text = map wild_sign (chars text)
 
--- the effect of a statement is one of the two words
-abbrev pub HasEffect : Data → Type 0
-HasEffect s =
-    (get (codes "Effect") s ≡ Some (string (effect_word Allow)))
-    ⊎ (get (codes "Effect") s ≡ Some (string (effect_word Deny)))
+-- the element stands there, and each of its texts is a pattern
+pub record ReadsAction (s : Data) (r : ActionElement) : Type 0 where
+  pub stands : IsSome (get (action_name r.negated) s)
+  pub patterns : r.patterns ≡ map pattern_of (texts_of (get (action_name r.negated) s))
 
--- a statement is read element by element; an element that is not read yet is absent
-pub record ReadsStatement (s : Data) (r : StatementValue) : Type 0 where
-  pub sid : r.sid ≡ None
-  pub effect : get (codes "Effect") s ≡ Some (string (effect_word r.effect))
-  pub action :
-      r.action ≡ record { negated = false; patterns = map pattern_of (texts_of (get (codes "Action") s)) }
-  pub resource :
-      r.resource
-      ≡ Some (record {
-        negated = false;
-        texts = map (λ t. plain_draft (pattern_of t)) (texts_of (get (codes "Resource") s));
-      })
-  pub principal : r.principal ≡ None
+-- a text of a resource element is its pattern; variables are not read yet
+abbrev pub ReadsText : Data → List ℕ → List Piece → Type 0
+ReadsText d text pieces = pieces ≡ plain_draft (pattern_of text)
+
+-- neither element stands there, or the one does and each of its texts is read
+abbrev pub ReadsResource : Data → Data → Option ResourceElement → Type 0
+ReadsResource d s None = (get (resource_name false) s ≡ None) × (get (resource_name true) s ≡ None)
+ReadsResource d s (Some r) =
+    IsSome (get (resource_name r.negated) s)
+    × AllZip (ReadsText d) (texts_of (get (resource_name r.negated) s)) r.texts
+
+-- texts under one type of principals
+abbrev pub typed : PrincipalKind → List (List ℕ) → List PrincipalText
+typed kind texts = map (λ t. record { kind = kind; text = t }) texts
+
+-- the texts that an element has under a type
+abbrev pub names_under : Data → PrincipalKind → List PrincipalText
+names_under element kind = typed kind (texts_of (get (kind_word kind) element))
+
+-- the names of a principal element; a text alone stands under `AWS`
+abbrev pub names_of : Data → List PrincipalText
+names_of null = []
+names_of (boolean b) = []
+names_of (number n) = []
+names_of (string text) = record { kind = Aws; text = text } ∷ []
+names_of (array ds) = []
+names_of (object ms) = flat_map (names_under (object ms)) principal_kinds
+
+-- neither element stands there, or the one does with these names
+abbrev pub ReadsPrincipal : Data → Option PrincipalElement → Type 0
+ReadsPrincipal s None = (get (principal_name false) s ≡ None) × (get (principal_name true) s ≡ None)
+ReadsPrincipal s (Some r) = option_map names_of (get (principal_name r.negated) s) ≡ Some r.names
+
+-- a statement is read element by element; conditions are not read yet
+pub record ReadsStatement (d s : Data) (r : StatementValue) : Type 0 where
+  pub sid : r.sid ≡ sid_of s
+  pub effect : effect_of s ≡ Some r.effect
+  pub action : ReadsAction s r.action
+  pub resource : ReadsResource d s r.resource
+  pub principal : ReadsPrincipal s r.principal
   pub conditions : r.conditions ≡ []
 
 -- the document is accepted, and read statement by statement
 abbrev pub Reads : Kind → Data → PolicyValue → Type 0
 Reads kind d policy =
-    IsAccepted kind d × AllZip ReadsStatement (statements_of (get (codes "Statement") d)) policy.statements
+    IsAccepted kind d
+    × AllZip (ReadsStatement d) (statements_in d) policy.statements

@@ -1,16 +1,31 @@
-ghost use Rattle.std.specs.Prelude.{◌≡◌, map, Some, option_map};
+ghost use Rattle.std.specs.Prelude.{◌≡◌, map, Some, option_map, MatchOption, true, if◌then◌else◌};
 ghost use Rattle.std.specs.List.{list_all, list_any};
 ghost use Rattle.serde_json.specs.Find.{get};
 ghost use Rattle.serde_json.specs.View.{view};
-ghost use Rattle.iam_policy.specs.Form.{form_of};
-ghost use Rattle.iam_policy.specs.Element.{listed, is_text, are_texts, is_bad_list, has_text, is_this, is_too_long};
+ghost use Rattle.iam_policy.specs.Code.Form.{form_of};
+ghost use Rattle.iam_policy.specs.Element.{both, neither, listed, is_text, is_no_text, are_texts, is_bad_list, has_text, is_this, is_too_long, effect_of, effect_named, sid_of};
 
+use crate::effect::Effect;
 use crate::grammar::Form;
 use serde_json::Value;
 use std::slice;
 
 /// How many statements a document may have, and how many members a list of a statement.
 pub const MOST: usize = 4096;
+
+/// Whether both elements stand there.
+pub fn has_both(of: &Value, name: &str, other: &str) -> bool
+    ensures { result ≡ both (get name.now (view of.now)) (get other.now (view of.now)) }
+{
+    of.get(name).is_some() && of.get(other).is_some()
+}
+
+/// Whether neither element stands there.
+pub fn has_neither(of: &Value, name: &str, other: &str) -> bool
+    ensures { result ≡ neither (get name.now (view of.now)) (get other.now (view of.now)) }
+{
+    of.get(name).is_none() && of.get(other).is_none()
+}
 
 /// What stands in a list of texts, where one text may stand without brackets.
 pub fn listed<'v>(of: &'v Value, name: &str) -> &'v [Value]
@@ -22,11 +37,12 @@ pub fn listed<'v>(of: &'v Value, name: &str) -> &'v [Value]
     }
 }
 
-fn values_in(value: &Value) -> &[Value]
+/// The values of a list, or one text.
+pub fn values_in(value: &Value) -> &[Value]
     ensures { map view result.now ≡ listed (Some (view value.entry.now)) }
 {
-    match value.as_array() {
-        Some(values) => values.as_slice(),
+    match iam_json::values(value) {
+        Some(values) => values,
         None => {
             if value.is_string() {
                 slice::from_ref(value)
@@ -37,11 +53,22 @@ fn values_in(value: &Value) -> &[Value]
     }
 }
 
-fn is_text(value: &Value, form: Form) -> bool
+/// Whether the value is a text of the form.
+pub fn is_text(value: &Value, form: Form) -> bool
     ensures { result ≡ is_text (form_of form) (view value.now) }
 {
     match value.as_str() {
         Some(text) => form.fits(text),
+        None => false,
+    }
+}
+
+/// Whether the element stands there and is no text.
+pub fn is_no_text(of: &Value, name: &str) -> bool
+    ensures { result ≡ is_no_text (get name.now (view of.now)) }
+{
+    match of.get(name) {
+        Some(value) => !value.is_string(),
         None => false,
     }
 }
@@ -96,4 +123,56 @@ pub fn is_too_long(of: &Value, name: &str) -> bool
     ensures { result ≡ is_too_long (get name.now (view of.now)) }
 {
     listed(of, name).len() > MOST
+}
+
+/// One of two elements of a statement, such as `Action` and `NotAction`.
+#[derive(Clone, Copy)]
+pub struct Element<'v> {
+    pub is_negated: bool,
+    pub value: &'v Value,
+}
+
+/// The first of two elements, or else the second, which is the negated one.
+pub fn either<'v>(of: &'v Value, name: &str, negated_name: &str) -> Option<Element<'v>>
+    ensures { MatchOption result
+        (neither (get name.now (view of.entry.now)) (get negated_name.now (view of.entry.now)) ≡ true)
+        (λ e. get (if e.is_negated then negated_name.now else name.now) (view of.entry.now) ≡ Some (view e.value.now)) }
+{
+    if let Some(value) = of.get(name) {
+        return Some(Element {
+            is_negated: false,
+            value,
+        });
+    }
+    match of.get(negated_name) {
+        Some(value) => Some(Element {
+            is_negated: true,
+            value,
+        }),
+        None => None,
+    }
+}
+
+/// The effect of a statement, where it has one.
+pub fn effect_of(statement: &Value) -> Option<Effect>
+    ensures { result ≡ effect_of (view statement.now) }
+{
+    effect_named(statement.get("Effect")?.as_str()?)
+}
+
+fn effect_named(word: &str) -> Option<Effect>
+    ensures { result ≡ effect_named word.now }
+{
+    match word {
+        "Allow" => Some(Effect::Allow),
+        "Deny" => Some(Effect::Deny),
+        _ => None,
+    }
+}
+
+/// The `Sid` of a statement, where it is a text.
+pub fn sid_of(statement: &Value) -> Option<&str>
+    ensures { option_map (λ t. t.now) result ≡ sid_of (view statement.entry.now) }
+{
+    statement.get("Sid")?.as_str()
 }

@@ -118,6 +118,45 @@ impl Fault {
 pub enum Kind {
     /// An identity policy, a permissions boundary or a session policy.
     Identity,
+    /// The policy of a resource.
+    Resource,
+    /// An organisation policy.
+    Org,
+}
+
+impl Kind {
+    ghost use Rattle.std.specs.Prelude.{◌≡◌};
+    ghost use Rattle.iam_policy.specs.Fault.{wants_resource, wants_principal, wants_distinct_sids};
+
+    /// Whether each statement must have `Resource` or `NotResource`.
+    pub(crate) fn wants_resource(self) -> bool
+        ensures { result ≡ wants_resource self }
+    {
+        match self {
+            Kind::Identity | Kind::Org => true,
+            Kind::Resource => false,
+        }
+    }
+
+    /// Whether each statement must have `Principal` or `NotPrincipal`; of another kind none may.
+    pub(crate) fn wants_principal(self) -> bool
+        ensures { result ≡ wants_principal self }
+    {
+        match self {
+            Kind::Identity | Kind::Org => false,
+            Kind::Resource => true,
+        }
+    }
+
+    /// Whether no two statements may have the same `Sid`.
+    pub(crate) fn wants_distinct_sids(self) -> bool
+        ensures { result ≡ wants_distinct_sids self }
+    {
+        match self {
+            Kind::Identity | Kind::Org => true,
+            Kind::Resource => false,
+        }
+    }
 }
 
 /// Why a document is not read: its least fault, or want of memory. The faults of the document itself come

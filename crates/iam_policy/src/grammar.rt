@@ -1,6 +1,11 @@
-ghost use Rattle.std.specs.Prelude.{◌≡◌};
-ghost use Rattle.std.specs.List.{list_all};
-ghost use Rattle.iam_policy.specs.Grammar.{is_run, is_prefix_character, is_name_character, is_action, is_resource, has_dollar_brace};
+ghost use Rattle.std.specs.Prelude.{◌≡◌, nat_le, ◌&&◌, not};
+ghost use Rattle.std.specs.List.{list_all, list_any};
+ghost use Rattle.std.specs.Char.{is_ascii_alphanumeric};
+ghost use Rattle.iam_text.specs.Arn.{colons};
+ghost use Rattle.iam_text.specs.Characters.{is_run};
+ghost use Rattle.iam_policy.specs.Grammar.{is_wildcard, is_prefix_character, is_name_character, is_action, begins_as_arn, is_resource, has_dollar_brace, is_whole_arn, is_unique_id, is_aws_name};
+
+use iam_text::{Arn, is_account};
 
 /// A form that a text of a statement may have.
 #[derive(Clone, Copy)]
@@ -11,11 +16,15 @@ pub enum Form {
     Resource,
     /// A text in which a `${` stands.
     DollarBrace,
+    /// A principal under `AWS`: `*`, an account, an ARN or a unique id.
+    AwsName,
+    /// A principal under another type: any text.
+    AnyName,
 }
 
 impl Form {
     ghost use Rattle.std.specs.Prelude.{◌≡◌};
-    ghost use Rattle.iam_policy.specs.Form.{form_of};
+    ghost use Rattle.iam_policy.specs.Code.Form.{form_of};
 
     pub fn fits(self, text: &str) -> bool
         ensures { result ≡ form_of self text.now }
@@ -24,6 +33,8 @@ impl Form {
             Form::Action => is_action(text),
             Form::Resource => is_resource(text),
             Form::DollarBrace => has_dollar_brace(text),
+            Form::AwsName => is_aws_name(text),
+            Form::AnyName => true,
         }
     }
 }
@@ -64,10 +75,16 @@ fn all_name_characters(text: &[u8]) -> bool
     text.iter().all(|&character| is_name_character(character))
 }
 
+fn is_wildcard(character: u8) -> bool
+    ensures { result ≡ is_wildcard character }
+{
+    character == b'*' || character == b'?'
+}
+
 fn is_prefix_character(character: u8) -> bool
     ensures { result ≡ is_prefix_character character }
 {
-    character.is_ascii_alphanumeric() || character == b'-' || character == b'*' || character == b'?'
+    character.is_ascii_alphanumeric() || character == b'-' || is_wildcard(character)
 }
 
 fn is_name_character(character: u8) -> bool
@@ -76,14 +93,57 @@ fn is_name_character(character: u8) -> bool
     is_prefix_character(character) || character == b'_' || character == b'.'
 }
 
+fn begins_as_arn(text: &str) -> bool
+    ensures { result ≡ begins_as_arn text.now }
+{
+    text.starts_with("arn:")
+}
+
 fn is_resource(text: &str) -> bool
     ensures { result ≡ is_resource text.now }
 {
-    text == "*" || text.starts_with("arn:")
+    text == "*" || begins_as_arn(text)
 }
 
 fn has_dollar_brace(text: &str) -> bool
     ensures { result ≡ has_dollar_brace text.now }
 {
     text.contains("${")
+}
+
+fn is_aws_name(text: &str) -> bool
+    ensures { result ≡ is_aws_name text.now }
+{
+    text == "*" || is_account(text) || is_whole_arn(text) || is_unique_id(text)
+}
+
+fn is_whole_arn(text: &str) -> bool
+    ensures { result ≡ is_whole_arn text.now }
+{
+    begins_as_arn(text) && has_six_parts(text) && !has_wildcard(text.as_bytes())
+}
+
+fn has_six_parts(text: &str) -> bool
+    ensures { result ≡ nat_le 5 (colons text.now) }
+{
+    Arn::cut(text).is_some()
+}
+
+fn has_wildcard(text: &[u8]) -> bool
+    ensures { result ≡ list_any is_wildcard text.now }
+{
+    text.iter().any(|&character| is_wildcard(character))
+}
+
+fn is_unique_id(text: &str) -> bool
+    ensures { result ≡ is_unique_id text.now }
+{
+    !text.is_empty() && all_alphanumeric(text.as_bytes()) && text.len() <= 128
+}
+
+fn all_alphanumeric(text: &[u8]) -> bool
+    ensures { result ≡ list_all is_ascii_alphanumeric text.now }
+{
+    text.iter()
+        .all(|character| character.is_ascii_alphanumeric())
 }

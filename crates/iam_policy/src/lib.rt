@@ -1,18 +1,30 @@
 //! Policy documents: read, or refused by their least fault.
 #![tactic(auto)]
 
+mod actions;
+mod document_checks;
 mod effect;
 mod element;
 mod fault;
 mod grammar;
-mod least;
+mod laws;
+mod patterns;
 mod policy;
+mod principal_grammar;
+mod principals;
+mod resources;
+mod sids;
+mod statement;
+mod statement_checks;
 mod table;
-#[cfg(test)]
-mod tests;
 
+pub use actions::Actions;
 pub use effect::Effect;
 pub use fault::{Fault, Kind, Refused};
-pub use policy::{Policy, Statement};
+pub use laws::{one_least_fault, one_policy};
+pub use policy::Policy;
+pub use principals::{PrincipalKind, PrincipalName, Principals};
+pub use resources::Resources;
+pub use statement::Statement;
 /// The allocator refused a growth.
-pub use std::alloc::AllocError as OutOfMemory;
+pub use iam_text::OutOfMemory;

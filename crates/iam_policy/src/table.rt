@@ -1,17 +1,18 @@
-ghost use Rattle.std.specs.Prelude.{◌≡◌, map, codes, Some};
-ghost use Rattle.std.specs.List.{find};
-ghost use Rattle.serde_json.specs.View.{view, members_view};
-ghost use Rattle.serde_json.specs.Find.{get};
-ghost use Rattle.iam_policy.specs.Element.{has_other};
-ghost use Rattle.iam_policy.specs.Table.{table};
-ghost use Rattle.iam_policy.specs.Level.{knows};
-ghost use Rattle.iam_policy.specs.Fault.{is_document_name, is_statement_name, has_unknown_member, is_bad_statement, statements_of, both, neither, wants_resource, document_line, statement_line, statement_has_too_long, document_has, statement_has};
+ghost use Rattle.std.specs.Prelude.{◌≡◌, ℕ};
+ghost use Rattle.serde_json.specs.Data.{Data};
+ghost use Rattle.serde_json.specs.View.{view};
+ghost use Rattle.iam_policy.specs.Code.First.{document_fault, fault_of};
+ghost use Rattle.iam_policy.specs.Fault.{sids_before, repeats_sid, document_line, statement_line, document_has, statement_has};
 
-use crate::element::{MOST, has_text, is_bad_list, is_this, is_too_long};
+use crate::document_checks::{has_unknown_element, is_bad_statement, statements_in};
+use crate::element::{MOST, effect_of, has_both, has_neither, is_no_text, is_this};
 use crate::fault::{Fault, Kind};
 use crate::grammar::Form;
-use serde_json::{Map, Value};
-use std::slice;
+use crate::statement_checks::{
+    allows_by_not_principal, has_bad_list, has_bad_principal, has_no_single_action, has_principal,
+    has_too_many, has_unknown_member, has_unknown_operator, has_variable, is_bad_condition,
+};
+use serde_json::Value;
 
 /// All faults but want of memory, in the order of their numbers.
 const TABLE: [Fault; 21] = [
@@ -38,87 +39,12 @@ const TABLE: [Fault; 21] = [
     Fault::TooMany,
 ];
 
-/// The object whose known member names are asked for.
-#[derive(Clone, Copy)]
-pub enum Level {
-    Document,
-    Statement,
-}
-
-impl Level {
-    ghost use Rattle.std.specs.Prelude.{◌≡◌};
-    ghost use Rattle.iam_policy.specs.Level.{knows};
-
-    fn knows(self, name: &str) -> bool
-        ensures { result ≡ knows self name.now }
-    {
-        match self {
-            Level::Document => name == "Version" || name == "Statement",
-            Level::Statement => name == "Effect" || name == "Action" || name == "Resource",
-        }
-    }
-}
-
-fn has_other(members: &Map<String, Value>, level: Level) -> bool
-    ensures { result ≡ has_other (knows level) (members_view members.now.entries) }
-{
-    for (name, _) in members.iter() {
-        if !level.knows(name.as_str()) {
-            return true;
-        }
-    }
-    false
-}
-
-fn has_unknown_member(of: &Value, level: Level) -> bool
-    ensures { result ≡ has_unknown_member (knows level) (view of.now) }
-{
-    match of.as_object() {
-        Some(members) => has_other(members, level),
-        None => false,
-    }
-}
-
-fn is_bad_statement(document: &Value) -> bool
-    ensures { result ≡ is_bad_statement (get (codes "Statement") (view document.now)) }
-{
-    match document.get("Statement") {
-        Some(value) => !value.is_object() && !value.is_array(),
-        None => false,
-    }
-}
-
-/// The statements of a document, where one object stands for a list of one.
-pub fn statements_in(document: &Value) -> &[Value]
-    ensures { map view result.now ≡ statements_of (get (codes "Statement") (view document.entry.now)) }
-{
-    match document.get("Statement") {
-        Some(value) => objects_in(value),
-        None => &[],
-    }
-}
-
-fn objects_in(value: &Value) -> &[Value]
-    ensures { map view result.now ≡ statements_of (Some (view value.entry.now)) }
-{
-    match value.as_array() {
-        Some(values) => values.as_slice(),
-        None => {
-            if value.is_object() {
-                slice::from_ref(value)
-            } else {
-                &[]
-            }
-        }
-    }
-}
-
 /// One line of the table for a document that is an object.
 fn document_line(document: &Value, kind: Kind, fault: Fault) -> bool
     ensures { result ≡ document_line kind (view document.now) fault }
 {
     match fault {
-        Fault::UnknownElement => has_unknown_member(document, Level::Document),
+        Fault::UnknownElement => has_unknown_element(document) || is_no_text(document, "Id"),
         Fault::BadVersion => !is_this(document, "Version", "2012-10-17"),
         Fault::NoStatement => document.get("Statement").is_none(),
         Fault::BadStatement => is_bad_statement(document),
@@ -127,64 +53,33 @@ fn document_line(document: &Value, kind: Kind, fault: Fault) -> bool
     }
 }
 
-fn has_both(of: &Value, name: &str, other: &str) -> bool
-    ensures { result ≡ both (get name.now (view of.now)) (get other.now (view of.now)) }
-{
-    of.get(name).is_some() && of.get(other).is_some()
-}
-
-fn has_neither(of: &Value, name: &str, other: &str) -> bool
-    ensures { result ≡ neither (get name.now (view of.now)) (get other.now (view of.now)) }
-{
-    of.get(name).is_none() && of.get(other).is_none()
-}
-
-fn wants_resource(kind: Kind) -> bool
-    ensures { result ≡ wants_resource kind }
-{
-    match kind {
-        Kind::Identity => true,
-    }
-}
-
-/// One line of the table for a statement that is an object.
-fn statement_line(statement: &Value, kind: Kind, fault: Fault) -> bool
-    ensures { result ≡ statement_line kind (view statement.now) fault }
+/// One line of the table for a statement that is an object. `repeats` is whether an earlier statement has its `Sid`.
+fn statement_line(statement: &Value, kind: Kind, repeats: bool, fault: Fault) -> bool
+    ensures { (d : Data) (i : ℕ) → repeats ≡ repeats_sid (sids_before d i) (view statement.now)
+        → result ≡ statement_line kind d i (view statement.now) fault }
 {
     match fault {
-        Fault::UnknownElement => has_unknown_member(statement, Level::Statement),
-        Fault::BadEffect => !is_this(statement, "Effect", "Allow")
-            && !is_this(statement, "Effect", "Deny"),
-        Fault::ActionCount => has_both(statement, "Action", "NotAction")
-            || has_neither(statement, "Action", "NotAction"),
-        Fault::BadAction => {
-            is_bad_list(statement, "Action", Form::Action)
-                || is_bad_list(statement, "NotAction", Form::Action)
-        }
+        Fault::UnknownElement => has_unknown_member(statement),
+        Fault::BadSid => is_no_text(statement, "Sid"),
+        Fault::DuplicateSid => kind.wants_distinct_sids() && repeats,
+        Fault::BadEffect => effect_of(statement).is_none(),
+        Fault::ActionCount => has_no_single_action(statement),
+        Fault::BadAction => has_bad_list(statement, "Action", "NotAction", Form::Action),
+        Fault::PrincipalMisplaced => !kind.wants_principal() && has_principal(statement),
+        Fault::PrincipalMissing => kind.wants_principal() && !has_principal(statement),
+        Fault::BadPrincipal => kind.wants_principal() && has_bad_principal(statement),
+        Fault::NotPrincipalAllow => kind.wants_principal() && allows_by_not_principal(statement),
         Fault::ResourceCount => {
             has_both(statement, "Resource", "NotResource")
-                || wants_resource(kind) && has_neither(statement, "Resource", "NotResource")
+                || kind.wants_resource() && has_neither(statement, "Resource", "NotResource")
         }
-        Fault::BadResource => {
-            is_bad_list(statement, "Resource", Form::Resource)
-                || is_bad_list(statement, "NotResource", Form::Resource)
-        }
-        Fault::BadVariable => {
-            has_text(statement, "Resource", Form::DollarBrace)
-                || has_text(statement, "NotResource", Form::DollarBrace)
-        }
-        Fault::TooMany => has_too_long(statement),
+        Fault::BadResource => has_bad_list(statement, "Resource", "NotResource", Form::Resource),
+        Fault::BadVariable => has_variable(statement),
+        Fault::UnknownOperator => has_unknown_operator(statement),
+        Fault::BadCondition => is_bad_condition(statement),
+        Fault::TooMany => has_too_many(statement),
         _ => false,
     }
-}
-
-fn has_too_long(statement: &Value) -> bool
-    ensures { result ≡ statement_has_too_long (view statement.now) }
-{
-    is_too_long(statement, "Action")
-        || is_too_long(statement, "NotAction")
-        || is_too_long(statement, "Resource")
-        || is_too_long(statement, "NotResource")
 }
 
 fn document_has(document: &Value, kind: Kind, fault: Fault) -> bool
@@ -197,11 +92,12 @@ fn document_has(document: &Value, kind: Kind, fault: Fault) -> bool
     }
 }
 
-fn statement_has(statement: &Value, kind: Kind, fault: Fault) -> bool
-    ensures { result ≡ statement_has kind (view statement.now) fault }
+fn statement_has(statement: &Value, kind: Kind, repeats: bool, fault: Fault) -> bool
+    ensures { (d : Data) (i : ℕ) → repeats ≡ repeats_sid (sids_before d i) (view statement.now)
+        → result ≡ statement_has kind d i (view statement.now) fault }
 {
     if statement.is_object() {
-        statement_line(statement, kind, fault)
+        statement_line(statement, kind, repeats, fault)
     } else {
         fault == Fault::BadStatement
     }
@@ -209,7 +105,7 @@ fn statement_has(statement: &Value, kind: Kind, fault: Fault) -> bool
 
 /// The first fault of the document itself.
 pub fn document_fault(document: &Value, kind: Kind) -> Option<Fault>
-    ensures { result ≡ find (document_has kind (view document.now)) table }
+    ensures { result ≡ document_fault kind (view document.now) }
 {
     TABLE
         .iter()
@@ -218,11 +114,14 @@ pub fn document_fault(document: &Value, kind: Kind) -> Option<Fault>
 }
 
 /// The first fault of a statement.
-pub fn statement_fault(statement: &Value, kind: Kind) -> Option<Fault>
-    ensures { result ≡ find (statement_has kind (view statement.now)) table }
+pub fn statement_fault(statement: &Value, kind: Kind, repeats: bool) -> Option<Fault>
+    ensures { (d : Data) (i : ℕ) → repeats ≡ repeats_sid (sids_before d i) (view statement.now)
+        → result ≡ fault_of kind d i (view statement.now) }
 {
-    TABLE
-        .iter()
-        .copied()
-        .find(|&fault| statement_has(statement, kind, fault))
+    for fault in TABLE {
+        if statement_has(statement, kind, repeats, fault) {
+            return Some(fault);
+        }
+    }
+    None
 }

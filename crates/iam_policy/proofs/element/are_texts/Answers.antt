@@ -1,6 +1,6 @@
 use Rattle.std.proofs.Common.{sym, ◌∙◌}
 use Rattle.serde_json.specs.View.{view}
-use Rattle.iam_policy.specs.Form.{form_of}
+use Rattle.iam_policy.specs.Code.Form.{form_of}
 use Rattle.iam_policy.proofs.ElementLemmas.{are_texts-map}
 use Rattle.iam_policy.proofs.element.are_texts.Goals as goal
 

@@ -1,9 +1,9 @@
 use Rattle.std.proofs.Common.{sym, ◌∙◌, ap}
 use Rattle.std.specs.List.{list_any}
+use Rattle.iam_policy.proofs.ElementLemmas.{list_any-map}
 use Rattle.serde_json.specs.View.{view}
 use Rattle.iam_policy.specs.Element.{is_text}
-use Rattle.iam_policy.specs.Form.{form_of}
-use Rattle.iam_policy.proofs.ElementLemmas.{list_any-map}
+use Rattle.iam_policy.specs.Code.Form.{form_of}
 use Rattle.iam_policy.proofs.element.has_text.Goals as goal
 
 pub returns : goal.returns

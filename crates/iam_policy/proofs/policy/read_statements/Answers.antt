@@ -1,23 +1,61 @@
-use Rattle.std.proofs.Common.{arith, ◌+◌, List, map, take, sym, subst}
-use Rattle.std.specs.List.{AllZip}
+use Rattle.std.proofs.Common.{ℕ, ◌≡◌, ◌+◌, ◌∙◌, List, Some, None, refl, sym, subst, arith, take}
+use Rattle.std.specs.List.{AllZip, slice_get}
 use Rattle.serde_json.specs.View.{view}
-use Rattle.iam_policy.specs.Reading.{HasEffect, ReadsStatement, StatementValue}
-use Rattle.iam_policy.proofs.ReadingLemmas.{zip_more, all_at}
+use Rattle.iam_policy.specs.Code.First.{fault_of}
+use Rattle.iam_policy.specs.Code.Sids.{HasSids}
+use Rattle.iam_policy.specs.Element.{sid_of}
+use Rattle.iam_policy.specs.Fault.{sids_before, statements_in}
+use Rattle.iam_policy.specs.Reading.{ReadsStatement, StatementValue}
+use Rattle.iam_policy.proofs.ElementLemmas.{item_at, filter_map-next}
+use Rattle.iam_policy.proofs.FaultLaws.{faultless_more, fault_not_memory}
+use Rattle.iam_policy.proofs.ReadingLemmas.{readable, zip_more}
 use Rattle.iam_policy.proofs.policy.read_statements.Goals as goal
 
-pub loop-statement-preserved : goal.loop-statement-preserved
-loop-statement-preserved c = (
-  (
-      λ all.
-      let vs = c.args.statements.now in
-      let i = c.loop-statement.statement-index in
-      let v = c.statement-item.result in
-      let effect = all_at HasEffect view vs i v c.loop-statement-test.true c.statement-item.is all in
-      let zip =
-      zip_more ReadsStatement view vs i v c.loop-statement.read.items c.in_ok-read.field-0 c.loop-statement-test.true c.statement-item.is
-      (c.loop-statement.invariant.0 all) (c.in_ok-read.ensures effect) in
-      let P : List StatementValue → Type 0 = λ ys. AllZip ReadsStatement (map view (take (i + 1) vs)) ys in
-      subst P (sym c.in_ok-push.ensures.items) zip
-      ),
-  omega (arith, c.in_ok-push.ensures.len),
-)
+pub returns-in-Some-clause-first : goal.returns-in-Some-clause-first
+returns-in-Some-clause-first c = λ _.
+    let d = view c.args.document.now in
+    let i = c.loop-number.number in
+    let s = view c.statement-item.result in
+    let noted = c.in_ok-repeats.ensures (sids_before d i) c.loop-number.invariant.sids in (
+      i,
+      refl,
+      record {
+        before = c.loop-number.invariant.clean;
+        statement = s;
+        at = item_at view c.statements_in-statement-items.result.now (statements_in d) i c.statement-item.result c.statements_in-statement-items.ensures c.loop-number-test.true c.statement-item.is;
+        fault_is = sym (c.statement_fault.ensures d i noted.0) ∙ c.in-Some.is;
+      },
+    )
+
+pub returns-in-Some-clause-memory : goal.returns-in-Some-clause-memory
+returns-in-Some-clause-memory c = λ memory.
+    let d = view c.args.document.now in
+    let i = c.loop-number.number in
+    let noted = c.in_ok-repeats.ensures (sids_before d i) c.loop-number.invariant.sids in
+    absurd (fault_not_memory c.args.kind d i (view c.statement-item.result) c.in-Some.fault (sym (c.statement_fault.ensures d i noted.0) ∙ c.in-Some.is) memory)
+
+pub add-requires : goal.add-requires
+add-requires c =
+    let d = view c.args.document.now in
+    let i = c.loop-number.number in
+    let noted = c.in_ok-repeats.ensures (sids_before d i) c.loop-number.invariant.sids in
+    readable c.args.kind d i (view c.statement-item.result) (sym (c.statement_fault.ensures d i noted.0) ∙ c.in_default.is)
+
+pub loop-number-preserved : goal.loop-number-preserved
+loop-number-preserved c =
+    let d = view c.args.document.now in
+    let i = c.loop-number.number in
+    let s = view c.statement-item.result in
+    let at : slice_get (statements_in d) i ≡ Some s =
+    item_at view c.statements_in-statement-items.result.now (statements_in d) i c.statement-item.result c.statements_in-statement-items.ensures c.loop-number-test.true c.statement-item.is in
+    let noted = c.in_ok-repeats.ensures (sids_before d i) c.loop-number.invariant.sids in
+    let clean : fault_of c.args.kind d i s ≡ None = sym (c.statement_fault.ensures d i noted.0) ∙ c.in_default.is in
+    let added = c.in_ok-add.ensures.items in record {
+      sids = let P : List (List ℕ) → Type 0 = λ sids. HasSids c.note_sid.new.sids sids in subst P (sym (filter_map-next sid_of (statements_in d) i s at)) noted.1;
+      clean = faultless_more c.args.kind d i s c.loop-number.invariant.clean at clean;
+      read =
+          let P : List StatementValue → Type 0 = λ ys. AllZip (ReadsStatement d) (take (i + 1) (statements_in d)) ys in
+          subst P (sym added.added)
+          (zip_more (ReadsStatement d) (statements_in d) i s c.loop-number.read.items added.statement at c.loop-number.invariant.read (added.reads d));
+      len = omega (arith, c.in_ok-add.ensures.len, c.loop-number.invariant.len);
+    }

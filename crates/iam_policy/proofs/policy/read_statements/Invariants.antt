@@ -1,10 +1,16 @@
-use Rattle.std.proofs.Common.{◌≡◌, map, take, vec_len}
-use Rattle.std.specs.List.{AllByRecursion, AllZip}
+use Rattle.std.proofs.Common.{◌≡◌, take, vec_len}
+use Rattle.std.specs.List.{AllZip}
 use Rattle.serde_json.specs.View.{view}
-use Rattle.iam_policy.specs.Reading.{HasEffect, ReadsStatement}
+use Rattle.iam_policy.specs.Code.First.{AreFaultless}
+use Rattle.iam_policy.specs.Code.Sids.{HasSids}
+use Rattle.iam_policy.specs.Fault.{statements_in, sids_before}
+use Rattle.iam_policy.specs.Reading.{ReadsStatement}
 use Rattle.iam_policy.proofs.policy.read_statements.Given as goal
 
-abbrev pub invariant-loop-statement : goal.invariant-loop-statement
-invariant-loop-statement l =
-    (AllByRecursion HasEffect (map view l.statements) → AllZip ReadsStatement (map view (take l.statement-index l.statements)) l.read.items)
-    × (vec_len l.read ≡ l.statement-index)
+abbrev pub invariant-loop-number : goal.invariant-loop-number
+invariant-loop-number l = record {
+  sids : HasSids l.sids (sids_before (view l.document) l.number);
+  clean : AreFaultless l.kind (view l.document) l.number;
+  read : AllZip (ReadsStatement (view l.document)) (take l.number (statements_in (view l.document))) l.read.items;
+  len : vec_len l.read ≡ l.number;
+}

@@ -1,24 +1,22 @@
-use Rattle.std.proofs.Common.{List, sym, subst}
-use Rattle.std.specs.List.{AllByRecursion, AllZip}
-use Rattle.serde_json.specs.Data.{Data}
+use Rattle.std.proofs.Common.{sym, ◌∙◌}
+use Rattle.std.proofs.lemmas.Result.{err_from_is_err_and}
 use Rattle.serde_json.specs.View.{view}
-use Rattle.iam_policy.specs.Reading.{HasEffect, ReadsStatement}
-use Rattle.std.proofs.Common.{◌≡◌, ◌≤◌, length, map, ap, arith}
-use Rattle.std.proofs.lemmas.List.{length-map}
-use Rattle.iam_policy.proofs.FaultLaws.{statements, accepted_few}
-use Rattle.iam_policy.proofs.ReadingLemmas.{accepted_effects}
+use Rattle.iam_policy.proofs.FaultLaws.{document_least, refused_least, accepted}
 use Rattle.iam_policy.proofs.policy.Policy.read.Goals as goal
 
-pub returns-in_ok-read_statements-in-None-clause-ok : goal.returns-in_ok-read_statements-in-None-clause-ok
-returns-in_ok-read_statements-in-None-clause-ok c =
-    let P : List Data → Type 0 = λ ss. AllByRecursion HasEffect ss in
-    let Q : List Data → Type 0 = λ ss. AllZip ReadsStatement ss c.in_ok-read_statements-in-None.field-0.items in
-    let effects = subst P (sym c.statements_in.ensures) (accepted_effects c.args.kind (view c.args.value.now) c.in-None.ensures) in
-    (c.in-None.ensures, subst Q c.statements_in.ensures (c.in_ok-read_statements-in-None.ensures.read effects))
+pub returns-in-Some-clause-least : goal.returns-in-Some-clause-least
+returns-in-Some-clause-least c = λ _.
+    document_least c.args.kind (view c.args.value.now) c.in-Some.fault (sym c.document_fault.ensures ∙ c.in-Some.is)
 
-pub invariant_of-result : goal.invariant_of-result
-invariant_of-result c =
-    let few : length (statements (view c.args.value.now)) ≤ 4096 = accepted_few c.args.kind (view c.args.value.now) c.in-None.ensures in
-    let same : length (map view c.statements_in.result.now) ≡ length (statements (view c.args.value.now)) = ap length c.statements_in.ensures in
-    let long : length (map view c.statements_in.result.now) ≡ length c.statements_in.result.now = length-map c.statements_in.result.now view in
-    omega (arith, c.in_ok-read_statements-in-None.ensures.len)
+pub returns-in_err-statements-clause-least : goal.returns-in_err-statements-clause-least
+returns-in_err-statements-clause-least c =
+    let p = err_from_is_err_and c.from_residual.result c.from_residual.ensures.1 in
+    rw (p.1, p.2)
+    (λ known. refused_least c.args.kind (view c.args.value.now) c.in_err-statements.field-0.0 (sym c.document_fault.ensures ∙ c.in_default.is)
+    (c.in_err-statements.ensures.first known))
+
+pub returns-clause-ok : goal.returns-clause-ok
+returns-clause-ok c = (
+  accepted c.args.kind (view c.args.value.now) (sym c.document_fault.ensures ∙ c.in_default.is) c.in_ok-statements.ensures.clean,
+  c.in_ok-statements.ensures.read,
+)

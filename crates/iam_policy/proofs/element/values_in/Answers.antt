@@ -1,7 +1,0 @@
-use Rattle.std.proofs.Common.{◌∙◌, ap, map}
-use Rattle.serde_json.specs.View.{view}
-use Rattle.iam_policy.proofs.ElementLemmas.{listed_array}
-use Rattle.iam_policy.proofs.element.values_in.Goals as goal
-
-pub returns-in-Some : goal.returns-in-Some
-returns-in-Some c = ap (map view) c.as_slice.ensures.value ∙ listed_array (view c.args.value.now) (map view c.in-Some.values.now.items) c.in-Some.ensures

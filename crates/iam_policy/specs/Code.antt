@@ -1,0 +1,4 @@
+pub mod First
+pub mod Form
+pub mod Readable
+pub mod Sids

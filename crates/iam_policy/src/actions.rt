@@ -1,0 +1,58 @@
+use crate::OutOfMemory;
+use crate::element::{Element, values_in};
+use crate::patterns::patterns;
+use iam_text::Glob;
+use serde_json::Value;
+use std::alloc::Global;
+use std::marker::Model;
+
+/// The element `Action` or `NotAction` of a statement.
+///
+/// AWS IAM User Guide, "IAM JSON policy elements: Action".
+#[derive(Debug, Drop)]
+pub struct Actions {
+    is_negated: bool,
+    patterns: Vec<Glob>,
+}
+
+impl Model for Actions {
+    ghost use Rattle.iam_policy.specs.Reading.{ActionElement};
+
+    ghost Value = { ActionElement };
+
+    ghost view = { λ a. record { negated = a.is_negated; patterns = a.patterns.items } };
+}
+
+impl Actions {
+    ghost use Rattle.std.specs.Prelude.{◌≡◌, IfOk, Some, map};
+    ghost use Rattle.serde_json.specs.View.{view};
+    ghost use Rattle.iam_policy.specs.Element.{texts_of};
+    ghost use Rattle.iam_policy.specs.Reading.{pattern_of};
+
+    /// Whether the element is `NotAction`.
+    pub fn is_negated(&self) -> bool
+        ensures { result ≡ self.now.negated }
+    {
+        self.is_negated
+    }
+
+    /// The pattern of each text of the element.
+    pub fn patterns(&self) -> &[Glob]
+        ensures { result.now ≡ self.now.patterns }
+    {
+        self.patterns.as_slice()
+    }
+
+    /// Reads the element that stands in a statement.
+    pub(crate) fn read(alloc: Global, element: Element<'_>) -> Result<Actions, OutOfMemory>
+        ensures { IfOk result (λ r. r ≡ record {
+          negated = element.entry.is_negated;
+          patterns = map pattern_of (texts_of (Some (view element.entry.value.now)));
+        }) }
+    {
+        Ok(Actions {
+            is_negated: element.is_negated,
+            patterns: patterns(alloc, values_in(element.value))?,
+        })
+    }
+}

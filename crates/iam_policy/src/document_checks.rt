@@ -1,0 +1,52 @@
+ghost use Rattle.std.specs.Prelude.{◌≡◌, map, codes, Some};
+ghost use Rattle.serde_json.specs.Find.{get};
+ghost use Rattle.serde_json.specs.View.{view};
+ghost use Rattle.iam_json.specs.Look.{has_unknown};
+ghost use Rattle.iam_policy.specs.Element.{stands_as};
+ghost use Rattle.iam_policy.specs.Fault.{document_names, is_bad_statement, statements_of, statements_in};
+
+use iam_json::has_unknown;
+use serde_json::Value;
+use std::slice;
+
+/// The statements of a document, where one object stands for a list of one.
+pub fn statements_in(document: &Value) -> &[Value]
+    ensures { map view result.now ≡ statements_in (view document.entry.now) }
+{
+    match document.get("Statement") {
+        Some(value) => objects_in(value),
+        None => &[],
+    }
+}
+
+fn objects_in(value: &Value) -> &[Value]
+    ensures { map view result.now ≡ statements_of (Some (view value.entry.now)) }
+{
+    match iam_json::values(value) {
+        Some(values) => values,
+        None => {
+            if value.is_object() {
+                slice::from_ref(value)
+            } else {
+                &[]
+            }
+        }
+    }
+}
+
+/// Whether the document has a member that it does not know.
+pub fn has_unknown_element(document: &Value) -> bool
+    ensures { result ≡ has_unknown document_names (view document.now) }
+{
+    has_unknown(document, &["Version", "Id", "Statement"])
+}
+
+/// Whether `Statement` stands there, and is neither an object nor a list.
+pub fn is_bad_statement(document: &Value) -> bool
+    ensures { result ≡ stands_as is_bad_statement (get (codes "Statement") (view document.now)) }
+{
+    match document.get("Statement") {
+        Some(value) => iam_json::values(value).is_none() && !value.is_object(),
+        None => false,
+    }
+}

@@ -1,0 +1,119 @@
+ghost use Rattle.std.specs.Prelude.{◌≡◌, ◌||◌, ◌&&◌, codes, is_some, is_none, not};
+ghost use Rattle.serde_json.specs.Find.{as_object, get};
+ghost use Rattle.serde_json.specs.View.{view};
+ghost use Rattle.iam_json.specs.Look.{has_unknown};
+ghost use Rattle.iam_policy.specs.Code.Form.{form_of};
+ghost use Rattle.iam_policy.specs.Element.{both, neither, stands_as, is_bad_list, is_this, has_text};
+ghost use Rattle.iam_policy.specs.Fault.{statement_names, operator_names, has_long_list};
+ghost use Rattle.iam_policy.specs.Grammar.{has_dollar_brace};
+ghost use Rattle.iam_policy.specs.Principal.{is_principal};
+
+use crate::element::{has_both, has_neither, has_text, is_bad_list, is_this, is_too_long};
+use crate::grammar::Form;
+use crate::principal_grammar::{has_long_kind, is_bad_principal};
+use iam_json::has_unknown;
+use serde_json::Value;
+
+/// Whether the statement has a member that it does not know.
+pub fn has_unknown_member(statement: &Value) -> bool
+    ensures { result ≡ has_unknown statement_names (view statement.now) }
+{
+    has_unknown(
+        statement,
+        &[
+            "Sid",
+            "Effect",
+            "Action",
+            "NotAction",
+            "Resource",
+            "NotResource",
+            "Principal",
+            "NotPrincipal",
+            "Condition",
+        ],
+    )
+}
+
+/// Whether a member of `Condition` is no operator.
+pub fn has_unknown_operator(statement: &Value) -> bool
+    ensures { result ≡ stands_as (has_unknown operator_names) (get (codes "Condition") (view statement.now)) }
+{
+    match statement.get("Condition") {
+        Some(condition) => has_unknown(condition, &[]),
+        None => false,
+    }
+}
+
+/// Whether `Condition` stands there and is no object.
+pub fn is_bad_condition(statement: &Value) -> bool
+    ensures { result ≡ stands_as (λ c. is_none (as_object c)) (get (codes "Condition") (view statement.now)) }
+{
+    match statement.get("Condition") {
+        Some(condition) => !condition.is_object(),
+        None => false,
+    }
+}
+
+/// Whether not exactly one of `Action` and `NotAction` stands there.
+pub fn has_no_single_action(statement: &Value) -> bool
+    ensures { result ≡ (both (get (codes "Action") (view statement.now)) (get (codes "NotAction") (view statement.now))
+        || neither (get (codes "Action") (view statement.now)) (get (codes "NotAction") (view statement.now))) }
+{
+    has_both(statement, "Action", "NotAction") || has_neither(statement, "Action", "NotAction")
+}
+
+/// Whether one of the two elements stands there and is not one or more texts of the form.
+pub fn has_bad_list(statement: &Value, name: &str, other: &str, form: Form) -> bool
+    ensures { result ≡ (is_bad_list (form_of form) (get name.now (view statement.now))
+        || is_bad_list (form_of form) (get other.now (view statement.now))) }
+{
+    is_bad_list(statement, name, form) || is_bad_list(statement, other, form)
+}
+
+/// Whether one of the principal elements stands there.
+pub fn has_principal(statement: &Value) -> bool
+    ensures { result ≡ (is_some (get (codes "Principal") (view statement.now))
+        || is_some (get (codes "NotPrincipal") (view statement.now))) }
+{
+    statement.get("Principal").is_some() || statement.get("NotPrincipal").is_some()
+}
+
+/// Whether both of the principal elements stand there, or one that is off the principal grammar.
+pub fn has_bad_principal(statement: &Value) -> bool
+    ensures { result ≡ (both (get (codes "Principal") (view statement.now)) (get (codes "NotPrincipal") (view statement.now))
+        || stands_as (λ p. not (is_principal p)) (get (codes "Principal") (view statement.now))
+        || stands_as (λ p. not (is_principal p)) (get (codes "NotPrincipal") (view statement.now))) }
+{
+    has_both(statement, "Principal", "NotPrincipal")
+        || is_bad_principal(statement, "Principal")
+        || is_bad_principal(statement, "NotPrincipal")
+}
+
+/// Whether `NotPrincipal` stands there in a statement that allows.
+pub fn allows_by_not_principal(statement: &Value) -> bool
+    ensures { result ≡ (is_some (get (codes "NotPrincipal") (view statement.now))
+        && is_this (codes "Allow") (get (codes "Effect") (view statement.now))) }
+{
+    statement.get("NotPrincipal").is_some() && is_this(statement, "Effect", "Allow")
+}
+
+/// Whether a `${` stands in a text of `Resource` or `NotResource`.
+pub fn has_variable(statement: &Value) -> bool
+    ensures { result ≡ (has_text has_dollar_brace (get (codes "Resource") (view statement.now))
+        || has_text has_dollar_brace (get (codes "NotResource") (view statement.now))) }
+{
+    has_text(statement, "Resource", Form::DollarBrace)
+        || has_text(statement, "NotResource", Form::DollarBrace)
+}
+
+/// Whether a list of the statement has more members than it may have.
+pub fn has_too_many(statement: &Value) -> bool
+    ensures { result ≡ has_long_list (view statement.now) }
+{
+    is_too_long(statement, "Action")
+        || is_too_long(statement, "NotAction")
+        || is_too_long(statement, "Resource")
+        || is_too_long(statement, "NotResource")
+        || has_long_kind(statement, "Principal")
+        || has_long_kind(statement, "NotPrincipal")
+}
