@@ -1,3 +1,6 @@
-pub mod StatementLemmas
+pub mod GrantLemmas
+pub mod JoinLemmas
+pub mod PartsLemmas
 pub mod PathLemmas
-pub mod UserLemmas
+pub mod RequesterLemmas
+pub mod StatementLemmas

@@ -1,22 +1,24 @@
 -- The test of a path meets the definition.
-use Rattle.std.proofs.Common.{◌≡◌, ◌↔◌, inl, inr, ℕ, ◌<◌, List, [], ◌∷◌, ◌++◌, Bool, true, false, ◌&&◌, ◌==◌, cond, length, refl, sym, ap, ◌∙◌, subst, arith, IsTrue, nat_lt, eqb-true}
+use Rattle.std.proofs.Common.{◌≡◌, ◌↔◌, ℕ, ◌<◌, List, [], ◌∷◌, ◌++◌, Bool, true, false, ◌&&◌, ◌==◌, cond, length, refl, sym, ap, ◌∙◌, subst, arith, IsTrue, nat_lt, eqb-true}
 use Rattle.std.proofs.lemmas.Bool.{lt-ltb, ltb-true}
 use Rattle.std.proofs.lemmas.List.{append-nil}
 use Rattle.std.specs.List.{AllByRecursion, list_all, join_with_byte}
-use Rattle.iam_policy.specs.Grammar.{is_run}
-use Rattle.iam_match.specs.Tests.{path_from}
-use Rattle.iam_match.specs.Requester.{IsLastSegment, IsPath, is_segment_character}
-use Rattle.std.proofs.Common.{Some, take, drop, take-append-drop}
+use Rattle.iam_match.specs.Code.Parts.{path_from}
+use Rattle.iam_match.specs.Requester.{IsPath, is_segment, is_segment_character, last_segment}
+use Rattle.std.proofs.Common.{Some, drop, get_or, length-drop, not, ◌≢◌, ◌≤◌, ◌+◌, ◌-◌}
+use Rattle.std.proofs.lemmas.List.{get_or-drop}
+use Rattle.std.proofs.lemmas.List.Sums.{suffix_len_is}
+use Rattle.std.specs.List.{suffix_len}
 use Rattle.std.specs.Str.{NoCharPasses}
 use Rattle.std.specs.Str.Pattern.{RFindsChar}
-use Rattle.std.proofs.lemmas.Str.Pattern.{NoCharPasses-char, drop_at_char}
+use Rattle.std.proofs.lemmas.Str.Pattern.{NoCharPasses-char}
 
 -- the characters of a segment, maybe none
 abbrev are_characters : List ℕ → Bool
 are_characters text = list_all is_segment_character text
 
 abbrev IsSegment : List ℕ → Type 0
-IsSegment text = IsTrue (is_run is_segment_character text)
+IsSegment text = IsTrue (is_segment text)
 
 -- the rest of a path: the end of its first segment, and the segments behind it
 abbrev IsRest : Bool → List ℕ → Type 0
@@ -124,13 +126,39 @@ path_test text = (λ e. path-of (rest-from_test text false e), test-of)
         ap (path_from false) (sym joined) ∙ test-from_rest rest s false run.1 (λ fresh. run.0) segments.1
 
 -- what stands behind the last `/`
-pub last_found : (path name : List ℕ) (i j : ℕ) → RFindsChar 47 path (Some (i, j)) → name ≡ drop j path → IsLastSegment path name
-last_found path name i j found is =
-    let P : List ℕ → Type 0 = λ n. IsLastSegment path n in
-    subst P (sym is) (
-      (λ k below. NoCharPasses-char 47 (drop j path) k found.0 (omega arith) below),
-      inr (take i path, sym (take-append-drop i path) ∙ ap (λ t. take i path ++ t) (drop_at_char 47 path i j found.1 (omega arith))),
-    )
+pub last_found : (path name : List ℕ) (i j : ℕ) → RFindsChar 47 path (Some (i, j)) → name ≡ drop j path → j ≤ length path → name ≡ last_segment path
+last_found path name i j found is within =
+    let ends : j ≡ i + 1 = found.1.ends in
+    let slash : get_or path i 0 ≡ 47 = found.1.byte (omega arith) in
+    let behind : suffix_len (λ c. not (c == 47)) path ≡ length path - j =
+    suffix_len_is (λ c. not (c == 47)) path j 0 within
+    (λ k above below. no_slash_at k (NoCharPasses-char 47 (drop j path) (k - j) found.0 (omega arith) (omega (arith, length-drop j path))) above)
+    (λ some. ap (λ c. not (c == 47)) (ap (λ k. get_or path k 0) (let before : j - 1 ≡ i = omega arith in before) ∙ slash)) in
+    let place : length path - suffix_len (λ c. not (c == 47)) path ≡ j = omega arith in
+    is ∙ sym (ap (λ k. drop k path) place)
+  where
+    other : (c : ℕ) → c ≢ 47 → not (c == 47) ≡ true
+    other c differs = go (c == 47) refl
+      where
+        go : (b : Bool) → (c == 47) ≡ b → not b ≡ true
+        go false e = refl
+        go true e = absurd (differs (eqb-true c 47 e))
 
-pub last_whole : (path : List ℕ) → NoCharPasses (λ d. d == 47) path → IsLastSegment path path
-last_whole path plain = ((λ k below. NoCharPasses-char 47 path k plain (omega arith) below), inl refl)
+    no_slash_at : (k : ℕ) → get_or (drop j path) (k - j) 0 ≢ 47 → j ≤ k → not (get_or path k 0 == 47) ≡ true
+    no_slash_at k differs above =
+        let same : get_or (drop j path) (k - j) 0 ≡ get_or path k 0 = get_or-drop j path (k - j) 0 ∙ ap (λ n. get_or path n 0) (let n : j + (k - j) ≡ k = omega arith in n) in
+        other (get_or path k 0) (λ e. differs (same ∙ e))
+
+pub last_whole : (path : List ℕ) → NoCharPasses (λ d. d == 47) path → path ≡ last_segment path
+last_whole path plain =
+    let all : suffix_len (λ c. not (c == 47)) path ≡ length path - 0 =
+    suffix_len_is (λ c. not (c == 47)) path 0 0 (omega arith) (λ k above below. other k below) (λ some. absurd (omega arith)) in
+    let place : length path - suffix_len (λ c. not (c == 47)) path ≡ 0 = omega arith in
+    sym (ap (λ k. drop k path) place)
+  where
+    other : (k : ℕ) → k < length path → not (get_or path k 0 == 47) ≡ true
+    other k below = go (get_or path k 0 == 47) refl
+      where
+        go : (b : Bool) → (get_or path k 0 == 47) ≡ b → not b ≡ true
+        go false e = refl
+        go true e = absurd (NoCharPasses-char 47 path k plain (omega arith) below (eqb-true (get_or path k 0) 47 e))

@@ -1,4 +1,6 @@
+pub mod Code
+pub mod Context
+pub mod Principal
 pub mod Request
 pub mod Requester
 pub mod Statement
-pub mod Tests

@@ -1,38 +1,47 @@
 -- When a statement matches a request: AWS IAM User Guide, "Policy evaluation logic" and "IAM JSON policy elements
--- reference". Principals, variables and conditions are not read yet, so their clauses have no case.
-use Rattle.std.specs.Prelude.{◌≡◌, ℕ, List, Option, Some, None, ⊤, MatchBool}
-use Rattle.std.specs.List.{Any}
+-- reference".
+use Rattle.std.specs.Prelude.{ℕ, List, Option, Some, None, ⊤, All, Any, MatchBool}
 use Rattle.std.specs.Str.{chars}
 use Rattle.iam_text.specs.declared.sign.Sign.{Sign}
 use Rattle.iam_text.specs.Glob.{Matches, MatchesFold}
-use Rattle.iam_text.specs.Draft.{Piece, plain_draft}
+use Rattle.iam_text.specs.declared.draft.Piece.{Piece}
+use Rattle.iam_policy.specs.Reading.{ActionElement, EntryValue, ResourceElement, StatementValue}
+use Rattle.iam_match.specs.Context.{ContextValue, IsResolved, Resolves}
+use Rattle.iam_match.specs.Principal.{PrincipalMatches}
 use Rattle.iam_match.specs.Requester.{RequesterValue}
-use Rattle.iam_policy.specs.Reading.{ActionElement, ResourceElement, StatementValue}
 
--- some pattern matches the action without regard to case, or none does where the element is negated
+-- who asks for which action on which resource, in which context
+pub record RequestValue : Type 0 where
+  pub requester : RequesterValue
+  pub action : List ℕ
+  pub resource : List ℕ
+  pub context : ContextValue
+
+-- `Action`: some pattern matches the action without regard to case; `NotAction`: none does
 abbrev pub ActionMatches : ActionElement → List ℕ → Type 0
 ActionMatches element action =
     let some_matches = Any (λ pattern. MatchesFold pattern (chars action)) element.patterns in
     MatchBool element.negated (¬ some_matches) some_matches
 
--- the text of a resource element resolves to signs that match the resource
-abbrev pub TextMatches : List Piece → List ℕ → Type 0
-TextMatches text resource = (signs : List Sign) × (text ≡ plain_draft signs) × Matches signs (chars resource)
+-- the text becomes a pattern that matches the resource
+abbrev pub TextMatches : ContextValue → List ℕ → List Piece → Type 0
+TextMatches context resource text = (signs : List Sign) × IsResolved text context signs × Matches signs (chars resource)
 
--- some text matches the resource, or none does where the element is negated; a statement without the element
--- concerns the resource that its policy is attached to
-abbrev pub ResourceMatches : Option ResourceElement → List ℕ → Type 0
-ResourceMatches None resource = ⊤
-ResourceMatches (Some element) resource =
-    let some_matches = Any (λ text. TextMatches text resource) element.texts in
-    MatchBool element.negated (¬ some_matches) some_matches
+-- `Resource`: some text becomes a pattern and matches; `NotResource`: all do become patterns, and none matches. A
+-- statement with neither is about the resource that its policy is attached to
+abbrev pub ResourceMatches : Option ResourceElement → List ℕ → ContextValue → Type 0
+ResourceMatches None resource context = ⊤
+ResourceMatches (Some element) resource context =
+    let some_matches = Any (TextMatches context resource) element.texts in
+    MatchBool element.negated (All (Resolves context) element.texts × ¬ some_matches) some_matches
 
--- who asks for which action on which resource
-pub record RequestValue : Type 0 where
-  pub requester : RequesterValue
-  pub action : List ℕ
-  pub resource : List ℕ
+-- an entry of `Condition` holds in a context. Entries are not read yet, so no statement has one
+abbrev pub EntryHolds : ContextValue → EntryValue → Type 0
+EntryHolds context entry = ⊥
 
--- a statement matches a request where each of its elements does
-abbrev pub StatementMatches : StatementValue → RequestValue → Type 0
-StatementMatches s request = ActionMatches s.action request.action × ResourceMatches s.resource request.resource
+-- a statement matches a request where each of its elements does. Its action element alone sees the action
+pub record StatementMatches (s : StatementValue) (request : RequestValue) : Type 0 where
+  pub principal : PrincipalMatches s.principal request.requester
+  pub action : ActionMatches s.action request.action
+  pub resource : ResourceMatches s.resource request.resource request.context
+  pub conditions : All (EntryHolds request.context) s.conditions

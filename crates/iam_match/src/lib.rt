@@ -1,13 +1,16 @@
 //! Requesters and requests, and which statements match them.
 #![tactic(auto)]
 
+mod laws;
+mod parts;
+mod principal;
 mod request;
 mod requester;
 mod statement;
-#[cfg(test)]
-mod tests;
 
 pub use iam_text::OutOfMemory;
+pub use laws::one_requester;
+pub use principal::{Grant, grant_kind};
 pub use request::Request;
-pub use requester::{Requester, is_account};
+pub use requester::Requester;
 pub use statement::statement_matches;

@@ -1,25 +1,29 @@
-ghost use Rattle.std.specs.Prelude.{◌≡◌, ◌||◌, ◌==◌, ◌↔◌, [], IsTrue, IfSome, MatchOption, None, false, codes};
-ghost use Rattle.std.specs.List.{list_all};
-ghost use Rattle.std.specs.Char.{is_ascii_alphanumeric, is_ascii_digit};
-ghost use Rattle.iam_match.specs.Tests.{is_of_user, path_from};
-ghost use Rattle.iam_match.specs.Requester.{IsLastSegment, IsUser, RequesterValue, is_account, is_partition, is_segment_character};
-
-use iam_text::{Arn, OutOfMemory};
+use crate::parts::{Parts, is_segment, last_segment, parts_behind, session_arn};
+use iam_text::OutOfMemory;
 use std::alloc::Global;
 use std::marker::Model;
 
-/// Who asks: a user.
+/// Who asks: a user, or a session of a role.
 #[derive(Debug, Drop)]
 pub struct Requester {
     partition: String,
     account: String,
     path: String,
     arn: String,
+    session: Option<Session>,
+}
+
+/// A session of a role, with the ARN that is made for it.
+#[derive(Debug, Drop)]
+struct Session {
+    name: String,
+    arn: String,
 }
 
 impl Model for Requester {
-    ghost use Rattle.std.specs.Prelude.{◌≡◌, None, string_bytes};
-    ghost use Rattle.iam_match.specs.Requester.{RequesterValue, IsUser};
+    ghost use Rattle.std.specs.Prelude.{string_bytes};
+    ghost use Rattle.iam_match.specs.Requester.{RequesterValue};
+    ghost use Rattle.iam_match.specs.Code.Session.{IsHeld, session_name};
 
     ghost Value = { RequesterValue };
 
@@ -27,176 +31,138 @@ impl Model for Requester {
       partition = string_bytes r.partition;
       account = string_bytes r.account;
       path = string_bytes r.path;
-      session = None;
+      session = session_name r.session;
     } };
 
-    ghost invariant = { λ r. IsUser (string_bytes r.arn) (record {
+    ghost invariant = { λ r. IsHeld (string_bytes r.arn) r.session (record {
       partition = string_bytes r.partition;
       account = string_bytes r.account;
       path = string_bytes r.path;
-      session = None;
+      session = session_name r.session;
     }) };
 }
 
 impl Requester {
-    ghost use Rattle.std.specs.Prelude.{◌≡◌, MatchOption, IfOk, IfSome, IsSomeAnd};
-    ghost use Rattle.iam_match.specs.Requester.{RequesterValue, IsUser, user_arn, IsLastSegment};
+    ghost use Rattle.std.specs.Prelude.{◌≡◌, MatchOption, IfOk, IfSome, OnErr, Some, None, option_map, string_bytes};
+    ghost use Rattle.iam_match.specs.Requester.{RequesterValue, IsRequesterOf, requester_arn, requester_name, session_arn, username_of};
+    ghost use Rattle.iam_match.specs.Code.Parts.{requester_of};
+    ghost use Rattle.iam_match.specs.Code.Session.{session_name};
 
     /// The one user with this ARN, `arn:PARTITION:iam::ACCOUNT:user/PATH`; `None` for any other text.
     ///
     /// AWS IAM User Guide, "IAM identifiers".
     pub fn user(alloc: Global, arn: &str) -> Result<Option<Requester>, OutOfMemory>
-        ensures value { IfOk result (λ found. MatchOption found ((r : RequesterValue) → ¬ IsUser arn.now r) (λ r. IsUser arn.now r)) }
-        ensures only { IfOk result (λ found. IfSome found (λ r. (other : RequesterValue) → IsUser arn.now other → other ≡ r)) }
+        ensures value { IfOk result (λ found. MatchOption found
+            ((r : RequesterValue) → ¬ IsRequesterOf arn.now None r) (IsRequesterOf arn.now None)) }
+        ensures only { IfOk result (λ found. IfSome found (λ r.
+            (other : RequesterValue) → IsRequesterOf arn.now None other → other ≡ r)) }
+        ensures memory { OnErr result ((r : RequesterValue) × IsRequesterOf arn.now None r) }
     {
-        match user_parts(arn) {
-            Some(parts) => Ok(Some(Requester {
-                partition: String::from_str(alloc, parts.partition)?,
-                account: String::from_str(alloc, parts.account)?,
-                path: String::from_str(alloc, parts.path)?,
-                arn: String::from_str(alloc, arn)?,
-            })),
+        match parts_behind(arn, "user/") {
+            Some(parts) => Ok(Some(Requester::of(alloc, arn, parts, None)?)),
             None => Ok(None),
         }
     }
 
-    /// The twelve digits of the user's account.
+    /// The one session of this name of the role with this ARN, `arn:PARTITION:iam::ACCOUNT:role/PATH`; `None`
+    /// where the first text is no such ARN, or the second is not one or more visible ASCII characters other than
+    /// `*`, `?` and `/`.
+    ///
+    /// AWS IAM User Guide, "IAM identifiers".
+    pub fn role(alloc: Global, arn: &str, session: &str) -> Result<Option<Requester>, OutOfMemory>
+        ensures value { IfOk result (λ found. MatchOption found
+            ((r : RequesterValue) → ¬ IsRequesterOf arn.now (Some session.now) r) (IsRequesterOf arn.now (Some session.now))) }
+        ensures only { IfOk result (λ found. IfSome found (λ r.
+            (other : RequesterValue) → IsRequesterOf arn.now (Some session.now) other → other ≡ r)) }
+        ensures memory { OnErr result ((r : RequesterValue) × IsRequesterOf arn.now (Some session.now) r) }
+    {
+        if !is_segment(session) {
+            return Ok(None);
+        }
+        match parts_behind(arn, "role/") {
+            Some(parts) => {
+                let session = Session::of(alloc, parts, session)?;
+                Ok(Some(Requester::of(alloc, arn, parts, Some(session))?))
+            }
+            None => Ok(None),
+        }
+    }
+
+    /// The requester of these parts of its ARN.
+    fn of(
+        alloc: Global,
+        arn: &str,
+        parts: Parts<'_>,
+        session: Option<Session>,
+    ) -> Result<Requester, OutOfMemory>
+        requires requester { IsRequesterOf arn.now (session_name session) (requester_of parts (session_name session)) }
+        requires session { IfSome session (λ s. string_bytes s.arn ≡ session_arn (requester_of parts None) (string_bytes s.name)) }
+        ensures { IfOk result (λ r. r ≡ requester_of parts.entry (session_name session)) }
+    {
+        Ok(Requester {
+            partition: String::from_str(alloc, parts.partition)?,
+            account: String::from_str(alloc, parts.account)?,
+            path: String::from_str(alloc, parts.path)?,
+            arn: String::from_str(alloc, arn)?,
+            session,
+        })
+    }
+
+    /// The partition of the requester's account, as `aws`.
+    pub(crate) fn partition(&self) -> &str
+        ensures { result.now ≡ self.now.partition }
+    {
+        self.partition.as_str()
+    }
+
+    /// The twelve digits of the requester's account.
     pub fn account(&self) -> &str
         ensures { result.now ≡ self.now.account }
     {
         self.account.as_str()
     }
 
-    /// The ARN of the user.
+    /// The ARN of the user, or of the role that the session is of: the value of `aws:PrincipalArn`.
     pub fn arn(&self) -> &str
-        ensures { result.now ≡ user_arn self.now }
+        ensures { result.now ≡ requester_arn self.now }
     {
         self.arn.as_str()
     }
 
-    /// The text that stands for the requester in a report: the user's ARN.
+    /// The ARN of the user or of the session, which stands for the requester in a report.
     pub fn name(&self) -> &str
-        ensures { result.now ≡ user_arn self.now }
+        ensures { result.now ≡ requester_name self.now }
     {
-        self.arn()
-    }
-
-    /// The last segment of the user's path.
-    pub fn username(&self) -> Option<&str>
-        ensures { IsSomeAnd result (λ name. IsLastSegment self.now.path name.now) }
-    {
-        Some(last_segment(self.path.as_str()))
-    }
-}
-
-/// What stands behind the last `/` of a path, or the path where there is none.
-fn last_segment(path: &str) -> &str
-    ensures { IsLastSegment path.entry.now result.now }
-{
-    match path.rsplit_once('/') {
-        Some((_, name)) => name,
-        None => path,
-    }
-}
-
-/// What tells a user's ARN from that of another user.
-#[derive(Clone, Copy)]
-struct UserParts<'a> {
-    partition: &'a str,
-    account: &'a str,
-    path: &'a str,
-}
-
-/// The parts of a user's ARN; `None` for any other text.
-fn user_parts(arn: &str) -> Option<UserParts<'_>>
-    ensures value { MatchOption result ((r : RequesterValue) → ¬ IsUser arn.entry.now r)
-        (λ p. IsUser arn.entry.now (record {
-          partition = p.partition.now;
-          account = p.account.now;
-          path = p.path.now;
-          session = None;
-        })) }
-    ensures only { IfSome result (λ p. (other : RequesterValue) → IsUser arn.entry.now other → other ≡ record {
-      partition = p.partition.now;
-      account = p.account.now;
-      path = p.path.now;
-      session = None;
-    }) }
-{
-    let parts = Arn::cut(arn)?;
-    let path = parts.resource.strip_prefix("user/")?;
-    if is_of_user(&parts) && is_path(path.as_bytes()) {
-        Some(UserParts {
-            partition: parts.partition,
-            account: parts.account,
-            path,
-        })
-    } else {
-        None
-    }
-}
-
-/// Whether the parts before the path are those of a user's ARN.
-fn is_of_user(parts: &Arn<'_>) -> bool
-    ensures { result ≡ is_of_user parts.now.prefix.now parts.now.partition.now parts.now.service.now parts.now.region.now
-        parts.now.account.now }
-{
-    parts.prefix == "arn"
-        && parts.service == "iam"
-        && parts.region.is_empty()
-        && is_partition(parts.partition)
-        && is_account(parts.account)
-}
-
-/// One or more segments joined by `/`, each of one or more characters.
-fn is_path(text: &[u8]) -> bool
-    ensures { result ≡ path_from false text.now }
-{
-    let mut begun = false;
-    for &character in text {
-        if character == b'/' {
-            if !begun {
-                return false;
-            }
-            begun = false;
-        } else if is_segment_character(character) {
-            begun = true;
-        } else {
-            return false;
+        match &self.session {
+            Some(session) => session.arn.as_str(),
+            None => self.arn.as_str(),
         }
     }
-    begun
+
+    /// The last segment of the user's path; `None` for a session.
+    pub fn username(&self) -> Option<&str>
+        ensures { option_map (λ name. name.now) result ≡ username_of self.now }
+    {
+        match self.session {
+            Some(_) => None,
+            None => Some(last_segment(self.path.as_str())),
+        }
+    }
 }
 
-fn is_segment_character(character: u8) -> bool
-    ensures { result ≡ is_segment_character character }
-{
-    character >= 0x21
-        && character <= 0x7E
-        && !(character == b'*' || character == b'/' || character == b'?')
-}
+impl Session {
+    ghost use Rattle.std.specs.Prelude.{◌≡◌, IfOk, None, string_bytes};
+    ghost use Rattle.iam_match.specs.Requester.{session_arn};
+    ghost use Rattle.iam_match.specs.Code.Parts.{requester_of};
 
-fn is_partition(text: &str) -> bool
-    ensures { result ≡ is_partition text.now }
-{
-    !text.is_empty() && all_partition_characters(text.as_bytes())
-}
-
-fn all_partition_characters(text: &[u8]) -> bool
-    ensures { result ≡ list_all (λ c. is_ascii_alphanumeric c || c == 45) text.now }
-{
-    text.iter().all(|&c| c.is_ascii_alphanumeric() || c == b'-')
-}
-
-/// Whether the text is an account's id: twelve ASCII digits.
-pub fn is_account(text: &str) -> bool
-    ensures { result ≡ is_account text.now }
-{
-    text.len() == 12 && all_digits(text.as_bytes())
-}
-
-fn all_digits(text: &[u8]) -> bool
-    ensures { result ≡ list_all is_ascii_digit text.now }
-{
-    text.iter().all(|c| c.is_ascii_digit())
+    /// The session of this name of the role with these parts.
+    fn of(alloc: Global, role: Parts<'_>, name: &str) -> Result<Session, OutOfMemory>
+        ensures name { IfOk result (λ s. string_bytes s.name ≡ name.now) }
+        ensures arn { IfOk result (λ s. string_bytes s.arn ≡ session_arn (requester_of role.entry None) name.now) }
+    {
+        Ok(Session {
+            name: String::from_str(alloc, name)?,
+            arn: session_arn(alloc, role, name)?,
+        })
+    }
 }

@@ -1,12 +1,13 @@
-ghost use Rattle.std.specs.Prelude.{◌↔◌, IsTrue, IfOk};
-ghost use Rattle.std.specs.List.{Any};
+ghost use Rattle.std.specs.Prelude.{◌↔◌, [], All, Any, IsTrue, IfOk, Some};
 ghost use Rattle.std.specs.Str.{chars};
 ghost use Rattle.iam_text.specs.Glob.{Matches, MatchesFold};
 ghost use Rattle.iam_match.specs.Request.{request_of};
-ghost use Rattle.iam_match.specs.Statement.{StatementMatches};
+ghost use Rattle.iam_match.specs.Statement.{ActionMatches, EntryHolds, ResourceMatches, StatementMatches};
+ghost use Rattle.iam_match.specs.Code.Rest.{RestMatches};
 
+use crate::principal::principal_matches;
 use crate::request::Request;
-use iam_policy::Statement;
+use iam_policy::{Resources, Statement};
 use iam_text::{Glob, OutOfMemory};
 use std::alloc::Global;
 
@@ -27,8 +28,47 @@ pub fn statement_matches(
 fn elements_match(statement: &Statement, request: &Request<'_>) -> bool
     ensures { IsTrue result ↔ StatementMatches statement.now (request_of request.now) }
 {
-    any_matches_fold(statement.actions(), request.action)
-        && any_matches(statement.resources(), request.resource)
+    action_matches(statement, request.action) && rest_matches(statement, request)
+}
+
+/// Whether the statement matches the request but for the action.
+fn rest_matches(statement: &Statement, request: &Request<'_>) -> bool
+    ensures { IsTrue result ↔ RestMatches statement.now (request_of request.now) }
+{
+    principal_matches(statement, request.requester)
+        && resource_matches(statement, request.resource)
+        && conditions_hold(statement)
+}
+
+/// Whether the action element matches the action.
+fn action_matches(statement: &Statement, action: &str) -> bool
+    ensures { IsTrue result ↔ ActionMatches statement.now.action action.now }
+{
+    let element = statement.action();
+    element.is_negated() != any_matches_fold(element.patterns(), action)
+}
+
+/// Whether the resource element, if there is one, matches the resource.
+fn resource_matches(statement: &Statement, resource: &str) -> bool
+    ensures { IsTrue result ↔ ResourceMatches statement.now.resource resource.now [] }
+{
+    match statement.resource() {
+        Some(element) => element_matches(element, resource),
+        None => true,
+    }
+}
+
+fn element_matches(element: &Resources, resource: &str) -> bool
+    ensures { IsTrue result ↔ ResourceMatches (Some element.now) resource.now [] }
+{
+    element.is_negated() != any_matches(element.texts(), resource)
+}
+
+/// Whether every entry of the statement holds.
+fn conditions_hold(statement: &Statement) -> bool
+    ensures { IsTrue result ↔ All (EntryHolds []) statement.now.conditions }
+{
+    statement.is_unconditional()
 }
 
 fn any_matches_fold(patterns: &[Glob], text: &str) -> bool

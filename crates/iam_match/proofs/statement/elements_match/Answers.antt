@@ -1,10 +1,14 @@
-use Rattle.iam_match.specs.Request.{request_of}
-use Rattle.iam_match.proofs.StatementLemmas.{elements_match}
 use Rattle.iam_match.proofs.statement.elements_match.Goals as goal
 
-pub returns-then-any_matches_fold : goal.returns-then-any_matches_fold
-returns-then-any_matches_fold c =
-    let matched =
-    elements_match c.args.statement.now c.actions.result.now c.resources.result.now (request_of c.args.request.now)
-    c.any_matches_fold.result c.any_matches.result c.actions.ensures c.resources.ensures c.any_matches_fold.ensures c.any_matches.ensures in
-    (λ t. matched.0 (c.if-any_matches_fold.true, t), λ m. (matched.1 m).1)
+pub returns-then-action_matches : goal.returns-then-action_matches
+returns-then-action_matches c = (
+  λ t.
+      let rest = c.rest_matches.ensures.0 t in
+      record {
+        principal = rest.0;
+        action = c.action_matches.ensures.0 c.if-action_matches.true;
+        resource = rest.1;
+        conditions = rest.2;
+      },
+  λ m. c.rest_matches.ensures.1 (m.principal, m.resource, m.conditions),
+)
