@@ -1,0 +1,2 @@
+mod ScanLemmas
+mod VerdictLemmas

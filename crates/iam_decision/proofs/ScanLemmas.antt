@@ -1,0 +1,87 @@
+-- A scan goes on, one statement, one policy and one level at a time.
+use Rattle.std.proofs.Common.{◌≡◌, inl, inr, ℕ, suc, zero, ◌+◌, ◌<◌, List, [], ◌∷◌, ◌++◌, map, take, length, get_or, refl, sym, ap, ◌∙◌, subst, arith, append_assoc}
+use Rattle.std.proofs.lemmas.List.{take_more, map-append, append-nil, get_or-map}
+use Rattle.std.specs.List.{AllByRecursion, enumerate_from, flat_map}
+use Rattle.iam_match.specs.Statement.{RequestValue}
+use Rattle.iam_decision.specs.Matched.{Placed, IsMatched, Selects}
+use Rattle.iam_decision.specs.Code.Scan.{Adds, item_of}
+
+-- what is chosen of two lists is chosen of the one after the other
+pub selects-append : {X : Type 0} (P : X → Type 0) (xs ys a b : List X) → Selects P xs a → Selects P ys b → Selects P (xs ++ ys) (a ++ b)
+selects-append P [] ys a b h k = let Q : List _ → Type 0 = λ z. Selects P ys (z ++ b) in subst Q (sym h) k
+selects-append P (x ∷ xs) ys a b (inl h) k =
+    let Q : List _ → Type 0 = λ z. Selects P (x ∷ (xs ++ ys)) (z ++ b) in
+    subst Q (sym h.1.1) (inl (h.0, (h.1.0 ++ b, refl, selects-append P xs ys h.1.0 b h.1.2 k)))
+selects-append P (x ∷ xs) ys a b (inr h) k = inr (h.0, selects-append P xs ys a b h.1 k)
+
+-- nothing was added yet
+pub adds_none : (q : RequestValue) (old : List _) → Adds q [] old old
+adds_none q old = ([], refl, sym (append-nil old))
+
+-- what is added of two lists, one after the other
+pub adds_more : (q : RequestValue) (xs ys : List Placed) (old mid new : List _) → Adds q xs old mid → Adds q ys mid new → Adds q (xs ++ ys) old new
+adds_more q xs ys old mid new h k = (
+  h.0 ++ k.0,
+  selects-append (IsMatched q) xs ys h.0 k.0 h.1 k.1,
+  (k.2 ∙ ap (λ m. m ++ map (item_of q) k.0) h.2 ∙ append_assoc old (map (item_of q) h.0) (map (item_of q) k.0) ∙ ap (λ z. old ++ z) (sym (map-append (item_of q) h.0 k.0))),
+)
+
+numbered-suc : {X Y : Type 0} (f : ℕ × X → List Y) (n : ℕ) (xs : List X) (i : ℕ) (x : X) → i < length xs → x ≡ get_or xs i x
+    → flat_map f (enumerate_from n (take (suc i) xs)) ≡ flat_map f (enumerate_from n (take i xs)) ++ f (n + i, x)
+numbered-suc f n [] i x below is = absurd (omega arith)
+numbered-suc f n (y ∷ xs) zero x below is =
+    let number : n ≡ n + 0 = omega arith in
+    append-nil (f (n, y)) ∙ ap (λ z. f (n, z)) (sym is) ∙ ap (λ k. f (k, x)) number
+numbered-suc f n (y ∷ xs) (suc i) x below is =
+    let rest : i < length xs = omega arith in
+    let number : (n + 1) + i ≡ n + suc i = omega arith in
+    ap (λ z. f (n, y) ++ z) (numbered-suc f (n + 1) xs i x rest is ∙ ap (λ k. flat_map f (enumerate_from (n + 1) (take i xs)) ++ f (k, x)) number)
+    ∙ sym (append_assoc (f (n, y)) (flat_map f (enumerate_from (n + 1) (take i xs))) (f (n + suc i, x)))
+
+-- one more element with its number
+pub numbered_more : {X Y : Type 0} (f : ℕ × X → List Y) (xs : List X) (i : ℕ) (x : X) → i < length xs → x ≡ get_or xs i x
+    → flat_map f (enumerate_from 0 (take (i + 1) xs)) ≡ flat_map f (enumerate_from 0 (take i xs)) ++ f (i, x)
+numbered_more f xs i x below is =
+    let next : i + 1 ≡ suc i = omega arith in
+    let number : 0 + i ≡ i = omega arith in
+    ap (λ k. flat_map f (enumerate_from 0 (take k xs))) next ∙ numbered-suc f 0 xs i x below is
+    ∙ ap (λ k. flat_map f (enumerate_from 0 (take i xs)) ++ f (k, x)) number
+
+-- the scan of numbered elements goes on by one
+pub scan_more : {X : Type 0} (q : RequestValue) (f : ℕ × X → List Placed) (xs : List X) (i : ℕ) (x : X) (old mid new : List _) → i < length xs
+    → x ≡ get_or xs i x → Adds q (flat_map f (enumerate_from 0 (take i xs))) old mid → Adds q (f (i, x)) mid new
+    → Adds q (flat_map f (enumerate_from 0 (take (i + 1) xs))) old new
+scan_more q f xs i x old mid new below is h k =
+    let P : List Placed → Type 0 = λ z. Adds q z old new in
+    subst P (sym (numbered_more f xs i x below is)) (adds_more q (flat_map f (enumerate_from 0 (take i xs))) (f (i, x)) old mid new h k)
+
+-- one statement that matches, or does not
+pub adds_matched : (q : RequestValue) (s : Placed) (old new : List _) → IsMatched q s → new ≡ old ++ (item_of q s ∷ []) → Adds q (s ∷ []) old new
+adds_matched q s old new matched is = (s ∷ [], inl (matched, ([], refl, refl)), is)
+
+pub adds_unmatched : (q : RequestValue) (s : Placed) (old : List _) → ¬ IsMatched q s → Adds q (s ∷ []) old old
+adds_unmatched q s old unmatched = ([], inr (unmatched, refl), sym (append-nil old))
+
+-- what holds of each holds of the one at i
+pub all_at : {V D : Type 0} (P : D → Type 0) (f : V → D) (vs : List V) (i : ℕ) (v : V) → i < length vs → v ≡ get_or vs i v → AllByRecursion P (map f vs) → P (f v)
+all_at P f [] i v below is all = absurd (omega arith)
+all_at P f (x ∷ vs) zero v below is all = subst (λ z. P (f z)) (sym is) all.0
+all_at P f (x ∷ vs) (suc i) v below is all = let rest : i < length vs = omega arith in all_at P f vs i v rest is all.1
+
+-- an element of a mapped list
+pub at_map : {V D : Type 0} (f : V → D) (vs : List V) (i : ℕ) (v : V) → i < length vs → v ≡ get_or vs i v → f v ≡ get_or (map f vs) i (f v)
+at_map f vs i v below is = ap f is ∙ sym (get_or-map f vs i v (f v) below)
+
+-- one more element that is chosen, or is not
+pub select_more : {X : Type 0} (P : X → Type 0) (xs : List X) (i : ℕ) (d : X) (chosen : List X) → i < length xs
+    → Selects P (take i xs) chosen → P (get_or xs i d) → Selects P (take (i + 1) xs) (chosen ++ (get_or xs i d ∷ []))
+select_more {X} P xs i d chosen below h p =
+    let Q : List X → Type 0 = λ z. Selects P z (chosen ++ (get_or xs i d ∷ [])) in
+    subst Q (sym (take_more xs i d below)) (selects-append P (take i xs) (get_or xs i d ∷ []) chosen (get_or xs i d ∷ []) h (inl (p, ([], refl, refl))))
+
+pub select_skip : {X : Type 0} (P : X → Type 0) (xs : List X) (i : ℕ) (d : X) (chosen : List X) → i < length xs
+    → Selects P (take i xs) chosen → ¬ P (get_or xs i d) → Selects P (take (i + 1) xs) chosen
+select_skip {X} P xs i d chosen below h p =
+    let Q : List X → Type 0 = λ z. Selects P z chosen in
+    let R : List X → Type 0 = λ z. Selects P (take i xs ++ (get_or xs i d ∷ [])) z in
+    subst Q (sym (take_more xs i d below)) (subst R (append-nil chosen) (selects-append P (take i xs) (get_or xs i d ∷ []) chosen [] h (inr (p, refl))))

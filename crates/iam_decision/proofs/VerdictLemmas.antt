@@ -1,0 +1,177 @@
+-- What holds of the statements that were found holds of the matched statements of the applicable policies.
+use Rattle.std.proofs.Common.{◌≡◌, ◌⊎◌, inl, inr, ◌↔◌, ℕ, suc, zero, ◌<◌, ◌≤◌, List, [], ◌∷◌, map, length, refl, sym, ap, ◌∙◌, subst, arith}
+use Rattle.std.specs.List.{Any}
+use Rattle.iam_policy.specs.declared.effect.Effect.TheVariants.{Allow, Deny}
+use Rattle.iam_match.specs.Principal.{grant_of, rank}
+use Rattle.iam_match.specs.declared.principal.Grant.{Grant}
+use Rattle.iam_match.specs.declared.principal.Grant.TheVariants.{Account, Role, Direct}
+use Rattle.iam_match.specs.Statement.{RequestValue}
+use Rattle.iam_decision.specs.Applicable.{ApplicableValue}
+use Rattle.iam_decision.specs.Matched.{Placed, IsMatched, Selects, placed}
+use Rattle.iam_decision.specs.Code.Scan.{Adds, item_of}
+use Rattle.iam_decision.specs.Code.Found.{DeniesIn, AllowsIn, GrantsIn, ArePlaces}
+use Rattle.iam_decision.specs.Decision.{Says, Denies, Allows, Grants, OrgHolds, BoundaryHolds, SessionHolds, AllHold, GrantSuffices, IsAllowed, IsDecided, Fails, AreLacking, AreDeciding, deciding_effect, layers_in_order}
+use Rattle.iam_decision.specs.declared.place.Layer.{Layer}
+use Rattle.iam_decision.specs.declared.place.Layer.TheVariants.{Org, Resource, Identity, Boundary, Session}
+use Rattle.iam_decision.specs.declared.place.Place.{Place}
+use Rattle.iam_decision.specs.declared.scan.Matched.{Matched}
+use Rattle.iam_decision.specs.declared.verdict.Decision.{Decision}
+use Rattle.iam_decision.specs.declared.verdict.Decision.TheVariants.{Allowed, ExplicitDeny, ImplicitDeny}
+
+-- `Any`, element by element
+abbrev SomeOf : {X : Type 0} → (X → Type 0) → List X → Type 0
+SomeOf P [] = ⊥
+SomeOf P (x ∷ xs) = P x ⊎ SomeOf P xs
+
+some-from_any : {X : Type 0} (P : X → Type 0) (xs : List X) → Any P xs → SomeOf P xs
+some-from_any P [] (k, x, below, at, p) = absurd (omega arith)
+some-from_any P (y ∷ xs) (zero, x, below, at, p) = inl (subst P (sym at) p)
+some-from_any P (y ∷ xs) (suc k, x, below, at, p) = inr (some-from_any P xs (k, x, (let b : k < length xs = omega arith in b), at, p))
+
+any-from_some : {X : Type 0} (P : X → Type 0) (xs : List X) → SomeOf P xs → Any P xs
+any-from_some P [] h = absurd h
+any-from_some P (y ∷ xs) (inl p) = (0, y, omega arith, refl, p)
+any-from_some P (y ∷ xs) (inr h) =
+    let rest = any-from_some P xs h in (suc rest.0, rest.1, (let b : rest.0 < length xs = rest.2 in omega arith), rest.3, rest.4)
+
+-- chosen elements, seen through f, have what the elements of the list have that pass
+some-chosen : {X Y : Type 0} (P R : X → Type 0) (S : Y → Type 0) (f : X → Y) (on : (x : X) → R x → P x × S (f x)) (xs chosen : List X)
+    → Selects P xs chosen → SomeOf R xs → SomeOf S (map f chosen)
+some-chosen P R S f on [] chosen h some = absurd some
+some-chosen P R S f on (x ∷ xs) chosen (inl (p, (rest, is, h))) (inl r) =
+    let Q : List _ → Type 0 = λ z. SomeOf S (map f z) in subst Q (sym is) (inl (on x r).1)
+some-chosen P R S f on (x ∷ xs) chosen (inl (p, (rest, is, h))) (inr some) =
+    let Q : List _ → Type 0 = λ z. SomeOf S (map f z) in subst Q (sym is) (inr (some-chosen P R S f on xs rest h some))
+some-chosen P R S f on (x ∷ xs) chosen (inr (skipped, h)) (inl r) = absurd (skipped (on x r).0)
+some-chosen P R S f on (x ∷ xs) chosen (inr (skipped, h)) (inr some) = some-chosen P R S f on xs chosen h some
+
+some-of_chosen : {X Y : Type 0} (P R : X → Type 0) (S : Y → Type 0) (f : X → Y) (back : (x : X) → P x → S (f x) → R x) (xs chosen : List X)
+    → Selects P xs chosen → SomeOf S (map f chosen) → SomeOf R xs
+some-of_chosen P R S f back [] chosen h some =
+    let Q : List _ → Type 0 = λ z. SomeOf S (map f z) in absurd (subst Q h some)
+some-of_chosen P R S f back (x ∷ xs) chosen (inl (p, (rest, is, h))) some =
+    let Q : List _ → Type 0 = λ z. SomeOf S (map f z) in
+    elim (subst Q is some) [ inl s ↦ inl (back x p s) | inr later ↦ inr (some-of_chosen P R S f back xs rest h later) ]
+some-of_chosen P R S f back (x ∷ xs) chosen (inr (skipped, h)) some = inr (some-of_chosen P R S f back xs chosen h some)
+
+any-chosen : {X Y : Type 0} (P R : X → Type 0) (S : Y → Type 0) (f : X → Y) → ((x : X) → R x → P x × S (f x)) → ((x : X) → P x → S (f x) → R x)
+    → (xs chosen : List X) → Selects P xs chosen → Any R xs ↔ Any S (map f chosen)
+any-chosen P R S f on back xs chosen h = (
+  λ any. any-from_some S (map f chosen) (some-chosen P R S f on xs chosen h (some-from_any R xs any)),
+  λ any. any-from_some R xs (some-of_chosen P R S f back xs chosen h (some-from_any S (map f chosen) any)),
+)
+
+-- elements that pass two tests, one after the other
+select-twice : {X Y : Type 0} (P : X → Type 0) (S : Y → Type 0) (f : X → Y) (xs chosen : List X) (kept : List Y) → Selects P xs chosen
+    → Selects S (map f chosen) kept → (both : List X) × Selects (λ x. P x × S (f x)) xs both × (kept ≡ map f both)
+select-twice P S f [] chosen kept h k =
+    let Q : List _ → Type 0 = λ z. Selects S (map f z) kept in ([], refl, subst Q h k)
+select-twice {X} {Y} P S f (x ∷ xs) chosen kept (inl (p, (rest, is, h))) k =
+    let Q : List X → Type 0 = λ z. Selects S (map f z) kept in
+    elim (subst Q is k) [
+      | inl (s, (others, kept_is, later)) ↦ (
+          let more = select-twice P S f xs rest others h later in
+          (x ∷ more.0, inl ((p, s), (more.0, refl, more.1)), kept_is ∙ ap (λ z. f x ∷ z) more.2)
+          )
+      | inr (fails, later) ↦ (
+          let more = select-twice P S f xs rest kept h later in
+          (more.0, inr ((λ both. fails both.1), more.1), more.2)
+          )
+    ]
+select-twice P S f (x ∷ xs) chosen kept (inr (skipped, h)) k =
+    let more = select-twice P S f xs chosen kept h k in (more.0, inr ((λ both. skipped both.0), more.1), more.2)
+
+select-same : {X : Type 0} (P Q : X → Type 0) → ((x : X) → P x ↔ Q x) → (xs chosen : List X) → Selects P xs chosen → Selects Q xs chosen
+select-same P Q same [] chosen h = h
+select-same P Q same (x ∷ xs) chosen (inl (p, (rest, is, h))) = inl ((same x).0 p, (rest, is, select-same P Q same xs rest h))
+select-same P Q same (x ∷ xs) chosen (inr (skipped, h)) = inr ((λ q. skipped ((same x).1 q)), select-same P Q same xs chosen h)
+
+-- the statements that were found are the matched ones
+module _ (a : ApplicableValue) (q : RequestValue) (found : List Matched) (scanned : Adds q (placed a) [] found) where
+  denies-same : Denies a q ↔ DeniesIn found
+  denies-same =
+      let P : List Matched → Type 0 = λ z. Denies a q ↔ DeniesIn z in
+      subst P (sym scanned.2)
+      (any-chosen (IsMatched q) (Says q Deny) (λ (m : Matched). m.effect ≡ Deny) (item_of q) (λ x r. r) (λ x p s. (p, s)) (placed a) scanned.0 scanned.1)
+
+  allows-same : (layer : Layer) (level : ℕ) → Allows a q layer level ↔ AllowsIn found layer level
+  allows-same layer level =
+      let P : List Matched → Type 0 = λ z. Allows a q layer level ↔ AllowsIn z layer level in
+      subst P (sym scanned.2)
+      (
+      any-chosen (IsMatched q) (λ s. Says q Allow s × (s.place.layer ≡ layer) × (s.place.level ≡ level))
+      (λ (m : Matched). (m.effect ≡ Allow) × (m.place.layer ≡ layer) × (m.place.level ≡ level)) (item_of q)
+      (λ x r. (r.0.0, (r.0.1, r.1, r.2))) (λ x p s. ((p, s.0), s.1, s.2)) (placed a) scanned.0 scanned.1
+      )
+
+  grants-same : (least : Grant) → Grants a q least ↔ GrantsIn found least
+  grants-same least =
+      let P : List Matched → Type 0 = λ z. Grants a q least ↔ GrantsIn z least in
+      subst P (sym scanned.2)
+      (
+      any-chosen (IsMatched q) (λ s. Says q Allow s × (s.place.layer ≡ Resource) × (rank least ≤ rank (grant_of s.statement.principal q.requester)))
+      (λ (m : Matched). (m.effect ≡ Allow) × (m.place.layer ≡ Resource) × (rank least ≤ rank m.grant)) (item_of q)
+      (λ x r. (r.0.0, (r.0.1, r.1, r.2))) (λ x p s. ((p, s.0), s.1, s.2)) (placed a) scanned.0 scanned.1
+      )
+
+  org-same : OrgHolds (AllowsIn found) a ↔ OrgHolds (Allows a q) a
+  org-same = (λ h level below. (allows-same Org level).1 (h level below), λ h level below. (allows-same Org level).0 (h level below))
+
+  boundary-same : BoundaryHolds (AllowsIn found) a ↔ BoundaryHolds (Allows a q) a
+  boundary-same = (
+    λ h. elim h [ inl none ↦ inl none | inr allows ↦ inr ((allows-same Boundary 0).1 allows) ],
+    λ h. elim h [ inl none ↦ inl none | inr allows ↦ inr ((allows-same Boundary 0).0 allows) ],
+  )
+
+  session-same : SessionHolds (AllowsIn found) a ↔ SessionHolds (Allows a q) a
+  session-same = (
+    λ h. elim h [ inl none ↦ inl none | inr allows ↦ inr ((allows-same Session 0).1 allows) ],
+    λ h. elim h [ inl none ↦ inl none | inr allows ↦ inr ((allows-same Session 0).0 allows) ],
+  )
+
+  all-same : AllHold (AllowsIn found) (GrantsIn found) a ↔ AllHold (Allows a q) (Grants a q) a
+  all-same = (
+    λ h. ((allows-same Identity 0).1 h.0, boundary-same.0 h.1, session-same.0 h.2, (λ must. (grants-same Account).1 (h.3 must))),
+    λ h. ((allows-same Identity 0).0 h.0, boundary-same.1 h.1, session-same.1 h.2, (λ must. (grants-same Account).0 (h.3 must))),
+  )
+
+  grant-same : GrantSuffices (AllowsIn found) (GrantsIn found) a ↔ GrantSuffices (Allows a q) (Grants a q) a
+  grant-same = (
+    λ h. (h.0, elim h.1 [ inl g ↦ inl ((grants-same Direct).1 g) | inr g ↦ inr ((grants-same Role).1 g.0, boundary-same.0 g.1, session-same.0 g.2) ]),
+    λ h. (h.0, elim h.1 [ inl g ↦ inl ((grants-same Direct).0 g) | inr g ↦ inr ((grants-same Role).0 g.0, boundary-same.1 g.1, session-same.1 g.2) ]),
+  )
+
+  allowed-same : IsAllowed (AllowsIn found) (GrantsIn found) a ↔ IsAllowed (Allows a q) (Grants a q) a
+  allowed-same = (
+    λ h. (org-same.0 h.0, elim h.1 [ inl g ↦ inl (grant-same.0 g) | inr all ↦ inr (all-same.0 all) ]),
+    λ h. (org-same.1 h.0, elim h.1 [ inl g ↦ inl (grant-same.1 g) | inr all ↦ inr (all-same.1 all) ]),
+  )
+
+  pub decided-same : (d : Decision) → IsDecided (DeniesIn found) (AllowsIn found) (GrantsIn found) a d → IsDecided (Denies a q) (Allows a q) (Grants a q) a d
+  decided-same ExplicitDeny h = denies-same.1 h
+  decided-same Allowed h = ((λ denies. h.0 (denies-same.0 denies)), allowed-same.0 h.1)
+  decided-same ImplicitDeny h = ((λ denies. h.0 (denies-same.0 denies)), (λ allowed. h.1 (allowed-same.1 allowed)))
+
+  fails-same : (layer : Layer) → Fails (AllowsIn found) (GrantsIn found) a layer ↔ Fails (Allows a q) (Grants a q) a layer
+  fails-same Org = ((λ h org. h (org-same.1 org)), (λ h org. h (org-same.0 org)))
+  fails-same Resource = ((λ h. (h.0, (λ g. h.1 ((grants-same Account).0 g)))), (λ h. (h.0, (λ g. h.1 ((grants-same Account).1 g)))))
+  fails-same Identity = ((λ h allows. h ((allows-same Identity 0).0 allows)), (λ h allows. h ((allows-same Identity 0).1 allows)))
+  fails-same Boundary = ((λ h holds. h (boundary-same.1 holds)), (λ h holds. h (boundary-same.0 holds)))
+  fails-same Session = ((λ h holds. h (session-same.1 holds)), (λ h holds. h (session-same.0 holds)))
+
+  pub lacking-same : (d : Decision) (lacks : List Layer) → AreLacking (AllowsIn found) (GrantsIn found) a d lacks → AreLacking (Allows a q) (Grants a q) a d lacks
+  lacking-same ExplicitDeny lacks h = h
+  lacking-same Allowed lacks h = h
+  lacking-same ImplicitDeny lacks h = select-same _ _ fails-same layers_in_order lacks h
+
+  pub deciding-same : (d : Decision) (places : List Place) → ArePlaces (deciding_effect d) found places → AreDeciding a q d places
+  deciding-same d places (kept, selected, is) =
+      let P : List Matched → Type 0 = λ z. Selects (λ m. m.effect ≡ deciding_effect d) z kept in
+      let both =
+      select-twice (IsMatched q) (λ (m : Matched). m.effect ≡ deciding_effect d) (item_of q) (placed a) scanned.0 kept scanned.1
+      (subst P scanned.2 selected) in
+      (both.0, both.1, is ∙ ap (map (λ (m : Matched). m.place)) both.2 ∙ places-map both.0)
+    where
+      places-map : (xs : List Placed) → map (λ (m : Matched). m.place) (map (item_of q) xs) ≡ map (λ s. s.place) xs
+      places-map [] = refl
+      places-map (x ∷ xs) = ap (λ z. x.place ∷ z) (places-map xs)

@@ -1,0 +1,4 @@
+pub mod Applicable
+pub mod Code
+pub mod Decision
+pub mod Matched
