@@ -1,9 +1,1 @@
-pub mod CellLemmas
-pub mod CheckLemmas
-pub mod Determined
-pub mod DocumentLemmas
-pub mod ScanLemmas
-pub mod ShapeLemmas
-pub mod Sizes
-pub mod VerdictLemmas
-pub mod WorldLemmas
+mod CellLemmas

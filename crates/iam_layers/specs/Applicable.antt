@@ -1,24 +1,8 @@
--- The policies that apply to a request: AWS IAM User Guide, "Policy evaluation logic".
-use Rattle.std.specs.Prelude.{List, [], Bool, Option, Some, None, if◌then◌else◌}
+-- The policies of a world that apply to a request: AWS IAM User Guide, "Policy evaluation logic".
 use Rattle.std.specs.List.{find}
 use Rattle.std.specs.Str.{bytes_eq}
-use Rattle.iam_policy.specs.Reading.{PolicyValue}
-use Rattle.iam_layers.specs.World.{WorldValue, AccountValue, PrincipalValue, ResourceValue}
-
--- the applicable policies of a request, by layer, and what the decision asks of the accounts and the resource
-pub record ApplicableValue : Type 0 where
-  pub org : List (List PolicyValue)
-  pub resource : Option PolicyValue
-  pub identity : List PolicyValue
-  pub boundary : Option PolicyValue
-  pub session : List PolicyValue
-  pub same_account : Bool
-  pub sealed : Bool
-
--- the organisation policies of an account, none where it manages its organisation
-abbrev pub org_of : Option AccountValue → List (List PolicyValue)
-org_of None = []
-org_of (Some account) = if account.management then [] else account.org
+use Rattle.iam_decision.specs.Applicable.{ApplicableValue}
+use Rattle.iam_world.specs.World.{WorldValue, PrincipalValue, ResourceValue, org_of}
 
 -- what applies where this principal asks for this resource
 abbrev pub applicable_of : WorldValue → PrincipalValue → ResourceValue → ApplicableValue

@@ -1,13 +1,11 @@
 -- The requests of a world by the numbers of principal, action and resource, and their verdicts.
-use Rattle.std.specs.Prelude.{◌≡◌, ℕ, ◌+◌, ◌*◌, ◌<◌, List, Some, length}
+use Rattle.std.specs.Prelude.{◌≡◌, ℕ, ◌+◌, ◌*◌, ◌<◌, List, [], Some, length}
 use Rattle.std.specs.List.{slice_get}
-use Rattle.iam_match.specs.Requester.{user_arn}
+use Rattle.iam_match.specs.Requester.{requester_name}
+use Rattle.iam_decision.specs.Decision.{IsVerdict}
+use Rattle.iam_decision.specs.declared.verdict.Verdict.{Verdict}
+use Rattle.iam_world.specs.World.{WorldValue, PrincipalValue, ResourceValue}
 use Rattle.iam_layers.specs.Applicable.{applicable_of}
-use Rattle.iam_layers.specs.Decision.{IsVerdict}
-use Rattle.iam_layers.specs.World.{WorldValue, PrincipalValue, ResourceValue}
-use Rattle.iam_layers.specs.declared.place.Layer.{Layer}
-use Rattle.iam_layers.specs.declared.place.Place.{Place}
-use Rattle.iam_layers.specs.declared.verdict.Decision.{Decision}
 
 -- the cells of the matrix are numbered from 0 by principal, then action, then resource
 pub record IsCell (world : WorldValue) (cell p a r : ℕ) : Type 0 where
@@ -16,9 +14,9 @@ pub record IsCell (world : WorldValue) (cell p a r : ℕ) : Type 0 where
   pub resource : r < length world.resources
   pub number : cell ≡ (p * length world.actions + a) * length world.resources + r
 
--- the text of a principal in a report: the ARN of the user
+-- the text of a principal in a report: the ARN of the user, or of the session
 abbrev pub principal_text : PrincipalValue → List ℕ
-principal_text principal = user_arn principal.requester
+principal_text principal = requester_name principal.requester
 
 -- principal p is there, and P holds of it
 abbrev pub IsPrincipal : WorldValue → ℕ → (PrincipalValue → Type 0) → Type 0
@@ -32,12 +30,12 @@ IsAction world a text = slice_get world.actions a ≡ Some text
 abbrev pub IsResource : WorldValue → ℕ → (ResourceValue → Type 0) → Type 0
 IsResource world r P = (resource : ResourceValue) × (slice_get world.resources r ≡ Some resource) × P resource
 
--- the verdict of the policies that apply where principal p asks for action a on resource r
-abbrev pub IsVerdictAt : WorldValue → ℕ → ℕ → ℕ → Decision → List Place → List Layer → Type 0
-IsVerdictAt world p a r decision statements lacks =
+-- the verdict of the policies that apply where principal p asks for action a on resource r. Contexts are not read yet
+abbrev pub IsVerdictAt : WorldValue → ℕ → ℕ → ℕ → Verdict → Type 0
+IsVerdictAt world p a r verdict =
     (principal : PrincipalValue) × (action : List ℕ) × (resource : ResourceValue)
     × (slice_get world.principals p ≡ Some principal)
     × (slice_get world.actions a ≡ Some action)
     × (slice_get world.resources r ≡ Some resource)
     × IsVerdict (applicable_of world principal resource)
-    (record { requester = principal.requester; action = action; resource = resource.arn }) decision statements lacks
+    (record { requester = principal.requester; action = action; resource = resource.arn; context = [] }) verdict

@@ -1,16 +1,2 @@
 pub mod Applicable
 pub mod Cell
-pub mod CheckCode
-pub mod Decision
-pub mod DocumentCode
-pub mod Found
-pub mod Kept
-pub mod Matched
-pub mod Path
-pub mod Reads
-pub mod Scan
-pub mod Shape
-pub mod ShapeCode
-pub mod Size
-pub mod World
-pub mod WorldFault

@@ -1,27 +1,11 @@
-//! Worlds, read from JSON, and the verdicts of their policies on requests.
+//! Worlds, and the verdicts of their policies on requests.
+//!
+//! `World::read` reads the bytes of a world document, or answers their first fault; `World::decide_plain` gives the
+//! verdict on one request by a scan of all statements that apply.
 #![tactic(auto)]
 
-mod applicable;
-mod check;
-mod decide;
-mod documents;
-mod fault;
-mod limits;
-mod parts;
-mod path;
-mod place;
-mod scan;
-mod shape;
-#[cfg(test)]
-mod tests;
-mod verdict;
 mod world;
-#[cfg(test)]
-mod world_tests;
 
-pub use applicable::Applicable;
-pub use fault::WorldFault;
-pub use path::{Name, Path};
-pub use place::{Layer, Place};
-pub use verdict::{Decision, Verdict};
+pub use iam_decision::{Applicable, Decision, Layer, Place, Verdict};
+pub use iam_world::{Name, Path, WorldFault};
 pub use world::World;

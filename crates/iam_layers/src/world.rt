@@ -1,139 +1,23 @@
-ghost use Rattle.std.specs.Prelude.{◌≡◌, ◌≢◌, ◌+◌, ◌*◌, ◌≤◌, ◌<◌, true, false, map, string_bytes, length, IfOk, IfErr, MatchOption};
-ghost use Rattle.serde_json.specs.Data.{Data};
-ghost use Rattle.serde_json.specs.View.{view};
-ghost use Rattle.std.specs.List.{AllZip};
-ghost use Rattle.iam_layers.specs.Reads.{ReadsPrincipal, ReadsWorld};
-ghost use Rattle.iam_layers.specs.Shape.{is_moment, items, member};
-ghost use Rattle.iam_layers.specs.Size.{IsSmall};
-ghost use Rattle.iam_layers.specs.Kept.{AreFew, AreSizes, IsSized};
-ghost use Rattle.iam_layers.specs.WorldFault.{IsAcceptable, IsFirstFault, IsJson};
-ghost use Rattle.iam_layers.specs.declared.fault.WorldFault.TheVariants as w;
+ghost use Rattle.std.specs.Prelude.{◌≡◌, ◌+◌, ◌*◌, ◌≤◌, ◌<◌};
 
-use crate::applicable::Applicable;
-use crate::check::check_world;
-use crate::fault::WorldFault;
-use crate::limits::{cell_count, statement_count};
-use crate::parts::{
-    Account, Principal, Resource, read_accounts, read_actions, read_moment, read_principals,
-    read_resources,
-};
-use crate::path::Name;
-use crate::shape::items;
-use crate::verdict::Verdict;
+use iam_decision::{Applicable, Verdict};
 use iam_match::{OutOfMemory, Request, Requester};
-use serde_json::Value;
+use iam_world::{Principal, Resource, WorldFault, WorldParts};
 use std::alloc::Global;
 use std::marker::Model;
-
-/// How many bytes a world document may have.
-const MOST_BYTES: usize = 8_388_608;
 
 /// A world: a moment, accounts, principals with their policies, actions and resources.
 #[derive(Debug, Drop)]
 pub struct World {
-    moment: u64,
-    accounts: Vec<Account>,
-    principals: Vec<Principal>,
-    actions: Vec<String>,
-    resources: Vec<Resource>,
-    cells: u64,
-    statements: usize,
+    parts: WorldParts,
 }
 
 impl Model for World {
-    ghost use Rattle.std.specs.Prelude.{[], map, string_bytes, length};
-    ghost use Rattle.iam_layers.specs.World.{WorldValue};
-    ghost use Rattle.iam_layers.specs.Kept.{IsBare, IsSized};
+    ghost use Rattle.iam_world.specs.World.{WorldValue};
 
     ghost Value = { WorldValue };
 
-    ghost view = { λ w. record {
-      moment = w.moment;
-      accounts = w.accounts.items;
-      principals = w.principals.items;
-      actions = map string_bytes w.actions.items;
-      resources = w.resources.items;
-      context = [];
-    } };
-
-    ghost invariant = { λ w. record {
-      sized : IsSized w.principals.items (length w.actions.items) (length w.resources.items) w.cells w.statements;
-      bare : IsBare w.accounts.items w.principals.items w.resources.items;
-    } };
-}
-
-fn parse(alloc: Global, bytes: &[u8]) -> Result<Value, WorldFault>
-    ensures ok { IfOk result (λ value. IsJson bytes.now (view value)) }
-    ensures fault { IfErr result (λ fault. fault ≢ w.OutOfMemory → (fault ≡ w.NotJson) × ((d : Data) → ¬ IsJson bytes.now d)) }
-{
-    match Value::from_slice(alloc, bytes) {
-        Ok(value) => Ok(value),
-        Err(error) => Err(parse_fault(error.is_memory())),
-    }
-}
-
-fn parse_fault(memory: bool) -> WorldFault
-    ensures memory { memory ≡ true → result ≡ w.OutOfMemory }
-    ensures fault { memory ≡ false → result ≡ w.NotJson }
-{
-    if memory {
-        WorldFault::OutOfMemory
-    } else {
-        WorldFault::NotJson
-    }
-}
-
-/// The numbers of cells and statements; `None` where one is over its limit.
-fn sizes(value: &Value, principals: &[Principal]) -> Option<(u64, usize)>
-    ensures { MatchOption result
-        (¬ AreFew principals.now (length (items Name.Actions (view value.now))) (length (items Name.Resources (view value.now))))
-        (λ sizes. AreSizes principals.now (length (items Name.Actions (view value.now))) (length (items Name.Resources (view value.now)))
-        sizes.0 sizes.1) }
-{
-    let actions = items(value, Name::Actions).len();
-    let resources = items(value, Name::Resources).len();
-    let cells = cell_count(principals.len(), actions, resources)?;
-    let statements = statement_count(principals)?;
-    Some((cells, statements))
-}
-
-/// The world of a document without a fault, and of these principals.
-fn build(
-    alloc: Global,
-    value: &Value,
-    principals: Vec<Principal>,
-    cells: u64,
-    statements: usize,
-) -> Result<World, OutOfMemory>
-    requires moment { is_moment (member Name.Moment (view value.now)) ≡ true }
-    requires reads { AllZip ReadsPrincipal (items Name.Principals (view value.now)) principals.items }
-    requires sized { IsSized principals.items (length (items Name.Actions (view value.now)))
-        (length (items Name.Resources (view value.now))) cells statements }
-    ensures { IfOk result (λ world. ReadsWorld (view value.now) world) }
-{
-    Ok(World {
-        moment: read_moment(value),
-        accounts: read_accounts(alloc, items(value, Name::Accounts))?,
-        principals,
-        actions: read_actions(alloc, items(value, Name::Actions))?,
-        resources: read_resources(alloc, items(value, Name::Resources))?,
-        cells,
-        statements,
-    })
-}
-
-/// The world of a document, or its first fault.
-fn read_value(alloc: Global, value: &Value) -> Result<World, WorldFault>
-    requires { IsSmall (view value.now) }
-    ensures ok { IfOk result (λ world. IsAcceptable (view value.now) × ReadsWorld (view value.now) world) }
-    ensures fault { IfErr result (λ fault. fault ≢ w.OutOfMemory → IsFirstFault (view value.now) fault) }
-{
-    let requesters = check_world(alloc, value)?;
-    let principals = read_principals(alloc, items(value, Name::Principals), requesters)?;
-    match sizes(value, principals.as_slice()) {
-        Some((cells, statements)) => Ok(build(alloc, value, principals, cells, statements)?),
-        None => Err(WorldFault::TooLarge),
-    }
+    ghost view = { λ w. w.parts };
 }
 
 /// The number of a cell of a matrix of so many actions and resources.
@@ -146,48 +30,49 @@ fn cell_number(p: u64, a: u64, r: u64, actions: u64, resources: u64) -> u64
 }
 
 impl World {
-    ghost use Rattle.std.specs.Prelude.{◌≡◌, ◌≢◌, ℕ, ◌<◌, ◌≤◌, IfOk, IfErr, length};
-    ghost use Rattle.iam_layers.specs.Reads.{IsWorld};
-    ghost use Rattle.iam_layers.specs.WorldFault.{IsFirstWorldFault};
+    ghost use Rattle.std.specs.Prelude.{◌≡◌, ◌≢◌, ℕ, ◌<◌, ◌≤◌, IfOk, IfErr, Some, length};
+    ghost use Rattle.std.specs.List.{slice_get};
+    ghost use Rattle.iam_decision.specs.Code.Scan.{IsNumbered, value_of};
+    ghost use Rattle.iam_world.specs.Reads.{IsWorld};
+    ghost use Rattle.iam_world.specs.WorldFault.{IsFirstWorldFault};
+    ghost use Rattle.iam_world.specs.World.{world_cells, world_statements};
+    ghost use Rattle.iam_world.specs.Code.Invariants.{HasFewPolicies};
+    ghost use Rattle.iam_world.specs.declared.fault.WorldFault.TheVariants as w;
     ghost use Rattle.iam_layers.specs.Applicable.{applicable_of};
     ghost use Rattle.iam_layers.specs.Cell.{IsAction, IsCell, IsPrincipal, IsResource, IsVerdictAt, principal_text};
-    ghost use Rattle.iam_layers.specs.Scan.{IsNumbered, value_of};
-    ghost use Rattle.iam_layers.specs.World.{world_cells, world_statements};
-    ghost use Rattle.iam_layers.specs.declared.fault.WorldFault.TheVariants as w;
 
     /// The world of a JSON document, or the first fault of its bytes: `TooLarge` for over 8,388,608 of them, then 1
     /// to 8 by number, each at its first place, then `TooLarge` for over 16,777,216 cells or 4,096 statements.
     /// `OutOfMemory` can come at any point.
     pub fn read(alloc: Global, bytes: &[u8]) -> Result<World, WorldFault>
-        ensures ok { IfOk result (λ world. IsWorld bytes.now world) }
+        ensures ok { IfOk result (IsWorld bytes.now) }
         ensures fault { IfErr result (λ fault. fault ≢ w.OutOfMemory → IsFirstWorldFault bytes.now fault) }
     {
-        if bytes.len() > MOST_BYTES {
-            return Err(WorldFault::TooLarge);
+        match WorldParts::read(alloc, bytes) {
+            Ok(parts) => Ok(World { parts }),
+            Err(fault) => Err(fault),
         }
-        let value = parse(alloc, bytes)?;
-        read_value(alloc, &value)
     }
 
     /// How many principals there are.
     pub fn principals(&self) -> u64
         ensures { result ≡ length self.now.principals }
     {
-        self.principals.len() as u64
+        self.parts.principals().len() as u64
     }
 
     /// How many actions there are.
     pub fn actions(&self) -> u64
         ensures { result ≡ length self.now.actions }
     {
-        self.actions.len() as u64
+        self.parts.actions().len() as u64
     }
 
     /// How many resources there are.
     pub fn resources(&self) -> u64
         ensures { result ≡ length self.now.resources }
     {
-        self.resources.len() as u64
+        self.parts.resources().len() as u64
     }
 
     /// How many cells the matrix has: one for each principal, action and resource; at most 16,777,216.
@@ -195,7 +80,7 @@ impl World {
         ensures value { result ≡ world_cells self.now }
         ensures few { result ≤ 16777216 }
     {
-        self.cells
+        self.parts.cells()
     }
 
     /// How many statements the policies have, at most 4,096.
@@ -203,7 +88,7 @@ impl World {
         ensures value { result ≡ world_statements self.now }
         ensures few { result ≤ 4096 }
     {
-        self.statements as u64
+        self.parts.statements()
     }
 
     /// The number of the cell of principal p, action a and resource r, each below the number of its kind.
@@ -214,13 +99,9 @@ impl World {
         ensures is { IsCell self.now result p a r }
         ensures below { result < world_cells self.now }
     {
-        cell_number(
-            p,
-            a,
-            r,
-            self.actions.len() as u64,
-            self.resources.len() as u64,
-        )
+        // A world has at most 16,777,216 cells, so the number fits.
+        let _cells = self.cells();
+        cell_number(p, a, r, self.actions(), self.resources())
     }
 
     /// The principal, the action and the resource of a cell, which has to be below `cells()`.
@@ -242,10 +123,10 @@ impl World {
         requires { p < length self.now.principals }
         ensures { IsPrincipal self.now p (λ principal. result.now ≡ principal.requester) }
     {
-        self.principals[p as usize].requester()
+        self.principal(p).requester()
     }
 
-    /// The text of principal p in a report, the user's ARN; p has to be below `principals()`.
+    /// The text of principal p in a report, the ARN of the user or of the session; p has to be below `principals()`.
     pub fn principal_text(&self, p: u64) -> &str
         requires { p < length self.now.principals }
         ensures { IsPrincipal self.now p (λ principal. result.now ≡ principal_text principal) }
@@ -258,7 +139,7 @@ impl World {
         requires { a < length self.now.actions }
         ensures { IsAction self.now a result.now }
     {
-        self.actions[a as usize].as_str()
+        self.parts.actions()[a as usize].as_str()
     }
 
     /// The text of resource r, its ARN or `*`; r has to be below `resources()`.
@@ -266,7 +147,7 @@ impl World {
         requires { r < length self.now.resources }
         ensures { IsResource self.now r (λ resource. result.now ≡ resource.arn) }
     {
-        self.resources[r as usize].arn()
+        self.resource(r).arn()
     }
 
     /// The policies that apply where principal p asks for resource r, each below the number of its kind.
@@ -279,17 +160,33 @@ impl World {
             (λ resource. value_of result ≡ applicable_of self.now principal resource)) }
         ensures numbered { IsNumbered (value_of result) }
     {
-        let principal = &self.principals[p as usize];
-        let resource = &self.resources[r as usize];
+        let principal = self.principal(p);
+        let resource = self.resource(r);
+        let account = principal.requester().account();
         Applicable {
-            org: &[],
-            resource: None,
+            org: self.parts.org(account),
+            resource: resource.policy(),
             identity: principal.identity(),
-            boundary: None,
-            session: &[],
-            same_account: principal.requester().account() == resource.account(),
-            sealed: false,
+            boundary: principal.boundary(),
+            session: principal.session(),
+            same_account: account == resource.account(),
+            sealed: resource.is_sealed(),
         }
+    }
+
+    fn principal(&self, p: u64) -> &Principal
+        requires { p < length self.now.principals }
+        ensures is { slice_get self.now.principals p ≡ Some result.now }
+        ensures few { HasFewPolicies result.now }
+    {
+        &self.parts.principals()[p as usize]
+    }
+
+    fn resource(&self, r: u64) -> &Resource
+        requires { r < length self.now.resources }
+        ensures { slice_get self.now.resources r ≡ Some result.now }
+    {
+        &self.parts.resources()[r as usize]
     }
 
     /// The verdict on principal p's request for action a on resource r, each below the number of its kind, by a scan of
@@ -306,7 +203,7 @@ impl World {
         requires principal { p < length self.now.principals }
         requires action { a < length self.now.actions }
         requires resource { r < length self.now.resources }
-        ensures { IfOk result (λ verdict. IsVerdictAt self.now p a r verdict.decision verdict.statements verdict.lacks) }
+        ensures { IfOk result (IsVerdictAt self.now p a r) }
     {
         let request = Request {
             requester: self.requester(p),

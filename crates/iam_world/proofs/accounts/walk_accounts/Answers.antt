@@ -1,0 +1,44 @@
+use Rattle.std.proofs.Common.{◌∙◌, ℕ, List, map, take, subst}
+use Rattle.std.specs.List.{filter_map}
+use Rattle.std.proofs.lemmas.List.{map-append}
+use Rattle.serde_json.specs.View.{view}
+use Rattle.iam_world.specs.Code.Texts.{HasTexts}
+use Rattle.iam_world.specs.Code.Lent.{account_of}
+use Rattle.iam_world.specs.Shape.{text_at, nth_account_checks}
+use Rattle.iam_world.specs.View.{AccountView, IsAccountView}
+use Rattle.iam_world.specs.declared.path.Name.TheVariants.{Id}
+use Rattle.iam_world.proofs.AccountIds.{earlier-ids}
+use Rattle.iam_world.proofs.Walks.{each_here, each_later, zip_more_of}
+use Rattle.iam_world.proofs.accounts.walk_accounts.Goals as goal
+
+pub returns-in-Err-clause-fault : goal.returns-in-Err-clause-fault
+returns-in-Err-clause-fault c = λ other.
+    let vs = c.args.accounts.now in
+    let i = c.loop-i.i in
+    let known : HasTexts c.loop-i.ids (filter_map (text_at Id) (take i (map view vs))) =
+    subst (HasTexts c.loop-i.ids) (earlier-ids view vs i (map account_of c.loop-i.views.items) c.loop-i.invariant.said) c.loop-i.invariant.known in
+    c.loop-i.invariant.left
+    ∙ each_here view (nth_account_checks (map view vs)) vs i c.index-accounts-i.result c.in-Err.path c.loop-i-test.true c.index-accounts-i.is
+    (c.in-Err.ensures (filter_map (text_at Id) (take i (map view vs))) known)
+
+pub loop-i-preserved : goal.loop-i-preserved
+loop-i-preserved c =
+    let vs = c.args.accounts.now in
+    let i = c.loop-i.i in
+    let views = c.loop-i.views.items in
+    let known : HasTexts c.loop-i.ids (filter_map (text_at Id) (take i (map view vs))) =
+    subst (HasTexts c.loop-i.ids) (earlier-ids view vs i (map account_of views) c.loop-i.invariant.said) c.loop-i.invariant.known in
+    let walked = c.in-Ok.ensures (filter_map (text_at Id) (take i (map view vs))) known in
+    let ids : List AccountView → List (List ℕ) = map (λ (account : AccountView). account.id) in
+    record {
+      left =
+          c.loop-i.invariant.left
+          ∙ each_later view (nth_account_checks (map view vs)) vs i c.index-accounts-i.result c.loop-i-test.true c.index-accounts-i.is walked.0;
+      said =
+          rw c.in_ok-push-in-Ok.ensures.items
+          (zip_more_of IsAccountView view account_of vs i c.index-accounts-i.result views c.in-Ok.view c.loop-i-test.true c.index-accounts-i.is
+          c.loop-i.invariant.said walked.1);
+      known =
+          rw (c.in_ok-push-in-Ok.ensures.items, map-append account_of views _, map-append (λ (account : AccountView). account.id) (map account_of views) _)
+          (c.in_ok-keep-in-Ok.ensures (ids (map account_of views)) c.loop-i.invariant.known);
+    }

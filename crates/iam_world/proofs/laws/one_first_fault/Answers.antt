@@ -1,0 +1,5 @@
+use Rattle.iam_world.proofs.Unique.{one_first_fault}
+use Rattle.iam_world.proofs.laws.one_first_fault.Goals as goal
+
+pub returns : goal.returns
+returns c = one_first_fault c.one_least_fault.ensures

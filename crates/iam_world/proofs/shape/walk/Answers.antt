@@ -1,0 +1,76 @@
+use Rattle.std.proofs.Common.{◌≡◌, ◌∙◌, ap, sym, cond, Some, None}
+use Rattle.std.proofs.lemmas.Result.{err_from_is_err_and}
+use Rattle.serde_json.specs.Find.{as_str}
+use Rattle.serde_json.specs.View.{view}
+use Rattle.iam_world.specs.Code.Lent.{principal_of, resource_of}
+use Rattle.iam_world.specs.Shape.{shape_checks}
+use Rattle.iam_world.specs.View.{IsPrincipalView, IsResourceView}
+use Rattle.iam_world.specs.declared.path.Name.TheVariants.{Principals, Actions, Resources}
+use Rattle.iam_world.specs.declared.path.Path.TheVariants.{Root}
+use Rattle.iam_world.proofs.Stages.{shape_fault-from, accounts, principals, actions, resources, in_accounts, in_principals, in_actions, in_resources, past_resources, list_of-map}
+use Rattle.iam_world.proofs.shape.walk.Goals as goal
+
+pub returns-in_err-accounts-clause-fault : goal.returns-in_err-accounts-clause-fault
+returns-in_err-accounts-clause-fault c =
+    let d = view c.args.world.now in
+    let p = err_from_is_err_and c.from_residual.result c.from_residual.ensures.1 in
+    rw (p.1, p.2)
+    (
+    λ other.
+    shape_fault-from (accounts d) (shape_checks d) (in_accounts d c.in-Ok.ensures.0) c.in_err-accounts.field-0.0 (c.in_err-accounts.ensures.fault other)
+    )
+
+pub returns-in_err-principals-clause-fault : goal.returns-in_err-principals-clause-fault
+returns-in_err-principals-clause-fault c =
+    let d = view c.args.world.now in
+    let p = err_from_is_err_and c.from_residual-in_err-principals.result c.from_residual-in_err-principals.ensures.1 in
+    rw (p.1, p.2)
+    (
+    λ other.
+    shape_fault-from (principals d) (shape_checks d) (in_principals d c.in-Ok.ensures.0 c.in_ok-accounts.ensures.ok.0) c.in_err-principals.field-0.0
+    (c.in_err-principals.ensures.fault other)
+    )
+
+pub returns-in_err-actions-clause-fault : goal.returns-in_err-actions-clause-fault
+returns-in_err-actions-clause-fault c =
+    let d = view c.args.world.now in
+    let p = err_from_is_err_and c.from_residual-in_err-actions.result c.from_residual-in_err-actions.ensures.1 in
+    rw (p.1, p.2)
+    (
+    λ other.
+    shape_fault-from (actions d) (shape_checks d) (in_actions d c.in-Ok.ensures.0 c.in_ok-accounts.ensures.ok.0 c.in_ok-principals.ensures.ok.0)
+    c.in_err-actions.field-0.0 (c.in_err-actions.ensures.fault other)
+    )
+
+pub returns-in_err-resources-clause-fault : goal.returns-in_err-resources-clause-fault
+returns-in_err-resources-clause-fault c =
+    let d = view c.args.world.now in
+    let p = err_from_is_err_and c.from_residual-in_err-resources.result c.from_residual-in_err-resources.ensures.1 in
+    rw (p.1, p.2)
+    (
+    λ other.
+    shape_fault-from (resources d) (shape_checks d)
+    (in_resources d c.in-Ok.ensures.0 c.in_ok-accounts.ensures.ok.0 c.in_ok-principals.ensures.ok.0 c.in_ok-actions.ensures.ok.0)
+    c.in_err-resources.field-0.0 (c.in_err-resources.ensures.fault other)
+    )
+
+pub returns-then-not-has_only_members-clause-fault : goal.returns-then-not-has_only_members-clause-fault
+returns-then-not-has_only_members-clause-fault c = λ other.
+    past_resources (view c.args.world.now) c.in-Ok.ensures.0 c.in_ok-accounts.ensures.ok.0 c.in_ok-principals.ensures.ok.0 c.in_ok-actions.ensures.ok.0
+    c.in_ok-resources.ensures.ok.0
+    ∙ ap (λ b. cond b None (Some Root)) (sym c.has_only_members.ensures ∙ c.if-not-has_only_members.true)
+
+pub returns-clause-ok : goal.returns-clause-ok
+returns-clause-ok c =
+    let d = view c.args.world.now in (
+      past_resources d c.in-Ok.ensures.0 c.in_ok-accounts.ensures.ok.0 c.in_ok-principals.ensures.ok.0 c.in_ok-actions.ensures.ok.0
+          c.in_ok-resources.ensures.ok.0
+          ∙ ap (λ b. cond b None (Some Root)) (sym c.has_only_members.ensures ∙ c.if-not-has_only_members.false),
+      record {
+        moment = c.in-Ok.ensures.1;
+        accounts = c.in_ok-accounts.ensures.ok.1;
+        principals = list_of-map IsPrincipalView principal_of Principals d c.in_ok-principals.principals.items c.in_ok-principals.ensures.ok.1;
+        actions = list_of-map (λ action text. as_str action ≡ Some text) (λ text. text.now) Actions d c.in_ok-actions.actions.items c.in_ok-actions.ensures.ok.1;
+        resources = list_of-map IsResourceView resource_of Resources d c.in_ok-resources.resources.items c.in_ok-resources.ensures.ok.1;
+      },
+    )

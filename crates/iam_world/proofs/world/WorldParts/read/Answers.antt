@@ -1,0 +1,41 @@
+use Rattle.std.proofs.lemmas.Result.{IfOk-weaker, IfErr-weaker}
+use Rattle.serde_json.specs.View.{view}
+use Rattle.iam_world.specs.Code.LentWorld.{world_of}
+use Rattle.iam_world.proofs.FaultSet.{first_of_view, to_view}
+use Rattle.iam_world.proofs.world.WorldParts.read.Goals as goal
+
+pub read_view-requires : goal.read_view-requires
+read_view-requires c = record {
+  small =
+      c.few_documents.ensures c.args.bytes.now (view c.in_ok-value.value) (world_of c.in_ok-world.world) c.if-bytes-gt-MOST_BYTES.false c.in_ok-value.ensures.ok
+      c.in_ok-world.ensures.ok.1;
+}
+
+pub returns-clause-ok : goal.returns-clause-ok
+returns-clause-ok c =
+    let bytes = c.args.bytes.now in
+    let d = view c.in_ok-value.value in
+    let says = c.in_ok-world.ensures.ok in
+    IfOk-weaker c.read_view.result _ _
+    (λ world read. record {
+      acceptable = (
+        c.if-bytes-gt-MOST_BYTES.false,
+        (λ fault has. read.1 fault (to_view bytes d (world_of c.in_ok-world.world) c.in_ok-value.ensures.ok says.0 says.1 fault has)),
+      );
+      value = d;
+      json = c.in_ok-value.ensures.ok;
+      view = world_of c.in_ok-world.world;
+      says = says.1;
+      reads = read.0;
+    })
+    c.read_view.ensures.ok
+
+pub returns-clause-fault : goal.returns-clause-fault
+returns-clause-fault c =
+    let bytes = c.args.bytes.now in
+    let d = view c.in_ok-value.value in
+    let says = c.in_ok-world.ensures.ok in
+    IfErr-weaker c.read_view.result _ _
+    (λ fault first other.
+    first_of_view bytes d (world_of c.in_ok-world.world) c.if-bytes-gt-MOST_BYTES.false c.in_ok-value.ensures.ok says.0 says.1 fault (first other))
+    c.read_view.ensures.fault

@@ -1,0 +1,37 @@
+-- The faults that a document of the right shape has, by what it says alone: those of numbers 3 to 9.
+use Rattle.std.specs.Prelude.{◌≡◌, ℕ, ◌≤◌, List, Option, MatchOption}
+use Rattle.std.specs.List.{AllByRecursion}
+use Rattle.iam_world.specs.View.{WorldView}
+use Rattle.iam_world.specs.WorldFault.{world_number_of, placed, IsFirstAt, IsNoRequester, IsNoAction, HasNoResourceArn, owners, IsOfUnknownAccount, documents, IsFirstRefused, IsOverLimits}
+use Rattle.iam_world.specs.declared.path.Name.TheVariants.{Principals, Actions, Resources}
+use Rattle.iam_world.specs.declared.path.Path.{Path}
+use Rattle.iam_world.specs.declared.fault.WorldFault.{WorldFault}
+use Rattle.iam_world.specs.declared.fault.WorldFault.TheVariants.{NotJson, BadShape, BadRequester, BadAction, BadResourceArn, UnknownAccount, Policy, TooLarge, OutOfMemory}
+
+abbrev pub ViewHasFault : WorldView → WorldFault → Type 0
+ViewHasFault world NotJson = ⊥
+ViewHasFault world (BadShape path) = ⊥
+ViewHasFault world (BadRequester path) = IsFirstAt IsNoRequester (placed Principals 0 world.principals) path
+ViewHasFault world (BadAction path) = IsFirstAt IsNoAction (placed Actions 0 world.actions) path
+ViewHasFault world (BadResourceArn path) = IsFirstAt HasNoResourceArn (placed Resources 0 world.resources) path
+ViewHasFault world (UnknownAccount path) = IsFirstAt (IsOfUnknownAccount world) (owners world) path
+ViewHasFault world (Policy path refused) = IsFirstRefused (documents world) path refused
+ViewHasFault world TooLarge = IsOverLimits world
+ViewHasFault world OutOfMemory = ⊥
+
+-- no fault has a lesser number
+abbrev pub IsClearBelow : ℕ → WorldView → Type 0
+IsClearBelow n world = (fault : WorldFault) → ViewHasFault world fault → n ≤ world_number_of fault
+
+-- the fault with the least number
+pub record IsFirstViewFault (world : WorldView) (fault : WorldFault) : Type 0 where
+  pub holds : ViewHasFault world fault
+  pub least : IsClearBelow (world_number_of fault) world
+
+-- a fault of this form, with a path of which P holds
+abbrev pub IsFaultAt : (Path → WorldFault) → (Path → Type 0) → WorldFault → Type 0
+IsFaultAt make P fault = (path : Path) × (fault ≡ make path) × P path
+
+-- the path of the first element of which P holds, or none where P holds of none
+abbrev pub FindsFirst : {X : Type 0} → (X → Type 0) → List (Path × X) → Option Path → Type 0
+FindsFirst P xs result = MatchOption result (AllByRecursion (λ x. ¬ P x.1) xs) (IsFirstAt P xs)

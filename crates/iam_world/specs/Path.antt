@@ -1,0 +1,28 @@
+-- Where something stands in a world document, and how that is written: the member names and list numbers from the
+-- root joined by `/`; the root itself is `.`.
+use Rattle.std.specs.Prelude.{ℕ, List, ◌++◌, codes}
+use Rattle.std.specs.Prelude.{decimal}
+use Rattle.iam_world.specs.declared.path.Name.{Name}
+use Rattle.iam_world.specs.declared.path.Name.TheVariants.{Moment, Accounts, Principals, Actions, Resources, Id, User, Identity, Arn, Account}
+use Rattle.iam_world.specs.declared.path.Path.{Path}
+use Rattle.iam_world.specs.declared.path.Path.TheVariants.{Root, Member, Item, Field, Entry}
+
+abbrev pub name_text : Name → List ℕ
+name_text Moment = codes "moment"
+name_text Accounts = codes "accounts"
+name_text Principals = codes "principals"
+name_text Actions = codes "actions"
+name_text Resources = codes "resources"
+name_text Id = codes "id"
+name_text User = codes "user"
+name_text Identity = codes "identity"
+name_text Arn = codes "arn"
+name_text Account = codes "account"
+
+abbrev pub path_text : Path → List ℕ
+path_text Root = codes "."
+path_text (Member name) = name_text name
+path_text (Item list i) = name_text list ++ (codes "/" ++ decimal i)
+path_text (Field list i name) = name_text list ++ (codes "/" ++ (decimal i ++ (codes "/" ++ name_text name)))
+path_text (Entry list i name j) =
+    name_text list ++ (codes "/" ++ (decimal i ++ (codes "/" ++ (name_text name ++ (codes "/" ++ decimal j)))))

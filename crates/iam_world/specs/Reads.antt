@@ -1,0 +1,46 @@
+-- How a world document is read: the world of bytes that have no fault.
+use Rattle.std.specs.Prelude.{◌≡◌, ℕ, List, [], false, None}
+use Rattle.std.specs.List.{AllZip}
+use Rattle.serde_json.specs.Data.{Data}
+use Rattle.iam_policy.specs.declared.fault.Kind.TheVariants as kind
+use Rattle.iam_policy.specs.Reading.{Reads}
+use Rattle.iam_world.specs.View.{AccountView, PrincipalView, ResourceView, WorldView, IsView}
+use Rattle.iam_world.specs.World.{WorldValue, AccountValue, PrincipalValue, ResourceValue}
+use Rattle.iam_world.specs.WorldFault.{IsJson, IsRequesterAt, IsAcceptable}
+
+-- a member that is not read yet is absent: none, empty or false
+pub record ReadsAccount (view : AccountView) (account : AccountValue) : Type 0 where
+  pub id : account.id ≡ view.id
+  pub management : account.management ≡ false
+  pub org : account.org ≡ []
+
+pub record ReadsPrincipal (view : PrincipalView) (principal : PrincipalValue) : Type 0 where
+  pub requester : IsRequesterAt view principal.requester
+  pub identity : AllZip (Reads kind.Identity) view.identity principal.identity
+  pub boundary : principal.boundary ≡ None
+  pub session : principal.session ≡ []
+  pub context : principal.context ≡ []
+
+pub record ReadsResource (view : ResourceView) (resource : ResourceValue) : Type 0 where
+  pub arn : resource.arn ≡ view.arn
+  pub account : resource.account ≡ view.account
+  pub policy : resource.policy ≡ None
+  pub sealed : resource.sealed ≡ false
+  pub context : resource.context ≡ []
+
+pub record ReadsWorld (view : WorldView) (world : WorldValue) : Type 0 where
+  pub moment : world.moment ≡ view.moment
+  pub accounts : AllZip ReadsAccount view.accounts world.accounts
+  pub principals : AllZip ReadsPrincipal view.principals world.principals
+  pub actions : world.actions ≡ view.actions
+  pub resources : AllZip ReadsResource view.resources world.resources
+  pub context : world.context ≡ []
+
+-- the bytes are this world's
+pub record IsWorld (bytes : List ℕ) (world : WorldValue) : Type 0 where
+  pub acceptable : IsAcceptable bytes
+  pub value : Data
+  pub json : IsJson bytes value
+  pub view : WorldView
+  pub says : IsView value view
+  pub reads : ReadsWorld view world

@@ -1,0 +1,61 @@
+-- A world: accounts with organisation policies, principals and resources with their policies, actions and a moment.
+-- A text is the list of its bytes. What is not read yet is absent: empty, none or false.
+use Rattle.std.specs.Prelude.{ℕ, ◌*◌, List, [], ◌++◌, Bool, Option, None, Some, length, if◌then◌else◌}
+use Rattle.std.specs.List.{flat_map, sum_by}
+use Rattle.std.specs.Option.{option_to_list}
+use Rattle.iam_policy.specs.Reading.{PolicyValue}
+use Rattle.iam_match.specs.Context.{ContextValue}
+use Rattle.iam_match.specs.Requester.{RequesterValue}
+
+-- an account: its id, whether it manages its organisation, and the organisation policies by level from the root
+pub record AccountValue : Type 0 where
+  pub id : List ℕ
+  pub management : Bool
+  pub org : List (List PolicyValue)
+
+-- a principal: the requester, and the policies that are attached to it
+pub record PrincipalValue : Type 0 where
+  pub requester : RequesterValue
+  pub identity : List PolicyValue
+  pub boundary : Option PolicyValue
+  pub session : List PolicyValue
+  pub context : ContextValue
+
+-- a resource: its ARN or `*`, its account, the policy that is attached to it, and whether that one must grant
+pub record ResourceValue : Type 0 where
+  pub arn : List ℕ
+  pub account : List ℕ
+  pub policy : Option PolicyValue
+  pub sealed : Bool
+  pub context : ContextValue
+
+-- the moment is in seconds from 1970-01-01T00:00:00Z
+pub record WorldValue : Type 0 where
+  pub moment : ℕ
+  pub accounts : List AccountValue
+  pub principals : List PrincipalValue
+  pub actions : List (List ℕ)
+  pub resources : List ResourceValue
+  pub context : ContextValue
+
+-- how many cells the matrix of a world has
+abbrev pub world_cells : WorldValue → ℕ
+world_cells world = length world.principals * length world.actions * length world.resources
+
+-- all policies of a world, layer by layer
+abbrev pub policies_of : WorldValue → List PolicyValue
+policies_of world =
+    flat_map (λ account. flat_map (λ level. level) account.org) world.accounts
+    ++ (flat_map (λ resource. option_to_list resource.policy) world.resources
+    ++ (flat_map (λ principal. principal.identity) world.principals
+    ++ (flat_map (λ principal. option_to_list principal.boundary) world.principals
+    ++ flat_map (λ principal. principal.session) world.principals)))
+
+-- how many statements the policies of a world have
+abbrev pub world_statements : WorldValue → ℕ
+world_statements world = sum_by (λ policy. length policy.statements) (policies_of world)
+
+-- the organisation policies that apply to an account's requests, none where it manages its organisation
+abbrev pub org_of : Option AccountValue → List (List PolicyValue)
+org_of None = []
+org_of (Some account) = if account.management then [] else account.org

@@ -1,0 +1,207 @@
+-- Why bytes are no world: the set of their faults, one case a number, and the first of them.
+use Rattle.std.specs.Prelude.{◌≡◌, ◌⊎◌, ℕ, ◌*◌, ◌<◌, ◌≤◌, List, [], ◌∷◌, ◌++◌, Bool, not, ◌&&◌, ◌||◌, ◌==◌, nat_eq, nat_lt, length, codes, Some, IsTrue, map}
+use Rattle.std.specs.List.{before_first, after_first, enumerate_from, flat_map, starts_with, sum_by}
+use Rattle.std.specs.Str.{bytes_eq, IsUtf8}
+use Rattle.std.specs.Char.{is_ascii_alphanumeric}
+use Rattle.serde_json.specs.Data.{Data}
+use Rattle.serde_json.specs.Read.{read}
+use Rattle.iam_json.specs.Look.{is_one_of}
+use Rattle.iam_text.specs.Arn.{colons}
+use Rattle.iam_text.specs.Characters.{is_label, is_run}
+use Rattle.iam_policy.specs.Fault.{IsAccepted, IsLeastFault, statements_in}
+use Rattle.iam_policy.specs.declared.fault.Kind.{Kind}
+use Rattle.iam_policy.specs.declared.fault.Kind.TheVariants as kind
+use Rattle.iam_policy.specs.declared.fault.Refused.{Refused}
+use Rattle.iam_match.specs.Requester.{RequesterValue, IsRequesterOf}
+use Rattle.iam_world.specs.declared.path.Name.{Name}
+use Rattle.iam_world.specs.declared.path.Name.TheVariants.{Principals, Actions, Resources, Identity}
+use Rattle.iam_world.specs.declared.path.Path.{Path}
+use Rattle.iam_world.specs.declared.path.Path.TheVariants.{Item, Entry}
+use Rattle.iam_world.specs.declared.fault.WorldFault.{WorldFault}
+use Rattle.iam_world.specs.declared.fault.WorldFault.TheVariants.{NotJson, BadShape, BadRequester, BadAction, BadResourceArn, UnknownAccount, Policy, TooLarge, OutOfMemory}
+use Rattle.iam_world.specs.Shape.{first_bad, shape_checks}
+use Rattle.iam_world.specs.View.{PrincipalView, ResourceView, WorldView, IsView}
+
+-- the number of a fault; 7 is that of a faulty context, which is not read yet
+abbrev pub world_number_of : WorldFault → ℕ
+world_number_of NotJson = 1
+world_number_of (BadShape path) = 2
+world_number_of (BadRequester path) = 3
+world_number_of (BadAction path) = 4
+world_number_of (BadResourceArn path) = 5
+world_number_of (UnknownAccount path) = 6
+world_number_of (Policy path refused) = 8
+world_number_of TooLarge = 9
+world_number_of OutOfMemory = 10
+
+-- the name of a fault
+abbrev pub world_name_of : WorldFault → List ℕ
+world_name_of NotJson = codes "NotJson"
+world_name_of (BadShape path) = codes "BadShape"
+world_name_of (BadRequester path) = codes "BadRequester"
+world_name_of (BadAction path) = codes "BadAction"
+world_name_of (BadResourceArn path) = codes "BadResourceArn"
+world_name_of (UnknownAccount path) = codes "UnknownAccount"
+world_name_of (Policy path refused) = codes "Policy"
+world_name_of TooLarge = codes "TooLarge"
+world_name_of OutOfMemory = codes "OutOfMemory"
+
+-- ---- the first of a list
+
+-- x is the first element of which P holds
+abbrev pub IsFirst : {X : Type 0} → (X → Type 0) → List X → X → Type 0
+IsFirst P [] x = ⊥
+IsFirst P (y ∷ ys) x = (P y × (x ≡ y)) ⊎ ((¬ P y) × IsFirst P ys x)
+
+-- the elements of a list of the document, each with its path, numbered from i
+abbrev pub placed : {X : Type 0} → Name → ℕ → List X → List (Path × X)
+placed list i xs = map (λ x. (Item list x.0, x.1)) (enumerate_from i xs)
+
+-- the first element of which P holds stands at this path
+abbrev pub IsFirstAt : {X : Type 0} → (X → Type 0) → List (Path × X) → Path → Type 0
+IsFirstAt {X} P xs path = (x : X) × IsFirst (λ (y : Path × X). P y.1) xs (path, x)
+
+-- ---- requesters
+
+-- this is the requester of the principal
+abbrev pub IsRequesterAt : PrincipalView → RequesterValue → Type 0
+IsRequesterAt principal r = IsRequesterOf principal.arn principal.session r
+
+abbrev pub IsNoRequester : PrincipalView → Type 0
+IsNoRequester principal = (r : RequesterValue) → ¬ IsRequesterAt principal r
+
+-- ---- actions and resources
+
+-- one or more ASCII letters, digits, `-`, `_` or `.`
+abbrev pub is_action_name : List ℕ → Bool
+is_action_name text = is_run (λ c. is_ascii_alphanumeric c || c == 45 || c == 95 || c == 46) text
+
+-- `prefix:name`, parted by the first colon; where there is no colon, nothing stands behind it
+abbrev pub is_action : List ℕ → Bool
+is_action text = is_label (before_first (λ c. c == 58) text) && is_action_name (after_first (λ c. c == 58) text)
+
+abbrev pub IsNoAction : List ℕ → Type 0
+IsNoAction text = ¬ IsTrue (is_action text)
+
+-- `*`, or a text of six parts, which has five colons or more, that begins with `arn:`
+abbrev pub is_resource : List ℕ → Bool
+is_resource text =
+    bytes_eq text (codes "*") || (starts_with nat_eq text (codes "arn:") && not (nat_lt (colons text) 5))
+
+abbrev pub HasNoResourceArn : ResourceView → Type 0
+HasNoResourceArn resource = ¬ IsTrue (is_resource resource.arn)
+
+-- ---- accounts
+
+-- whoever must belong to an account of the world
+pub data Owner : Type 0 where
+  of_principal : PrincipalView → Owner
+  of_resource : ResourceView → Owner
+
+-- the principals, then the resources
+abbrev pub owners : WorldView → List (Path × Owner)
+owners world =
+    placed Principals 0 (map of_principal world.principals) ++ placed Resources 0 (map of_resource world.resources)
+
+-- the account is that of the requester, where the principal is one, or that which the resource names
+abbrev pub BelongsTo : Owner → List ℕ → Type 0
+BelongsTo (of_principal principal) account =
+    (r : RequesterValue) × IsRequesterAt principal r × (account ≡ r.account)
+BelongsTo (of_resource resource) account = account ≡ resource.account
+
+-- the world has an account of this id
+abbrev pub has_account : WorldView → List ℕ → Bool
+has_account world id = is_one_of (map (λ account. account.id) world.accounts) id
+
+-- it belongs to an account that the world does not have
+abbrev pub IsOfUnknownAccount : WorldView → Owner → Type 0
+IsOfUnknownAccount world owner =
+    (account : List ℕ) × BelongsTo owner account × ¬ IsTrue (has_account world account)
+
+-- ---- policy documents
+
+-- a policy document: where it stands, how it is read, and its value
+pub record Document : Type 0 where
+  pub path : Path
+  pub kind : Kind
+  pub value : Data
+
+-- the values of a list as documents of this kind, each at the path of its number, from i on
+abbrev pub numbered : Kind → (ℕ → Path) → ℕ → List Data → List Document
+numbered kind path i ds = map (λ d. record { path = path d.0; kind = kind; value = d.1 }) (enumerate_from i ds)
+
+-- the identity policies of the principals, which are numbered from i
+abbrev pub identity_documents : ℕ → List PrincipalView → List Document
+identity_documents i principals =
+    flat_map (λ p. numbered kind.Identity (Entry Principals p.0 Identity) 0 p.1.identity)
+    (enumerate_from i principals)
+
+-- the policy documents of a world, layer by layer
+abbrev pub documents : WorldView → List Document
+documents world = identity_documents 0 world.principals
+
+abbrev pub IsNotAccepted : Document → Type 0
+IsNotAccepted document = ¬ IsAccepted document.kind document.value
+
+-- the first document that is not accepted stands at this path, and this is its least fault
+abbrev pub IsFirstRefused : List Document → Path → Refused → Type 0
+IsFirstRefused ds path refused =
+    (document : Document) × IsFirst IsNotAccepted ds document × (path ≡ document.path)
+    × IsLeastFault document.kind document.value refused.statement refused.fault
+
+-- ---- limits
+
+-- how many cells the matrix has
+abbrev pub cell_count : WorldView → ℕ
+cell_count world = length world.principals * length world.actions * length world.resources
+
+-- how many statements the documents have
+abbrev pub statement_count : WorldView → ℕ
+statement_count world = sum_by (λ document. length (statements_in document.value)) (documents world)
+
+abbrev pub IsOverLimits : WorldView → Type 0
+IsOverLimits world = (16777216 < cell_count world) ⊎ (4096 < statement_count world)
+
+-- ---- the faults
+
+-- the bytes are a text of this JSON value
+abbrev pub IsJson : List ℕ → Data → Type 0
+IsJson bytes d = IsUtf8 bytes × (read bytes ≡ Some d)
+
+-- the bytes are a text of a JSON value that says something of which P holds
+abbrev pub HasView : List ℕ → (WorldView → Type 0) → Type 0
+HasView bytes P = (d : Data) × IsJson bytes d × ((world : WorldView) × IsView d world × P world)
+
+-- the set of faults, each by itself
+abbrev pub WorldHasFault : List ℕ → WorldFault → Type 0
+WorldHasFault bytes NotJson = (d : Data) → ¬ IsJson bytes d
+WorldHasFault bytes (BadShape path) = (d : Data) × IsJson bytes d × (first_bad (shape_checks d) ≡ Some path)
+WorldHasFault bytes (BadRequester path) =
+    HasView bytes (λ world. IsFirstAt IsNoRequester (placed Principals 0 world.principals) path)
+WorldHasFault bytes (BadAction path) =
+    HasView bytes (λ world. IsFirstAt IsNoAction (placed Actions 0 world.actions) path)
+WorldHasFault bytes (BadResourceArn path) =
+    HasView bytes (λ world. IsFirstAt HasNoResourceArn (placed Resources 0 world.resources) path)
+WorldHasFault bytes (UnknownAccount path) =
+    HasView bytes (λ world. IsFirstAt (IsOfUnknownAccount world) (owners world) path)
+WorldHasFault bytes (Policy path refused) = HasView bytes (λ world. IsFirstRefused (documents world) path refused)
+WorldHasFault bytes TooLarge = HasView bytes IsOverLimits
+WorldHasFault bytes OutOfMemory = ⊥
+
+-- the set is empty
+abbrev pub HasNoFault : List ℕ → Type 0
+HasNoFault bytes = (fault : WorldFault) → ¬ WorldHasFault bytes fault
+
+-- the member with the least number
+pub record IsLeastWorldFault (bytes : List ℕ) (fault : WorldFault) : Type 0 where
+  pub holds : WorldHasFault bytes fault
+  pub least : (other : WorldFault) → WorldHasFault bytes other → world_number_of fault ≤ world_number_of other
+
+-- the first fault of bytes: over 8,388,608 of them are too many, whatever they hold
+abbrev pub IsFirstWorldFault : List ℕ → WorldFault → Type 0
+IsFirstWorldFault bytes fault =
+    ((8388608 < length bytes) × (fault ≡ TooLarge)) ⊎ ((length bytes ≤ 8388608) × IsLeastWorldFault bytes fault)
+
+-- bytes without a fault
+abbrev pub IsAcceptable : List ℕ → Type 0
+IsAcceptable bytes = (length bytes ≤ 8388608) × HasNoFault bytes

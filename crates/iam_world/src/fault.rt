@@ -1,0 +1,89 @@
+use crate::path::Path;
+use iam_policy::Refused;
+use iam_text::OutOfMemory;
+use std::alloc::AllocFailed;
+
+/// Why bytes are no world. A document with several faults is refused by the first: `TooLarge` for its bytes, then by
+/// number, each at its first place, then `TooLarge` for its cells or statements.
+#[derive(Clone, Copy, Debug, PartialEq, Eq)]
+pub enum WorldFault {
+    /// 1: The bytes are no JSON text that `serde_json` reads.
+    NotJson,
+    /// 2: At this path stands a value of the wrong form, a member is absent, or the object has an unknown member.
+    BadShape(Path),
+    /// 3: The `user` of the principal at this path is no user's ARN.
+    BadRequester(Path),
+    /// 4: The text at this path is no action, `prefix:name`.
+    BadAction(Path),
+    /// 5: The `arn` of the resource at this path is neither `*` nor an ARN.
+    BadResourceArn(Path),
+    /// 6: The account of the principal or resource at this path is none of the world's.
+    UnknownAccount(Path),
+    /// 8: The policy document at this path is refused.
+    Policy(Path, Refused),
+    /// 9: Over 8,388,608 bytes, over 16,777,216 cells or over 4,096 statements.
+    TooLarge,
+    /// 10: The allocator refused a growth.
+    OutOfMemory,
+}
+
+impl WorldFault {
+    ghost use Rattle.std.specs.Prelude.{◌≡◌};
+    ghost use Rattle.iam_world.specs.WorldFault.{world_number_of, world_name_of};
+
+    /// The number of the fault. 7 is that of a faulty context, which is not read yet.
+    pub fn number(&self) -> u32
+        ensures { result ≡ world_number_of self.now }
+    {
+        match self {
+            WorldFault::NotJson => 1,
+            WorldFault::BadShape(_) => 2,
+            WorldFault::BadRequester(_) => 3,
+            WorldFault::BadAction(_) => 4,
+            WorldFault::BadResourceArn(_) => 5,
+            WorldFault::UnknownAccount(_) => 6,
+            WorldFault::Policy(_, _) => 8,
+            WorldFault::TooLarge => 9,
+            WorldFault::OutOfMemory => 10,
+        }
+    }
+
+    /// The name of the fault, as it is declared.
+    pub fn name(&self) -> &'static str
+        ensures { result.now ≡ world_name_of self.now }
+    {
+        match self {
+            WorldFault::NotJson => "NotJson",
+            WorldFault::BadShape(_) => "BadShape",
+            WorldFault::BadRequester(_) => "BadRequester",
+            WorldFault::BadAction(_) => "BadAction",
+            WorldFault::BadResourceArn(_) => "BadResourceArn",
+            WorldFault::UnknownAccount(_) => "UnknownAccount",
+            WorldFault::Policy(_, _) => "Policy",
+            WorldFault::TooLarge => "TooLarge",
+            WorldFault::OutOfMemory => "OutOfMemory",
+        }
+    }
+}
+
+impl From<OutOfMemory> for WorldFault {
+    ghost use Rattle.std.specs.Prelude.{◌≡◌};
+    ghost use Rattle.iam_world.specs.declared.fault.WorldFault.TheVariants as w;
+
+    ghost from_gives = { λ _ fault. fault ≡ w.OutOfMemory };
+
+    fn from(_: OutOfMemory) -> WorldFault {
+        WorldFault::OutOfMemory
+    }
+}
+
+impl<T: Drop> From<AllocFailed<T>> for WorldFault {
+    ghost use Rattle.std.specs.Prelude.{◌≡◌};
+    ghost use Rattle.iam_world.specs.declared.fault.WorldFault.TheVariants as w;
+
+    ghost from_gives = { λ _ fault. fault ≡ w.OutOfMemory };
+
+    fn from(_: AllocFailed<T>) -> WorldFault {
+        WorldFault::OutOfMemory
+    }
+}

@@ -1,0 +1,225 @@
+ghost use Rattle.std.specs.Prelude.{◌≡◌, ◌≢◌, true, map, option_map, IfOk, IfErr};
+ghost use Rattle.std.specs.List.{AllByRecursion, AllZip, find};
+ghost use Rattle.std.specs.Str.{bytes_eq};
+ghost use Rattle.serde_json.specs.Data.{Data};
+ghost use Rattle.serde_json.specs.View.{view};
+ghost use Rattle.iam_world.specs.Code.ViewFault.{IsFirstViewFault, ViewHasFault};
+ghost use Rattle.iam_world.specs.Code.Documents.{HasIdentity};
+ghost use Rattle.iam_world.specs.Code.Invariants.{HasFewDocuments};
+ghost use Rattle.iam_world.specs.Code.Lent.{principal_of};
+ghost use Rattle.iam_world.specs.Code.LentWorld.{world_of};
+ghost use Rattle.iam_world.specs.Reads.{ReadsWorld};
+ghost use Rattle.iam_world.specs.WorldFault.{IsJson, IsOverLimits, IsRequesterAt, cell_count, statement_count};
+ghost use Rattle.iam_world.specs.declared.fault.WorldFault.{WorldFault};
+ghost use Rattle.iam_world.specs.declared.fault.WorldFault.TheVariants as w;
+
+use crate::documents::read_identity;
+use crate::fault::WorldFault;
+use crate::laws::few_documents;
+use crate::limits::sizes;
+use crate::names::check_names;
+use crate::parts::{
+    Account, Principal, Resource, principals, read_accounts, read_actions, read_resources,
+};
+use crate::shape::walk;
+use crate::view::WorldView;
+use iam_match::Requester;
+use iam_policy::Policy;
+use iam_text::{Items, OutOfMemory};
+use serde_json::Value;
+use std::alloc::Global;
+use std::marker::Model;
+
+/// How many bytes a world document may have.
+const MOST_BYTES: usize = 8_388_608;
+
+/// A world as its document gives it: accounts, principals with their policies, actions and resources.
+#[derive(Debug, Drop)]
+pub struct WorldParts {
+    moment: u64,
+    accounts: Vec<Account>,
+    principals: Vec<Principal>,
+    actions: Vec<String>,
+    resources: Vec<Resource>,
+    cells: u64,
+    statements: usize,
+}
+
+impl Model for WorldParts {
+    ghost use Rattle.std.specs.Prelude.{[], map, string_bytes};
+    ghost use Rattle.iam_world.specs.World.{WorldValue};
+    ghost use Rattle.iam_world.specs.Code.Invariants.{IsSized};
+
+    ghost Value = { WorldValue };
+
+    ghost view = { λ w. record {
+      moment = w.moment;
+      accounts = w.accounts.items;
+      principals = w.principals.items;
+      actions = map string_bytes w.actions.items;
+      resources = w.resources.items;
+      context = [];
+    } };
+
+    ghost invariant = { λ w. IsSized (record {
+      moment = w.moment;
+      accounts = w.accounts.items;
+      principals = w.principals.items;
+      actions = map string_bytes w.actions.items;
+      resources = w.resources.items;
+      context = [];
+    }) w.cells w.statements };
+}
+
+/// The JSON value of bytes.
+fn parse(alloc: Global, bytes: &[u8]) -> Result<Value, WorldFault>
+    ensures ok { IfOk result (λ value. IsJson bytes.now (view value)) }
+    ensures fault { IfErr result (λ fault. fault ≢ w.OutOfMemory
+        → (fault ≡ w.NotJson) × ((d : Data) → ¬ IsJson bytes.now d)) }
+{
+    match Value::from_slice(alloc, bytes) {
+        Ok(value) => Ok(value),
+        Err(error) => Err(parse_fault(error.is_memory())),
+    }
+}
+
+fn parse_fault(memory: bool) -> WorldFault
+    ensures memory { memory ≡ true → result ≡ w.OutOfMemory }
+    ensures fault { memory ≢ true → result ≡ w.NotJson }
+{
+    if memory {
+        WorldFault::OutOfMemory
+    } else {
+        WorldFault::NotJson
+    }
+}
+
+/// The world of a document without a fault, and of these requesters and policies.
+fn build(
+    alloc: Global,
+    world: &WorldView<'_>,
+    requesters: Vec<Requester>,
+    identity: Vec<Items<Policy>>,
+    sizes: (u64, usize),
+) -> Result<WorldParts, OutOfMemory>
+    requires requesters { AllZip IsRequesterAt (map principal_of world.now.principals.items) requesters.items }
+    requires identity { AllZip HasIdentity (map principal_of world.now.principals.items) identity.items }
+    requires small { AllByRecursion HasFewDocuments (map principal_of world.now.principals.items) }
+    requires cells { sizes.0 ≡ cell_count (world_of world.now) }
+    requires statements { sizes.1 ≡ statement_count (world_of world.now) }
+    requires within { ¬ IsOverLimits (world_of world.now) }
+    ensures { IfOk result (ReadsWorld (world_of world.now)) }
+{
+    Ok(WorldParts {
+        moment: world.moment,
+        accounts: read_accounts(alloc, world.accounts.views.as_slice())?,
+        principals: principals(alloc, requesters, identity)?,
+        actions: read_actions(alloc, world.actions.as_slice())?,
+        resources: read_resources(alloc, world.resources.as_slice())?,
+        cells: sizes.0,
+        statements: sizes.1,
+    })
+}
+
+/// The world that a document of the right shape says, or its first fault.
+fn read_view(alloc: Global, world: &WorldView<'_>) -> Result<WorldParts, WorldFault>
+    requires small { AllByRecursion HasFewDocuments (map principal_of world.now.principals.items) }
+    ensures ok { IfOk result (λ parts. ReadsWorld (world_of world.now) parts
+        × ((fault : WorldFault) → ¬ ViewHasFault (world_of world.now) fault)) }
+    ensures fault { IfErr result (λ fault. fault ≢ w.OutOfMemory → IsFirstViewFault (world_of world.now) fault) }
+{
+    let requesters = check_names(alloc, world)?;
+    let identity = read_identity(alloc, world.principals.as_slice())?;
+    match sizes(world, identity.as_slice()) {
+        Some(sizes) => Ok(build(alloc, world, requesters, identity, sizes)?),
+        None => Err(WorldFault::TooLarge),
+    }
+}
+
+/// The account with this id.
+fn find_account<'a>(accounts: &'a [Account], id: &str) -> Option<&'a Account>
+    ensures { option_map (λ account. account.now) result
+        ≡ find (λ account. bytes_eq account.id id.now) accounts.entry.now }
+{
+    accounts.iter().find(|account| account.has_id(id))
+}
+
+impl WorldParts {
+    ghost use Rattle.std.specs.Prelude.{◌≡◌, ◌≢◌, ◌≤◌, IfOk, IfErr, map, string_bytes};
+    ghost use Rattle.std.specs.List.{AllByRecursion, find};
+    ghost use Rattle.std.specs.Str.{bytes_eq};
+    ghost use Rattle.iam_world.specs.Code.Invariants.{HasFewLevels, HasFewPolicies};
+    ghost use Rattle.iam_world.specs.Reads.{IsWorld};
+    ghost use Rattle.iam_world.specs.World.{org_of, world_cells, world_statements};
+    ghost use Rattle.iam_world.specs.WorldFault.{IsFirstWorldFault};
+    ghost use Rattle.iam_world.specs.declared.fault.WorldFault.TheVariants as w;
+
+    /// The world of a JSON document, or the first fault of its bytes: `TooLarge` for over 8,388,608 of them, then 1
+    /// to 8 by number, each at its first place, then `TooLarge` for over 16,777,216 cells or 4,096 statements.
+    /// `OutOfMemory` can come at any point.
+    pub fn read(alloc: Global, bytes: &[u8]) -> Result<WorldParts, WorldFault>
+        ensures ok { IfOk result (IsWorld bytes.now) }
+        ensures fault { IfErr result (λ fault. fault ≢ w.OutOfMemory → IsFirstWorldFault bytes.now fault) }
+    {
+        if bytes.len() > MOST_BYTES {
+            return Err(WorldFault::TooLarge);
+        }
+        let value = parse(alloc, bytes)?;
+        let world = walk(alloc, &value)?;
+        few_documents();
+        read_view(alloc, &world)
+    }
+
+    /// The principals, in order; each list of their policies has fewer than 2^32 members.
+    pub fn principals(&self) -> &[Principal]
+        ensures value { result.now ≡ self.now.principals }
+        ensures few { AllByRecursion HasFewPolicies self.now.principals }
+    {
+        self.principals.as_slice()
+    }
+
+    /// The texts of the actions, in order.
+    pub fn actions(&self) -> &[String]
+        ensures { map string_bytes result.now ≡ self.now.actions }
+    {
+        self.actions.as_slice()
+    }
+
+    /// The resources, in order.
+    pub fn resources(&self) -> &[Resource]
+        ensures { result.now ≡ self.now.resources }
+    {
+        self.resources.as_slice()
+    }
+
+    /// How many cells the matrix has: one for each principal, action and resource; at most 16,777,216.
+    pub fn cells(&self) -> u64
+        ensures value { result ≡ world_cells self.now }
+        ensures few { result ≤ 16777216 }
+    {
+        self.cells
+    }
+
+    /// How many statements the policies have, at most 4,096.
+    pub fn statements(&self) -> u64
+        ensures value { result ≡ world_statements self.now }
+        ensures few { result ≤ 4096 }
+    {
+        self.statements as u64
+    }
+
+    /// The organisation policies that apply to requesters of the account with this id, by level from the root: none
+    /// where it manages its organisation. There are fewer than 2^32 levels, and fewer than 2^32 policies in each.
+    ///
+    /// AWS IAM User Guide, "Policy evaluation logic".
+    pub fn org(&self, id: &str) -> &[Vec<Policy>]
+        ensures value { map (λ level. level.items) result.now
+            ≡ org_of (find (λ account. bytes_eq account.id id.now) self.now.accounts) }
+        ensures few { HasFewLevels (map (λ level. level.items) result.now) }
+    {
+        match find_account(self.accounts.as_slice(), id) {
+            Some(account) => account.org(),
+            None => &[],
+        }
+    }
+}
