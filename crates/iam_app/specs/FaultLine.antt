@@ -2,10 +2,10 @@
 use Rattle.std.specs.Prelude.{Option, ℕ, List, [], ◌++◌, codes, decimal, Some, None}
 use Rattle.iam_policy.specs.Table.{number_of, name_of}
 use Rattle.iam_policy.specs.declared.fault.Refused.{Refused}
-use Rattle.iam_layers.specs.Path.{path_text}
-use Rattle.iam_layers.specs.WorldFault.{world_number_of, world_name_of}
-use Rattle.iam_layers.specs.declared.fault.WorldFault.{WorldFault}
-use Rattle.iam_layers.specs.declared.fault.WorldFault.TheVariants as w
+use Rattle.iam_world.specs.Path.{path_text}
+use Rattle.iam_world.specs.WorldFault.{world_number_of, world_name_of}
+use Rattle.iam_world.specs.declared.fault.WorldFault.{WorldFault}
+use Rattle.iam_world.specs.declared.fault.WorldFault.TheVariants as w
 use Rattle.iam_app.specs.declared.fault.RunFault.{RunFault}
 use Rattle.iam_app.specs.declared.fault.RunFault.TheVariants.{Read, World, Write, NoSuchCell, OutOfMemory}
 
@@ -28,21 +28,21 @@ refused_text refused =
     statement_text refused.statement
     ++ (codes ": " ++ (decimal (number_of refused.fault) ++ (codes " " ++ name_of refused.fault)))
 
--- what follows the number and the name of a world's fault
-abbrev pub place_text : WorldFault → List ℕ
-place_text w.NotJson = []
-place_text (w.BadShape path) = codes " at " ++ path_text path
-place_text (w.BadRequester path) = codes " at " ++ path_text path
-place_text (w.BadAction path) = codes " at " ++ path_text path
-place_text (w.BadResourceArn path) = codes " at " ++ path_text path
-place_text (w.UnknownAccount path) = codes " at " ++ path_text path
-place_text (w.Policy path refused) = codes " at " ++ (path_text path ++ (codes ": " ++ refused_text refused))
-place_text w.TooLarge = []
-place_text w.OutOfMemory = []
+-- the path of a world's fault, which follows its number and name
+abbrev pub fault_path_text : WorldFault → List ℕ
+fault_path_text w.NotJson = []
+fault_path_text (w.BadShape path) = codes " at " ++ path_text path
+fault_path_text (w.BadRequester path) = codes " at " ++ path_text path
+fault_path_text (w.BadAction path) = codes " at " ++ path_text path
+fault_path_text (w.BadResourceArn path) = codes " at " ++ path_text path
+fault_path_text (w.UnknownAccount path) = codes " at " ++ path_text path
+fault_path_text (w.Policy path refused) = codes " at " ++ (path_text path ++ (codes ": " ++ refused_text refused))
+fault_path_text w.TooLarge = []
+fault_path_text w.OutOfMemory = []
 
 -- `1 NotJson`, `2 BadShape at moment`
 abbrev pub world_text : WorldFault → List ℕ
-world_text fault = decimal (world_number_of fault) ++ (codes " " ++ (world_name_of fault ++ place_text fault))
+world_text fault = decimal (world_number_of fault) ++ (codes " " ++ (world_name_of fault ++ fault_path_text fault))
 
 -- the line of a fault
 abbrev pub fault_text : RunFault → List ℕ

@@ -1,22 +1,21 @@
 -- What a run writes, and why it ends without its report.
-use Rattle.std.specs.Prelude.{◌≡◌, ◌≢◌, ◌⊎◌, ℕ, ◌<◌, List, Option, length, ⊤}
+use Rattle.std.specs.Prelude.{◌≡◌, ◌≢◌, ◌⊎◌, ℕ, ◌<◌, ◌≤◌, List, ◌++◌, Option, length, ⊤, codes, decimal}
 use Rattle.std.specs.Io.KnownBytes.{Appends}
 use Rattle.iam_layers.specs.Cell.{IsCell, IsVerdictAt}
-use Rattle.iam_layers.specs.Reads.{IsWorld}
-use Rattle.iam_layers.specs.World.{WorldValue}
-use Rattle.iam_layers.specs.WorldFault.{IsFirstWorldFault}
-use Rattle.iam_layers.specs.declared.place.Layer.{Layer}
-use Rattle.iam_layers.specs.declared.place.Place.{Place}
-use Rattle.iam_layers.specs.declared.verdict.Decision.{Decision}
-use Rattle.iam_layers.specs.declared.fault.WorldFault.TheVariants as w
+use Rattle.iam_world.specs.Reads.{IsWorld}
+use Rattle.iam_world.specs.World.{WorldValue, world_cells, world_statements}
+use Rattle.iam_world.specs.WorldFault.{IsFirstWorldFault}
+use Rattle.iam_decision.specs.declared.verdict.Verdict.{Verdict}
+use Rattle.iam_world.specs.declared.fault.WorldFault.TheVariants as w
 use Rattle.iam_matrix.specs.CsvRow.{IsCsvRow}
 use Rattle.iam_app.specs.Streams.{AllRemained, AppendsBeginning, MoreRemained}
 use Rattle.iam_app.specs.declared.input.InputFault.{InputFault}
 use Rattle.iam_app.specs.declared.input.InputFault.TheVariants as i
 use Rattle.iam_app.specs.declared.fault.RunFault.{RunFault}
 use Rattle.iam_app.specs.declared.fault.RunFault.TheVariants.{Read, World, Write, NoSuchCell, OutOfMemory}
-use Rattle.iam_app.specs.declared.options.Task.{Task}
-use Rattle.iam_app.specs.declared.options.Task.TheVariants.{Decide}
+use Rattle.iam_options.specs.declared.options.Options.{Options}
+use Rattle.iam_options.specs.declared.options.Task.{Task}
+use Rattle.iam_options.specs.declared.options.Task.TheVariants.{Check, Decide}
 
 -- the world has this principal, action and resource
 pub record HasTriple (world : WorldValue) (p a r : ℕ) : Type 0 where
@@ -28,49 +27,79 @@ pub record HasTriple (world : WorldValue) (p a r : ℕ) : Type 0 where
 abbrev pub IsAnswer : WorldValue → ℕ → ℕ → ℕ → List ℕ → Type 0
 IsAnswer world p a r text =
     (cell : ℕ) × IsCell world cell p a r
-    × ((decision : Decision) × (statements : List Place) × (lacks : List Layer)
-    × IsVerdictAt world p a r decision statements lacks
-    × IsCsvRow world cell p a r decision statements lacks text)
+    × ((verdict : Verdict) × IsVerdictAt world p a r verdict × IsCsvRow world cell p a r verdict text)
 
--- the report that the task asks for, of the world of these bytes
-abbrev pub IsOutput : Task → List ℕ → List ℕ → Type 0
-IsOutput (Decide p a r) bytes text = (world : WorldValue) × IsWorld bytes world × IsAnswer world p a r text
+-- how many there are of each
+unfoldable pub counts_text : ℕ → ℕ → ℕ → ℕ → ℕ → List ℕ
+counts_text principals actions resources cells statements =
+    codes "ok principals " ++ (decimal principals
+    ++ (codes " actions " ++ (decimal actions
+    ++ (codes " resources " ++ (decimal resources
+    ++ (codes " cells " ++ (decimal cells
+    ++ (codes " statements " ++ (decimal statements
+    ++ codes "\n")))))))))
 
--- the task asks for a cell that the world of these bytes does not have
-abbrev pub LacksCell : Task → List ℕ → Type 0
-LacksCell (Decide p a r) bytes = (world : WorldValue) × IsWorld bytes world × ¬ HasTriple world p a r
+-- how many of each the world has
+abbrev pub check_text : WorldValue → List ℕ
+check_text world =
+    counts_text (length world.principals) (length world.actions) (length world.resources) (world_cells world) (world_statements world)
+
+-- the report of a command
+abbrev pub IsReportOf : Task → WorldValue → List ℕ → Type 0
+IsReportOf Check world text = text ≡ check_text world
+IsReportOf (Decide p a r) world text = IsAnswer world p a r text
+
+-- the command is about a cell that the world does not have
+abbrev pub LacksCellOf : Task → WorldValue → Type 0
+LacksCellOf Check world = ⊥
+LacksCellOf (Decide p a r) world = ¬ HasTriple world p a r
+
+-- the report that the options ask for, of this world
+abbrev pub IsReport : Options → WorldValue → List ℕ → Type 0
+IsReport options world text = IsReportOf options.task world text
+
+-- the options ask for a cell that the world does not have
+abbrev pub LacksCell : Options → WorldValue → Type 0
+LacksCell options world = LacksCellOf options.task world
+
+-- the same, of the world of these bytes
+abbrev pub IsOutput : Options → List ℕ → List ℕ → Type 0
+IsOutput options bytes text = (world : WorldValue) × IsWorld bytes world × IsReport options world text
+
+abbrev pub HasNoCell : Options → List ℕ → Type 0
+HasNoCell options bytes = (world : WorldValue) × IsWorld bytes world × LacksCell options world
 
 -- why there is no report for these bytes: their first fault, or the cell; of want of memory nothing is said
-abbrev pub IsRefusal : Task → List ℕ → RunFault → Type 0
-IsRefusal task bytes Read = ⊥
-IsRefusal task bytes (World fault) = fault ≢ w.OutOfMemory → IsFirstWorldFault bytes fault
-IsRefusal task bytes Write = ⊥
-IsRefusal task bytes NoSuchCell = LacksCell task bytes
-IsRefusal task bytes OutOfMemory = ⊤
+abbrev pub IsRefusal : Options → List ℕ → RunFault → Type 0
+IsRefusal options bytes Read = ⊥
+IsRefusal options bytes (World fault) = fault ≢ w.OutOfMemory → IsFirstWorldFault bytes fault
+IsRefusal options bytes Write = ⊥
+IsRefusal options bytes NoSuchCell = HasNoCell options bytes
+IsRefusal options bytes OutOfMemory = ⊤
 
 -- all input is these bytes, and the writer gained the report
-abbrev pub WritesOutput : Task → Option (List ℕ) → Option (List ℕ) → Option (List ℕ) → Type 0
-WritesOutput task input old new =
-    (bytes : List ℕ) × AllRemained input bytes × ((text : List ℕ) × IsOutput task bytes text × Appends old new text)
+abbrev pub WritesOutput : Options → Option (List ℕ) → Option (List ℕ) → Option (List ℕ) → Type 0
+WritesOutput options input old new =
+    (bytes : List ℕ) × AllRemained input bytes × ((text : List ℕ) × IsOutput options bytes text × Appends old new text)
 
 -- all input is these bytes, and the writer gained a beginning of the report
-abbrev pub WritesBeginning : Task → Option (List ℕ) → Option (List ℕ) → Option (List ℕ) → Type 0
-WritesBeginning task input old new =
-    (bytes : List ℕ) × AllRemained input bytes × ((text : List ℕ) × IsOutput task bytes text × AppendsBeginning old new text)
+abbrev pub WritesBeginning : Options → Option (List ℕ) → Option (List ℕ) → Option (List ℕ) → Type 0
+WritesBeginning options input old new =
+    (bytes : List ℕ) × AllRemained input bytes × ((text : List ℕ) × IsOutput options bytes text × AppendsBeginning old new text)
 
 -- the input is too large, or all of it is these bytes, of which there is no report
-abbrev pub RefusesInput : Task → Option (List ℕ) → RunFault → Type 0
-RefusesInput task input fault =
+abbrev pub RefusesInput : Options → Option (List ℕ) → RunFault → Type 0
+RefusesInput options input fault =
     (MoreRemained input 8388608 × (fault ≡ World w.TooLarge))
-    ⊎ ((bytes : List ℕ) × AllRemained input bytes × IsRefusal task bytes fault)
+    ⊎ ((bytes : List ℕ) × AllRemained input bytes × (length bytes ≤ 8388608) × IsRefusal options bytes fault)
 
 -- how a run ends without its report: after every fault but `Write` nothing was written
-abbrev pub EndsBy : Task → Option (List ℕ) → Option (List ℕ) → Option (List ℕ) → RunFault → Type 0
-EndsBy task input old new Read = new ≡ old
-EndsBy task input old new (World fault) = (new ≡ old) × RefusesInput task input (World fault)
-EndsBy task input old new Write = WritesBeginning task input old new
-EndsBy task input old new NoSuchCell = (new ≡ old) × RefusesInput task input NoSuchCell
-EndsBy task input old new OutOfMemory = new ≡ old
+abbrev pub EndsBy : Options → Option (List ℕ) → Option (List ℕ) → Option (List ℕ) → RunFault → Type 0
+EndsBy options input old new Read = new ≡ old
+EndsBy options input old new (World fault) = (new ≡ old) × RefusesInput options input (World fault)
+EndsBy options input old new Write = WritesBeginning options input old new
+EndsBy options input old new NoSuchCell = (new ≡ old) × RefusesInput options input NoSuchCell
+EndsBy options input old new OutOfMemory = new ≡ old
 
 -- the fault of a run whose input is not taken
 abbrev pub fault_of_input : InputFault → RunFault

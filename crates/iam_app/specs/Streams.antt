@@ -1,6 +1,6 @@
 -- What reading all input and writing a text do to the bytes that a reader has left and a writer holds. `None` stands
 -- where a reader or a writer does not say which bytes these are, and nothing is claimed of it.
-use Rattle.std.specs.Prelude.{Option, ◌≡◌, ℕ, ◌<◌, ◌≤◌, List, length, take, ⊤, Some, None}
+use Rattle.std.specs.Prelude.{Option, ◌≡◌, ℕ, ◌<◌, ◌≤◌, List, [], ◌++◌, length, take, ⊤, Some, None}
 use Rattle.std.specs.Io.KnownBytes.{Appends, Consumes}
 
 -- the bytes that remained are these
@@ -20,3 +20,12 @@ ConsumesAtMost old new most = (bytes : List ℕ) × (length bytes ≤ most) × C
 -- a writer gained the first bytes of a text, and no others
 abbrev pub AppendsBeginning : Option (List ℕ) → Option (List ℕ) → List ℕ → Type 0
 AppendsBeginning old new text = (n : ℕ) × (n ≤ length text) × Appends old new (take n text)
+
+-- a reader lost at least one byte, and these bytes were kept
+abbrev pub Gains : Option (List ℕ) → Option (List ℕ) → List ℕ → List ℕ → Type 0
+Gains old new kept_old kept_new =
+    (bytes : List ℕ) × (0 < length bytes) × (kept_new ≡ kept_old ++ bytes) × Consumes old new bytes
+
+-- a reader had no byte left, and nothing more was kept
+abbrev pub IsEnd : Option (List ℕ) → Option (List ℕ) → List ℕ → List ℕ → Type 0
+IsEnd old new kept_old kept_new = (kept_new ≡ kept_old) × AllRemained old [] × Consumes old new []

@@ -82,19 +82,19 @@ impl Display for WorldText {
     fn fmt<W: Write>(&self, f: &mut Formatter<W>) -> Result<(), fmt::Error> {
         let number = self.0.number();
         let name = self.0.name();
-        write!(f, "{number} {name}{}", PlaceText(self.0))
+        write!(f, "{number} {name}{}", PathText(self.0))
     }
 }
 
 /// Where the fault of a world stands, where it has a place.
 #[derive(Clone, Copy)]
-struct PlaceText(WorldFault);
+struct PathText(WorldFault);
 
-impl Display for PlaceText {
+impl Display for PathText {
     ghost use Rattle.std.specs.Prelude.{Some};
-    ghost use Rattle.iam_app.specs.FaultLine.{place_text};
+    ghost use Rattle.iam_app.specs.FaultLine.{fault_path_text};
 
-    ghost output = { λ text. Some (place_text text.0) };
+    ghost output = { λ text. Some (fault_path_text text.0) };
 
     fn fmt<W: Write>(&self, f: &mut Formatter<W>) -> Result<(), fmt::Error> {
         match self.0 {
@@ -145,6 +145,3 @@ pub fn status(outcome: &Result<(), RunFault>) -> u8
         Err(_) => 1,
     }
 }
-
-#[cfg(test)]
-mod tests;

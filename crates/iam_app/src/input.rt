@@ -1,5 +1,5 @@
-ghost use Rattle.std.specs.Prelude.{◌≡◌, ◌+◌, ◌≤◌, IfOk, Err, length};
-ghost use Rattle.iam_app.specs.Streams.{AllRemained, ConsumesAtMost, MoreRemained};
+ghost use Rattle.std.specs.Prelude.{◌≡◌, ◌≢◌, ◌+◌, ◌-◌, ◌≤◌, IfOk, OnOk, Ok, Err, true, false, length};
+ghost use Rattle.iam_app.specs.Streams.{AllRemained, ConsumesAtMost, Gains, IsEnd, MoreRemained};
 ghost use Rattle.iam_app.specs.declared.input.InputFault.TheVariants as InputFault;
 
 use std::alloc::Global;
@@ -22,6 +22,30 @@ pub enum InputFault {
     OutOfMemory,
 }
 
+/// One turn of the reading: reads once, and keeps what came. Whether there was anything: at the end of input there is
+/// not. At most 8,388,609 bytes are kept.
+fn turn<R: Read>(reader: &mut R, bytes: &mut Vec<u8>) -> Result<bool, InputFault>
+    requires { length bytes.old.items ≤ MOST }
+    ensures more { result ≡ Ok true → Gains (R.remaining reader.old) (R.remaining reader.new) bytes.old.items bytes.new.items }
+    ensures end { result ≡ Ok false → IsEnd (R.remaining reader.old) (R.remaining reader.new) bytes.old.items bytes.new.items }
+    ensures fits { OnOk result (length bytes.new.items ≤ MOST + 1) }
+    ensures most { ConsumesAtMost (R.remaining reader.old) (R.remaining reader.new) (MOST + 1 - length bytes.old.items) }
+    ensures fault { result ≢ Err InputFault.TooLarge }
+{
+    let mut buffer = [0u8; ROOM];
+    let room = (MOST + 1 - bytes.len()).min(ROOM);
+    let Ok(count) = reader.read(&mut buffer[..room]) else {
+        return Err(InputFault::Read);
+    };
+    if count == 0 {
+        return Ok(false);
+    }
+    if bytes.extend_from_slice(&buffer[..count]).is_err() {
+        return Err(InputFault::OutOfMemory);
+    }
+    Ok(true)
+}
+
 /// All input up to its end, a read of no bytes. At most 8,388,609 bytes are read.
 pub fn read_input<R: Read>(alloc: Global, reader: &mut R) -> Result<Vec<u8>, InputFault>
     ensures ok { IfOk result (λ bytes. AllRemained (R.remaining reader.old) bytes.items) }
@@ -30,21 +54,12 @@ pub fn read_input<R: Read>(alloc: Global, reader: &mut R) -> Result<Vec<u8>, Inp
     ensures large { result ≡ Err InputFault.TooLarge → MoreRemained (R.remaining reader.old) MOST }
 {
     let mut bytes = Vec::new(alloc);
-    let mut buffer = [0u8; ROOM];
     while bytes.len() <= MOST {
-        let room = (MOST + 1 - bytes.len()).min(ROOM);
-        let Ok(count) = reader.read(&mut buffer[..room]) else {
-            return Err(InputFault::Read);
-        };
-        if count == 0 {
-            return Ok(bytes);
-        }
-        if bytes.extend_from_slice(&buffer[..count]).is_err() {
-            return Err(InputFault::OutOfMemory);
+        match turn(reader, &mut bytes) {
+            Ok(true) => (),
+            Ok(false) => return Ok(bytes),
+            Err(fault) => return Err(fault),
         }
     }
     Err(InputFault::TooLarge)
 }
-
-#[cfg(test)]
-mod tests;

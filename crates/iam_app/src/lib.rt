@@ -3,12 +3,10 @@
 
 mod fault;
 mod input;
-mod options;
 mod output;
 mod program;
 
 pub use fault::{RunFault, fault_line, status};
-pub use options::{Options, Task, Usage, options_of};
+pub use iam_options::{Options, Task, Usage, options_of};
+pub use iam_text::OutOfMemory;
 pub use program::run;
-/// The allocator refused a growth.
-pub use std::alloc::AllocError as OutOfMemory;

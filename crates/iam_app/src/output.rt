@@ -28,6 +28,3 @@ pub fn write_output<W: Write>(writer: &mut W, text: &[u8]) -> Result<(), OutputF
         Err(_) => Err(OutputFault),
     }
 }
-
-#[cfg(test)]
-mod tests;

@@ -1,16 +1,18 @@
-ghost use Rattle.std.specs.Prelude.{◌≡◌, ◌≢◌, ◌↔◌, IsTrue, IfOk, IfErr, OnOk};
-ghost use Rattle.iam_app.specs.Output.{EndsBy, HasTriple, IsAnswer, IsOutput, IsRefusal, WritesOutput, fault_of_input};
+ghost use Rattle.std.specs.Prelude.{◌≡◌, ◌≢◌, ◌↔◌, IsTrue, IfOk, IfErr, OnOk, string_bytes};
+ghost use Rattle.iam_app.specs.Output.{EndsBy, HasTriple, IsAnswer, IsOutput, IsRefusal, IsReport, LacksCell, WritesOutput, check_text, counts_text, fault_of_input};
 ghost use Rattle.iam_app.specs.Streams.{ConsumesAtMost};
 ghost use Rattle.iam_app.specs.declared.fault.RunFault.TheVariants as f;
 
+use crate::OutOfMemory;
 use crate::fault::RunFault;
 use crate::input::{InputFault, read_input};
-use crate::options::{Options, Task};
 use crate::output::write_output;
 use iam_layers::{World, WorldFault};
 use iam_matrix::csv_row;
+use iam_options::{Options, Task};
 use std::alloc::Global;
 use std::io::{Read, Write};
+use std::thread::Threads;
 
 fn has_triple(world: &World, p: u64, a: u64, r: u64) -> bool
     ensures { IsTrue result ↔ HasTriple world.now p a r }
@@ -30,26 +32,58 @@ fn decide(alloc: Global, world: &World, p: u64, a: u64, r: u64) -> Result<Vec<u8
     Ok(csv_row(alloc, world, world.cell(p, a, r), &verdict)?)
 }
 
-/// The numbers of the principal, the action and the resource that the task asks for.
-fn triple_of(task: Task) -> (u64, u64, u64)
-    ensures { task ≡ Task.Decide result.0 result.1 result.2 }
+/// The line of `check`, from how many there are of each.
+#[tactic(auto, unfolding(crate::specs::Output::counts_text))]
+fn counts_line(
+    alloc: Global,
+    principals: u64,
+    actions: u64,
+    resources: u64,
+    cells: u64,
+    statements: u64,
+) -> Result<String, OutOfMemory>
+    ensures { IfOk result (λ line. string_bytes line ≡ counts_text principals actions resources cells statements) }
 {
-    match task {
-        Task::Decide(p, a, r) => (p, a, r),
+    format!(in alloc;
+        "ok principals {principals} actions {actions} resources {resources} cells {cells} statements {statements}\n"
+    )
+}
+
+/// How many of each the world has.
+fn check(alloc: Global, world: &World) -> Result<Vec<u8>, OutOfMemory>
+    ensures { IfOk result (λ text. text.items ≡ check_text world.now) }
+{
+    let line = counts_line(
+        alloc,
+        world.principals(),
+        world.actions(),
+        world.resources(),
+        world.cells(),
+        world.statements(),
+    )?;
+    Ok(line.into_bytes())
+}
+
+/// The report that the options ask for, of this world.
+fn report(alloc: Global, options: &Options, world: &World) -> Result<Vec<u8>, RunFault>
+    ensures ok { IfOk result (λ text. IsReport options.now world.now text.items) }
+    ensures fault { IfErr result (λ fault. fault ≢ f.OutOfMemory → (fault ≡ f.NoSuchCell) × LacksCell options.now world.now) }
+{
+    match options.task {
+        Task::Check => Ok(check(alloc, world)?),
+        Task::Decide(p, a, r) => decide(alloc, world, p, a, r),
     }
 }
 
-/// The report that the task asks for.
-fn answer(alloc: Global, task: Task, bytes: &[u8]) -> Result<Vec<u8>, RunFault>
-    ensures ok { IfOk result (λ text. IsOutput task bytes.now text.items) }
-    ensures fault { IfErr result (λ fault. IsRefusal task bytes.now fault) }
+/// The report that the options ask for, of the world of these bytes.
+fn answer(alloc: Global, options: &Options, bytes: &[u8]) -> Result<Vec<u8>, RunFault>
+    ensures ok { IfOk result (λ text. IsOutput options.now bytes.now text.items) }
+    ensures fault { IfErr result (λ fault. IsRefusal options.now bytes.now fault) }
 {
-    let world = match World::read(alloc, bytes) {
-        Ok(world) => world,
-        Err(fault) => return Err(RunFault::World(fault)),
-    };
-    let (p, a, r) = triple_of(task);
-    decide(alloc, &world, p, a, r)
+    match World::read(alloc, bytes) {
+        Ok(world) => report(alloc, options, &world),
+        Err(fault) => Err(RunFault::World(fault)),
+    }
 }
 
 /// The fault of a run whose input is not taken.
@@ -64,28 +98,27 @@ fn input_fault(fault: InputFault) -> RunFault
 }
 
 /// Reads a world, and writes the report that the options ask for: the whole report is made before its first byte is
-/// written. At most 8,388,609 bytes are read. The first fault in this order ends the run: `Read`, `World`, `NoSuchCell`, `Write`; `OutOfMemory` can come at any
-/// point before the writing. After every fault but `Write` nothing was written; after `Write` a beginning of the report.
-pub fn run<R: Read, W: Write>(
+/// written. At most 8,388,609 bytes are read. The first fault in this order ends the run: `Read`, `World`, `NoSuchCell`,
+/// `Write`; `OutOfMemory` can come at any point before the writing. After every fault except `Write` nothing was written;
+/// after `Write` a beginning of the report. No command starts a thread yet.
+pub fn run<T: Threads + Sync, R: Read, W: Write>(
+    _rt: &T,
     alloc: Global,
     options: &Options,
     reader: &mut R,
     writer: &mut W,
 ) -> Result<(), RunFault>
     ensures most { ConsumesAtMost (R.remaining reader.old) (R.remaining reader.new) 8388609 }
-    ensures done { OnOk result (WritesOutput options.now.task (R.remaining reader.old) (W.contents writer.old) (W.contents writer.new)) }
-    ensures fault { IfErr result (λ fault. EndsBy options.now.task (R.remaining reader.old) (W.contents writer.old) (W.contents writer.new) fault) }
+    ensures done { OnOk result (WritesOutput options.now (R.remaining reader.old) (W.contents writer.old) (W.contents writer.new)) }
+    ensures fault { IfErr result (λ fault. EndsBy options.now (R.remaining reader.old) (W.contents writer.old) (W.contents writer.new) fault) }
 {
     let bytes = match read_input(alloc, reader) {
         Ok(bytes) => bytes,
         Err(fault) => return Err(input_fault(fault)),
     };
-    let text = answer(alloc, options.task, bytes.as_slice())?;
+    let text = answer(alloc, options, bytes.as_slice())?;
     match write_output(writer, text.as_slice()) {
         Ok(()) => Ok(()),
         Err(_) => Err(RunFault::Write),
     }
 }
-
-#[cfg(test)]
-mod tests;

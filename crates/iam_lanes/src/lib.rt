@@ -11,8 +11,6 @@ mod fault;
 mod lanes;
 mod rule;
 mod seat;
-#[cfg(test)]
-mod tests;
 mod view;
 
 pub use fault::LaneFault;

@@ -1,2 +1,3 @@
-pub mod Joins
-pub mod Lines
+mod Collected
+mod Joins
+mod Lines

@@ -2,7 +2,7 @@
 use Rattle.std.proofs.Common.{◌≡◌, ℕ, List, [], ◌++◌, Some, Vec}
 use Rattle.csv.specs.Writing.{default_writer, row_text, text_written}
 use Rattle.csv.specs.declared.writer.Writer.{Writer}
-use Rattle.iam_matrix.specs.Written.{HasWritten, AddsLine, line}
+use Rattle.iam_matrix.specs.Code.Written.{HasWritten, AddsLine, line}
 
 -- what stands after two lines
 pub two_lines : {A : Type 0} (empty one two : Writer (Vec ℕ A)) (a b : List (List ℕ)) → HasWritten empty [] → AddsLine empty one a → AddsLine one two b

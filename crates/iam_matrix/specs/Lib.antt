@@ -1,3 +1,3 @@
+pub mod Code
 pub mod CsvRow
 pub mod Report
-pub mod Written

@@ -1,11 +1,13 @@
--- Reports as CSV: their words, and the fields of their rows. `row_text default_writer` of `csv` is the text of a row.
+-- Reports as CSV: their words, the fields of their rows, and their lines, by `csv`'s own text of a row.
 use Rattle.std.specs.Prelude.{ℕ, List, [], ◌∷◌, ◌++◌, map, codes, decimal}
 use Rattle.std.specs.List.{join_by}
-use Rattle.iam_layers.specs.declared.place.Layer.{Layer}
-use Rattle.iam_layers.specs.declared.place.Layer.TheVariants.{Org, Resource, Identity, Boundary, Session}
-use Rattle.iam_layers.specs.declared.place.Place.{Place}
-use Rattle.iam_layers.specs.declared.verdict.Decision.{Decision}
-use Rattle.iam_layers.specs.declared.verdict.Decision.TheVariants.{Allowed, ExplicitDeny, ImplicitDeny}
+use Rattle.csv.specs.Writing.{default_writer, row_text}
+use Rattle.iam_decision.specs.declared.place.Layer.{Layer}
+use Rattle.iam_decision.specs.declared.place.Layer.TheVariants.{Org, Resource, Identity, Boundary, Session}
+use Rattle.iam_decision.specs.declared.place.Place.{Place}
+use Rattle.iam_decision.specs.declared.verdict.Decision.{Decision}
+use Rattle.iam_decision.specs.declared.verdict.Decision.TheVariants.{Allowed, ExplicitDeny, ImplicitDeny}
+use Rattle.iam_decision.specs.declared.verdict.Verdict.{Verdict}
 
 abbrev pub layer_word : Layer → List ℕ
 layer_word Org = codes "org"
@@ -42,6 +44,15 @@ header =
     codes "cell" ∷ codes "principal" ∷ codes "action" ∷ codes "resource" ∷ codes "decision" ∷ codes "statements" ∷ codes "lacks" ∷ []
 
 -- the fields of the row of a cell
-abbrev pub row : ℕ → List ℕ → List ℕ → List ℕ → Decision → List Place → List Layer → List (List ℕ)
-row cell principal action resource decision statements lacks =
-    decimal cell ∷ principal ∷ action ∷ resource ∷ decision_word decision ∷ spaced (map place_text statements) ∷ spaced (map layer_word lacks) ∷ []
+abbrev pub row : ℕ → List ℕ → List ℕ → List ℕ → Verdict → List (List ℕ)
+row cell principal action resource verdict =
+    decimal cell ∷ principal ∷ action ∷ resource ∷ decision_word verdict.decision ∷ spaced (map place_text verdict.statements)
+    ∷ spaced (map layer_word verdict.lacks) ∷ []
+
+-- the line of the header
+abbrev pub header_line : List ℕ
+header_line = row_text default_writer header
+
+-- the line of the row of a cell
+abbrev pub row_line : ℕ → List ℕ → List ℕ → List ℕ → Verdict → List ℕ
+row_line cell principal action resource verdict = row_text default_writer (row cell principal action resource verdict)

@@ -1,6 +1,6 @@
 ghost use Rattle.std.specs.Prelude.{ℕ, ◌<◌, IfOk};
 ghost use Rattle.iam_layers.specs.Cell.{IsCell};
-ghost use Rattle.iam_layers.specs.World.{world_cells};
+ghost use Rattle.iam_world.specs.World.{world_cells};
 ghost use Rattle.iam_matrix.specs.CsvRow.{IsCsvRow};
 
 use crate::row::header_and_row;
@@ -20,7 +20,7 @@ pub fn csv_row(
 ) -> Result<Vec<u8>, OutOfMemory>
     requires { cell < world_cells world.now }
     ensures { IfOk result (λ text. (p a r : ℕ) → IsCell world.now cell p a r
-        → IsCsvRow world.now cell p a r verdict.now.decision verdict.now.statements verdict.now.lacks text.items) }
+        → IsCsvRow world.now cell p a r verdict.now text.items) }
 {
     let (p, a, r) = world.triple(cell);
     header_and_row(

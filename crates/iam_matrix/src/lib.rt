@@ -1,10 +1,10 @@
-//! Reports of verdicts.
+//! Reports of a world's matrix, and the numbers that workers collect from shared lanes.
 #![tactic(auto)]
 
 mod cell;
+mod collector;
 mod row;
-#[cfg(test)]
-mod tests;
 mod words;
 
 pub use cell::csv_row;
+pub use collector::collect;

@@ -1,8 +1,7 @@
 // The rows of reports.
 ghost use Rattle.std.specs.Prelude.{◌≡◌, ◌++◌, ◌∷◌, [], IfOk, OnOk, map};
-ghost use Rattle.csv.specs.Writing.{default_writer, row_text};
 ghost use Rattle.iam_matrix.specs.Report as report;
-ghost use Rattle.iam_matrix.specs.Written.{AddsLine};
+ghost use Rattle.iam_matrix.specs.Code.Written.{AddsLine};
 
 use crate::words::{decision_word, layers_text, places_text};
 use csv::Writer;
@@ -11,7 +10,7 @@ use iam_text::OutOfMemory;
 use std::alloc::Global;
 
 /// Writes a row of these fields. All rows have seven; then, over a `Vec`, the writer fails for want of memory alone.
-#[tactic(auto, unfolding(crate::specs::Written::line, crate::specs::Written::AddsLine))]
+#[tactic(auto, unfolding(crate::specs::Code::Written::line, crate::specs::Code::Written::AddsLine))]
 fn write_line(writer: &mut Writer<Vec<u8>>, fields: &[&[u8]]) -> Result<(), OutOfMemory>
     ensures { OnOk result (AddsLine writer.old writer.new (map (λ field. field.now) fields.now)) }
 {
@@ -72,7 +71,7 @@ fn write_row(
     verdict: &Verdict,
 ) -> Result<(), OutOfMemory>
     ensures { OnOk result (AddsLine writer.old writer.new
-        (report.row cell principal.now action.now resource.now verdict.now.decision verdict.now.statements verdict.now.lacks)) }
+        (report.row cell principal.now action.now resource.now verdict.now)) }
 {
     let number = cell.to_string(alloc)?;
     let statements = places_text(alloc, verdict.statements.as_slice())?;
@@ -101,8 +100,8 @@ pub fn header_and_row(
     resource: &str,
     verdict: &Verdict,
 ) -> Result<Vec<u8>, OutOfMemory>
-    ensures { IfOk result (λ text. text.items ≡ row_text default_writer report.header
-        ++ row_text default_writer (report.row cell principal.now action.now resource.now verdict.now.decision verdict.now.statements verdict.now.lacks)) }
+    ensures { IfOk result (λ text. text.items
+        ≡ report.header_line ++ report.row_line cell principal.now action.now resource.now verdict.now) }
 {
     let mut writer = Writer::from_writer(Vec::new(alloc));
     write_header(&mut writer)?;

@@ -16,7 +16,7 @@ fn main(rt: HostRuntime) -> ExitCode {
         Ok(options) => options,
         Err(usage) => return ExitCode::from(tell_usage(&rt, &usage)),
     };
-    let outcome = run(alloc, &options, &mut rt.stdin(), &mut rt.stdout());
+    let outcome = run(&rt, alloc, &options, &mut rt.stdin(), &mut rt.stdout());
     if let Err(fault) = &outcome {
         tell_fault(&rt, alloc, fault);
     }

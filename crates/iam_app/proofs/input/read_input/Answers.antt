@@ -1,12 +1,11 @@
-use Rattle.std.proofs.Common.{◌≤◌, ◌++◌, length, take, arith, length-append}
-use Rattle.std.proofs.lemmas.Grind.{common_steps}
+use Rattle.std.proofs.Common.{◌≤◌, ◌++◌, length, arith, length-append}
 use Rattle.std.proofs.KnownBytes.{Consumes-trans}
 use Rattle.iam_app.proofs.input.read_input.Goals as goal
 
--- what was read before, and then the bytes of this read
-pub returns-then-is_err-clause-most : goal.returns-then-is_err-clause-most
-returns-then-is_err-clause-most g c =
-    let before = c.loop-buffer.bytes.items in
-    let gave = take c.in-Ok.count c.read.new.buf in
-    let fits : length (before ++ gave) ≤ 8388609 = grind (arith, common_steps, length-append before gave, c.in-Ok.ensures.bound) in
-    (before ++ gave, fits, Consumes-trans _ _ _ _ _ c.loop-buffer.invariant.0 c.in-Ok.ensures.bytes.0)
+-- what was read before, and then the bytes of this turn
+pub returns-in-Err-clause-most : goal.returns-in-Err-clause-most
+returns-in-Err-clause-most g c =
+    let before = c.loop-reader.bytes.items in
+    let gave = c.turn.ensures.most.0 in
+    let fits : length (before ++ gave) ≤ 8388609 = omega (arith, length-append before gave, c.turn.ensures.most.1, c.loop-reader.invariant.1) in
+    (before ++ gave, fits, Consumes-trans _ _ _ _ _ c.loop-reader.invariant.0 c.turn.ensures.most.2)

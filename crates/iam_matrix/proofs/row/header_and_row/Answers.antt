@@ -1,6 +1,6 @@
 use Rattle.std.proofs.Common.{rules, [], Option, Some, List, ℕ, subst}
 use Rattle.std.specs.Io.KnownBytes.{Keeps}
-use Rattle.iam_matrix.specs.Written.{HasWritten}
+use Rattle.iam_matrix.specs.Code.Written.{HasWritten}
 use Rattle.iam_matrix.proofs.Lines.{two_lines}
 use Rattle.iam_matrix.proofs.row.header_and_row.Goals as goal
 

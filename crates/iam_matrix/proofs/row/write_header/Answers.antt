@@ -1,5 +1,5 @@
 use Rattle.std.proofs.Common.{◌∙◌, ap, map, OnOk, List, ℕ, subst}
-use Rattle.iam_matrix.specs.Written.{AddsLine}
+use Rattle.iam_matrix.specs.Code.Written.{AddsLine}
 use Rattle.iam_matrix.proofs.row.write_header.Goals as goal
 
 pub returns : goal.returns

@@ -1,6 +1,13 @@
+ghost use Rattle.std.specs.Prelude.{◌≡◌, IfSome, Some};
+ghost use Rattle.clap.specs.Words.{subcommand_name_of};
+ghost use Rattle.iam_options.specs.Words.{IsDecide, IsNumberAt, command_name};
+
 use clap::error::ErrorKind;
 use clap::{Arg, ArgMatches, Command, Error, value_parser};
 use std::alloc::{AllocError, Global};
+
+/// The version that `--version` tells.
+const VERSION: &str = "0.1.0";
 
 const ABOUT: &str =
     "Answers who may do what in AWS, from policy documents alone, before they are put in force.
@@ -17,6 +24,8 @@ pub struct Options {
 /// A command.
 #[derive(Clone, Copy, Debug, PartialEq, Eq)]
 pub enum Task {
+    /// Read the world, and count what it has.
+    Check,
     /// Decide one request: the numbers of its principal, its action and its resource.
     Decide(u64, u64, u64),
 }
@@ -24,7 +33,7 @@ pub enum Task {
 /// Why a command line gives no options.
 #[derive(Debug, Drop)]
 pub enum Usage {
-    /// Help was asked for; this is its text.
+    /// Help or the version was asked for; this is its text.
     Help(String),
     /// The command line is refused, with this text.
     Refused(String),
@@ -34,7 +43,7 @@ pub enum Usage {
 
 impl From<AllocError> for Usage {
     ghost use Rattle.std.specs.Prelude.{◌≡◌};
-    ghost use Rattle.iam_app.specs.declared.options.Usage.TheVariants as usage;
+    ghost use Rattle.iam_options.specs.declared.options.Usage.TheVariants as usage;
 
     ghost from_gives = { λ _ answer. answer ≡ usage.OutOfMemory };
 
@@ -56,12 +65,30 @@ pub fn options_of(alloc: Global, words: &[&str]) -> Result<Options, Usage> {
 }
 
 /// The command that was read. `None`, where a command or a number is absent, does not come: that is refused before.
-fn task_of(matches: &ArgMatches<'_>) -> Option<Task> {
-    let (_, decide) = matches.subcommand()?;
-    let principal = decide.get_one("P")?;
-    let action = decide.get_one("A")?;
-    let resource = decide.get_one("R")?;
+fn task_of(matches: &ArgMatches<'_>) -> Option<Task>
+    ensures { IfSome result (λ task. subcommand_name_of matches.now ≡ Some (command_name task)) }
+{
+    match matches.subcommand() {
+        Some(("check", _)) => Some(Task::Check),
+        Some(("decide", decide)) => decide_task(decide),
+        _ => None,
+    }
+}
+
+fn decide_task(decide: &ArgMatches<'_>) -> Option<Task>
+    ensures { IfSome result (λ task. IsDecide decide.now task) }
+{
+    let principal = number_at(decide, "P")?;
+    let action = number_at(decide, "A")?;
+    let resource = number_at(decide, "R")?;
     Some(Task::Decide(principal, action, resource))
+}
+
+/// The number that stands under this name.
+fn number_at(matches: &ArgMatches<'_>, name: &str) -> Option<u64>
+    ensures { IfSome result (λ n. IsNumberAt matches.now name.now n) }
+{
+    matches.get_one(name)
 }
 
 fn usage_of(alloc: Global, error: &Error) -> Usage {
@@ -71,7 +98,7 @@ fn usage_of(alloc: Global, error: &Error) -> Usage {
     };
     match kind {
         ErrorKind::OutOfMemory => Usage::OutOfMemory,
-        ErrorKind::DisplayHelp => Usage::Help(text),
+        ErrorKind::DisplayHelp | ErrorKind::DisplayVersion => Usage::Help(text),
         _ => Usage::Refused(text),
     }
 }
@@ -80,9 +107,15 @@ fn iamsim<'a>(alloc: Global) -> Result<Command<'a>, AllocError> {
     Command::new(alloc, "iamsim")
         .no_binary_name(true)
         .bin_name("iamsim")?
+        .version(VERSION)
         .about(ABOUT)
         .subcommand_required(true)
+        .subcommand(check(alloc))?
         .subcommand(decide(alloc)?)
+}
+
+fn check<'a>(alloc: Global) -> Command<'a> {
+    Command::new(alloc, "check").about("Read the world, and count what it has")
 }
 
 fn decide<'a>(alloc: Global) -> Result<Command<'a>, AllocError> {
@@ -99,6 +132,3 @@ fn number<'a>(alloc: Global, name: &'static str, help: &'static str) -> Arg<'a> 
         .value_parser(value_parser!(u64))
         .help(help)
 }
-
-#[cfg(test)]
-mod tests;
