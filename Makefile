@@ -1,4 +1,6 @@
-.PHONY: run build test fmt
+.PHONY: run build install test attacks fmt
+
+PREFIX ?= /usr/local
 
 # The main job: one decision on the smallest example world.
 run: build
@@ -9,9 +11,17 @@ build:
 	@cd crates/iamsim && rt run -- --help > /dev/null
 	@cp crates/iamsim/out/iamsim iamsim
 
-# The gate: every proof from nothing, the must-fail edits, the tests, and the stored run of the program.
+# The program, copied to PREFIX/bin.
+install: build
+	install -D iamsim $(DESTDIR)$(PREFIX)/bin/iamsim
+
+# The gate: every proof from nothing, the must-fail edits, the tests, the rows and the stored run of the program.
 test:
 	rt ci
+
+# The further edits that the prover has to refuse, of all crates or of CRATE=name; not part of the gate.
+attacks:
+	tools/attacks $(CRATE)
 
 fmt:
 	for crate in crates/*/; do (cd $$crate && rt fmt) || exit 1; done

@@ -1,0 +1,57 @@
+//! Tries the rows of `data/`: what `iamsim` has to answer to words and an input. Each is run over memory.
+#![tactic(auto)]
+
+mod input;
+mod problem;
+mod row;
+
+use crate::problem::Problem;
+use crate::row::{Tally, try_rows};
+use serde_json::Value;
+use std::fs::{self, Files};
+use std::process::ExitCode;
+use std::thread::Threads;
+
+/// The file of the worlds that the rows name.
+const WORLDS: &str = "worlds.json";
+
+/// The files of rows, by theme.
+const ROWS: [&str; 5] = [
+    "commands.json",
+    "decisions.json",
+    "documents.json",
+    "limits.json",
+    "shape.json",
+];
+
+fn main(rt: HostRuntime) -> ExitCode {
+    match try_files(&rt) {
+        Ok(tally) => ExitCode::from(tell(&rt, tally)),
+        Err(problem) => {
+            let _told = rt.eprintln(problem.text());
+            ExitCode::FAILURE
+        }
+    }
+}
+
+/// Prints how many rows were tried; the exit status.
+fn tell(rt: &impl Print, tally: Tally) -> u8 {
+    let Tally { tried, differing } = tally;
+    let told = println!(rt; "{tried} rows tried, {differing} differ");
+    u8::from(told.is_err() || differing > 0)
+}
+
+fn try_files<R: Files + AllocGlobal + Print + Threads + Sync>(rt: &R) -> Result<Tally, Problem> {
+    let worlds = read(rt, WORLDS)?;
+    let mut tally = Tally::new();
+    for file in ROWS {
+        let rows = read(rt, file)?;
+        try_rows(rt, &worlds, &rows, &mut tally)?;
+    }
+    Ok(tally)
+}
+
+fn read(rt: &(impl Files + AllocGlobal), file: &str) -> Result<Value, Problem> {
+    let text = fs::read_to_string(rt, file)?;
+    Ok(Value::from_str(rt.alloc(), text.as_str())?)
+}

@@ -1,0 +1,157 @@
+// A row is an object: its name, an input, words, and what has to come of them: `output`, or `row` for the full header
+// and that row, else nothing; `fault`, the line of the fault, else none; `status`, else 0 without a fault and 1 with one.
+// Where it has `runs`, each of these has words and an answer of its own.
+use crate::input::{input_of, number_at, text_at};
+use crate::problem::Problem;
+use iam_app::{Usage, fault_line, options_of, run, status};
+use serde_json::Value;
+use std::alloc::Global;
+use std::thread::Threads;
+
+const HEADER: &str = "cell,principal,action,resource,decision,statements,lacks";
+
+/// How many rows were tried, and how many of them differ.
+#[derive(Clone, Copy, Debug)]
+pub struct Tally {
+    pub tried: u64,
+    pub differing: u64,
+}
+
+impl Tally {
+    pub fn new() -> Tally {
+        Tally {
+            tried: 0,
+            differing: 0,
+        }
+    }
+}
+
+/// What comes of a run: its exit status, what is written on standard output, and the line of a fault.
+#[derive(Drop)]
+struct Answer {
+    status: u64,
+    output: Vec<u8>,
+    fault: String,
+}
+
+/// Tries the rows, and names those that differ.
+pub fn try_rows<R: AllocGlobal + Print + Threads + Sync>(
+    rt: &R,
+    worlds: &Value,
+    rows: &Value,
+    tally: &mut Tally,
+) -> Result<(), Problem> {
+    let rows = rows.as_array().ok_or(Problem::Form)?;
+    for row in rows.as_slice() {
+        let name = text_at(row, "name").ok_or(Problem::Form)?;
+        let Ok(input) = input_of(rt.alloc(), worlds, row.get("input").ok_or(Problem::Form)?) else {
+            count(tally, false);
+            println!(rt; "{name}: its input can't be built")?;
+            continue;
+        };
+        match row.get("runs").and_then(Value::as_array) {
+            Some(runs) => {
+                for answer in runs.as_slice() {
+                    try_run(rt, name, input.as_slice(), answer, tally)?;
+                }
+            }
+            None => try_run(rt, name, input.as_slice(), row, tally)?,
+        }
+    }
+    Ok(())
+}
+
+fn count(tally: &mut Tally, same: bool) {
+    tally.tried = tally.tried.saturating_add(1);
+    if !same {
+        tally.differing = tally.differing.saturating_add(1);
+    }
+}
+
+fn try_run<R: AllocGlobal + Print + Threads + Sync>(
+    rt: &R,
+    name: &str,
+    input: &[u8],
+    want: &Value,
+    tally: &mut Tally,
+) -> Result<(), Problem> {
+    let alloc = rt.alloc();
+    let words = text_at(want, "words").ok_or(Problem::Form)?;
+    let split: Vec<&str> = words.split_ascii_whitespace().collect(alloc)?;
+    let answer = answer_to(rt, split.as_slice(), input)?;
+    let want = wanted(alloc, want)?;
+    let same = is_same(&answer, &want);
+    count(tally, same);
+    if !same {
+        println!(rt;
+            "{name}: {words}: status {}, fault '{}'",
+            answer.status, answer.fault
+        )?;
+        rt.print(String::from_utf8_lossy(alloc, answer.output.as_slice())?)?;
+    }
+    Ok(())
+}
+
+fn is_same(answer: &Answer, want: &Answer) -> bool {
+    answer.status == want.status
+        && answer.fault == want.fault
+        && answer.output.as_slice() == want.output.as_slice()
+}
+
+/// What the row says has to come.
+fn wanted(alloc: Global, want: &Value) -> Result<Answer, Problem> {
+    let fault = text_at(want, "fault").unwrap_or("");
+    let output = match text_at(want, "row") {
+        Some(row) => format!(in alloc; "{HEADER}\n{row}\n")?,
+        None => String::from_str(alloc, text_at(want, "output").unwrap_or(""))?,
+    };
+    let status = match want.get("status") {
+        Some(_) => number_at(want, "status") as u64,
+        None => u64::from(!fault.is_empty()),
+    };
+    Ok(Answer {
+        status,
+        output: output.into_bytes(),
+        fault: String::from_str(alloc, fault)?,
+    })
+}
+
+/// What comes of these words on this input.
+fn answer_to<R: AllocGlobal + Threads + Sync>(
+    rt: &R,
+    words: &[&str],
+    input: &[u8],
+) -> Result<Answer, Problem> {
+    let alloc = rt.alloc();
+    let options = match options_of(alloc, words) {
+        Ok(options) => options,
+        Err(usage) => return usage_answer(alloc, usage),
+    };
+    let mut reader = input;
+    let mut output = Vec::new(alloc);
+    let outcome = run(rt, alloc, &options, &mut reader, &mut output);
+    let fault = match &outcome {
+        Ok(()) => String::new(alloc),
+        Err(fault) => fault_line(alloc, fault)?,
+    };
+    Ok(Answer {
+        status: u64::from(status(&outcome)),
+        output,
+        fault,
+    })
+}
+
+/// What comes of words that ask for no run. Of a refused command line the first line of its text is the fault.
+fn usage_answer(alloc: Global, usage: Usage) -> Result<Answer, Problem> {
+    let (status, output, text) = match usage {
+        Usage::Help(text) => (0, text, String::new(alloc)),
+        Usage::Refused(text) => (2, String::new(alloc), text),
+        Usage::OutOfMemory => return Err(Problem::OutOfMemory),
+    };
+    let line = text.as_str().lines().next().unwrap_or("");
+    Ok(Answer {
+        status,
+        output: output.into_bytes(),
+        fault: String::from_str(alloc, line)?,
+    })
+}

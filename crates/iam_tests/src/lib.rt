@@ -1,0 +1,23 @@
+//! Tests of the calls that no command of the program reaches.
+#![tactic(auto)]
+
+#[cfg(test)]
+mod decision;
+#[cfg(test)]
+mod drafts;
+#[cfg(test)]
+mod lanes;
+#[cfg(test)]
+mod matching;
+#[cfg(test)]
+mod policy;
+#[cfg(test)]
+mod report;
+#[cfg(test)]
+mod sharing;
+#[cfg(test)]
+mod streams;
+#[cfg(test)]
+mod text;
+#[cfg(test)]
+mod value;

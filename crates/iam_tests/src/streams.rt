@@ -1,0 +1,192 @@
+use iam_app::{Options, RunFault, Task, fault_line, run, status};
+use std::io;
+use std::io::{ErrorKind, Read, Write};
+use std::process::Abort;
+use std::test::Fail;
+use std::thread::Threads;
+
+/// Ann may get what bucket b holds.
+const WORLD: &str = r#"{"moment":0,"accounts":[{"id":"111122223333"}],
+    "principals":[{"user":"arn:aws:iam::111122223333:user/ann","identity":[
+    {"Version":"2012-10-17","Statement":{"Effect":"Allow","Action":"s3:Get*","Resource":"arn:aws:s3:::b/*"}}]}],
+    "actions":["S3:getobject"],"resources":[{"arn":"arn:aws:s3:::b/k","account":"111122223333"}]}"#;
+
+/// The report of its one cell.
+const REPORT: &str = "cell,principal,action,resource,decision,statements,lacks
+0,arn:aws:iam::111122223333:user/ann,S3:getobject,arn:aws:s3:::b/k,allowed,identity/0/0,
+";
+
+const FIRST: Options = Options {
+    task: Task::Decide(0, 0, 0),
+};
+
+/// The status of the outcome, and the line of its fault; of a run that is done there is none.
+fn ends_by(
+    rt: &(impl Abort + AllocGlobal),
+    outcome: &Result<(), RunFault>,
+    line: &str,
+) -> Result<(), Fail> {
+    match outcome {
+        Ok(()) => {
+            assert_eq!(rt; line, "");
+            assert_eq!(rt; status(outcome), 0);
+        }
+        Err(fault) => {
+            assert_eq!(rt; fault_line(rt.alloc(), fault)?.as_str(), line);
+            assert_eq!(rt; status(outcome), 1);
+        }
+    }
+    Ok(())
+}
+
+/// Gives one byte a read, and fails once no more reads are left.
+#[derive(Drop)]
+struct Dripping<'a> {
+    rest: &'a [u8],
+    reads: usize,
+}
+
+impl Read for Dripping<'_> {
+    fn read(&mut self, buf: &mut [u8]) -> io::Result<usize> {
+        if self.reads == 0 {
+            return Err(io::Error::from(ErrorKind::Interrupted));
+        }
+        self.reads -= 1;
+        let count = buf.len().min(self.rest.len()).min(1);
+        buf[..count].copy_from_slice(&self.rest[..count]);
+        self.rest = &self.rest[count..];
+        Ok(count)
+    }
+}
+
+#[test]
+fn a_reader_that_fails_at_each_read(rt: HostRuntime) -> Result<(), Fail> {
+    for reads in 0..WORLD.len() + 2 {
+        let mut reader = Dripping {
+            rest: WORLD.as_bytes(),
+            reads,
+        };
+        let mut writer = Vec::new(rt.alloc());
+        let outcome = run(&rt, rt.alloc(), &FIRST, &mut reader, &mut writer);
+        let (text, line) = if reads <= WORLD.len() {
+            ("", "fault 1 Read")
+        } else {
+            (REPORT, "")
+        };
+        assert_eq!(rt; writer.as_slice(), text.as_bytes());
+        ends_by(&rt, &outcome, line)?;
+    }
+    Ok(())
+}
+
+/// Gives spaces without end.
+#[derive(Drop)]
+struct Endless {
+    given: usize,
+}
+
+impl Read for Endless {
+    fn read(&mut self, buf: &mut [u8]) -> io::Result<usize> {
+        buf.fill(b' ');
+        self.given = self.given.saturating_add(buf.len());
+        Ok(buf.len())
+    }
+}
+
+#[test]
+fn a_reader_without_end(rt: HostRuntime) -> Result<(), Fail> {
+    let mut reader = Endless { given: 0 };
+    let mut writer = Vec::new(rt.alloc());
+    let outcome = run(&rt, rt.alloc(), &FIRST, &mut reader, &mut writer);
+    assert!(rt; writer.is_empty());
+    assert_eq!(rt; reader.given, 8_388_609);
+    ends_by(&rt, &outcome, "fault 2 World: 9 TooLarge")
+}
+
+/// What a writer does once it has no room left.
+#[derive(Clone, Copy)]
+enum Full {
+    Fails,
+    TakesNothing,
+}
+
+/// Takes one byte a write while it has room.
+#[derive(Drop)]
+struct Narrow {
+    taken: Vec<u8>,
+    room: usize,
+    full: Full,
+    flushes: bool,
+}
+
+impl Write for Narrow {
+    fn write(&mut self, buf: &[u8]) -> io::Result<usize> {
+        let count = buf.len().min(self.room).min(1);
+        self.room -= count;
+        match self.full {
+            Full::Fails if count == 0 => Err(io::Error::from(ErrorKind::Interrupted)),
+            _ if self.taken.extend_from_slice(&buf[..count]).is_err() => {
+                Err(io::Error::from(ErrorKind::OutOfMemory))
+            }
+            _ => Ok(count),
+        }
+    }
+
+    fn flush(&mut self) -> io::Result<()> {
+        if self.flushes {
+            Ok(())
+        } else {
+            Err(io::Error::from(ErrorKind::Other))
+        }
+    }
+}
+
+/// How a run ends whose writer has this room, which it uses up as far as the report goes.
+fn fills(
+    rt: &(impl Abort + AllocGlobal + Threads + Sync),
+    room: usize,
+    full: Full,
+    flushes: bool,
+    line: &str,
+) -> Result<(), Fail> {
+    let mut reader = WORLD.as_bytes();
+    let mut writer = Narrow {
+        taken: Vec::new(rt.alloc()),
+        room,
+        full,
+        flushes,
+    };
+    let outcome = run(rt, rt.alloc(), &FIRST, &mut reader, &mut writer);
+    let report = REPORT.as_bytes();
+    assert_eq!(rt; writer.taken.as_slice(), &report[..room.min(report.len())]);
+    ends_by(rt, &outcome, line)
+}
+
+#[test]
+fn a_writer_that_fails_at_each_write(rt: HostRuntime) -> Result<(), Fail> {
+    for full in [Full::Fails, Full::TakesNothing] {
+        for room in 0..REPORT.len() {
+            fills(&rt, room, full, true, "fault 4 Write")?;
+        }
+        fills(&rt, REPORT.len(), full, true, "")?;
+    }
+    Ok(())
+}
+
+#[test]
+fn a_flush_that_fails(rt: HostRuntime) -> Result<(), Fail> {
+    fills(&rt, REPORT.len(), Full::Fails, false, "fault 4 Write")
+}
+
+#[test]
+fn lines_of_faults_without_a_place(rt: HostRuntime) -> Result<(), Fail> {
+    for (fault, line) in [
+        (RunFault::Read, "fault 1 Read"),
+        (RunFault::Write, "fault 4 Write"),
+        (RunFault::NoSuchCell, "fault 5 NoSuchCell"),
+        (RunFault::OutOfMemory, "fault 7 OutOfMemory"),
+    ] {
+        assert_eq!(rt; fault_line(rt.alloc(), &fault)?.as_str(), line);
+    }
+    Ok(())
+}
