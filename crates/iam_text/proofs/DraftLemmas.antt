@@ -177,7 +177,7 @@ form-unique p q text r t (inl (inside, closed, joined)) (inl (inside', closed', 
     (closed-unique p q inside' (subst P cut.0 closed) closed', cut.2)
 
 -- a piece is a character by itself, or begins with `${`
-piece-cases : (wild : Bool) (piece : Piece) (part : List ℕ) → IsWritten wild piece part
+pub piece-cases : (wild : Bool) (piece : Piece) (part : List ℕ) → IsWritten wild piece part
     → ((sign : Sign) × (c : ℕ) × (piece ≡ Plain sign) × (sign ≡ sign_of wild c) × (part ≡ encode_utf8 c)) ⊎ ((inside : List ℕ) × (part ≡ codes "${" ++ inside))
 piece-cases wild (Plain sign) part (c, read, is) = inl (sign, c, refl, read, is)
 piece-cases wild (Escaped c) part (literal, is) = inr (c ∷ codes "}", is)

@@ -1,4 +1,5 @@
 pub mod ArnLemmas
 pub mod DraftLemmas
 pub mod FormLemmas
+pub mod VariableLemmas
 pub mod WalkLemmas

@@ -2,11 +2,11 @@
 -- its bytes, and so are a key and a default; an escaped piece is a character.
 use Rattle.std.specs.Prelude.{◌≡◌, ◌≢◌, ℕ, List, [], ◌∷◌, ◌++◌, Bool, ◌||◌, not, ◌==◌, Some, None, IsTrue, codes, encode_utf8, map, replicate, if◌then◌else◌}
 use Rattle.std.specs.List.{list_all}
+use Rattle.iam_text.specs.declared.draft.Piece.{Piece}
 use Rattle.iam_text.specs.declared.draft.Piece.TheVariants.{Plain, Escaped, Variable}
 use Rattle.iam_text.specs.declared.sign.Sign.{Sign}
 use Rattle.iam_text.specs.Characters.{is_run}
 use Rattle.iam_text.specs.Glob.{plain_sign, wild_sign}
-pub use Rattle.iam_text.specs.declared.draft.Piece.{Piece}
 
 -- the pieces of a text without variables: each sign is one
 abbrev pub plain_draft : List Sign → List Piece

@@ -5,4 +5,6 @@ pub mod Cut
 pub mod Draft
 pub mod Glob
 pub mod Parts
+pub mod Template
+pub mod Variables
 pub mod Walk

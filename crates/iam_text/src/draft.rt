@@ -2,6 +2,7 @@ ghost use Rattle.std.specs.Prelude.{◌≡◌, ◌↔◌, List, Bool, IsTrue, If
 ghost use Rattle.iam_text.specs.declared.draft.Piece.{Piece};
 ghost use Rattle.iam_text.specs.Draft.{IsDraft, sign_of};
 ghost use Rattle.iam_text.specs.Code.Forms.{piece_of};
+ghost use Rattle.iam_text.specs.Variables.{is_draft};
 
 use crate::OutOfMemory;
 use crate::form::{Form, first_form};
@@ -72,7 +73,8 @@ impl Draft {
 
 /// Whether the text has a draft: each `${` begins one of `${*}`, `${?}`, `${$}`, `${key}` and `${key, 'default'}`.
 pub fn has_draft(text: &str) -> bool
-    ensures { (wild : Bool) → IsTrue result ↔ ((pieces : List Piece) × IsDraft wild text.now pieces) }
+    ensures value { result ≡ is_draft text.now }
+    ensures drafts { (wild : Bool) → IsTrue result ↔ ((pieces : List Piece) × IsDraft wild text.now pieces) }
 {
     let mut rest = text;
     while !rest.is_empty() {

@@ -9,6 +9,7 @@ mod glob;
 mod items;
 mod laws;
 mod sign;
+mod template;
 mod text;
 mod walk;
 
@@ -17,8 +18,9 @@ pub use characters::{is_account, is_label};
 pub use draft::{Draft, Piece, has_draft};
 pub use glob::Glob;
 pub use items::Items;
-pub use laws::{one_arn, one_draft};
+pub use laws::{drafts_are_tested, one_arn, one_draft};
 pub use sign::Sign;
+pub use template::{Template, TemplateForm};
 pub use text::Text;
 /// The error of an allocator that refused a growth.
 pub use std::alloc::AllocError as OutOfMemory;

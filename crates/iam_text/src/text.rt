@@ -24,6 +24,13 @@ impl Text {
         Ok(Text(String::from_str(alloc, text)?))
     }
 
+    /// The text itself, uncopied.
+    pub fn from_string(text: String) -> Text
+        ensures { result ≡ string_bytes text }
+    {
+        Text(text)
+    }
+
     pub fn as_str(&self) -> &str
         ensures { result.now ≡ self.now }
     {

@@ -1,0 +1,103 @@
+-- Parts that are put into a table, one behind the other.
+use Rattle.std.proofs.Common.{◌≡◌, ℕ, suc, ◌+◌, ◌<◌, List, [], ◌∷◌, ◌++◌, Bool, true, false, ◌||◌, length, get_or, take, drop, map, refl, sym, ap, ◌∙◌, append_assoc, add-one, drop-cons, subst}
+use Rattle.std.proofs.lemmas.List.{append-nil, map-append, take_more}
+use Rattle.std.proofs.lemmas.List.Concat.{flat_map-append}
+use Rattle.iam_context.specs.Code.Keys.{shares}
+use Rattle.iam_context.specs.Context.{ContextValue, all_of, has_derived, has_key, has_twice, keys_of}
+use Rattle.iam_context.specs.ContextFault.{IsClean}
+use Rattle.iam_context.specs.declared.fault.ContextFault.TheVariants.{KeyTwice, DerivedKeyGiven, OutOfMemory}
+use Rattle.iam_context.proofs.KeyLemmas.{keys-left-of}
+use Rattle.iam_context.proofs.Shares.{shares-append, shares-here, shares-next, shares-none}
+
+abbrev Entry : Type 0
+Entry = List ℕ × List (List ℕ)
+
+-- one entry more
+pub entries-more : (context xs ys : ContextValue) (i : ℕ) (e : Entry) (k : List ℕ) (v : List (List ℕ)) → ys ≡ xs → i < length ys
+    → e ≡ get_or ys i e → k ≡ e.0 → v ≡ e.1 → context ++ take (i + 1) xs ≡ (context ++ take i xs) ++ ((k, v) ∷ [])
+entries-more context xs ys i e k v same below is key values =
+    subst (λ (zs : ContextValue). context ++ take (i + 1) zs ≡ (context ++ take i zs) ++ ((k, v) ∷ [])) same
+    (ap (λ l. context ++ l) (take_more ys i e below)
+    ∙ sym (append_assoc context (take i ys) (get_or ys i e ∷ []))
+    ∙ ap (λ (x : Entry). (context ++ take i ys) ++ (x ∷ [])) (sym is)
+    ∙ ap (λ (t : List ℕ). (context ++ take i ys) ++ ((t, e.1) ∷ [])) (sym key)
+    ∙ ap (λ (t : List (List ℕ)). (context ++ take i ys) ++ ((k, t) ∷ [])) (sym values))
+
+-- the key of the entry is there
+pub entry-shared : (context xs ys : ContextValue) (i : ℕ) (e : Entry) (k : List ℕ) → ys ≡ xs → i < length ys
+    → e ≡ get_or ys i e → k ≡ e.0 → has_key (keys_of (context ++ take i xs)) k ≡ true
+    → shares (keys_of (context ++ take i xs)) (keys_of (drop i xs)) ≡ true
+entry-shared context xs ys i e k same below is key has =
+    ap (shares (keys_of (context ++ take i xs))) (keys-left-of xs ys i e same below is)
+    ∙ shares-here (keys_of (context ++ take i xs)) (keys_of (drop (i + 1) xs)) e.0
+    (ap (has_key (keys_of (context ++ take i xs))) (sym key) ∙ has)
+
+-- it is not
+pub entry-new : (context xs ys : ContextValue) (i : ℕ) (e : Entry) (k : List ℕ) (v : List (List ℕ)) → ys ≡ xs → i < length ys
+    → e ≡ get_or ys i e → k ≡ e.0 → v ≡ e.1 → has_key (keys_of (context ++ take i xs)) k ≡ false
+    → shares (keys_of (context ++ take i xs)) (keys_of (drop i xs)) ≡ shares (keys_of (context ++ take (i + 1) xs)) (keys_of (drop (i + 1) xs))
+entry-new context xs ys i e k v same below is key values has =
+    let seen = keys_of (context ++ take i xs) in
+    let rest = keys_of (drop (i + 1) xs) in
+    ap (shares seen) (keys-left-of xs ys i e same below is)
+    ∙ shares-next seen rest e.0 (ap (has_key seen) (sym key) ∙ has)
+    ∙ ap (λ (t : List ℕ). shares (seen ++ (t ∷ [])) rest) (sym key)
+    ∙ ap (λ l. shares l rest)
+    (sym (map-append (λ (entry : Entry). entry.0) (context ++ take i xs) ((k, v) ∷ []))
+    ∙ ap keys_of (sym (entries-more context xs ys i e k v same below is key values)))
+
+-- one part more
+pub parts-more : {A : Type 0} (f : A → ContextValue) (given : List A) (i : ℕ) (e : A) → i < length given → e ≡ get_or given i e
+    → all_of (map f (take (i + 1) given)) ≡ all_of (map f (take i given)) ++ f e
+parts-more f given i e below is =
+    ap (λ l. all_of (map f l)) (take_more given i e below)
+    ∙ ap all_of (map-append f (take i given) (get_or given i e ∷ []))
+    ∙ flat_map-append (λ (part : ContextValue). part) (map f (take i given)) (f (get_or given i e) ∷ [])
+    ∙ ap (λ l. all_of (map f (take i given)) ++ l) (append-nil (f (get_or given i e)))
+    ∙ ap (λ x. all_of (map f (take i given)) ++ f x) (sym is)
+
+-- the parts that are left, with the first of them
+parts-left : {A : Type 0} (f : A → ContextValue) (given : List A) (i : ℕ) (e : A) → i < length given → e ≡ get_or given i e
+    → all_of (map f (drop i given)) ≡ f e ++ all_of (map f (drop (i + 1) given))
+parts-left f given i e below is =
+    ap (λ l. all_of (map f l)) (drop-cons given i e below)
+    ∙ ap (λ x. f x ++ all_of (map f (drop (suc i) given))) (sym is)
+    ∙ ap (λ k. f e ++ all_of (map f (drop k given))) (sym (add-one i))
+
+-- what is left beside the parts before, by its first part
+parts-shared : {A : Type 0} (f : A → ContextValue) (given : List A) (i : ℕ) (e : A) (shared : Bool) → i < length given → e ≡ get_or given i e
+    → shared ≡ shares (keys_of (all_of (map f (take i given)))) (keys_of (f e))
+    → shares (keys_of (all_of (map f (take i given)))) (keys_of (all_of (map f (drop i given))))
+    ≡ (shared || shares (keys_of (all_of (map f (take (i + 1) given)))) (keys_of (all_of (map f (drop (i + 1) given)))))
+parts-shared f given i e shared below is found =
+    let before = all_of (map f (take i given)) in
+    let rest = all_of (map f (drop (i + 1) given)) in
+    ap (λ l. shares (keys_of before) (keys_of l)) (parts-left f given i e below is)
+    ∙ ap (shares (keys_of before)) (map-append (λ (entry : Entry). entry.0) (f e) rest)
+    ∙ shares-append (keys_of before) (keys_of (f e)) (keys_of rest)
+    ∙ ap (λ l. shares (keys_of before) (keys_of (f e)) || shares l (keys_of rest)) (sym (map-append (λ (entry : Entry). entry.0) before (f e)))
+    ∙ ap (λ l. shares (keys_of before) (keys_of (f e)) || shares (keys_of l) (keys_of rest)) (sym (parts-more f given i e below is))
+    ∙ ap (λ b. b || shares (keys_of (all_of (map f (take (i + 1) given)))) (keys_of rest)) (sym found)
+
+-- the part shares a key
+pub part-shared : {A : Type 0} (f : A → ContextValue) (given : List A) (i : ℕ) (e : A) (shared : Bool) → i < length given → e ≡ get_or given i e
+    → shared ≡ shares (keys_of (all_of (map f (take i given)))) (keys_of (f e)) → shared ≡ true
+    → shares (keys_of (all_of (map f (take i given)))) (keys_of (all_of (map f (drop i given)))) ≡ true
+part-shared f given i e shared below is found is_shared =
+    parts-shared f given i e shared below is found
+    ∙ ap (λ b. b || shares (keys_of (all_of (map f (take (i + 1) given)))) (keys_of (all_of (map f (drop (i + 1) given))))) is_shared
+
+-- it shares none
+pub part-new : {A : Type 0} (f : A → ContextValue) (given : List A) (i : ℕ) (e : A) (shared : Bool) → i < length given → e ≡ get_or given i e
+    → shared ≡ shares (keys_of (all_of (map f (take i given)))) (keys_of (f e)) → shared ≡ false
+    → shares (keys_of (all_of (map f (take i given)))) (keys_of (all_of (map f (drop i given))))
+    ≡ shares (keys_of (all_of (map f (take (i + 1) given)))) (keys_of (all_of (map f (drop (i + 1) given))))
+part-new f given i e shared below is found is_new =
+    parts-shared f given i e shared below is found
+    ∙ ap (λ b. b || shares (keys_of (all_of (map f (take (i + 1) given)))) (keys_of (all_of (map f (drop (i + 1) given))))) is_new
+
+-- a part without either fault
+pub is-clean : (part : ContextValue) → has_twice (keys_of part) ≡ false → has_derived (keys_of part) ≡ false → IsClean [] part
+is-clean part once given KeyTwice = shares-none (keys_of part) ∙ once
+is-clean part once given DerivedKeyGiven = given
+is-clean part once given OutOfMemory = refl

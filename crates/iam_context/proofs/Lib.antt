@@ -1,0 +1,5 @@
+pub mod Clean
+pub mod Joining
+pub mod KeyLemmas
+pub mod Shares
+pub mod Signs

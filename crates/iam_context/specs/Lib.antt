@@ -1,0 +1,4 @@
+pub mod Code
+pub mod Context
+pub mod ContextFault
+pub mod Resolve

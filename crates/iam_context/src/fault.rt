@@ -1,0 +1,62 @@
+use iam_text::OutOfMemory;
+use std::alloc::AllocFailed;
+
+/// Why parts are no context. Parts with several faults are refused by the one with the least number.
+#[derive(Clone, Copy, Debug, PartialEq, Eq)]
+pub enum ContextFault {
+    /// 1: A key stands twice, compared without regard to case.
+    KeyTwice,
+    /// 2: A key that follows from requester, resource or moment is given.
+    DerivedKeyGiven,
+    /// 3: The allocator refused a growth.
+    OutOfMemory,
+}
+
+impl ContextFault {
+    ghost use Rattle.std.specs.Prelude.{◌≡◌};
+    ghost use Rattle.iam_context.specs.ContextFault.{context_number_of, context_name_of};
+
+    /// The number of the fault.
+    pub fn number(&self) -> u32
+        ensures { result ≡ context_number_of self.now }
+    {
+        match self {
+            ContextFault::KeyTwice => 1,
+            ContextFault::DerivedKeyGiven => 2,
+            ContextFault::OutOfMemory => 3,
+        }
+    }
+
+    /// The name of the fault, as it is declared.
+    pub fn name(&self) -> &'static str
+        ensures { result.now ≡ context_name_of self.now }
+    {
+        match self {
+            ContextFault::KeyTwice => "KeyTwice",
+            ContextFault::DerivedKeyGiven => "DerivedKeyGiven",
+            ContextFault::OutOfMemory => "OutOfMemory",
+        }
+    }
+}
+
+impl From<OutOfMemory> for ContextFault {
+    ghost use Rattle.std.specs.Prelude.{◌≡◌};
+    ghost use Rattle.iam_context.specs.declared.fault.ContextFault.TheVariants as f;
+
+    ghost from_gives = { λ _ fault. fault ≡ f.OutOfMemory };
+
+    fn from(_: OutOfMemory) -> ContextFault {
+        ContextFault::OutOfMemory
+    }
+}
+
+impl<T: Drop> From<AllocFailed<T>> for ContextFault {
+    ghost use Rattle.std.specs.Prelude.{◌≡◌};
+    ghost use Rattle.iam_context.specs.declared.fault.ContextFault.TheVariants as f;
+
+    ghost from_gives = { λ _ fault. fault ≡ f.OutOfMemory };
+
+    fn from(_: AllocFailed<T>) -> ContextFault {
+        ContextFault::OutOfMemory
+    }
+}

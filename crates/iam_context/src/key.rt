@@ -1,0 +1,69 @@
+ghost use Rattle.std.specs.Prelude.{◌≡◌, ◌↔◌, IsTrue, map, refl};
+ghost use Rattle.std.specs.Char.{to_ascii_lowercase};
+ghost use Rattle.std.specs.Cmp;
+ghost use Rattle.std.specs.Cmp.Lexicographic.{slice_cmp, on_texts, on_texts_equal, texts_ties};
+ghost use Rattle.std.specs.Cmp.{partial_order_from_own_ties};
+ghost use Rattle.std.specs.Ordering.{nat_cmp, on, as_partial_cmp};
+ghost use Rattle.std.specs.Str.{bytes_eq};
+ghost use Rattle.std.specs.Cmp.Rules.{comparing};
+ghost use Rattle.std.proofs.Common.{rules};
+
+use std::cmp::Ordering;
+
+/// A key of a context. Two keys that differ in the case of ASCII letters alone are equal.
+#[derive(Clone, Copy, Debug)]
+pub struct Key<'a>(pub &'a str);
+
+/// The order of two texts once the letters A to Z of both are folded.
+fn folded_cmp(left: &[u8], right: &[u8]) -> Ordering
+    ensures { result ≡ slice_cmp nat_cmp (map to_ascii_lowercase left.now) (map to_ascii_lowercase right.now) }
+{
+    for (i, byte) in left.iter().enumerate() {
+        let Some(other) = right.get(i) else {
+            return Ordering::Greater;
+        };
+        let order = byte.to_ascii_lowercase().cmp(&other.to_ascii_lowercase());
+        if order != Ordering::Equal {
+            return order;
+        }
+    }
+    left.len().cmp(&right.len())
+}
+
+impl PartialEq for Key<'_> {
+    ghost eq = { on (λ k. map to_ascii_lowercase k.0.now) bytes_eq };
+
+    ghost laws = { Cmp.partial_equiv_from_equiv (on_texts_equal (λ k. map to_ascii_lowercase k.0.now)) };
+
+    fn eq(&self, other: &Self) -> bool {
+        self.0.eq_ignore_ascii_case(other.0)
+    }
+}
+
+impl Eq for Key<'_> {
+    ghost laws = { on_texts_equal (λ k. map to_ascii_lowercase k.0.now) };
+}
+
+impl PartialOrd for Key<'_> {
+    ghost partial_cmp = { as_partial_cmp (on (λ k. map to_ascii_lowercase k.0.now) (slice_cmp nat_cmp)) };
+
+    ghost laws = { partial_order_from_own_ties (Prim.search (comparing, rules)) (Prim.search (comparing, rules)) };
+
+    fn partial_cmp(&self, other: &Self) -> Option<Ordering> {
+        Some(self.cmp(other))
+    }
+}
+
+impl Ord for Key<'_> {
+    ghost cmp = { on (λ k. map to_ascii_lowercase k.0.now) (slice_cmp nat_cmp) };
+
+    ghost total = { on_texts (λ k. map to_ascii_lowercase k.0.now) };
+
+    ghost matches_partial_cmp = { λ x y. refl };
+
+    ghost matches_eq = { λ x y. texts_ties (map to_ascii_lowercase x.0.now) (map to_ascii_lowercase y.0.now) };
+
+    fn cmp(&self, other: &Self) -> Ordering {
+        folded_cmp(self.0.as_bytes(), other.0.as_bytes())
+    }
+}

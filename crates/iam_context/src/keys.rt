@@ -1,0 +1,53 @@
+ghost use Rattle.std.specs.Prelude.{◌≡◌, ℕ, List, [], ◌∷◌, ◌++◌, not, IfOk, OnOk};
+ghost use Rattle.iam_context.specs.Context.{has_key, keys_of};
+
+use crate::OutOfMemory;
+use crate::key::Key;
+use crate::part::Part;
+use std::alloc::Global;
+use std::collections::BTreeSet;
+
+/// A set of keys, compared without regard to case. It lends the keys and copies none.
+#[derive(Drop)]
+pub struct Keys<'a> {
+    set: BTreeSet<Key<'a>>,
+}
+
+impl<'a> Keys<'a> {
+    ghost use Rattle.iam_context.specs.Code.Keys.{HasKeys};
+
+    /// No keys.
+    pub fn new(alloc: Global) -> Keys<'a>
+        ensures { HasKeys result [] }
+    {
+        Keys {
+            set: BTreeSet::new(alloc),
+        }
+    }
+
+    /// Adds all keys of a part.
+    pub fn add(&mut self, part: &'a Part) -> Result<(), OutOfMemory>
+        ensures { OnOk result ((keys : List (List ℕ)) → HasKeys self.old keys → HasKeys self.new (keys ++ keys_of part.now.items)) }
+    {
+        for (key, _) in part {
+            self.insert(key.as_str())?;
+        }
+        Ok(())
+    }
+
+    /// Adds a key; whether it was not there.
+    pub(crate) fn insert(&mut self, key: &'a str) -> Result<bool, OutOfMemory>
+        ensures { IfOk result (λ is_new. (keys : List (List ℕ)) → HasKeys self.old keys
+            → (is_new ≡ not (has_key keys key.now)) × HasKeys self.new (keys ++ key.now ∷ [])) }
+    {
+        let is_new = self.set.insert(Key(key))?;
+        Ok(is_new)
+    }
+
+    /// Whether the key is one of these.
+    pub(crate) fn contains(&self, key: &'a str) -> bool
+        ensures { (keys : List (List ℕ)) → HasKeys self.now keys → result ≡ has_key keys key.now }
+    {
+        self.set.contains(&Key(key))
+    }
+}

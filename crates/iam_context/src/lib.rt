@@ -1,0 +1,18 @@
+//! The keys of a request with their values, and texts with variables resolved in them.
+#![tactic(auto)]
+
+mod context;
+mod fault;
+mod key;
+mod keys;
+mod laws;
+mod part;
+mod pattern;
+
+pub use context::Context;
+pub use fault::ContextFault;
+pub use iam_text::OutOfMemory;
+pub use keys::Keys;
+pub use laws::{clean_beside_fewer, clean_parts_join};
+pub use part::{Derived, Part, part_fault};
+pub use pattern::resolve;

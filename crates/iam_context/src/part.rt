@@ -1,0 +1,106 @@
+ghost use Rattle.std.specs.Prelude.{◌≡◌, ◌||◌, ℕ, List, MatchOption, IfOk};
+ghost use Rattle.std.specs.List.{list_any};
+ghost use Rattle.iam_context.specs.Context.{derived_names, has_derived, has_key, has_twice, is_same_key, keys_of};
+ghost use Rattle.iam_context.specs.Code.Keys.{HasKeys, shares};
+ghost use Rattle.iam_context.specs.ContextFault.{IsClean, IsPartFault};
+
+use crate::OutOfMemory;
+use crate::fault::ContextFault;
+use crate::keys::Keys;
+use iam_text::{Items, Text};
+use std::alloc::Global;
+
+/// Keys of a context, each with its values.
+pub type Part = Vec<(Text, Items<Text>)>;
+
+/// The keys that follow from requester, resource and moment, each with its values.
+pub type Derived = Vec<(Text, Items<Text>)>;
+
+/// The keys that follow from requester, resource and moment.
+const DERIVED_NAMES: [&str; 7] = [
+    "aws:PrincipalArn",
+    "aws:username",
+    "aws:PrincipalType",
+    "aws:PrincipalAccount",
+    "aws:ResourceAccount",
+    "aws:CurrentTime",
+    "aws:EpochTime",
+];
+
+/// The first fault of a part beside other parts that have these keys: `KeyTwice` where a key of it is one of theirs or
+/// stands twice in it, then `DerivedKeyGiven` where a key of it follows from requester, resource or moment; `None` where
+/// it has neither fault.
+pub fn part_fault<'a>(
+    alloc: Global,
+    part: &'a Part,
+    others: &Keys<'a>,
+) -> Result<Option<ContextFault>, OutOfMemory>
+    ensures { (keys : List (List ℕ)) → HasKeys others.now keys
+        → IfOk result (λ found. MatchOption found (IsClean keys part.now.items) (IsPartFault keys part.now.items)) }
+{
+    if is_shared(part, others) || has_twice(alloc, part)? {
+        return Ok(Some(ContextFault::KeyTwice));
+    }
+    if has_derived(part) {
+        return Ok(Some(ContextFault::DerivedKeyGiven));
+    }
+    Ok(None)
+}
+
+/// Whether some key of the part is one of these.
+fn is_shared<'a>(part: &'a Part, others: &Keys<'a>) -> bool
+    ensures { (keys : List (List ℕ)) → HasKeys others.now keys → result ≡ list_any (has_key keys) (keys_of part.now.items) }
+{
+    for (key, _) in part {
+        if others.contains(key.as_str()) {
+            return true;
+        }
+    }
+    false
+}
+
+/// Whether some key of the part stands twice in it.
+fn has_twice(alloc: Global, part: &Part) -> Result<bool, OutOfMemory>
+    ensures { IfOk result (λ found. found ≡ has_twice (keys_of part.now.items)) }
+{
+    let mut seen = Keys::new(alloc);
+    for (key, _) in part {
+        if !seen.insert(key.as_str())? {
+            return Ok(true);
+        }
+    }
+    Ok(false)
+}
+
+/// Whether some key of the part follows from requester, resource or moment.
+pub fn has_derived(part: &Part) -> bool
+    ensures { result ≡ has_derived (keys_of part.now.items) }
+{
+    for (key, _) in part {
+        if is_derived(key.as_str()) {
+            return true;
+        }
+    }
+    false
+}
+
+/// Whether the key follows from requester, resource or moment.
+fn is_derived(key: &str) -> bool
+    ensures { result ≡ has_key derived_names key.now }
+{
+    is_one_of(&DERIVED_NAMES, key)
+}
+
+/// Whether the key is one of these.
+fn is_one_of(names: &[&str], key: &str) -> bool
+    ensures { result ≡ list_any (λ name. is_same_key name.now key.now) names.now }
+{
+    names.iter().any(|&name| is_same_key(name, key))
+}
+
+/// Whether the keys differ in the case of ASCII letters alone.
+fn is_same_key(key: &str, other: &str) -> bool
+    ensures { result ≡ is_same_key key.now other.now }
+{
+    key.eq_ignore_ascii_case(other)
+}

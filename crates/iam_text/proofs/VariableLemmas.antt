@@ -1,0 +1,328 @@
+-- The test of the grammar of variables tells whether a text has a draft.
+use Rattle.std.proofs.Common.{◌≡◌, ◌≢◌, ℕ, ◌<◌, ◌≤◌, zero, suc, List, [], ◌∷◌, ◌++◌, Bool, true, false, ◌&&◌, ◌||◌, ◌==◌, not, length, replicate, Some, None, refl, sym, ap, ◌∙◌, subst, arith, codes, IsTrue, inl, inr, ◌⊎◌, eqb-true, cond, get_or, drop, ◌+◌, length-append, nat_lt, ◌↔◌, map}
+use Rattle.std.proofs.lemmas.Bool.{lt-ltb}
+use Rattle.std.proofs.lemmas.List.{append-nil, append_assoc, drop_at, get_or_at}
+use Rattle.std.proofs.lemmas.Str.{inside_one, IsUtf8-drop, IsUtf8-past_char, chars_from_encodes, IsCharBoundary-after_ascii}
+use Rattle.std.specs.Char.{encode_utf8}
+use Rattle.std.specs.List.{list_all}
+use Rattle.std.specs.Option.{option_map_or}
+use Rattle.std.specs.Str.{IsUtf8, chars, encode_utf8_all}
+use Rattle.std.specs.Str.Iter.{HasSubslice}
+use Rattle.iam_text.specs.declared.draft.Piece.{Piece}
+use Rattle.iam_text.specs.declared.draft.Piece.TheVariants.{Plain, Escaped, Variable}
+use Rattle.iam_text.specs.Draft.{BeginsWith, IsDraft, is_key, is_key_character, plain_draft, sign_of}
+use Rattle.iam_text.specs.declared.sign.Sign.{Sign}
+use Rattle.iam_text.specs.Code.Forms.{HasForm, IsQuoted}
+use Rattle.iam_text.specs.Variables.{State, outside, dollar, opened, escaped, key, spaces, default, closing, is_draft, is_draft_from, is_end, step}
+use Rattle.iam_text.proofs.DraftLemmas.{begins-from_form, begins-shorter, form-from_begins, piece-cases}
+use Rattle.iam_text.proofs.FormLemmas.{all-absent, and-both, default-cut, key-all, literal-no_key}
+
+-- one character on
+next : (s t : State) (c : ℕ) (text : List ℕ) → step s c ≡ Some t → is_draft_from s (c ∷ text) ≡ is_draft_from t text
+next s t c text e = ap (λ o. option_map_or (λ n. is_draft_from n text) o false) e
+
+-- a run of characters that stay in a state
+run : (s : State) (test : ℕ → Bool) → ((c : ℕ) → test c ≡ true → step s c ≡ Some s) → (xs rest : List ℕ) → list_all test xs ≡ true
+    → is_draft_from s (xs ++ rest) ≡ is_draft_from s rest
+run s test stays [] rest all = refl
+run s test stays (c ∷ xs) rest all =
+    let both = and-both (test c) (list_all test xs) all in
+    next s s c (xs ++ rest) (stays c both.0) ∙ run s test stays xs rest both.1
+
+stays-key : (c : ℕ) → is_key_character c ≡ true → step key c ≡ Some key
+stays-key c e = ap (λ b. cond b (Some key) (cond (c == 125) (Some outside) (cond (c == 44) (Some spaces) None))) e
+
+not-false : (b : Bool) → not b ≡ true → b ≡ false
+not-false true e = cc
+not-false false e = refl
+
+stays-default : (c : ℕ) → not (c == 39) ≡ true → step default c ≡ Some default
+stays-default c e = ap (λ b. cond b (Some closing) (Some default)) (not-false (c == 39) e)
+
+stays-outside : (c : ℕ) → not (c == 36) ≡ true → step outside c ≡ Some outside
+stays-outside c e = ap (λ b. cond b (Some dollar) (Some outside)) (not-false (c == 36) e)
+
+run-spaces : (n : ℕ) (rest : List ℕ) → is_draft_from spaces (replicate n 32 ++ rest) ≡ is_draft_from spaces rest
+run-spaces zero rest = refl
+run-spaces (suc n) rest = run-spaces n rest
+
+-- over a key that stands behind `${`
+run-key : (k rest : List ℕ) → is_key k ≡ true → is_draft_from opened (k ++ rest) ≡ is_draft_from key rest
+run-key [] rest is = cc
+run-key (c ∷ k) rest is =
+    let both = and-both (is_key_character c) (list_all is_key_character k) (key-all (c ∷ k) is) in
+    next opened key c (k ++ rest) (ap (λ b. cond b (Some key) (cond (c == 42 || c == 63 || c == 36) (Some escaped) None)) both.0)
+    ∙ run key is_key_character stays-key k rest both.1
+
+run-quoted : (text d rest : List ℕ) → IsQuoted text d rest → is_draft_from spaces text ≡ is_draft_from outside rest
+run-quoted text d rest (n, plain, is) =
+    ap (is_draft_from spaces) is ∙ run-spaces n (39 ∷ (d ++ (39 ∷ (125 ∷ rest))))
+    ∙ run default (λ c. not (c == 39)) stays-default d (39 ∷ (125 ∷ rest)) plain
+
+run-literal : (c : ℕ) (rest : List ℕ) → IsTrue (c == 42 || c == 63 || c == 36) → is_draft_from opened (c ∷ (125 ∷ rest)) ≡ is_draft_from outside rest
+run-literal c rest literal =
+    next opened escaped c (125 ∷ rest)
+    (ap (λ b. cond b (Some key) (cond (c == 42 || c == 63 || c == 36) (Some escaped) None)) (literal-no_key c literal) ∙ ap (λ b. cond b (Some escaped) None) literal)
+
+-- over a form that stands behind `${`
+run-form : (piece : Piece) (inside rest : List ℕ) → HasForm piece inside rest → is_draft_from opened inside ≡ is_draft_from outside rest
+run-form (Plain sign) inside rest (inl (between, closed, joined)) = absurd closed
+run-form (Plain sign) inside rest (inr has) = absurd has
+run-form (Escaped c) inside rest (inl (between, (literal, is), joined)) =
+    ap (is_draft_from opened) (joined ∙ ap (λ t. t ++ (125 ∷ rest)) is) ∙ run-literal c rest literal
+run-form (Escaped c) inside rest (inr has) = absurd has
+run-form (Variable k None) inside rest (inl (between, (fits, is), joined)) =
+    ap (is_draft_from opened) (joined ∙ ap (λ t. t ++ (125 ∷ rest)) is) ∙ run-key k (125 ∷ rest) fits
+run-form (Variable k None) inside rest (inr has) = absurd has
+run-form (Variable k (Some d)) inside rest (inl (between, closed, joined)) = absurd closed
+run-form (Variable k (Some d)) inside rest (inr (behind, fits, joined, quoted)) =
+    ap (is_draft_from opened) joined ∙ run-key k (44 ∷ behind) fits ∙ run-quoted behind d rest quoted
+
+-- over a character by itself
+run-dollar : (rest : List ℕ) → ((more : List ℕ) → rest ≢ 123 ∷ more) → is_draft_from dollar rest ≡ is_draft_from outside rest
+run-dollar [] apart = refl
+run-dollar (c ∷ rest) apart = go (c == 123) refl
+  where
+    go : (b : Bool) → (c == 123) ≡ b → is_draft_from dollar (c ∷ rest) ≡ is_draft_from outside (c ∷ rest)
+    go false e = ap (λ b. option_map_or (λ n. is_draft_from n rest) (cond b (Some opened) (cond (c == 36) (Some dollar) (Some outside))) false) e
+    go true e = absurd (apart rest (ap (λ d. d ∷ rest) (eqb-true c 123 e)))
+
+run-character : (c : ℕ) (rest : List ℕ) → (encode_utf8 c ≡ codes "$" → (more : List ℕ) → rest ≢ 123 ∷ more)
+    → is_draft_from outside (encode_utf8 c ++ rest) ≡ is_draft_from outside rest
+unfolding encode_utf8
+run-character c rest apart = go (c == 36) refl
+  where
+    inner : (c == 36) ≡ false → (i : ℕ) → i < length (encode_utf8 c) → get_or (encode_utf8 c) i 0 ≢ 36
+    inner e i below same =
+        let is : c ≡ 36 = inside_one c [] (encode_utf8 c) i (sym (append-nil (encode_utf8 c))) below (omega (arith, same)) ∙ same in
+        let wrong : true ≡ false = sym (ap (λ d. d == 36) is) ∙ e in
+        let no : ⊥ = cc in
+        no
+
+    go : (b : Bool) → (c == 36) ≡ b → is_draft_from outside (encode_utf8 c ++ rest) ≡ is_draft_from outside rest
+    go false e = run outside (λ d. not (d == 36)) stays-outside (encode_utf8 c) rest (all-absent 36 (encode_utf8 c) (inner e))
+    go true e =
+        let one : encode_utf8 c ≡ codes "$" = ap encode_utf8 (eqb-true c 36 e) in
+        ap (λ xs. is_draft_from outside (xs ++ rest)) one ∙ run-dollar rest (apart one)
+
+-- over a piece
+pub run-piece : (wild : Bool) (text : List ℕ) (piece : Piece) (rest : List ℕ) → BeginsWith wild text piece rest → is_draft text ≡ is_draft rest
+run-piece wild text piece rest b = go (piece-cases wild piece b.part b.written)
+  where
+    go : ((sign : Sign) × (c : ℕ) × (piece ≡ Plain sign) × (sign ≡ sign_of wild c) × (b.part ≡ encode_utf8 c)) ⊎ ((inside : List ℕ) × (b.part ≡ codes "${" ++ inside))
+        → is_draft text ≡ is_draft rest
+    go (inl (sign, c, plain, read, is)) = ap is_draft (b.joined ∙ ap (λ x. x ++ rest) is) ∙ run-character c rest (λ one. b.apart (is ∙ one))
+    go (inr (inside, is)) =
+        let starts : text ≡ codes "${" ++ (inside ++ rest) = b.joined ∙ ap (λ x. x ++ rest) is in
+        ap is_draft starts ∙ run-form piece (inside ++ rest) rest (form-from_begins wild piece text (inside ++ rest) rest starts b)
+
+-- a text that has a draft passes the test
+drafted : (wild : Bool) (text : List ℕ) (pieces : List Piece) → IsDraft wild text pieces → is_draft text ≡ true
+drafted wild text [] none = ap is_draft none
+drafted wild text (piece ∷ pieces) (rest, begins, more) = run-piece wild text piece rest begins ∙ drafted wild rest pieces more
+
+-- where a `}` alone goes on
+brace-ends : (s : State) → is_end s ≡ false → ((c : ℕ) → step s c ≡ cond (c == 125) (Some outside) None) → (text : List ℕ) → is_draft_from s text ≡ true
+    → (rest : List ℕ) × (text ≡ 125 ∷ rest)
+brace-ends s off steps [] holds = let no : ⊥ = cc in absurd no
+brace-ends s off steps (c ∷ text) holds = go (c == 125) refl (sym (ap (λ o. option_map_or (λ n. is_draft_from n text) o false) (steps c)) ∙ holds)
+  where
+    go : (b : Bool) → (c == 125) ≡ b → option_map_or (λ n. is_draft_from n text) (cond b (Some outside) None) false ≡ true → (rest : List ℕ) × (c ∷ text ≡ 125 ∷ rest)
+    go true e h = (text, ap (λ d. d ∷ text) (eqb-true c 125 e))
+    go false e h = cc
+
+-- the default and the `'}` behind it
+default-ends : (text : List ℕ) → is_draft_from default text ≡ true
+    → (d : List ℕ) × (rest : List ℕ) × IsTrue (list_all (λ c. not (c == 39)) d) × (text ≡ d ++ (39 ∷ (125 ∷ rest)))
+default-ends [] holds = cc
+default-ends (c ∷ text) holds = go (default-ends text) (c == 39) refl holds
+  where
+    go : (is_draft_from default text ≡ true → (d : List ℕ) × (rest : List ℕ) × IsTrue (list_all (λ x. not (x == 39)) d) × (text ≡ d ++ (39 ∷ (125 ∷ rest))))
+        → (b : Bool) → (c == 39) ≡ b → option_map_or (λ n. is_draft_from n text) (cond b (Some closing) (Some default)) false ≡ true
+        → (d : List ℕ) × (rest : List ℕ) × IsTrue (list_all (λ x. not (x == 39)) d) × (c ∷ text ≡ d ++ (39 ∷ (125 ∷ rest)))
+    go again true e h =
+        let end = brace-ends closing refl (λ d. refl) text h in
+        ([], end.0, refl, ap (λ d. d ∷ text) (eqb-true c 39 e) ∙ ap (λ t. 39 ∷ t) end.1)
+    go again false e h =
+        let more = again h in
+        (c ∷ more.0, more.1, ap (λ b. not b && list_all (λ x. not (x == 39)) more.0) e ∙ more.2, ap (λ t. c ∷ t) more.3)
+
+-- spaces, the default in quotes, and a `}`
+spaces-ends : (text : List ℕ) → is_draft_from spaces text ≡ true → (d : List ℕ) × (rest : List ℕ) × IsQuoted text d rest
+spaces-ends [] holds = cc
+spaces-ends (c ∷ text) holds = go (spaces-ends text) (c == 32) (c == 39) refl refl holds
+  where
+    go : (is_draft_from spaces text ≡ true → (d : List ℕ) × (rest : List ℕ) × IsQuoted text d rest) → (x y : Bool) → (c == 32) ≡ x → (c == 39) ≡ y
+        → option_map_or (λ n. is_draft_from n text) (cond x (Some spaces) (cond y (Some default) None)) false ≡ true
+        → (d : List ℕ) × (rest : List ℕ) × IsQuoted (c ∷ text) d rest
+    go again true y e f h =
+        let more = again h in
+        let quoted = more.2 in
+        (more.0, more.1, (suc quoted.0, quoted.1, ap (λ d. d ∷ text) (eqb-true c 32 e) ∙ ap (λ t. 32 ∷ t) quoted.2))
+    go again false true e f h =
+        let inner = default-ends text h in
+        (inner.0, inner.1, (0, inner.2, ap (λ d. d ∷ text) (eqb-true c 39 f) ∙ ap (λ t. 39 ∷ t) inner.3))
+    go again false false e f h = cc
+
+-- what ends a key: a `}`, or a comma and a default
+abbrev KeyEnds : List ℕ → List ℕ → List ℕ → Type 0
+KeyEnds text k rest = IsTrue (list_all is_key_character k) × ((text ≡ k ++ (125 ∷ rest)) ⊎ ((text ≡ k ++ (44 ∷ rest)) × (is_draft_from spaces rest ≡ true)))
+
+key-ends : (text : List ℕ) → is_draft_from key text ≡ true → (k : List ℕ) × (rest : List ℕ) × KeyEnds text k rest
+key-ends [] holds = cc
+key-ends (c ∷ text) holds = go (key-ends text) (is_key_character c) (c == 125) (c == 44) refl refl refl holds
+  where
+    go : (is_draft_from key text ≡ true → (k : List ℕ) × (rest : List ℕ) × KeyEnds text k rest) → (x y z : Bool) → is_key_character c ≡ x → (c == 125) ≡ y → (c == 44) ≡ z
+        → option_map_or (λ n. is_draft_from n text) (cond x (Some key) (cond y (Some outside) (cond z (Some spaces) None))) false ≡ true
+        → (k : List ℕ) × (rest : List ℕ) × KeyEnds (c ∷ text) k rest
+    go again true y z e f g h =
+        let more = again h in
+        let all : IsTrue (list_all is_key_character (c ∷ more.0)) = ap (λ b. b && list_all is_key_character more.0) e ∙ more.2.0 in
+        elim more.2.1 [
+          | inl closed ↦ (c ∷ more.0, more.1, (all, inl (ap (λ t. c ∷ t) closed)))
+          | inr comma ↦ (c ∷ more.0, more.1, (all, inr (ap (λ t. c ∷ t) comma.0, comma.1)))
+        ]
+    go again false true z e f g h = ([], text, (refl, inl (ap (λ d. d ∷ text) (eqb-true c 125 f))))
+    go again false false true e f g h = ([], text, (refl, inr (ap (λ d. d ∷ text) (eqb-true c 44 g), h)))
+    go again false false false e f g h = cc
+
+-- what stands behind `${` is a form
+form-ends : (inside : List ℕ) → is_draft_from opened inside ≡ true → (piece : Piece) × (rest : List ℕ) × HasForm piece inside rest
+form-ends [] holds = cc
+form-ends (c ∷ text) holds = go (is_key_character c) (c == 42 || c == 63 || c == 36) refl refl holds
+  where
+    fits : is_key_character c ≡ true → (k : List ℕ) → list_all is_key_character k ≡ true → is_key (c ∷ k) ≡ true
+    fits e k all =
+        let some : nat_lt 0 (length (c ∷ k)) ≡ true = lt-ltb 0 (length (c ∷ k)) (omega arith) in
+        ap (λ b. b && (is_key_character c && list_all is_key_character k)) some ∙ ap (λ b. b && list_all is_key_character k) e ∙ all
+
+    named : is_key_character c ≡ true → (k rest : List ℕ) → KeyEnds text k rest → (piece : Piece) × (left : List ℕ) × HasForm piece (c ∷ text) left
+    named e k rest (all, inl closed) =
+        (Variable (c ∷ k) None, rest, inl (c ∷ k, (fits e k all, refl), ap (λ t. c ∷ t) closed))
+    named e k rest (all, inr (comma, h)) =
+        let quoted = spaces-ends rest h in
+        (Variable (c ∷ k) (Some quoted.0), quoted.1, inr (rest, fits e k all, ap (λ t. c ∷ t) comma, quoted.2))
+
+    go : (x y : Bool) → is_key_character c ≡ x → (c == 42 || c == 63 || c == 36) ≡ y
+        → option_map_or (λ n. is_draft_from n text) (cond x (Some key) (cond y (Some escaped) None)) false ≡ true
+        → (piece : Piece) × (rest : List ℕ) × HasForm piece (c ∷ text) rest
+    go true y e f h = let ends = key-ends text h in named e ends.0 ends.1 ends.2
+    go false true e f h =
+        let end = brace-ends escaped refl (λ d. refl) text h in
+        (Escaped c, end.0, inl (c ∷ [], (f, refl), ap (λ t. c ∷ t) end.1))
+    go false false e f h = cc
+
+-- what stands behind an ASCII character of a text is one
+utf8-behind : (bs front rest : List ℕ) (c : ℕ) → c < 128 → bs ≡ front ++ (c ∷ rest) → IsUtf8 bs → IsUtf8 rest
+utf8-behind bs front rest c small is utf8 =
+    let i = length front in
+    let at : get_or bs i 0 ≡ c = ap (λ xs. get_or xs i 0) is ∙ get_or_at front c rest 0 i refl in
+    let long : length bs ≡ i + suc (length rest) = ap length is ∙ length-append front (c ∷ rest) in
+    let cut : IsUtf8 (drop (i + 1) bs) = IsUtf8-drop bs (i + 1) utf8 (IsCharBoundary-after_ascii bs i utf8 (omega arith) (omega (arith, at))) in
+    let left : drop (i + 1) bs ≡ rest =
+    ap (drop (i + 1)) (is ∙ sym (append_assoc front (c ∷ []) rest)) ∙ drop_at (front ++ (c ∷ [])) rest (i + 1) (length-append front (c ∷ [])) in
+    let P : List ℕ → Type 0 = λ t. IsUtf8 t in
+    subst P left cut
+
+form-utf8 : (piece : Piece) (inside rest : List ℕ) → HasForm piece inside rest → IsUtf8 inside → IsUtf8 rest
+form-utf8 piece inside rest (inl (between, closed, joined)) utf8 = utf8-behind inside between rest 125 (omega arith) joined utf8
+form-utf8 piece inside rest (inr has) utf8 =
+    let d = default-cut piece inside rest has in
+    let quoted = d.5 in
+    let behind : IsUtf8 d.2 = utf8-behind inside d.0 d.2 44 (omega arith) d.4 utf8 in
+    let inner : IsUtf8 (d.1 ++ (39 ∷ (125 ∷ rest))) = utf8-behind d.2 (replicate quoted.0 32) (d.1 ++ (39 ∷ (125 ∷ rest))) 39 (omega arith) quoted.2 behind in
+    utf8-behind (125 ∷ rest) [] rest 125 (omega arith) refl (utf8-behind (d.1 ++ (39 ∷ (125 ∷ rest))) d.1 (125 ∷ rest) 39 (omega arith) refl inner)
+
+-- whether a `${` stands at the front
+front-cases : (text : List ℕ) → ((inside : List ℕ) × (text ≡ codes "${" ++ inside)) ⊎ ((inside : List ℕ) → text ≢ codes "${" ++ inside)
+front-cases [] = inr (λ inside e. let no : ⊥ = cc in no)
+front-cases (c ∷ []) = inr (λ inside e. let no : ⊥ = cc in no)
+front-cases (c ∷ d ∷ text) = go (c == 36) (d == 123) refl refl
+  where
+    off : (c ≢ 36) ⊎ (d ≢ 123) → (inside : List ℕ) → c ∷ (d ∷ text) ≢ codes "${" ++ inside
+    off (inl other) inside e = other (let heads : c ≡ 36 = cc in heads)
+    off (inr other) inside e = other (let seconds : d ≡ 123 = cc in seconds)
+
+    go : (x y : Bool) → (c == 36) ≡ x → (d == 123) ≡ y
+        → ((inside : List ℕ) × (c ∷ (d ∷ text) ≡ codes "${" ++ inside)) ⊎ ((inside : List ℕ) → c ∷ (d ∷ text) ≢ codes "${" ++ inside)
+    go true true e f = inl (text, ap (λ x. x ∷ (d ∷ text)) (eqb-true c 36 e) ∙ ap (λ x. 36 ∷ (x ∷ text)) (eqb-true d 123 f))
+    go false y e f = inr (off (inl (λ same. let wrong : true ≡ false = sym (ap (λ x. x == 36) same) ∙ e in let no : ⊥ = cc in no)))
+    go true false e f = inr (off (inr (λ same. let wrong : true ≡ false = sym (ap (λ x. x == 123) same) ∙ f in let no : ⊥ = cc in no)))
+
+-- a text that passes the test begins with a piece
+pub first-piece : (wild : Bool) (text : List ℕ) → text ≢ [] → IsUtf8 text → is_draft text ≡ true
+    → (piece : Piece) × (rest : List ℕ) × BeginsWith wild text piece rest × IsUtf8 rest
+first-piece wild text some utf8 holds = go (front-cases text)
+  where
+    character : (cs : List ℕ) → encode_utf8_all cs ≡ text → ((inside : List ℕ) → text ≢ codes "${" ++ inside)
+        → (piece : Piece) × (rest : List ℕ) × BeginsWith wild text piece rest × IsUtf8 rest
+    character [] is off = absurd (some (sym is))
+    character (c ∷ cs) is off = (
+      Plain (sign_of wild c),
+      encode_utf8_all cs,
+      record {
+        part = encode_utf8 c;
+        written = (c, refl, refl);
+        joined = sym is;
+        apart = λ same more e. off more (sym is ∙ ap (λ x. x ++ encode_utf8_all cs) same ∙ ap (λ x. 36 ∷ x) e);
+      },
+      IsUtf8-past_char text (encode_utf8_all cs) c utf8 (sym is),
+    )
+
+    go : ((inside : List ℕ) × (text ≡ codes "${" ++ inside)) ⊎ ((inside : List ℕ) → text ≢ codes "${" ++ inside)
+        → (piece : Piece) × (rest : List ℕ) × BeginsWith wild text piece rest × IsUtf8 rest
+    go (inl (inside, starts)) =
+        let form = form-ends inside (sym (ap is_draft starts) ∙ holds) in
+        let within : IsUtf8 inside = utf8-behind text (36 ∷ []) inside 123 (omega arith) starts utf8 in
+        (form.0, form.1, begins-from_form wild form.0 text inside form.1 starts form.2, form-utf8 form.0 inside form.1 form.2 within)
+    go (inr off) = character utf8.0 utf8.1.1 off
+
+pieces-of : (n : ℕ) (wild : Bool) (text : List ℕ) → length text ≤ n → IsUtf8 text → is_draft text ≡ true → (pieces : List Piece) × IsDraft wild text pieces
+pieces-of n wild [] short utf8 holds = ([], refl)
+pieces-of zero wild (c ∷ text) short utf8 holds = absurd (omega arith)
+pieces-of (suc n) wild (c ∷ text) short utf8 holds =
+    let first = first-piece wild (c ∷ text) (λ e. let no : ⊥ = cc in no) utf8 holds in
+    let fewer : length first.1 ≤ n = omega (arith, begins-shorter wild (c ∷ text) first.0 first.1 first.2) in
+    let more = pieces-of n wild first.1 fewer first.3 (sym (run-piece wild (c ∷ text) first.0 first.1 first.2) ∙ holds) in
+    (first.0 ∷ more.0, (first.1, first.2, more.1))
+
+-- the test tells whether there is a draft
+pub draft_tested : (wild : Bool) (text : List ℕ) → IsUtf8 text → IsTrue (is_draft text) ↔ ((pieces : List Piece) × IsDraft wild text pieces)
+draft_tested wild text utf8 = (λ holds. pieces-of (length text) wild text (omega arith) utf8 holds, λ d. drafted wild text d.0 d.1)
+
+-- a test of the text that agrees with it tells so too
+pub draft-told : (told : Bool) (text : List ℕ) → IsUtf8 text → told ≡ is_draft text → (wild : Bool) → IsTrue told ↔ ((pieces : List Piece) × IsDraft wild text pieces)
+draft-told told text utf8 is wild =
+    let tested = draft_tested wild text utf8 in
+    (λ holds. tested.0 (sym is ∙ holds), λ d. is ∙ tested.1 d)
+
+-- where no piece begins what is left, the text does not pass
+pub no-piece : (text rest : List ℕ) → is_draft text ≡ is_draft rest → rest ≢ [] → IsUtf8 rest
+    → ((wild : Bool) (piece : Piece) (behind : List ℕ) → ¬ BeginsWith wild rest piece behind) → false ≡ is_draft text
+no-piece text rest same some utf8 off = go (is_draft rest) refl
+  where
+    go : (b : Bool) → is_draft rest ≡ b → false ≡ is_draft text
+    go true e = let first = first-piece true rest some utf8 e in absurd (off true first.0 first.1 first.2)
+    go false e = sym (same ∙ e)
+
+-- in a text without `${` each character is a piece
+plain-characters : (wild : Bool) (cs : List ℕ) → ¬ HasSubslice (encode_utf8_all cs) (codes "${") → IsDraft wild (encode_utf8_all cs) (plain_draft (map (sign_of wild) cs))
+plain-characters wild [] off = refl
+plain-characters wild (c ∷ cs) off = (
+  encode_utf8_all cs,
+  record {
+    part = encode_utf8 c;
+    written = (c, refl, refl);
+    joined = refl;
+    apart = λ same more e. off ([], more, ap (λ x. x ++ encode_utf8_all cs) same ∙ ap (λ x. 36 ∷ x) e);
+  },
+  plain-characters wild cs
+      (λ h. off (encode_utf8 c ++ h.0, h.1, ap (λ x. encode_utf8 c ++ x) h.2 ∙ sym (append_assoc (encode_utf8 c) h.0 (codes "${" ++ h.1)))),
+)
+
+pub plain-drafted : (wild : Bool) (text : List ℕ) → IsUtf8 text → ¬ HasSubslice text (codes "${") → IsDraft wild text (plain_draft (map (sign_of wild) (chars text)))
+plain-drafted wild text (cs, (scalars, is)) off =
+    let P : List ℕ → Type 0 = λ t. ¬ HasSubslice t (codes "${") in
+    let Q : List ℕ → Type 0 = λ t. IsDraft wild t (plain_draft (map (sign_of wild) cs)) in
+    let R : List ℕ → Type 0 = λ ds. IsDraft wild text (plain_draft (map (sign_of wild) ds)) in
+    subst R (chars_from_encodes cs text (cs, (scalars, is)) is) (subst Q is (plain-characters wild cs (subst P (sym is) off)))

@@ -1,0 +1,89 @@
+ghost use Rattle.std.specs.Prelude.{◌≡◌, IfOk, map};
+ghost use Rattle.std.specs.Str.{chars};
+ghost use Rattle.iam_text.specs.Draft.{sign_of};
+
+use crate::OutOfMemory;
+use crate::draft::Draft;
+use crate::glob::Glob;
+use std::alloc::Global;
+use std::marker::Model;
+
+/// A pattern text that may hold variables.
+///
+/// One without variables is kept as its pattern, so that nothing has to be resolved for it.
+#[derive(Debug, Drop)]
+pub struct Template {
+    kind: Kind,
+}
+
+#[derive(Debug, Drop)]
+enum Kind {
+    Fixed(Glob),
+    Open(Draft),
+}
+
+/// How a template is kept.
+#[derive(Clone, Copy)]
+pub enum TemplateForm<'a> {
+    /// The pattern of a text without `${`.
+    Fixed(&'a Glob),
+    /// The pieces of a text with `${`.
+    Open(&'a Draft),
+}
+
+impl Model for Template {
+    ghost use Rattle.std.specs.Prelude.{List};
+    ghost use Rattle.iam_text.specs.declared.draft.Piece.{Piece};
+    ghost use Rattle.iam_text.specs.Code.Templates.{pieces_in};
+
+    ghost Value = { List Piece };
+
+    ghost view = { λ template. pieces_in template.kind };
+}
+
+impl Template {
+    ghost use Rattle.std.specs.Prelude.{◌≡◌, List, MatchOption, IfOk};
+    ghost use Rattle.iam_text.specs.declared.draft.Piece.{Piece};
+    ghost use Rattle.iam_text.specs.Draft.{IsDraft};
+    ghost use Rattle.iam_text.specs.Template.{IsFormOf};
+
+    /// The one draft of the text, in which `*` and `?` are wildcards where `wild` says so; `None` where it has none, as
+    /// [`Draft::read`] says.
+    pub fn read(alloc: Global, text: &str, wild: bool) -> Result<Option<Template>, OutOfMemory>
+        ensures { IfOk result (λ found. MatchOption found ((pieces : List Piece) → ¬ IsDraft wild text.now pieces) (IsDraft wild text.now)) }
+    {
+        if !text.contains("${") {
+            let glob = pattern(alloc, text, wild)?;
+            return Ok(Some(Template {
+                kind: Kind::Fixed(glob),
+            }));
+        }
+        match Draft::read(alloc, text, wild)? {
+            Some(draft) => Ok(Some(Template {
+                kind: Kind::Open(draft),
+            })),
+            None => Ok(None),
+        }
+    }
+
+    /// How it is kept: a text without `${` as its pattern, and another as its draft.
+    pub fn form(&self) -> TemplateForm<'_>
+        ensures { IsFormOf result self.now }
+    {
+        match &self.kind {
+            Kind::Fixed(glob) => TemplateForm::Fixed(glob),
+            Kind::Open(draft) => TemplateForm::Open(draft),
+        }
+    }
+}
+
+/// The pattern of a text without variables.
+fn pattern(alloc: Global, text: &str, wild: bool) -> Result<Glob, OutOfMemory>
+    ensures { IfOk result (λ glob. glob ≡ map (sign_of wild) (chars text.now)) }
+{
+    if wild {
+        Glob::read(alloc, text)
+    } else {
+        Glob::plain(alloc, text)
+    }
+}
