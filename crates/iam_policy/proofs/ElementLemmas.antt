@@ -1,5 +1,5 @@
 -- Lists of texts, and the elements of lists.
-use Rattle.std.proofs.Common.{◌≡◌, ℕ, suc, List, [], ◌∷◌, ◌++◌, ◌+◌, Bool, false, ◌||◌, refl, sym, ap, ◌∙◌, map, take, drop, Option, Some, None, cond, length, ◌==◌, ◌<◌, get_or, add-one}
+use Rattle.std.proofs.Common.{◌≡◌, ℕ, zero, suc, List, [], ◌∷◌, ◌++◌, ◌+◌, Bool, true, false, ◌||◌, refl, sym, ap, ◌∙◌, map, take, drop, Option, Some, None, cond, length, ◌==◌, ◌<◌, get_or, add-one}
 use Rattle.std.proofs.Math.Seq.{drop-cons}
 use Rattle.std.proofs.lemmas.List.{take_more}
 use Rattle.std.proofs.lemmas.List.Elements.{filter_map-append}
@@ -9,6 +9,14 @@ use Rattle.std.specs.List.{list_all, list_any, filter_map, find, slice_get, cons
 use Rattle.std.specs.Option.{option_map, option_to_list}
 use Rattle.serde_json.specs.Data.{Data}
 use Rattle.iam_policy.specs.Element.{is_text, are_texts}
+
+pub first_false : (a b : Bool) → (a || b) ≡ false → a ≡ false
+first_false true b e = cc
+first_false false b e = refl
+
+pub second_false : (a b : Bool) → (a || b) ≡ false → b ≡ false
+second_false true b e = cc
+second_false false b e = e
 
 -- a test of each element of a mapped list
 pub list_any-map : {X : Type 0} (p : X → Bool) → {Y : Type 0} (h : Y → X) (ys : List Y) → list_any p (map h ys) ≡ list_any (λ y. p (h y)) ys
@@ -47,3 +55,9 @@ pub find-next : {X : Type 0} (p : X → Bool) (xs : List X) (i : ℕ) (d : X) (b
 find-next p xs i d b below is =
     ap (find p) (drop-cons xs i d below) ∙ ap (λ c. cond c (Some (get_or xs i d)) (find p (drop (suc i) xs))) is
     ∙ ap (λ n. cond b (Some (get_or xs i d)) (find p (drop n xs))) (sym (add-one i))
+
+-- an element of a list of which none passes
+pub none_at : {X : Type 0} (p : X → Bool) (xs : List X) (i : ℕ) (x : X) → list_any p xs ≡ false → slice_get xs i ≡ Some x → p x ≡ false
+none_at p [] i x none at = cc
+none_at p (y ∷ ys) zero x none at = let same : y ≡ x = cc in ap p (sym same) ∙ first_false (p y) (list_any p ys) none
+none_at p (y ∷ ys) (suc i) x none at = none_at p ys i x (second_false (p y) (list_any p ys) none) at

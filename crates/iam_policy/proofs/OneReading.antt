@@ -4,6 +4,8 @@ use Rattle.std.specs.List.{AllZip, slice_get}
 use Rattle.std.specs.Option.{option_map}
 use Rattle.serde_json.specs.Data.{Data}
 use Rattle.serde_json.specs.Find.{get}
+use Rattle.iam_text.specs.declared.draft.Piece.{Piece}
+use Rattle.iam_text.specs.Draft.{IsDraft}
 use Rattle.iam_policy.specs.declared.fault.Fault.{Fault}
 use Rattle.iam_policy.specs.declared.fault.Fault.TheVariants.{ActionCount, BadPrincipal, PrincipalMisplaced, ResourceCount}
 use Rattle.iam_policy.specs.declared.fault.Kind.{Kind}
@@ -67,16 +69,20 @@ zip_is_one R (x ∷ xs) (y ∷ ys) [] one p q = absurd q
 zip_is_one R (x ∷ xs) (y ∷ ys) (z ∷ zs) one p q =
     ap (λ w. w ∷ ys) (one 0 x refl y z p.0 q.0) ∙ ap (λ ws. z ∷ ws) (zip_is_one R xs ys zs (λ i v at. one (suc i) v at) p.1 q.1)
 
-resource_is_one : (d s : Data) (a b : Option ResourceElement) → both (get (codes "Resource") s) (get (codes "NotResource") s) ≡ false
+-- a text has at most one draft
+abbrev OneDraft : Type 0
+OneDraft = (wild : Bool) (text : List ℕ) (pieces other : List Piece) → IsDraft wild text pieces → IsDraft wild text other → pieces ≡ other
+
+resource_is_one : OneDraft → (d s : Data) (a b : Option ResourceElement) → both (get (codes "Resource") s) (get (codes "NotResource") s) ≡ false
     → ReadsResource d s a → ReadsResource d s b → a ≡ b
-resource_is_one d s None None single p q = refl
-resource_is_one d s None (Some b) single p q = absurd (none_stands resource_name s b.negated p.0 p.1 q.0)
-resource_is_one d s (Some a) None single p q = absurd (none_stands resource_name s a.negated q.0 q.1 p.0)
-resource_is_one d s (Some a) (Some b) single p q =
+resource_is_one one d s None None single p q = refl
+resource_is_one one d s None (Some b) single p q = absurd (none_stands resource_name s b.negated p.0 p.1 q.0)
+resource_is_one one d s (Some a) None single p q = absurd (none_stands resource_name s a.negated q.0 q.1 p.0)
+resource_is_one one d s (Some a) (Some b) single p q =
     let same : a.negated ≡ b.negated = same_element resource_name s a.negated b.negated single p.0 q.0 in
     let P : Bool → Type 0 = λ n. AllZip (ReadsText d) (texts_of (get (resource_name n) s)) a.texts in
     let texts : a.texts ≡ b.texts =
-    zip_is_one (ReadsText d) (texts_of (get (resource_name b.negated) s)) a.texts b.texts (λ i t at x y read other. read ∙ sym other) (subst P same p.1) q.1 in
+    zip_is_one (ReadsText d) (texts_of (get (resource_name b.negated) s)) a.texts b.texts (λ i t at x y. one true t x y) (subst P same p.1) q.1 in
     ap (λ n. Some (record { negated = n; texts = a.texts })) same ∙ ap (λ ts. Some (record { negated = b.negated; texts = ts })) texts
 
 stands : (o : Option Data) (names : List PrincipalText) → option_map names_of o ≡ Some names → IsSome o
@@ -112,15 +118,15 @@ single_principal Org d i s none at =
     neither_both (is_some (get (codes "Principal") s)) (is_some (get (codes "NotPrincipal") s)) (accepted_line Org d i s PrincipalMisplaced none at)
 single_principal Resource d i s none at = both_false _ _ (both_false _ _ (accepted_line Resource d i s BadPrincipal none at))
 
-statement_is_one : (kind : Kind) (d : Data) → IsAccepted kind d → (i : ℕ) (s : Data) → slice_get (statements_in d) i ≡ Some s
+statement_is_one : OneDraft → (kind : Kind) (d : Data) → IsAccepted kind d → (i : ℕ) (s : Data) → slice_get (statements_in d) i ≡ Some s
     → (a b : StatementValue) → ReadsStatement d s a → ReadsStatement d s b → a ≡ b
-statement_is_one kind d none i s at a b p q =
+statement_is_one one kind d none i s at a b p q =
     let sid : a.sid ≡ b.sid = p.sid ∙ sym q.sid in
     let found : Some a.effect ≡ Some b.effect = sym p.effect ∙ q.effect in
     let effect : a.effect ≡ b.effect = cc in
     let action : a.action ≡ b.action = action_is_one s a.action b.action (both_false _ _ (accepted_line kind d i s ActionCount none at)) p.action q.action in
     let resource : a.resource ≡ b.resource =
-    resource_is_one d s a.resource b.resource (both_false _ _ (accepted_line kind d i s ResourceCount none at)) p.resource q.resource in
+    resource_is_one one d s a.resource b.resource (both_false _ _ (accepted_line kind d i s ResourceCount none at)) p.resource q.resource in
     let principal : a.principal ≡ b.principal = principal_is_one s a.principal b.principal (single_principal kind d i s none at) p.principal q.principal in
     let conditions : a.conditions ≡ b.conditions = p.conditions ∙ sym q.conditions in
     ap (λ x. record a { sid = x }) sid
@@ -130,6 +136,6 @@ statement_is_one kind d none i s at a b p q =
     ∙ ap (λ x. record b { principal = x; conditions = a.conditions }) principal
     ∙ ap (λ x. record b { conditions = x }) conditions
 
-pub policy_is_one : (kind : Kind) (d : Data) (a b : PolicyValue) → Reads kind d a → Reads kind d b → a ≡ b
-policy_is_one kind d a b p q =
-    ap (λ ss. record { statements = ss }) (zip_is_one (ReadsStatement d) (statements_in d) a.statements b.statements (statement_is_one kind d p.0) p.1 q.1)
+pub policy_is_one : OneDraft → (kind : Kind) (d : Data) (a b : PolicyValue) → Reads kind d a → Reads kind d b → a ≡ b
+policy_is_one one kind d a b p q =
+    ap (λ ss. record { statements = ss }) (zip_is_one (ReadsStatement d) (statements_in d) a.statements b.statements (statement_is_one one kind d p.0) p.1 q.1)

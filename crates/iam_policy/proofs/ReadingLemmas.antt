@@ -1,18 +1,22 @@
 -- Statements that are read one after the other.
-use Rattle.std.proofs.Common.{◌≡◌, ℕ, suc, ◌+◌, ◌<◌, List, [], ◌∷◌, ◌++◌, Bool, true, false, ◌||◌, Option, Some, None, is_some, is_none, IsSome, map, take, length, get_or, refl, sym, ap, ◌∙◌, subst, codes, drop, add-one, append_assoc}
+use Rattle.std.proofs.Common.{◌≡◌, ℕ, suc, ◌+◌, ◌<◌, List, [], ◌∷◌, ◌++◌, Bool, true, false, Option, Some, None, is_some, is_none, IsSome, take, length, get_or, refl, sym, ap, ◌∙◌, subst, codes, drop, add-one, append_assoc}
 use Rattle.std.proofs.Math.Seq.{drop-cons}
-use Rattle.std.specs.List.{AllZip, flat_map, slice_get}
+use Rattle.std.proofs.lemmas.List.{append-nil}
+use Rattle.std.specs.List.{AllZip, filter_map, flat_map, slice_get}
+use Rattle.std.specs.Option.{option_to_list}
 use Rattle.serde_json.specs.Data.{Data}
 use Rattle.serde_json.specs.Find.{get}
 use Rattle.iam_policy.specs.declared.effect.Effect.{Effect}
-use Rattle.iam_policy.specs.declared.fault.Fault.TheVariants.{BadEffect, ActionCount}
+use Rattle.iam_policy.specs.declared.fault.Fault.TheVariants.{BadEffect, ActionCount, BadVariable}
 use Rattle.iam_policy.specs.declared.fault.Kind.{Kind}
-use Rattle.iam_text.specs.Draft.{plain_draft}
-use Rattle.iam_policy.specs.Element.{both, neither, effect_of, texts_of}
-use Rattle.iam_policy.specs.Reading.{ResourceElement, ReadsResource, ReadsText, resource_name, pattern_of}
+use Rattle.iam_text.specs.Draft.{IsDraft}
+use Rattle.iam_policy.specs.Element.{both, neither, effect_of, has_text, texts_of}
+use Rattle.iam_policy.specs.Fault.{has_bad_variable}
+use Rattle.iam_policy.specs.Grammar.{is_bad_variable}
+use Rattle.iam_policy.specs.Reading.{ResourceElement, ReadsResource, ReadsText, resource_name}
 use Rattle.iam_policy.specs.Code.First.{fault_of}
 use Rattle.iam_policy.specs.Code.Readable.{IsReadable}
-use Rattle.iam_policy.proofs.ElementLemmas.{take_next}
+use Rattle.iam_policy.proofs.ElementLemmas.{filter_map-next, first_false, second_false, take_next}
 use Rattle.iam_policy.proofs.FaultLaws.{no_line}
 
 zip_push : {A B : Type 0} (R : A → B → Type 0) (xs : List A) (ys : List B) (x : A) (y : B) → AllZip R xs ys → R x y → AllZip R (xs ++ (x ∷ [])) (ys ++ (y ∷ []))
@@ -28,27 +32,32 @@ zip_more {A} {B} R xs i x ys y at zip here =
     let P : List A → Type 0 = λ front. AllZip R front (ys ++ (y ∷ [])) in
     subst P (sym (take_next xs i x at)) (zip_push R (take i xs) ys x y zip here)
 
--- each element with its value
-pub zip_map : {A B : Type 0} (R : A → B → Type 0) (f : A → B) → ((x : A) → R x (f x)) → (xs : List A) → AllZip R xs (map f xs)
-zip_map R f each [] = tt
-zip_map R f each (x ∷ xs) = (each x, zip_map R f each xs)
+-- one more element: it has something to read, or not
+pub zip_some : {D A B : Type 0} (R : A → B → Type 0) (h : D → Option A) (xs : List D) (i : ℕ) (x : D) (ys : List B) (a : A) (y : B) → slice_get xs i ≡ Some x
+    → h x ≡ Some a → AllZip R (filter_map h (take i xs)) ys → R a y → AllZip R (filter_map h (take (i + 1) xs)) (ys ++ (y ∷ []))
+zip_some {D} {A} {B} R h xs i x ys a y at is zip here =
+    let P : List A → Type 0 = λ front. AllZip R front (ys ++ (y ∷ [])) in
+    subst P (sym (filter_map-next h xs i x at ∙ ap (λ o. filter_map h (take i xs) ++ option_to_list o) is)) (zip_push R (filter_map h (take i xs)) ys a y zip here)
 
--- a statement that has no fault has an effect, and one of the two action elements
+pub zip_none : {D A B : Type 0} (R : A → B → Type 0) (h : D → Option A) (xs : List D) (i : ℕ) (x : D) (ys : List B) → slice_get xs i ≡ Some x
+    → h x ≡ None → AllZip R (filter_map h (take i xs)) ys → AllZip R (filter_map h (take (i + 1) xs)) ys
+zip_none {D} {A} {B} R h xs i x ys at is zip =
+    let P : List A → Type 0 = λ front. AllZip R front ys in
+    subst P (sym (filter_map-next h xs i x at ∙ ap (λ o. filter_map h (take i xs) ++ option_to_list o) is ∙ append-nil (filter_map h (take i xs)))) zip
+
+-- a statement that has no fault has an effect, one of the two action elements, and no bad variable
 pub readable : (kind : Kind) (d : Data) (i : ℕ) (s : Data) → fault_of kind d i s ≡ None → IsReadable s
 readable kind d i s none = record {
   effect = effect (effect_of s) (no_line kind d i s BadEffect none);
   action =
-      action (both (get (codes "Action") s) (get (codes "NotAction") s)) (neither (get (codes "Action") s) (get (codes "NotAction") s))
+      second_false (both (get (codes "Action") s) (get (codes "NotAction") s)) (neither (get (codes "Action") s) (get (codes "NotAction") s))
       (no_line kind d i s ActionCount none);
+  variables = no_line kind d i s BadVariable none;
 }
   where
     effect : (o : Option Effect) → is_none o ≡ false → IsSome o
     effect None e = cc
     effect (Some word) e = refl
-
-    action : (a b : Bool) → (a || b) ≡ false → b ≡ false
-    action true b e = cc
-    action false b e = e
 
 -- the items of one more element of a list
 pub flat_map_next : {K N : Type 0} (f : K → List N) (ks : List K) (i : ℕ) (d : K) (whole done next here : List N) → i < length ks
@@ -64,15 +73,15 @@ flat_map_next {K} {N} f ks i d whole done next here below all more is =
     all ∙ ap (λ xs. done ++ xs) rest ∙ sym apart ∙ ap (λ xs. xs ++ flat_map f (drop (i + 1) ks)) (sym now)
 
 -- the resource element that stands in a statement
-pub resource_read : (d s : Data) (r : ResourceElement) (negated : Bool) (value : Data) → get (resource_name negated) s ≡ Some value
-    → r ≡ record { negated = negated; texts = map (λ t. plain_draft (pattern_of t)) (texts_of (Some value)) } → ReadsResource d s (Some r)
-resource_read d s r negated value stands is =
-    let P : ResourceElement → Type 0 = λ e. ReadsResource d s (Some e) in
-    let here : IsSome (get (resource_name negated) s) × AllZip (ReadsText d) (texts_of (get (resource_name negated) s)) (map (λ t. plain_draft (pattern_of t)) (texts_of (Some value))) = (
-      ap is_some stands,
-      (
-          let Q : Option Data → Type 0 = λ o. AllZip (ReadsText d) (texts_of o) (map (λ t. plain_draft (pattern_of t)) (texts_of (Some value))) in
-          subst Q (sym stands) (zip_map (ReadsText d) (λ t. plain_draft (pattern_of t)) (λ t. refl) (texts_of (Some value)))
-          ),
-    ) in
-    subst P (sym is) here
+pub resource_read : (d s : Data) (r : ResourceElement) (negated : Bool) (value : Data) → get (resource_name negated) s ≡ Some value → r.negated ≡ negated
+    → AllZip (IsDraft true) (texts_of (Some value)) r.texts → ReadsResource d s (Some r)
+resource_read d s r negated value stands same texts =
+    let P : Bool → Type 0 = λ n. IsSome (get (resource_name n) s) × AllZip (ReadsText d) (texts_of (get (resource_name n) s)) r.texts in
+    let Q : Option Data → Type 0 = λ o. AllZip (ReadsText d) (texts_of o) r.texts in
+    subst P (sym same) (ap is_some stands, subst Q (sym stands) texts)
+
+-- of two elements without a bad variable, the one that stands there has none
+pub without_bad : (s : Data) (negated : Bool) (value : Data) → has_bad_variable s ≡ false → get (resource_name negated) s ≡ Some value
+    → has_text is_bad_variable (Some value) ≡ false
+without_bad s false value clean stands = ap (has_text is_bad_variable) (sym stands) ∙ (first_false _ _ clean)
+without_bad s true value clean stands = ap (has_text is_bad_variable) (sym stands) ∙ (second_false _ _ clean)

@@ -1,7 +1,6 @@
 -- The faults of a document, as a set: AWS IAM User Guide, "Grammar of the IAM JSON policy language".
 -- Each line of the fault table is one case, by itself. The operators of conditions are not read yet: each member
--- of a `Condition` is an unknown one, and BadValue has no case. Nor are variables: a resource text with `${` is at
--- fault.
+-- of a `Condition` is an unknown one, and BadValue has no case.
 use Rattle.std.specs.Prelude.{◌≡◌, ℕ, suc, ◌<◌, ◌≤◌, ◌⊎◌, List, [], ◌∷◌, Bool, true, false, not, ◌&&◌, ◌||◌, ◌==◌, Option, Some, None, is_some, is_none, IsTrue, codes, if◌then◌else◌, length, nat_lt, take, unwrap_or}
 use Rattle.std.specs.List.{slice_get, filter_map}
 use Rattle.std.specs.Option.{option_map_or}
@@ -13,7 +12,7 @@ use Rattle.iam_policy.specs.declared.fault.Fault.TheVariants.{NotObject, Unknown
 use Rattle.iam_policy.specs.declared.fault.Kind.{Kind}
 use Rattle.iam_policy.specs.declared.fault.Kind.TheVariants.{Identity, Resource, Org}
 use Rattle.iam_policy.specs.Element.{both, neither, stands_as, is_no_text, is_this, is_bad_list, has_text, is_too_long, sid_of, effect_of}
-use Rattle.iam_policy.specs.Grammar.{is_action, is_resource, has_dollar_brace}
+use Rattle.iam_policy.specs.Grammar.{is_action, is_resource, is_bad_variable}
 use Rattle.iam_policy.specs.Principal.{is_principal, has_long_kind}
 use Rattle.iam_policy.specs.Table.{number_of, fault_is}
 
@@ -77,6 +76,11 @@ has_long_list s =
     || is_too_long (get (codes "Resource") s) || is_too_long (get (codes "NotResource") s)
     || stands_as has_long_kind (get (codes "Principal") s) || stands_as has_long_kind (get (codes "NotPrincipal") s)
 
+-- a text of `Resource` or `NotResource` is off the variable grammar, or has a `${` before its fifth colon
+abbrev pub has_bad_variable : Data → Bool
+has_bad_variable s =
+    has_text is_bad_variable (get (codes "Resource") s) || has_text is_bad_variable (get (codes "NotResource") s)
+
 -- the lines of the table for a document that is an object
 abbrev pub document_line : Kind → Data → Fault → Bool
 document_line kind d UnknownElement = has_unknown document_names d || is_no_text (get (codes "Id") d)
@@ -114,8 +118,7 @@ statement_line kind d i s ResourceCount =
     || (wants_resource kind && neither (get (codes "Resource") s) (get (codes "NotResource") s))
 statement_line kind d i s BadResource =
     is_bad_list is_resource (get (codes "Resource") s) || is_bad_list is_resource (get (codes "NotResource") s)
-statement_line kind d i s BadVariable =
-    has_text has_dollar_brace (get (codes "Resource") s) || has_text has_dollar_brace (get (codes "NotResource") s)
+statement_line kind d i s BadVariable = has_bad_variable s
 statement_line kind d i s UnknownOperator = stands_as (has_unknown operator_names) (get (codes "Condition") s)
 statement_line kind d i s BadCondition = stands_as (λ c. is_none (as_object c)) (get (codes "Condition") s)
 statement_line kind d i s TooMany = has_long_list s

@@ -1,11 +1,13 @@
 -- Tests on the texts of a document: AWS IAM User Guide, "Grammar of the IAM JSON policy language".
 -- A text is the list of its bytes.
-use Rattle.std.specs.Prelude.{ℕ, List, [], ◌∷◌, Bool, true, false, not, ◌&&◌, ◌||◌, ◌==◌, length, nat_eq, nat_le, codes}
+use Rattle.std.specs.Prelude.{ℕ, List, [], ◌∷◌, Bool, true, false, not, ◌&&◌, ◌||◌, ◌==◌, length, nat_eq, nat_le, nat_lt, codes, Option, Some, None, option_map, if◌then◌else◌}
 use Rattle.std.specs.List.{before_first, after_first, starts_with, list_any}
+use Rattle.std.specs.Option.{option_map_or}
 use Rattle.std.specs.Str.{bytes_eq}
 use Rattle.std.specs.Char.{is_ascii_alphanumeric}
 use Rattle.iam_text.specs.Arn.{colons}
 use Rattle.iam_text.specs.Characters.{is_run, is_label_character, is_account}
+use Rattle.iam_text.specs.Variables.{is_draft}
 
 -- a wildcard: `*` or `?`
 abbrev pub is_wildcard : ℕ → Bool
@@ -34,11 +36,20 @@ begins_as_arn text = starts_with nat_eq text (codes "arn:")
 abbrev pub is_resource : List ℕ → Bool
 is_resource text = bytes_eq text (codes "*") || begins_as_arn text
 
--- a `${` stands somewhere in the text
-abbrev pub has_dollar_brace : List ℕ → Bool
-has_dollar_brace [] = false
-has_dollar_brace (c ∷ []) = false
-has_dollar_brace (c ∷ d ∷ text) = (c == 36 && d == 123) || has_dollar_brace (d ∷ text)
+-- what stands before the first `${`; `None` where there is none
+abbrev pub before_variable : List ℕ → Option (List ℕ)
+before_variable [] = None
+before_variable (c ∷ []) = None
+before_variable (c ∷ d ∷ text) =
+    if c == 36 && d == 123 then Some [] else option_map (λ front. c ∷ front) (before_variable (d ∷ text))
+
+-- a `${` stands there, and fewer than five colons before the first one
+abbrev pub has_early_variable : List ℕ → Bool
+has_early_variable text = option_map_or (λ front. nat_lt (colons front) 5) (before_variable text) false
+
+-- a resource text off the variable grammar, or one whose first `${` stands in its first five parts
+abbrev pub is_bad_variable : List ℕ → Bool
+is_bad_variable text = not (is_draft text) || has_early_variable text
 
 -- a text that begins with `arn:`, has six parts, and holds no wildcard
 abbrev pub is_whole_arn : List ℕ → Bool

@@ -8,7 +8,7 @@ use Rattle.serde_json.specs.Find.{get}
 use Rattle.iam_text.specs.declared.sign.Sign.{Sign}
 use Rattle.iam_text.specs.Glob.{wild_sign}
 use Rattle.iam_text.specs.declared.draft.Piece.{Piece}
-use Rattle.iam_text.specs.Draft.{plain_draft}
+use Rattle.iam_text.specs.Draft.{IsDraft}
 use Rattle.iam_policy.specs.declared.effect.Effect.{Effect}
 use Rattle.iam_policy.specs.declared.principals.PrincipalKind.{PrincipalKind}
 use Rattle.iam_policy.specs.declared.principals.PrincipalKind.TheVariants.{Aws}
@@ -127,9 +127,9 @@ pub record ReadsAction (s : Data) (r : ActionElement) : Type 0 where
   pub stands : IsSome (get (action_name r.negated) s)
   pub patterns : r.patterns ≡ map pattern_of (texts_of (get (action_name r.negated) s))
 
--- a text of a resource element is its pattern; variables are not read yet
+-- a text of a resource element is its draft, in which `*` and `?` are wildcards
 abbrev pub ReadsText : Data → List ℕ → List Piece → Type 0
-ReadsText d text pieces = pieces ≡ plain_draft (pattern_of text)
+ReadsText d text pieces = IsDraft true text pieces
 
 -- neither element stands there, or the one does and each of its texts is read
 abbrev pub ReadsResource : Data → Data → Option ResourceElement → Type 0

@@ -5,7 +5,7 @@ ghost use Rattle.iam_json.specs.Look.{has_unknown};
 ghost use Rattle.iam_policy.specs.Element.{stands_as};
 ghost use Rattle.iam_policy.specs.Fault.{document_names, is_bad_statement, statements_of, statements_in};
 
-use iam_json::has_unknown;
+use iam_json::{has_unknown, values};
 use serde_json::Value;
 use std::slice;
 
@@ -13,16 +13,13 @@ use std::slice;
 pub fn statements_in(document: &Value) -> &[Value]
     ensures { map view result.now ≡ statements_in (view document.entry.now) }
 {
-    match document.get("Statement") {
-        Some(value) => objects_in(value),
-        None => &[],
-    }
+    document.get("Statement").map_or(&[], objects_in)
 }
 
 fn objects_in(value: &Value) -> &[Value]
     ensures { map view result.now ≡ statements_of (Some (view value.entry.now)) }
 {
-    match iam_json::values(value) {
+    match values(value) {
         Some(values) => values,
         None => {
             if value.is_object() {
@@ -45,8 +42,7 @@ pub fn has_unknown_element(document: &Value) -> bool
 pub fn is_bad_statement(document: &Value) -> bool
     ensures { result ≡ stands_as is_bad_statement (get (codes "Statement") (view document.now)) }
 {
-    match document.get("Statement") {
-        Some(value) => iam_json::values(value).is_none() && !value.is_object(),
-        None => false,
-    }
+    document
+        .get("Statement")
+        .is_some_and(|value| values(value).is_none() && !value.is_object())
 }

@@ -31,10 +31,7 @@ pub fn has_neither(of: &Value, name: &str, other: &str) -> bool
 pub fn listed<'v>(of: &'v Value, name: &str) -> &'v [Value]
     ensures { map view result.now ≡ listed (get name.now (view of.entry.now)) }
 {
-    match of.get(name) {
-        Some(value) => values_in(value),
-        None => &[],
-    }
+    of.get(name).map_or(&[], values_in)
 }
 
 /// The values of a list, or one text.
@@ -57,20 +54,14 @@ pub fn values_in(value: &Value) -> &[Value]
 pub fn is_text(value: &Value, form: Form) -> bool
     ensures { result ≡ is_text (form_of form) (view value.now) }
 {
-    match value.as_str() {
-        Some(text) => form.fits(text),
-        None => false,
-    }
+    value.as_str().is_some_and(|text| form.fits(text))
 }
 
 /// Whether the element stands there and is no text.
 pub fn is_no_text(of: &Value, name: &str) -> bool
     ensures { result ≡ is_no_text (get name.now (view of.now)) }
 {
-    match of.get(name) {
-        Some(value) => !value.is_string(),
-        None => false,
-    }
+    of.get(name).is_some_and(|value| !value.is_string())
 }
 
 fn all_texts(values: &[Value], form: Form) -> bool
@@ -109,13 +100,8 @@ pub fn has_text(of: &Value, name: &str, form: Form) -> bool
 pub fn is_this(of: &Value, name: &str, text: &str) -> bool
     ensures { result ≡ is_this text.now (get name.now (view of.now)) }
 {
-    match of.get(name) {
-        Some(value) => match value.as_str() {
-            Some(found) => found == text,
-            None => false,
-        },
-        None => false,
-    }
+    of.get(name)
+        .is_some_and(|value| value.as_str().is_some_and(|found| found == text))
 }
 
 /// Whether the element is a list of more members than it may have.
@@ -144,13 +130,10 @@ pub fn either<'v>(of: &'v Value, name: &str, negated_name: &str) -> Option<Eleme
             value,
         });
     }
-    match of.get(negated_name) {
-        Some(value) => Some(Element {
-            is_negated: true,
-            value,
-        }),
-        None => None,
-    }
+    of.get(negated_name).map(|value| Element {
+        is_negated: true,
+        value,
+    })
 }
 
 /// The effect of a statement, where it has one.

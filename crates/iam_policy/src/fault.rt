@@ -56,30 +56,7 @@ impl Fault {
     pub fn number(self) -> u32
         ensures { result ≡ number_of self }
     {
-        match self {
-            Fault::NotObject => 1,
-            Fault::UnknownElement => 2,
-            Fault::BadVersion => 3,
-            Fault::NoStatement => 4,
-            Fault::BadStatement => 5,
-            Fault::BadSid => 6,
-            Fault::DuplicateSid => 7,
-            Fault::BadEffect => 8,
-            Fault::ActionCount => 9,
-            Fault::BadAction => 10,
-            Fault::PrincipalMisplaced => 11,
-            Fault::PrincipalMissing => 12,
-            Fault::BadPrincipal => 13,
-            Fault::NotPrincipalAllow => 14,
-            Fault::ResourceCount => 15,
-            Fault::BadResource => 16,
-            Fault::BadVariable => 17,
-            Fault::UnknownOperator => 18,
-            Fault::BadCondition => 19,
-            Fault::BadValue => 20,
-            Fault::TooMany => 21,
-            Fault::OutOfMemory => 22,
-        }
+        self as u32 + 1
     }
 
     /// The name of the fault, as it is declared.
@@ -132,30 +109,21 @@ impl Kind {
     pub(crate) fn wants_resource(self) -> bool
         ensures { result ≡ wants_resource self }
     {
-        match self {
-            Kind::Identity | Kind::Org => true,
-            Kind::Resource => false,
-        }
+        matches!(self, Kind::Identity | Kind::Org)
     }
 
     /// Whether each statement must have `Principal` or `NotPrincipal`; of another kind none may.
     pub(crate) fn wants_principal(self) -> bool
         ensures { result ≡ wants_principal self }
     {
-        match self {
-            Kind::Identity | Kind::Org => false,
-            Kind::Resource => true,
-        }
+        matches!(self, Kind::Resource)
     }
 
     /// Whether no two statements may have the same `Sid`.
     pub(crate) fn wants_distinct_sids(self) -> bool
         ensures { result ≡ wants_distinct_sids self }
     {
-        match self {
-            Kind::Identity | Kind::Org => true,
-            Kind::Resource => false,
-        }
+        matches!(self, Kind::Identity | Kind::Org)
     }
 }
 

@@ -3,9 +3,9 @@ ghost use Rattle.std.specs.List.{list_all, list_any};
 ghost use Rattle.std.specs.Char.{is_ascii_alphanumeric};
 ghost use Rattle.iam_text.specs.Arn.{colons};
 ghost use Rattle.iam_text.specs.Characters.{is_run};
-ghost use Rattle.iam_policy.specs.Grammar.{is_wildcard, is_prefix_character, is_name_character, is_action, begins_as_arn, is_resource, has_dollar_brace, is_whole_arn, is_unique_id, is_aws_name};
+ghost use Rattle.iam_policy.specs.Grammar.{is_wildcard, is_prefix_character, is_name_character, is_action, begins_as_arn, is_resource, has_early_variable, is_bad_variable, is_whole_arn, is_unique_id, is_aws_name};
 
-use iam_text::{Arn, is_account};
+use iam_text::{Arn, has_draft, is_account};
 
 /// A form that a text of a statement may have.
 #[derive(Clone, Copy)]
@@ -14,8 +14,8 @@ pub enum Form {
     Action,
     /// A resource text: `*`, or one that begins with `arn:`.
     Resource,
-    /// A text in which a `${` stands.
-    DollarBrace,
+    /// A resource text off the variable grammar, or with a `${` before its fifth colon.
+    BadVariable,
     /// A principal under `AWS`: `*`, an account, an ARN or a unique id.
     AwsName,
     /// A principal under another type: any text.
@@ -32,7 +32,7 @@ impl Form {
         match self {
             Form::Action => is_action(text),
             Form::Resource => is_resource(text),
-            Form::DollarBrace => has_dollar_brace(text),
+            Form::BadVariable => is_bad_variable(text),
             Form::AwsName => is_aws_name(text),
             Form::AnyName => true,
         }
@@ -105,10 +105,19 @@ fn is_resource(text: &str) -> bool
     text == "*" || begins_as_arn(text)
 }
 
-fn has_dollar_brace(text: &str) -> bool
-    ensures { result ≡ has_dollar_brace text.now }
+fn is_bad_variable(text: &str) -> bool
+    ensures { result ≡ is_bad_variable text.now }
 {
-    text.contains("${")
+    !has_draft(text) || has_early_variable(text)
+}
+
+fn has_early_variable(text: &str) -> bool
+    ensures { result ≡ has_early_variable text.now }
+{
+    match text.split_once("${") {
+        Some((front, _)) => Arn::cut(front).is_none(),
+        None => false,
+    }
 }
 
 fn is_aws_name(text: &str) -> bool
@@ -144,6 +153,5 @@ fn is_unique_id(text: &str) -> bool
 fn all_alphanumeric(text: &[u8]) -> bool
     ensures { result ≡ list_all is_ascii_alphanumeric text.now }
 {
-    text.iter()
-        .all(|character| character.is_ascii_alphanumeric())
+    text.iter().all(|c| c.is_ascii_alphanumeric())
 }

@@ -6,6 +6,8 @@ ghost use Rattle.iam_policy.specs.declared.fault.Kind.{Kind};
 ghost use Rattle.iam_policy.specs.Fault.{IsLeastFault};
 ghost use Rattle.iam_policy.specs.Reading.{PolicyValue, Reads};
 
+use iam_text::one_draft;
+
 /// A document has at most one least fault.
 pub fn one_least_fault()
     ensures { (kind : Kind) (d : Data) (place place' : Option ℕ) (fault fault' : Fault)
@@ -16,4 +18,6 @@ pub fn one_least_fault()
 pub fn one_policy()
     ensures { (kind : Kind) (d : Data) (policy policy' : PolicyValue)
         → Reads kind d policy → Reads kind d policy' → policy ≡ policy' }
-{}
+{
+    one_draft();
+}

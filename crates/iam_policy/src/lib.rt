@@ -8,7 +8,6 @@ mod element;
 mod fault;
 mod grammar;
 mod laws;
-mod patterns;
 mod policy;
 mod principal_grammar;
 mod principals;
@@ -26,5 +25,5 @@ pub use policy::Policy;
 pub use principals::{PrincipalKind, PrincipalName, Principals};
 pub use resources::Resources;
 pub use statement::Statement;
-/// The allocator refused a growth.
-pub use iam_text::OutOfMemory;
+/// The texts of `Resource` and `NotResource`, and the allocator's refusal of a growth.
+pub use iam_text::{OutOfMemory, Template, TemplateForm};

@@ -17,10 +17,7 @@ use serde_json::Value;
 pub fn is_bad_principal(of: &Value, name: &str) -> bool
     ensures { result ≡ stands_as (λ p. not (is_principal p)) (get name.now (view of.now)) }
 {
-    match of.get(name) {
-        Some(element) => !is_principal(element),
-        None => false,
-    }
+    of.get(name).is_some_and(|element| !is_principal(element))
 }
 
 fn is_principal(element: &Value) -> bool
@@ -73,10 +70,7 @@ fn form_of(kind: PrincipalKind) -> Form
 pub fn has_long_kind(of: &Value, name: &str) -> bool
     ensures { result ≡ stands_as has_long_kind (get name.now (view of.now)) }
 {
-    match of.get(name) {
-        Some(element) => is_long(element),
-        None => false,
-    }
+    of.get(name).is_some_and(is_long)
 }
 
 fn is_long(element: &Value) -> bool

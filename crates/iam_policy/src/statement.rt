@@ -3,6 +3,7 @@ ghost use Rattle.serde_json.specs.Data.{Data};
 ghost use Rattle.serde_json.specs.Find.{get};
 ghost use Rattle.serde_json.specs.View.{view};
 ghost use Rattle.iam_policy.specs.Element.{neither, sid_of};
+ghost use Rattle.iam_policy.specs.Fault.{has_bad_variable};
 ghost use Rattle.iam_policy.specs.Reading.{ReadsAction, ReadsResource, ReadsPrincipal};
 
 use crate::OutOfMemory;
@@ -53,10 +54,7 @@ impl Statement {
     pub fn sid(&self) -> Option<&str>
         ensures { option_copied result ≡ self.now.sid }
     {
-        match &self.sid {
-            Some(sid) => Some(sid.as_str()),
-            None => None,
-        }
+        self.sid.as_deref()
     }
 
     /// Whether it allows or denies.
@@ -128,6 +126,7 @@ fn read_action(alloc: Global, statement: &Value) -> Result<Actions, OutOfMemory>
 }
 
 fn read_resource(alloc: Global, statement: &Value) -> Result<Option<Resources>, OutOfMemory>
+    requires { has_bad_variable (view statement.now) ≡ false }
     ensures { IfOk result (λ r. (d : Data) → ReadsResource d (view statement.now) r) }
 {
     match either(statement, "Resource", "NotResource") {

@@ -3,9 +3,8 @@ ghost use Rattle.serde_json.specs.Find.{as_object, get};
 ghost use Rattle.serde_json.specs.View.{view};
 ghost use Rattle.iam_json.specs.Look.{has_unknown};
 ghost use Rattle.iam_policy.specs.Code.Form.{form_of};
-ghost use Rattle.iam_policy.specs.Element.{both, neither, stands_as, is_bad_list, is_this, has_text};
-ghost use Rattle.iam_policy.specs.Fault.{statement_names, operator_names, has_long_list};
-ghost use Rattle.iam_policy.specs.Grammar.{has_dollar_brace};
+ghost use Rattle.iam_policy.specs.Element.{both, neither, stands_as, is_bad_list, is_this};
+ghost use Rattle.iam_policy.specs.Fault.{statement_names, operator_names, has_bad_variable, has_long_list};
 ghost use Rattle.iam_policy.specs.Principal.{is_principal};
 
 use crate::element::{has_both, has_neither, has_text, is_bad_list, is_this, is_too_long};
@@ -38,20 +37,18 @@ pub fn has_unknown_member(statement: &Value) -> bool
 pub fn has_unknown_operator(statement: &Value) -> bool
     ensures { result ≡ stands_as (has_unknown operator_names) (get (codes "Condition") (view statement.now)) }
 {
-    match statement.get("Condition") {
-        Some(condition) => has_unknown(condition, &[]),
-        None => false,
-    }
+    statement
+        .get("Condition")
+        .is_some_and(|condition| has_unknown(condition, &[]))
 }
 
 /// Whether `Condition` stands there and is no object.
 pub fn is_bad_condition(statement: &Value) -> bool
     ensures { result ≡ stands_as (λ c. is_none (as_object c)) (get (codes "Condition") (view statement.now)) }
 {
-    match statement.get("Condition") {
-        Some(condition) => !condition.is_object(),
-        None => false,
-    }
+    statement
+        .get("Condition")
+        .is_some_and(|condition| !condition.is_object())
 }
 
 /// Whether not exactly one of `Action` and `NotAction` stands there.
@@ -97,13 +94,12 @@ pub fn allows_by_not_principal(statement: &Value) -> bool
     statement.get("NotPrincipal").is_some() && is_this(statement, "Effect", "Allow")
 }
 
-/// Whether a `${` stands in a text of `Resource` or `NotResource`.
-pub fn has_variable(statement: &Value) -> bool
-    ensures { result ≡ (has_text has_dollar_brace (get (codes "Resource") (view statement.now))
-        || has_text has_dollar_brace (get (codes "NotResource") (view statement.now))) }
+/// Whether a text of `Resource` or `NotResource` has a variable off the grammar, or one that stands too early.
+pub fn has_bad_variable(statement: &Value) -> bool
+    ensures { result ≡ has_bad_variable (view statement.now) }
 {
-    has_text(statement, "Resource", Form::DollarBrace)
-        || has_text(statement, "NotResource", Form::DollarBrace)
+    has_text(statement, "Resource", Form::BadVariable)
+        || has_text(statement, "NotResource", Form::BadVariable)
 }
 
 /// Whether a list of the statement has more members than it may have.

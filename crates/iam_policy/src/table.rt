@@ -9,8 +9,9 @@ use crate::element::{MOST, effect_of, has_both, has_neither, is_no_text, is_this
 use crate::fault::{Fault, Kind};
 use crate::grammar::Form;
 use crate::statement_checks::{
-    allows_by_not_principal, has_bad_list, has_bad_principal, has_no_single_action, has_principal,
-    has_too_many, has_unknown_member, has_unknown_operator, has_variable, is_bad_condition,
+    allows_by_not_principal, has_bad_list, has_bad_principal, has_bad_variable,
+    has_no_single_action, has_principal, has_too_many, has_unknown_member, has_unknown_operator,
+    is_bad_condition,
 };
 use serde_json::Value;
 
@@ -74,7 +75,7 @@ fn statement_line(statement: &Value, kind: Kind, repeats: bool, fault: Fault) ->
                 || kind.wants_resource() && has_neither(statement, "Resource", "NotResource")
         }
         Fault::BadResource => has_bad_list(statement, "Resource", "NotResource", Form::Resource),
-        Fault::BadVariable => has_variable(statement),
+        Fault::BadVariable => has_bad_variable(statement),
         Fault::UnknownOperator => has_unknown_operator(statement),
         Fault::BadCondition => is_bad_condition(statement),
         Fault::TooMany => has_too_many(statement),

@@ -3,12 +3,14 @@ use Rattle.std.specs.Prelude.{◌≡◌, List, [], ◌∷◌, ◌++◌, false, I
 use Rattle.serde_json.specs.Data.{Data}
 use Rattle.serde_json.specs.Find.{get}
 use Rattle.iam_policy.specs.Element.{neither, effect_of}
+use Rattle.iam_policy.specs.Fault.{has_bad_variable}
 use Rattle.iam_policy.specs.Reading.{ReadsStatement, StatementValue}
 
--- an effect and an action element, which each statement without a fault has
+-- an effect, an action element and no bad variable, as each statement without a fault has
 pub record IsReadable (s : Data) : Type 0 where
   pub effect : IsSome (effect_of s)
   pub action : neither (get (codes "Action") s) (get (codes "NotAction") s) ≡ false
+  pub variables : has_bad_variable s ≡ false
 
 -- one more statement, read from this value in whatever document
 pub record AddsStatement (s : Data) (old new : List StatementValue) : Type 0 where

@@ -3,7 +3,7 @@ use Rattle.std.specs.List.{filter_map}
 use Rattle.serde_json.specs.Find.{as_str}
 use Rattle.serde_json.specs.View.{view}
 use Rattle.iam_policy.specs.Reading.{pattern_of}
-use Rattle.iam_policy.proofs.patterns.patterns.Given as goal
+use Rattle.iam_policy.proofs.actions.patterns.Given as goal
 
 -- the patterns so far, and those of what is left
 abbrev pub invariant-loop-value : goal.invariant-loop-value
