@@ -27,7 +27,7 @@ pub struct Applicable<'a> {
     pub sealed: bool,
 }
 
-impl Applicable<'_> {
+impl<'a> Applicable<'a> {
     ghost use Rattle.std.specs.Prelude.{IfOk};
     ghost use Rattle.iam_match.specs.Request.{request_of};
     ghost use Rattle.iam_decision.specs.Decision.{IsVerdict};
@@ -39,7 +39,7 @@ impl Applicable<'_> {
     /// the found statements or the answer find no memory.
     ///
     /// AWS IAM User Guide, "Policy evaluation logic"; the deciding statements and the lacks are our choices.
-    pub fn decide(&self, alloc: Global, request: &Request<'_>) -> Result<Verdict, OutOfMemory>
+    pub fn decide(&self, alloc: Global, request: &Request<'_, 'a>) -> Result<Verdict, OutOfMemory>
         requires { IsNumbered (value_of self.now) }
         ensures { IfOk result (IsVerdict (value_of self.now) (request_of request.now)) }
     {

@@ -20,12 +20,12 @@ pub struct Matched {
 }
 
 /// Adds the statements of a policy that match the request.
-fn scan_policy(
+fn scan_policy<'c>(
     alloc: Global,
     found: &mut Vec<Matched>,
-    policy: &Policy,
+    policy: &'c Policy,
     origin: Place,
-    request: &Request<'_>,
+    request: &Request<'_, 'c>,
 ) -> Result<(), OutOfMemory>
     ensures { OnOk result (Adds (request_of request.now) (in_policy origin.layer origin.level origin.policy policy.now)
         found.old.items found.new.items) }
@@ -47,13 +47,13 @@ fn scan_policy(
 }
 
 /// Adds the statements of the policies of a level that match the request.
-fn scan_level(
+fn scan_level<'c>(
     alloc: Global,
     found: &mut Vec<Matched>,
-    policies: &[Policy],
+    policies: &'c [Policy],
     layer: Layer,
     level: u32,
-    request: &Request<'_>,
+    request: &Request<'_, 'c>,
 ) -> Result<(), OutOfMemory>
     requires { IsCountable policies.now }
     ensures { OnOk result (Adds (request_of request.now) (in_level layer level policies.now) found.old.items found.new.items) }
@@ -71,12 +71,12 @@ fn scan_level(
 }
 
 /// Adds the statements of a policy that match the request, if there is a policy.
-fn scan_one(
+fn scan_one<'c>(
     alloc: Global,
     found: &mut Vec<Matched>,
-    policy: Option<&Policy>,
+    policy: Option<&'c Policy>,
     layer: Layer,
-    request: &Request<'_>,
+    request: &Request<'_, 'c>,
 ) -> Result<(), OutOfMemory>
     ensures { OnOk result (Adds (request_of request.now) (in_level layer 0 (as_list (option_map (λ p. p.now) policy.entry)))
         found.old.items found.new.items) }
@@ -88,11 +88,11 @@ fn scan_one(
 }
 
 /// Adds the statements of organisation policies that match the request.
-fn scan_org(
+fn scan_org<'c>(
     alloc: Global,
     found: &mut Vec<Matched>,
-    levels: &[Vec<Policy>],
-    request: &Request<'_>,
+    levels: &'c [Vec<Policy>],
+    request: &Request<'_, 'c>,
 ) -> Result<(), OutOfMemory>
     requires levels { IsCountable levels.now }
     requires policies { AllByRecursion IsCountable (map (λ level. level.items) levels.now) }
@@ -113,10 +113,10 @@ fn scan_org(
 }
 
 /// The statements of the applicable policies that match the request, in place order.
-pub fn scan(
+pub fn scan<'c>(
     alloc: Global,
-    applicable: &Applicable<'_>,
-    request: &Request<'_>,
+    applicable: &Applicable<'c>,
+    request: &Request<'_, 'c>,
 ) -> Result<Vec<Matched>, OutOfMemory>
     requires { IsNumbered (value_of applicable.now) }
     ensures { IfOk result (λ found. Adds (request_of request.now) (placed (value_of applicable.now)) [] found.items) }

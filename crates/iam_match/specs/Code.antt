@@ -1,3 +1,4 @@
 pub mod Parts
 pub mod Rest
 pub mod Session
+pub mod Texts

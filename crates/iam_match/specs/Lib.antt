@@ -1,5 +1,4 @@
 pub mod Code
-pub mod Context
 pub mod Principal
 pub mod Request
 pub mod Requester

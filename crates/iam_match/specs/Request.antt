@@ -1,13 +1,12 @@
 -- A request as the code holds it.
-use Rattle.std.specs.Prelude.{[]}
 use Rattle.iam_match.specs.declared.request.Request.{Request}
 use Rattle.iam_match.specs.Statement.{RequestValue}
 
--- a request without where it lies in memory. It has no context yet
+-- a request without where it lies in memory
 abbrev pub request_of : Request → RequestValue
 request_of q = record {
   requester = q.requester.now;
   action = q.action.now;
   resource = q.resource.now;
-  context = [];
+  context = q.context.now;
 }

@@ -1,12 +1,13 @@
 -- When a statement matches a request: AWS IAM User Guide, "Policy evaluation logic" and "IAM JSON policy elements
 -- reference".
-use Rattle.std.specs.Prelude.{ℕ, List, Option, Some, None, ⊤, All, Any, MatchBool}
+use Rattle.std.specs.Prelude.{◌≡◌, ℕ, List, Option, Some, None, IsSome, ⊤, All, Any, MatchBool}
 use Rattle.std.specs.Str.{chars}
 use Rattle.iam_text.specs.declared.sign.Sign.{Sign}
 use Rattle.iam_text.specs.Glob.{Matches, MatchesFold}
 use Rattle.iam_text.specs.declared.draft.Piece.{Piece}
 use Rattle.iam_policy.specs.Reading.{ActionElement, EntryValue, ResourceElement, StatementValue}
-use Rattle.iam_match.specs.Context.{ContextValue, IsResolved, Resolves}
+use Rattle.iam_context.specs.Context.{ContextValue}
+use Rattle.iam_context.specs.Resolve.{resolved}
 use Rattle.iam_match.specs.Principal.{PrincipalMatches}
 use Rattle.iam_match.specs.Requester.{RequesterValue}
 
@@ -25,7 +26,7 @@ ActionMatches element action =
 
 -- the text becomes a pattern that matches the resource
 abbrev pub TextMatches : ContextValue → List ℕ → List Piece → Type 0
-TextMatches context resource text = (signs : List Sign) × IsResolved text context signs × Matches signs (chars resource)
+TextMatches context resource text = (signs : List Sign) × (resolved context text ≡ Some signs) × Matches signs (chars resource)
 
 -- `Resource`: some text becomes a pattern and matches; `NotResource`: all do become patterns, and none matches. A
 -- statement with neither is about the resource that its policy is attached to
@@ -33,7 +34,7 @@ abbrev pub ResourceMatches : Option ResourceElement → List ℕ → ContextValu
 ResourceMatches None resource context = ⊤
 ResourceMatches (Some element) resource context =
     let some_matches = Any (TextMatches context resource) element.texts in
-    MatchBool element.negated (All (Resolves context) element.texts × ¬ some_matches) some_matches
+    MatchBool element.negated (All (λ text. IsSome (resolved context text)) element.texts × ¬ some_matches) some_matches
 
 -- an entry of `Condition` holds in a context. Entries are not read yet, so no statement has one
 abbrev pub EntryHolds : ContextValue → EntryValue → Type 0

@@ -6,8 +6,10 @@ mod parts;
 mod principal;
 mod request;
 mod requester;
+mod resource;
 mod statement;
 
+pub use iam_context::Context;
 pub use iam_text::OutOfMemory;
 pub use laws::one_requester;
 pub use principal::{Grant, grant_kind};

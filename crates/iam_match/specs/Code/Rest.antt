@@ -4,9 +4,9 @@ use Rattle.iam_policy.specs.Reading.{StatementValue}
 use Rattle.iam_match.specs.Principal.{PrincipalMatches}
 use Rattle.iam_match.specs.Statement.{EntryHolds, RequestValue, ResourceMatches}
 
--- the principal, the resource and the conditions
+-- the principal, the conditions and the resource
 abbrev pub RestMatches : StatementValue → RequestValue → Type 0
 RestMatches s request =
     PrincipalMatches s.principal request.requester
-    × ResourceMatches s.resource request.resource request.context
     × All (EntryHolds request.context) s.conditions
+    × ResourceMatches s.resource request.resource request.context
