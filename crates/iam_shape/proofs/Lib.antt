@@ -1,0 +1,8 @@
+pub mod AccountIds
+pub mod AccountWalk
+pub mod Members
+pub mod OneView
+pub mod SmallViews
+pub mod Stages
+pub mod Texts
+pub mod Walks

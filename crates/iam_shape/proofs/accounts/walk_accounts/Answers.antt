@@ -1,0 +1,55 @@
+use Rattle.std.proofs.Common.{◌∙◌, ℕ, List, map, take, subst}
+use Rattle.std.specs.List.{filter_map}
+use Rattle.std.proofs.lemmas.List.{map-append}
+use Rattle.std.proofs.lemmas.Result.{err_from_is_err_and}
+use Rattle.serde_json.specs.View.{view}
+use Rattle.iam_shape.specs.Code.Texts.{HasTexts}
+use Rattle.iam_shape.specs.Code.Lent.{account_of}
+use Rattle.iam_shape.specs.Shape.{account_checks, all_account_checks, text_at, nth_account_checks}
+use Rattle.iam_shape.specs.View.{AccountView, IsAccountView}
+use Rattle.iam_shape.specs.declared.path.Name.TheVariants.{Id}
+use Rattle.iam_shape.proofs.AccountIds.{earlier-ids}
+use Rattle.iam_shape.proofs.Walks.{each_here, each_later, shape_fault-from, zip_more_of}
+use Rattle.iam_shape.proofs.accounts.walk_accounts.Goals as goal
+
+pub returns-in_err-view-clause-path : goal.returns-in_err-view-clause-path
+returns-in_err-view-clause-path c =
+    let vs = c.args.accounts.now in
+    let i = c.loop-i.i in
+    let ids = filter_map (text_at Id) (take i (map view vs)) in
+    let known : HasTexts c.loop-i.ids ids =
+    subst (HasTexts c.loop-i.ids) (earlier-ids view vs i (map account_of c.loop-i.views.items) c.loop-i.invariant.said) c.loop-i.invariant.known in
+    let p = err_from_is_err_and c.from_residual.result c.from_residual.ensures.1 in
+    rw (p.1, p.2)
+    (
+    λ other.
+    shape_fault-from (account_checks ids i (view c.index-accounts-i.result)) (all_account_checks (map view vs))
+    (
+    λ path bad.
+    c.loop-i.invariant.left
+    ∙ each_here view (nth_account_checks (map view vs)) vs i c.index-accounts-i.result path c.loop-i-test.true c.index-accounts-i.is bad
+    )
+    c.in_err-view.field-0.0 (c.in_err-view.ensures.path other ids known)
+    )
+
+pub loop-i-preserved : goal.loop-i-preserved
+loop-i-preserved c =
+    let vs = c.args.accounts.now in
+    let i = c.loop-i.i in
+    let views = c.loop-i.views.items in
+    let known : HasTexts c.loop-i.ids (filter_map (text_at Id) (take i (map view vs))) =
+    subst (HasTexts c.loop-i.ids) (earlier-ids view vs i (map account_of views) c.loop-i.invariant.said) c.loop-i.invariant.known in
+    let walked = c.in_ok-view.ensures.ok (filter_map (text_at Id) (take i (map view vs))) known in
+    let ids : List AccountView → List (List ℕ) = map (λ (account : AccountView). account.id) in
+    record {
+      left =
+          c.loop-i.invariant.left
+          ∙ each_later view (nth_account_checks (map view vs)) vs i c.index-accounts-i.result c.loop-i-test.true c.index-accounts-i.is walked.0;
+      said =
+          rw c.in_ok-push.ensures.items
+          (zip_more_of IsAccountView view account_of vs i c.index-accounts-i.result views c.in_ok-view.view c.loop-i-test.true c.index-accounts-i.is
+          c.loop-i.invariant.said walked.1);
+      known =
+          rw (c.in_ok-push.ensures.items, map-append account_of views _, map-append (λ (account : AccountView). account.id) (map account_of views) _)
+          (c.in_ok-keep.ensures (ids (map account_of views)) c.loop-i.invariant.known);
+    }

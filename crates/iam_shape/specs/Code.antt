@@ -1,0 +1,4 @@
+pub mod Lent
+pub mod LentWorld
+pub mod Texts
+pub mod Walk

@@ -1,0 +1,50 @@
+-- What the walk of a shape gives, beside the checks that it walks (`Shape`).
+use Rattle.std.specs.Prelude.{◌≡◌, ℕ, List, [], ◌∷◌, Result, Some, None, false, is_some, MatchResult}
+use Rattle.std.specs.Option.{option_map_or}
+use Rattle.serde_json.specs.Data.{Data}
+use Rattle.iam_shape.specs.declared.path.Name.TheVariants.{Accounts, Principals, Context, Id, Management, Org, User, Role, Session, Identity, Boundary, SessionPolicies}
+use Rattle.iam_shape.specs.declared.path.Path.{Path}
+use Rattle.iam_shape.specs.declared.path.Path.TheVariants.{Item, Field}
+use Rattle.iam_shape.specs.declared.fault.ShapeFault.{ShapeFault}
+use Rattle.iam_shape.specs.declared.fault.ShapeFault.TheVariants.{At, OutOfMemory}
+use Rattle.iam_shape.specs.Shape.{Check, first_bad, has_only, is_absent_or, is_context, is_list, is_new_id, is_object, is_text, text_at}
+
+-- no check fails, and P holds of what was found; or this is the path of the first that fails
+abbrev pub Walks : {A : Type 0} → List Check → (A → Type 0) → Result A Path → Type 0
+Walks checks P result = MatchResult result (λ found. (first_bad checks ≡ None) × P found) (λ path. first_bad checks ≡ Some path)
+
+-- the first check that fails has the path of this fault
+abbrev pub IsShapeFault : List Check → ShapeFault → Type 0
+IsShapeFault checks (At path) = first_bad checks ≡ Some path
+IsShapeFault checks OutOfMemory = ⊥
+
+-- what is left to check of a principal that has a member `user` alone
+abbrev pub user_checks : ℕ → Data → List Check
+user_checks i user =
+    (Field Principals i User, is_absent_or is_text User user)
+    ∷ ((Field Principals i Identity, is_absent_or is_list Identity user)
+    ∷ ((Field Principals i Context, is_absent_or is_context Context user)
+    ∷ ((Item Principals i, has_only (User ∷ (Identity ∷ (Boundary ∷ (Context ∷ [])))) user)
+    ∷ [])))
+
+-- what is left to check of a principal that has a member `role` alone
+abbrev pub session_checks : ℕ → Data → List Check
+session_checks i session =
+    (Field Principals i Role, is_absent_or is_text Role session)
+    ∷ ((Field Principals i Session, is_some (text_at Session session))
+    ∷ ((Field Principals i Identity, is_absent_or is_list Identity session)
+    ∷ ((Field Principals i SessionPolicies, is_absent_or is_list SessionPolicies session)
+    ∷ ((Field Principals i Context, is_absent_or is_context Context session)
+    ∷ ((Item Principals i, has_only (Role ∷ (Session ∷ (Identity ∷ (Boundary ∷ (SessionPolicies ∷ (Context ∷ [])))))) session)
+    ∷ [])))))
+
+-- what stands first in an account: that it is an object, with the id of no account before it
+abbrev pub id_checks : List (List ℕ) → ℕ → Data → List Check
+id_checks ids i account =
+    (Item Accounts i, is_object account)
+    ∷ ((Field Accounts i Id, option_map_or (is_new_id ids) (text_at Id account) false)
+    ∷ [])
+
+-- what stands last: that it has no other members
+abbrev pub last_checks : ℕ → Data → List Check
+last_checks i account = (Item Accounts i, has_only (Id ∷ (Management ∷ (Org ∷ []))) account) ∷ []

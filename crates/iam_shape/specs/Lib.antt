@@ -1,0 +1,5 @@
+pub mod Code
+pub mod Few
+pub mod Path
+pub mod Shape
+pub mod View

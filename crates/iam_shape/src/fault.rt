@@ -1,0 +1,46 @@
+use crate::path::Path;
+use iam_text::OutOfMemory;
+use std::alloc::AllocFailed;
+
+/// Why the walk of a document stops.
+#[derive(Clone, Copy, Debug, PartialEq, Eq)]
+pub enum ShapeFault {
+    /// At this path stands a value of the wrong form, a required member is absent, or the object has an unknown
+    /// member. It is the first such place.
+    At(Path),
+    /// The allocator refused a growth.
+    OutOfMemory,
+}
+
+impl From<OutOfMemory> for ShapeFault {
+    ghost use Rattle.std.specs.Prelude.{◌≡◌};
+    ghost use Rattle.iam_shape.specs.declared.fault.ShapeFault.TheVariants as s;
+
+    ghost from_gives = { λ _ fault. fault ≡ s.OutOfMemory };
+
+    fn from(_: OutOfMemory) -> ShapeFault {
+        ShapeFault::OutOfMemory
+    }
+}
+
+impl<T: Drop> From<AllocFailed<T>> for ShapeFault {
+    ghost use Rattle.std.specs.Prelude.{◌≡◌};
+    ghost use Rattle.iam_shape.specs.declared.fault.ShapeFault.TheVariants as s;
+
+    ghost from_gives = { λ _ fault. fault ≡ s.OutOfMemory };
+
+    fn from(_: AllocFailed<T>) -> ShapeFault {
+        ShapeFault::OutOfMemory
+    }
+}
+
+impl From<Path> for ShapeFault {
+    ghost use Rattle.std.specs.Prelude.{◌≡◌};
+    ghost use Rattle.iam_shape.specs.declared.fault.ShapeFault.TheVariants as s;
+
+    ghost from_gives = { λ path fault. fault ≡ s.At path };
+
+    fn from(path: Path) -> ShapeFault {
+        ShapeFault::At(path)
+    }
+}
