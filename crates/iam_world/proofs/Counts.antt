@@ -1,51 +1,91 @@
 -- The statements of the documents are those of the policies.
-use Rattle.std.proofs.Common.{◌≡◌, ℕ, suc, ◌+◌, List, [], ◌∷◌, length, refl, sym, ap, ◌∙◌}
-use Rattle.std.specs.List.{AllZip, sum_by}
+use Rattle.std.proofs.Common.{◌≡◌, ℕ, ◌+◌, List, [], ◌∷◌, ◌++◌, length, Option, Some, None, refl, sym, ap, ◌∙◌}
+use Rattle.std.specs.List.{AllZip, flat_map}
+use Rattle.std.specs.Option.{option_to_list}
 use Rattle.std.proofs.lemmas.List.Sums.{sum_by-append, sum_by-cons}
 use Rattle.serde_json.specs.Data.{Data}
 use Rattle.iam_policy.specs.Fault.{statements_in as statements_of_document}
 use Rattle.iam_policy.specs.declared.fault.Kind.{Kind}
 use Rattle.iam_policy.specs.declared.fault.Kind.TheVariants as kind
 use Rattle.iam_policy.specs.Reading.{Reads, PolicyValue}
-use Rattle.iam_world.specs.Code.Documents.{HasIdentity}
+use Rattle.iam_shape.specs.View.{WorldView}
+use Rattle.iam_shape.specs.declared.path.Name.TheVariants.{Accounts, Principals, Resources, Org, Identity, Boundary, SessionPolicies}
+use Rattle.iam_shape.specs.declared.path.Name.TheVariants as name
+use Rattle.iam_shape.specs.declared.path.Path.{Path}
+use Rattle.iam_shape.specs.declared.path.Path.TheVariants.{Field, Entry, Leaf}
+use Rattle.iam_world.specs.Code.Documents.{statements_of}
 use Rattle.iam_world.specs.Code.Invariants.{statements_in}
-use Rattle.iam_world.specs.View.{PrincipalView}
-use Rattle.iam_world.specs.WorldFault.{Document, identity_documents, numbered}
-use Rattle.iam_world.specs.declared.path.Name.TheVariants.{Principals, Identity}
-use Rattle.iam_world.specs.declared.path.Path.{Path}
-use Rattle.iam_world.specs.declared.path.Path.TheVariants.{Entry}
-
--- a list and what is read from it are as long
-pub zip-length : {X Y : Type 0} (R : X → Y → Type 0) (xs : List X) (ys : List Y) → AllZip R xs ys → length xs ≡ length ys
-zip-length R [] [] zip = refl
-zip-length R [] (y ∷ ys) zip = absurd zip
-zip-length R (x ∷ xs) [] zip = absurd zip
-zip-length R (x ∷ xs) (y ∷ ys) zip = ap suc (zip-length R xs ys zip.1)
+use Rattle.iam_world.specs.Reads.{ReadsAccount, ReadsOptional, ReadsPrincipal, ReadsResource, ReadsWorld}
+use Rattle.iam_world.specs.World.{AccountValue, PrincipalValue, ResourceValue, WorldValue, world_statements}
+use Rattle.iam_world.specs.WorldFault.{Document, boundary_documents, identity_documents, numbered, of_each, org_documents, resource_documents, session_documents, statement_count}
+use Rattle.iam_world.proofs.Walks.{zip-length}
 
 abbrev document_statements : Document → ℕ
 document_statements document = length (statements_of_document document.value)
 
-numbered-statements : (kind : Kind) (at : ℕ → Path) (i : ℕ) (ds : List Data) (policies : List PolicyValue) → AllZip (Reads kind) ds policies
-    → sum_by document_statements (numbered kind at i ds) ≡ statements_in policies
-numbered-statements kind at i [] [] zip = refl
-numbered-statements kind at i [] (p ∷ ps) zip = absurd zip
-numbered-statements kind at i (d ∷ ds) [] zip = absurd zip
-numbered-statements kind at i (d ∷ ds) (p ∷ ps) zip =
+abbrev policy_statements : PolicyValue → ℕ
+policy_statements policy = length policy.statements
+
+of_two : (xs ys : List Document) (ps qs : List PolicyValue) → statements_of xs ≡ statements_in ps → statements_of ys ≡ statements_in qs
+    → statements_of (xs ++ ys) ≡ statements_in (ps ++ qs)
+of_two xs ys ps qs one two =
+    sum_by-append document_statements xs ys ∙ ap (λ n. n + statements_of ys) one ∙ ap (λ n. statements_in ps + n) two ∙ sym (sum_by-append policy_statements ps qs)
+
+of_list : (kind : Kind) (at : ℕ → Path) (i : ℕ) (ds : List Data) (policies : List PolicyValue) → AllZip (Reads kind) ds policies
+    → statements_of (numbered kind at i ds) ≡ statements_in policies
+of_list kind at i [] [] zip = refl
+of_list kind at i [] (p ∷ ps) zip = absurd zip
+of_list kind at i (d ∷ ds) [] zip = absurd zip
+of_list kind at i (d ∷ ds) (p ∷ ps) zip =
     let rest : List Document = numbered kind at (i + 1) ds in
     sum_by-cons document_statements (record { path = at i; kind = kind; value = d }) rest
-    ∙ ap (λ n. n + sum_by document_statements rest) (zip-length _ _ p.statements zip.0.1)
-    ∙ ap (λ n. length p.statements + n) (numbered-statements kind at (i + 1) ds ps zip.1)
-    ∙ sym (sum_by-cons (λ (policy : PolicyValue). length policy.statements) p ps)
+    ∙ ap (λ n. n + statements_of rest) (zip-length _ _ p.statements zip.0.1)
+    ∙ ap (λ n. length p.statements + n) (of_list kind at (i + 1) ds ps zip.1)
+    ∙ sym (sum_by-cons policy_statements p ps)
 
-pub identity-statements : (i : ℕ) (principals : List PrincipalView) (identity : List (List PolicyValue)) → AllZip HasIdentity principals identity
-    → sum_by document_statements (identity_documents i principals) ≡ sum_by statements_in identity
-identity-statements i [] [] zip = refl
-identity-statements i [] (ps ∷ rest) zip = absurd zip
-identity-statements i (p ∷ principals) [] zip = absurd zip
-identity-statements i (p ∷ principals) (policies ∷ rest) zip =
-    let here : List Document = numbered kind.Identity (Entry Principals i Identity) 0 p.identity in
-    let later : List Document = identity_documents (i + 1) principals in
-    sum_by-append document_statements here later
-    ∙ ap (λ n. n + sum_by document_statements later) (numbered-statements kind.Identity (Entry Principals i Identity) 0 p.identity policies zip.0)
-    ∙ ap (λ n. statements_in policies + n) (identity-statements (i + 1) principals rest zip.1)
-    ∙ sym (sum_by-cons statements_in policies rest)
+of_optional : (kind : Kind) (at : ℕ → Path) (d : Option Data) (policy : Option PolicyValue) → ReadsOptional kind d policy
+    → statements_of (numbered kind at 0 (option_to_list d)) ≡ statements_in (option_to_list policy)
+of_optional kind at None None reads = refl
+of_optional kind at None (Some p) reads = absurd reads
+of_optional kind at (Some d) None reads = absurd reads
+of_optional kind at (Some d) (Some p) reads = of_list kind at 0 (d ∷ []) (p ∷ []) (reads, tt)
+
+-- of each member of a list
+of_members : {X Y : Type 0} (docs : ℕ → X → List Document) (policies : Y → List PolicyValue) (R : X → Y → Type 0)
+    → ((i : ℕ) (x : X) (y : Y) → R x y → statements_of (docs i x) ≡ statements_in (policies y)) → (i : ℕ) (xs : List X) (ys : List Y) → AllZip R xs ys
+    → statements_of (of_each docs i xs) ≡ statements_in (flat_map policies ys)
+of_members docs policies R step i [] [] zip = refl
+of_members docs policies R step i [] (y ∷ ys) zip = absurd zip
+of_members docs policies R step i (x ∷ xs) [] zip = absurd zip
+of_members docs policies R step i (x ∷ xs) (y ∷ ys) zip =
+    of_two (docs i x) (of_each docs (i + 1) xs) (policies y) (flat_map policies ys) (step i x y zip.0) (of_members docs policies R step (i + 1) xs ys zip.1)
+
+pub statements-are : (view : WorldView) (world : WorldValue) → ReadsWorld view world → statement_count view ≡ world_statements world
+statements-are view world reads =
+    let orgs = λ (a : AccountValue). flat_map (λ (level : List PolicyValue). level) a.org in
+    let attached = λ (x : ResourceValue). option_to_list x.policy in
+    let own = λ (p : PrincipalValue). p.identity in
+    let boundary = λ (p : PrincipalValue). option_to_list p.boundary in
+    let session = λ (p : PrincipalValue). p.session in
+    let one = of_members org_documents orgs ReadsAccount
+    (λ i v a r. of_members (λ j ds. numbered kind.Org (Leaf Accounts i Org j) 0 ds) (λ (level : List PolicyValue). level) (AllZip (Reads kind.Org))
+    (λ j ds ps zip. of_list kind.Org (Leaf Accounts i Org j) 0 ds ps zip) 0 v.org a.org r.org) 0 view.accounts world.accounts reads.accounts in
+    let two = of_members resource_documents attached ReadsResource
+    (λ i v x r. of_optional kind.Resource (λ j. Field Resources i name.Policy) v.policy x.policy r.policy) 0 view.resources world.resources reads.resources in
+    let three = of_members identity_documents own ReadsPrincipal
+    (λ i v p r. of_list kind.Identity (Entry Principals i Identity) 0 v.identity p.identity r.identity) 0 view.principals world.principals reads.principals in
+    let four = of_members boundary_documents boundary ReadsPrincipal
+    (λ i v p r. of_optional kind.Identity (λ j. Field Principals i Boundary) v.boundary p.boundary r.boundary) 0 view.principals world.principals reads.principals in
+    let five = of_members session_documents session ReadsPrincipal
+    (λ i v p r. of_list kind.Identity (Entry Principals i SessionPolicies) 0 v.session_policies p.session r.session) 0 view.principals world.principals reads.principals in
+    let boundaries = of_each boundary_documents 0 view.principals in
+    let sessions = of_each session_documents 0 view.principals in
+    let identities = of_each identity_documents 0 view.principals in
+    let sessions_of = flat_map session world.principals in
+    let boundaries_of = flat_map boundary world.principals in
+    let last = of_two boundaries sessions boundaries_of sessions_of four five in
+    let principals = of_two identities (boundaries ++ sessions) (flat_map own world.principals) (boundaries_of ++ sessions_of) three last in
+    let behind_accounts = of_two (of_each resource_documents 0 view.resources) (identities ++ (boundaries ++ sessions)) (flat_map attached world.resources)
+    (flat_map own world.principals ++ (boundaries_of ++ sessions_of)) two principals in
+    of_two (of_each org_documents 0 view.accounts) (of_each resource_documents 0 view.resources ++ (identities ++ (boundaries ++ sessions))) (flat_map orgs world.accounts)
+    (flat_map attached world.resources ++ (flat_map own world.principals ++ (boundaries_of ++ sessions_of))) one behind_accounts

@@ -1,77 +1,105 @@
--- The documents of a world, and the first that is refused.
-use Rattle.std.proofs.Common.{◌≡◌, inl, inr, ℕ, ◌+◌, ◌<◌, List, [], ◌∷◌, ◌++◌, map, length, drop, get_or, refl, sym, subst}
-use Rattle.std.specs.List.{AllByRecursion, AllZip}
+-- The documents of a world, one list behind the other, and the first that is refused.
+use Rattle.std.proofs.Common.{◌≡◌, ℕ, suc, zero, ◌+◌, ◌<◌, List, [], ◌∷◌, ◌++◌, map, length, take, drop, get_or, refl, sym, ap, ◌∙◌, subst, arith}
+use Rattle.std.specs.List.{AllByRecursion}
+use Rattle.std.proofs.lemmas.List.{append_assoc, append-nil, take-append-drop}
+use Rattle.std.proofs.lemmas.List.Sums.{sum_by-append}
 use Rattle.serde_json.specs.Data.{Data}
-use Rattle.iam_policy.specs.Fault.{IsAccepted, IsLeastFault}
-use Rattle.iam_policy.specs.declared.fault.Kind.{Kind}
-use Rattle.iam_policy.specs.declared.fault.Kind.TheVariants as kind
-use Rattle.iam_policy.specs.declared.fault.Refused.{Refused}
-use Rattle.iam_policy.specs.Reading.{Reads, PolicyValue}
-use Rattle.iam_world.specs.Code.Documents.{HasIdentity}
-use Rattle.iam_world.specs.View.{PrincipalView}
-use Rattle.iam_world.specs.WorldFault.{Document, IsFirstRefused, IsNotAccepted, identity_documents, numbered}
-use Rattle.iam_world.specs.declared.path.Name.TheVariants.{Principals, Identity}
-use Rattle.iam_world.specs.declared.path.Path.{Path}
-use Rattle.iam_world.specs.declared.path.Path.TheVariants.{Entry}
+use Rattle.iam_policy.specs.Fault.{statements_in}
+use Rattle.iam_world.specs.Code.Budget.{Leaves}
+use Rattle.iam_world.specs.Code.Documents.{IsCleared, IsRefusedAmong, document_at, path_at, statements_of}
+use Rattle.iam_world.specs.WorldFault.{Document, IsNotAccepted, numbered, of_each}
+use Rattle.iam_world.specs.declared.documents.Documents.{Documents}
+use Rattle.iam_world.specs.declared.fault.WorldFault.{WorldFault}
+use Rattle.iam_world.specs.declared.limits.Budget.{Budget}
 use Rattle.iam_world.proofs.Firsts.{first_here, first_later, none-append}
-use Rattle.iam_world.proofs.Walks.{drop-at}
 
--- the first refused of two lists is that of the first, or else that of the second
-refused_here : (front back : List Document) (path : Path) (refused : Refused) → IsFirstRefused front path refused → IsFirstRefused (front ++ back) path refused
-refused_here front back path refused (document, first, at, least) = (document, first_here IsNotAccepted front back document first, at, least)
+-- ---- the first refused of two lists is that of the first, or else that of the second
 
-refused_later : (front back : List Document) (path : Path) (refused : Refused) → AllByRecursion (λ d. ¬ IsNotAccepted d) front → IsFirstRefused back path refused
-    → IsFirstRefused (front ++ back) path refused
-refused_later front back path refused accepted (document, first, at, least) = (document, first_later IsNotAccepted front back document accepted first, at, least)
+pub refused_here : (front back : List Document) (fault : WorldFault) → IsRefusedAmong front fault → IsRefusedAmong (front ++ back) fault
+refused_here front back fault (path, refused, is, (document, first, at, least)) =
+    (path, refused, is, (document, first_here IsNotAccepted front back document first, at, least))
 
--- ---- along the documents of a list
+pub refused_later : (front back : List Document) (fault : WorldFault) → AllByRecursion (λ d. ¬ IsNotAccepted d) front → IsRefusedAmong back fault
+    → IsRefusedAmong (front ++ back) fault
+refused_later front back fault accepted (path, refused, is, (document, first, at, least)) =
+    (path, refused, is, (document, first_later IsNotAccepted front back document accepted first, at, least))
 
--- the document at i is refused
-pub document_here : {V : Type 0} (view : V → Data) (kind : Kind) (at : ℕ → Path) (vs : List V) (i : ℕ) (v : V) → i < length vs → v ≡ get_or vs i v
-    → (refused : Refused) → IsLeastFault kind (view v) refused.statement refused.fault → IsFirstRefused (numbered kind at i (map view (drop i vs))) (at i) refused
-document_here view kind at vs i v below is refused least =
-    subst (λ ds. IsFirstRefused (numbered kind at i ds) (at i) refused) (sym (drop-at view vs i v below is))
-    (record { path = at i; kind = kind; value = view v }, inl ((λ accepted. accepted refused.statement refused.fault least.holds), refl), refl, least)
+-- ---- documents that are cleared
 
--- the document at i is accepted
-pub document_later : {V : Type 0} (view : V → Data) (kind : Kind) (at : ℕ → Path) (vs : List V) (i : ℕ) (v : V) → i < length vs → v ≡ get_or vs i v
-    → IsAccepted kind (view v) → (path : Path) (refused : Refused) → IsFirstRefused (numbered kind at (i + 1) (map view (drop (i + 1) vs))) path refused
-    → IsFirstRefused (numbered kind at i (map view (drop i vs))) path refused
-document_later view kind at vs i v below is accepted path refused (document, first, place, least) =
-    subst (λ ds. IsFirstRefused (numbered kind at i ds) path refused) (sym (drop-at view vs i v below is))
-    (document, inr ((λ off. off accepted), first), place, least)
+pub cleared-nil : (b : Budget) → IsCleared [] b b
+cleared-nil b = record { accepted = tt; counted = λ total leaves. subst (Leaves b) (omega arith) leaves }
 
--- documents that were read are accepted
-accepted_numbered : (kind : Kind) (at : ℕ → Path) (i : ℕ) (ds : List Data) (policies : List PolicyValue) → AllZip (Reads kind) ds policies
-    → AllByRecursion (λ d. ¬ IsNotAccepted d) (numbered kind at i ds)
-accepted_numbered kind at i [] policies zip = tt
-accepted_numbered kind at i (d ∷ ds) [] zip = absurd zip
-accepted_numbered kind at i (d ∷ ds) (policy ∷ policies) zip = ((λ off. off zip.0.0), accepted_numbered kind at (i + 1) ds policies zip.1)
+pub cleared-append : (xs ys : List Document) (a b c : Budget) → IsCleared xs a b → IsCleared ys b c → IsCleared (xs ++ ys) a c
+cleared-append xs ys a b c one two = record {
+  accepted = none-append (λ d. ¬ IsNotAccepted d) xs ys one.accepted two.accepted;
+  counted = λ total leaves.
+      subst (Leaves c) (sums total) (two.counted (total + statements_of xs) (one.counted total leaves));
+}
+  where
+    sums : (total : ℕ) → total + statements_of xs + statements_of ys ≡ total + statements_of (xs ++ ys)
+    sums total =
+        let whole : statements_of (xs ++ ys) ≡ statements_of xs + statements_of ys = sum_by-append (λ (d : Document). length (statements_in d.value)) xs ys in
+        omega (arith, whole)
 
--- ---- along the principals
+-- ---- the documents of each member of a list
 
--- a document of the principal at i is refused
-pub principal_here : {V : Type 0} (view : V → PrincipalView) (vs : List V) (i : ℕ) (v : V) → i < length vs → v ≡ get_or vs i v → (path : Path) (refused : Refused)
-    → IsFirstRefused (numbered kind.Identity (Entry Principals i Identity) 0 (view v).identity) path refused
-    → IsFirstRefused (identity_documents i (map view (drop i vs))) path refused
-principal_here view vs i v below is path refused h =
-    subst (λ ps. IsFirstRefused (identity_documents i ps) path refused) (sym (drop-at view vs i v below is))
-    (refused_here (numbered kind.Identity (Entry Principals i Identity) 0 (view v).identity) (identity_documents (i + 1) (map view (drop (i + 1) vs))) path refused h)
+each-append : {X : Type 0} (docs : ℕ → X → List Document) (k : ℕ) (xs ys : List X) → of_each docs k (xs ++ ys) ≡ of_each docs k xs ++ of_each docs (k + length xs) ys
+each-append docs k [] ys = ap (λ n. of_each docs n ys) (omega arith)
+each-append docs k (x ∷ xs) ys =
+    let number : k + 1 + length xs ≡ k + suc (length xs) = omega arith in
+    ap (λ ds. docs k x ++ ds) (each-append docs (k + 1) xs ys)
+    ∙ sym (append_assoc (docs k x) (of_each docs (k + 1) xs) (of_each docs (k + 1 + length xs) ys))
+    ∙ ap (λ n. (docs k x ++ of_each docs (k + 1) xs) ++ of_each docs n ys) number
 
--- those of the principal at i are accepted
-pub principal_later : {V : Type 0} (view : V → PrincipalView) (vs : List V) (i : ℕ) (v : V) → i < length vs → v ≡ get_or vs i v → (policies : List PolicyValue)
-    → HasIdentity (view v) policies → (path : Path) (refused : Refused) → IsFirstRefused (identity_documents (i + 1) (map view (drop (i + 1) vs))) path refused
-    → IsFirstRefused (identity_documents i (map view (drop i vs))) path refused
-principal_later view vs i v below is policies zip path refused h =
-    subst (λ ps. IsFirstRefused (identity_documents i ps) path refused) (sym (drop-at view vs i v below is))
-    (refused_later (numbered kind.Identity (Entry Principals i Identity) 0 (view v).identity) (identity_documents (i + 1) (map view (drop (i + 1) vs))) path refused
-    (accepted_numbered kind.Identity (Entry Principals i Identity) 0 (view v).identity policies zip) h)
+-- those of the members before i + 1
+each-take : {X : Type 0} (docs : ℕ → X → List Document) (k : ℕ) (xs : List X) (i : ℕ) (x : X) → i < length xs → x ≡ get_or xs i x
+    → of_each docs k (take (i + 1) xs) ≡ of_each docs k (take i xs) ++ docs (k + i) x
+each-take docs k [] i x below is = absurd (omega arith)
+each-take docs k (y ∷ xs) zero x below is =
+    let number : k ≡ k + 0 = omega arith in
+    append-nil (docs k y) ∙ ap (docs k) (sym is) ∙ ap (λ n. docs n x) number
+each-take docs k (y ∷ xs) (suc i) x below is =
+    let rest : i < length xs = omega arith in
+    let number : k + 1 + i ≡ k + suc i = omega arith in
+    let next : suc i + 1 ≡ suc (i + 1) = omega arith in
+    ap (λ n. of_each docs k (take n (y ∷ xs))) next
+    ∙ ap (λ ds. docs k y ++ ds) (each-take docs (k + 1) xs i x rest is)
+    ∙ sym (append_assoc (docs k y) (of_each docs (k + 1) (take i xs)) (docs (k + 1 + i) x))
+    ∙ ap (λ n. (docs k y ++ of_each docs (k + 1) (take i xs)) ++ docs n x) number
 
--- all documents of principals whose policies were read are accepted
-pub identity_accepted : (i : ℕ) (principals : List PrincipalView) (identity : List (List PolicyValue)) → AllZip HasIdentity principals identity
-    → AllByRecursion (λ d. ¬ IsNotAccepted d) (identity_documents i principals)
-identity_accepted i [] identity zip = tt
-identity_accepted i (p ∷ ps) [] zip = absurd zip
-identity_accepted i (p ∷ ps) (policies ∷ rest) zip =
-    none-append (λ d. ¬ IsNotAccepted d) (numbered kind.Identity (Entry Principals i Identity) 0 p.identity) (identity_documents (i + 1) ps)
-    (accepted_numbered kind.Identity (Entry Principals i Identity) 0 p.identity policies zip.0) (identity_accepted (i + 1) ps rest zip.1)
+pub each-next : {X : Type 0} (docs : ℕ → X → List Document) (xs : List X) (i : ℕ) (x : X) → i < length xs → x ≡ get_or xs i x
+    → of_each docs 0 (take (i + 1) xs) ≡ of_each docs 0 (take i xs) ++ docs i x
+each-next docs xs i x below is = let number : 0 + i ≡ i = omega arith in each-take docs 0 xs i x below is ∙ ap (λ n. of_each docs 0 (take i xs) ++ docs n x) number
+
+-- a document of member i is the first that is refused
+pub each_refused : {X : Type 0} (docs : ℕ → X → List Document) (xs : List X) (i : ℕ) (x : X) (fault : WorldFault) → i < length xs → x ≡ get_or xs i x
+    → AllByRecursion (λ d. ¬ IsNotAccepted d) (of_each docs 0 (take i xs)) → IsRefusedAmong (docs i x) fault → IsRefusedAmong (of_each docs 0 xs) fault
+each_refused docs xs i x fault below is accepted refused =
+    let front = take (i + 1) xs in
+    let back = drop (i + 1) xs in
+    subst (λ ds. IsRefusedAmong ds fault) (sym (each-append docs 0 front back) ∙ ap (of_each docs 0) (take-append-drop (i + 1) xs))
+    (refused_here (of_each docs 0 front) (of_each docs (0 + length front) back) fault
+    (subst (λ ds. IsRefusedAmong ds fault) (sym (each-next docs xs i x below is))
+    (refused_later (of_each docs 0 (take i xs)) (docs i x) fault accepted refused)))
+
+-- the documents of what lent members say
+pub each-map : {V X : Type 0} (docs : ℕ → X → List Document) (f : V → X) (k : ℕ) (vs : List V) → of_each (λ i v. docs i (f v)) k vs ≡ of_each docs k (map f vs)
+each-map docs f k [] = refl
+each-map docs f k (v ∷ vs) = ap (λ ds. docs k (f v) ++ ds) (each-map docs f (k + 1) vs)
+
+-- one document each
+pub each-one : {V : Type 0} (f : V → Data) (ds : Documents) (k : ℕ) (vs : List V) → of_each (λ j v. document_at ds j (f v) ∷ []) k vs ≡ numbered ds.kind (path_at ds.place) k (map f vs)
+each-one f ds k [] = refl
+each-one f ds k (v ∷ vs) = ap (λ rest. document_at ds k (f v) ∷ rest) (each-one f ds (k + 1) vs)
+
+-- ---- a layer, as the code holds it and as its documents
+
+pub cleared-lent : {V X : Type 0} (docs : ℕ → X → List Document) (f : V → X) (vs ws : List V) (a b : Budget) → vs ≡ ws
+    → IsCleared (of_each (λ i v. docs i (f v)) 0 vs) a b → IsCleared (of_each docs 0 (map f ws)) a b
+cleared-lent docs f vs ws a b same cleared =
+    subst (λ xs. IsCleared (of_each docs 0 (map f xs)) a b) same (subst (λ ds. IsCleared ds a b) (each-map docs f 0 vs) cleared)
+
+pub refused-lent : {V X : Type 0} (docs : ℕ → X → List Document) (f : V → X) (vs ws : List V) (fault : WorldFault) → vs ≡ ws
+    → IsRefusedAmong (of_each (λ i v. docs i (f v)) 0 vs) fault → IsRefusedAmong (of_each docs 0 (map f ws)) fault
+refused-lent docs f vs ws fault same refused =
+    subst (λ xs. IsRefusedAmong (of_each docs 0 (map f xs)) fault) same (subst (λ ds. IsRefusedAmong ds fault) (each-map docs f 0 vs) refused)

@@ -1,39 +1,45 @@
 -- The faults of bytes and those of what they say.
 use Rattle.std.proofs.Common.{◌≡◌, inr, ℕ, ◌≤◌, List, length, Some, None, sym, ◌∙◌, subst, arith}
 use Rattle.serde_json.specs.Data.{Data}
-use Rattle.iam_world.specs.Code.ViewFault.{ViewHasFault, IsFirstViewFault}
-use Rattle.iam_world.specs.Code.Walk.{IsShapeFault}
-use Rattle.iam_world.specs.Shape.{first_bad, shape_checks}
-use Rattle.iam_world.specs.View.{WorldView, IsView}
+use Rattle.iam_world.specs.Code.ViewFault.{ViewHasFault, IsFirstViewFault, shape_fault}
+use Rattle.iam_shape.specs.Code.Walk.{IsShapeFault}
+use Rattle.iam_shape.specs.declared.fault.ShapeFault.{ShapeFault}
+use Rattle.iam_shape.specs.declared.fault.ShapeFault.TheVariants as shape
+use Rattle.iam_shape.specs.Shape.{first_bad, shape_checks}
+use Rattle.iam_shape.specs.View.{WorldView, IsView}
 use Rattle.iam_world.specs.WorldFault.{HasView, IsFirstWorldFault, IsJson, WorldHasFault, world_number_of}
 use Rattle.iam_world.specs.declared.fault.WorldFault.{WorldFault}
-use Rattle.iam_world.specs.declared.fault.WorldFault.TheVariants.{NotJson, BadShape, BadRequester, BadAction, BadResourceArn, UnknownAccount, Policy, TooLarge, OutOfMemory}
-use Rattle.iam_world.proofs.OneView.{one_view}
+use Rattle.iam_world.specs.declared.fault.WorldFault.TheVariants.{NotJson, BadShape, BadRequester, BadAction, BadResourceArn, UnknownAccount, Context, Policy, TooLarge, OutOfMemory}
 
 -- bytes are the text of one value
 pub one_json : (bytes : List ℕ) (d e : Data) → IsJson bytes d → IsJson bytes e → d ≡ e
 one_json bytes d e one two = let same : Some d ≡ Some e = sym one.1 ∙ two.1 in cc
 
+-- a document says one thing
+abbrev pub OneView : Type 0
+OneView = (d : Data) (view other : WorldView) → IsView d view → IsView d other → view ≡ other
+
 -- what bytes say is one thing
-pub view_is : (bytes : List ℕ) (d : Data) (world : WorldView) → IsJson bytes d → IsView d world → (P : WorldView → Type 0) → HasView bytes P → P world
-view_is bytes d world json says P (e, json', (other, says', holds)) =
+pub view_is : (one_view : OneView) (bytes : List ℕ) (d : Data) (world : WorldView) → IsJson bytes d → IsView d world → (P : WorldView → Type 0) → HasView bytes P → P world
+view_is one_view bytes d world json says P (e, json', (other, says', holds)) =
     let same : other ≡ world = one_view d other world (subst (λ x. IsView x other) (one_json bytes e d json' json) says') says in subst P same holds
 
 -- the faults of a document of the right shape are those of what it says
-pub to_view : (bytes : List ℕ) (d : Data) (world : WorldView) → IsJson bytes d → first_bad (shape_checks d) ≡ None → IsView d world → (fault : WorldFault)
+pub to_view : (one_view : OneView) (bytes : List ℕ) (d : Data) (world : WorldView) → IsJson bytes d → first_bad (shape_checks d) ≡ None → IsView d world → (fault : WorldFault)
     → WorldHasFault bytes fault → ViewHasFault world fault
-to_view bytes d world json clear says NotJson has = absurd (has d json)
-to_view bytes d world json clear says (BadShape path) (e, json', bad) =
+to_view one_view bytes d world json clear says NotJson has = absurd (has d json)
+to_view one_view bytes d world json clear says (BadShape path) (e, json', bad) =
     let same : first_bad (shape_checks d) ≡ Some path = subst (λ x. first_bad (shape_checks x) ≡ Some path) (one_json bytes e d json' json) bad in
     let wrong : None ≡ Some path = sym clear ∙ same in
     cc
-to_view bytes d world json clear says (BadRequester path) has = view_is bytes d world json says _ has
-to_view bytes d world json clear says (BadAction path) has = view_is bytes d world json says _ has
-to_view bytes d world json clear says (BadResourceArn path) has = view_is bytes d world json says _ has
-to_view bytes d world json clear says (UnknownAccount path) has = view_is bytes d world json says _ has
-to_view bytes d world json clear says (Policy path refused) has = view_is bytes d world json says _ has
-to_view bytes d world json clear says TooLarge has = view_is bytes d world json says _ has
-to_view bytes d world json clear says OutOfMemory has = has
+to_view one_view bytes d world json clear says (BadRequester path) has = view_is one_view bytes d world json says _ has
+to_view one_view bytes d world json clear says (BadAction path) has = view_is one_view bytes d world json says _ has
+to_view one_view bytes d world json clear says (BadResourceArn path) has = view_is one_view bytes d world json says _ has
+to_view one_view bytes d world json clear says (UnknownAccount path) has = view_is one_view bytes d world json says _ has
+to_view one_view bytes d world json clear says (Context path fault) has = view_is one_view bytes d world json says _ has
+to_view one_view bytes d world json clear says (Policy path refused) has = view_is one_view bytes d world json says _ has
+to_view one_view bytes d world json clear says TooLarge has = view_is one_view bytes d world json says _ has
+to_view one_view bytes d world json clear says OutOfMemory has = has
 
 from_view : (bytes : List ℕ) (d : Data) (world : WorldView) → IsJson bytes d → IsView d world → (fault : WorldFault) → ViewHasFault world fault → WorldHasFault bytes fault
 from_view bytes d world json says NotJson has = absurd has
@@ -43,6 +49,7 @@ from_view bytes d world json says (BadRequester path) has = (d, json, (world, sa
 from_view bytes d world json says (BadAction path) has = (d, json, (world, says, has))
 from_view bytes d world json says (BadResourceArn path) has = (d, json, (world, says, has))
 from_view bytes d world json says (UnknownAccount path) has = (d, json, (world, says, has))
+from_view bytes d world json says (Context path fault) has = (d, json, (world, says, has))
 from_view bytes d world json says (Policy path refused) has = (d, json, (world, says, has))
 from_view bytes d world json says TooLarge has = (d, json, (world, says, has))
 
@@ -61,18 +68,18 @@ past_json bytes d json NotJson has = absurd (has d json)
 past_json bytes d json fault has = omega arith
 
 -- a document of another shape
-pub first_of_shape : (bytes : List ℕ) (d : Data) → length bytes ≤ 8388608 → IsJson bytes d → (fault : WorldFault) → IsShapeFault (shape_checks d) fault → IsFirstWorldFault bytes fault
-first_of_shape bytes d short json (BadShape path) bad = inr (short, record { holds = (d, json, bad); least = past_json bytes d json })
-first_of_shape bytes d short json fault bad = absurd bad
+pub first_of_shape : (bytes : List ℕ) (d : Data) → length bytes ≤ 8388608 → IsJson bytes d → (fault : ShapeFault) → IsShapeFault (shape_checks d) fault → IsFirstWorldFault bytes (shape_fault fault)
+first_of_shape bytes d short json (shape.At path) bad = inr (short, record { holds = (d, json, bad); least = past_json bytes d json })
+first_of_shape bytes d short json shape.OutOfMemory bad = absurd bad
 
 -- a document of the right shape
-pub first_of_view : (bytes : List ℕ) (d : Data) (world : WorldView) → length bytes ≤ 8388608 → IsJson bytes d → first_bad (shape_checks d) ≡ None → IsView d world
+pub first_of_view : (one_view : OneView) (bytes : List ℕ) (d : Data) (world : WorldView) → length bytes ≤ 8388608 → IsJson bytes d → first_bad (shape_checks d) ≡ None → IsView d world
     → (fault : WorldFault) → IsFirstViewFault world fault → IsFirstWorldFault bytes fault
-first_of_view bytes d world short json clear says fault first =
+first_of_view one_view bytes d world short json clear says fault first =
     inr (
       short,
       record {
         holds = from_view bytes d world json says fault first.holds;
-        least = λ other has. first.least other (to_view bytes d world json clear says other has);
+        least = λ other has. first.least other (to_view one_view bytes d world json clear says other has);
       },
     )

@@ -4,9 +4,7 @@ use Rattle.std.specs.List.{AllByRecursion, AllZip, position_from}
 use Rattle.std.specs.Prelude.{IsTrue}
 use Rattle.iam_world.specs.Code.ViewFault.{FindsFirst}
 use Rattle.iam_world.specs.WorldFault.{IsFirst, IsFirstAt, placed}
-use Rattle.iam_world.specs.declared.path.Name.{Name}
-use Rattle.iam_world.specs.declared.path.Path.{Path}
-use Rattle.iam_world.specs.declared.path.Path.TheVariants.{Item}
+use Rattle.iam_shape.specs.declared.path.Path.{Path}
 use Rattle.iam_world.proofs.Walks.{drop-at}
 
 -- where it holds of none, there is no first
@@ -47,39 +45,39 @@ none-append P (x ∷ front) back one two = (one.0, none-append P front back one.
 -- ---- along a list of the document
 
 -- the first of the elements from i on: that at i, or else one behind it
-pub at_here : {V X : Type 0} (P : X → Type 0) (list : Name) (f : V → X) (vs : List V) (i : ℕ) (v : V) → i < length vs → v ≡ get_or vs i v → P (f v)
-    → IsFirstAt P (placed list i (map f (drop i vs))) (Item list i)
-at_here P list f vs i v below is holds =
-    subst (λ xs. IsFirstAt P (placed list i xs) (Item list i)) (sym (drop-at f vs i v below is)) (f v, inl (holds, refl))
+pub at_here : {V X : Type 0} (P : X → Type 0) (at : ℕ → Path) (f : V → X) (vs : List V) (i : ℕ) (v : V) → i < length vs → v ≡ get_or vs i v → P (f v)
+    → IsFirstAt P (placed at i (map f (drop i vs))) (at i)
+at_here P at f vs i v below is holds =
+    subst (λ xs. IsFirstAt P (placed at i xs) (at i)) (sym (drop-at f vs i v below is)) (f v, inl (holds, refl))
 
-pub at_later : {V X : Type 0} (P : X → Type 0) (list : Name) (f : V → X) (vs : List V) (i : ℕ) (v : V) → i < length vs → v ≡ get_or vs i v → (¬ P (f v))
-    → (path : Path) → IsFirstAt P (placed list (i + 1) (map f (drop (i + 1) vs))) path → IsFirstAt P (placed list i (map f (drop i vs))) path
-at_later P list f vs i v below is fails path later =
-    subst (λ xs. IsFirstAt P (placed list i xs) path) (sym (drop-at f vs i v below is)) (later.0, inr (fails, later.1))
+pub at_later : {V X : Type 0} (P : X → Type 0) (at : ℕ → Path) (f : V → X) (vs : List V) (i : ℕ) (v : V) → i < length vs → v ≡ get_or vs i v → (¬ P (f v))
+    → (path : Path) → IsFirstAt P (placed at (i + 1) (map f (drop (i + 1) vs))) path → IsFirstAt P (placed at i (map f (drop i vs))) path
+at_later P at f vs i v below is fails path later =
+    subst (λ xs. IsFirstAt P (placed at i xs) path) (sym (drop-at f vs i v below is)) (later.0, inr (fails, later.1))
 
 -- it holds of no element of a list that is read by something else
-pub none_placed : {X V : Type 0} (R : X → V → Type 0) (P : X → Type 0) → ((x : X) (v : V) → R x v → ¬ P x) → (list : Name) (i : ℕ) (xs : List X) (vs : List V)
-    → AllZip R xs vs → AllByRecursion (λ x. ¬ P x.1) (placed list i xs)
-none_placed R P step list i [] [] zip = tt
-none_placed R P step list i [] (v ∷ vs) zip = absurd zip
-none_placed R P step list i (x ∷ xs) [] zip = absurd zip
-none_placed R P step list i (x ∷ xs) (v ∷ vs) zip = (step x v zip.0, none_placed R P step list (i + 1) xs vs zip.1)
+pub none_placed : {X V : Type 0} (R : X → V → Type 0) (P : X → Type 0) → ((x : X) (v : V) → R x v → ¬ P x) → (at : ℕ → Path) (i : ℕ) (xs : List X) (vs : List V)
+    → AllZip R xs vs → AllByRecursion (λ x. ¬ P x.1) (placed at i xs)
+none_placed R P step at i [] [] zip = tt
+none_placed R P step at i [] (v ∷ vs) zip = absurd zip
+none_placed R P step at i (x ∷ xs) [] zip = absurd zip
+none_placed R P step at i (x ∷ xs) (v ∷ vs) zip = (step x v zip.0, none_placed R P step at (i + 1) xs vs zip.1)
 
 -- a test along the one list finds the first element of the other
 pub found_by : {X V : Type 0} (R : X → V → Type 0) (P : X → Type 0) (test : V → Bool) → ((x : X) (v : V) → R x v → test v ≡ true → P x)
-    → ((x : X) (v : V) → R x v → test v ≡ false → ¬ P x) → (list : Name) (i : ℕ) (xs : List X) (vs : List V) → AllZip R xs vs
-    → FindsFirst P (placed list i xs) (option_map (Item list) (position_from test i vs))
-found_by R P test holds fails list i [] [] zip = tt
-found_by R P test holds fails list i [] (v ∷ vs) zip = absurd zip
-found_by R P test holds fails list i (x ∷ xs) [] zip = absurd zip
-found_by {X} R P test holds fails list i (x ∷ xs) (v ∷ vs) zip = go (test v) refl (position_from test (i + 1) vs) (found_by R P test holds fails list (i + 1) xs vs zip.1)
+    → ((x : X) (v : V) → R x v → test v ≡ false → ¬ P x) → (at : ℕ → Path) (i : ℕ) (xs : List X) (vs : List V) → AllZip R xs vs
+    → FindsFirst P (placed at i xs) (option_map at (position_from test i vs))
+found_by R P test holds fails at i [] [] zip = tt
+found_by R P test holds fails at i [] (v ∷ vs) zip = absurd zip
+found_by R P test holds fails at i (x ∷ xs) [] zip = absurd zip
+found_by {X} R P test holds fails at i (x ∷ xs) (v ∷ vs) zip = go (test v) refl (position_from test (i + 1) vs) (found_by R P test holds fails at (i + 1) xs vs zip.1)
   where
-    later : (o : Option ℕ) → (¬ P x) → FindsFirst P (placed list (i + 1) xs) (option_map (Item list) o) → FindsFirst P (placed list i (x ∷ xs)) (option_map (Item list) o)
+    later : (o : Option ℕ) → (¬ P x) → FindsFirst P (placed at (i + 1) xs) (option_map at o) → FindsFirst P (placed at i (x ∷ xs)) (option_map at o)
     later None fails none = (fails, none)
     later (Some n) fails first = (first.0, inr (fails, first.1))
 
-    go : (b : Bool) → test v ≡ b → (o : Option ℕ) → FindsFirst P (placed list (i + 1) xs) (option_map (Item list) o)
-        → FindsFirst P (placed list i (x ∷ xs)) (option_map (Item list) (cond b (Some i) o))
+    go : (b : Bool) → test v ≡ b → (o : Option ℕ) → FindsFirst P (placed at (i + 1) xs) (option_map at o)
+        → FindsFirst P (placed at i (x ∷ xs)) (option_map at (cond b (Some i) o))
     go true is o rest = (x, inl (holds x v zip.0 is, refl))
     go false is o rest = later o (fails x v zip.0 is) rest
 
@@ -89,11 +87,11 @@ said-zip f [] = tt
 said-zip f (v ∷ vs) = (refl, said-zip f vs)
 
 -- a test of what the code holds finds the first element that fails it
-pub found_said : {V X : Type 0} (test : X → Bool) (f : V → X) (list : Name) (vs : List V)
-    → FindsFirst (λ x. ¬ IsTrue (test x)) (placed list 0 (map f vs)) (option_map (Item list) (position_from (λ v. not (test (f v))) 0 vs))
-found_said {V} {X} test f list vs =
+pub found_said : {V X : Type 0} (test : X → Bool) (f : V → X) (at : ℕ → Path) (vs : List V)
+    → FindsFirst (λ x. ¬ IsTrue (test x)) (placed at 0 (map f vs)) (option_map at (position_from (λ v. not (test (f v))) 0 vs))
+found_said {V} {X} test f at vs =
     found_by (λ x v. x ≡ f v) (λ x. ¬ IsTrue (test x)) (λ v. not (test (f v))) (λ x v is e. fails x v is (test (f v)) refl e) (λ x v is e off. off (ap test is ∙ passes (test (f v)) e))
-    list 0 (map f vs) vs (said-zip f vs)
+    at 0 (map f vs) vs (said-zip f vs)
   where
     passes : (b : Bool) → not b ≡ false → b ≡ true
     passes true e = refl

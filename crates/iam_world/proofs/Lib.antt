@@ -1,14 +1,10 @@
-pub mod AccountIds
 pub mod Clearing
 pub mod Counts
 pub mod DocumentLemmas
 pub mod FaultSet
 pub mod Firsts
-pub mod OneView
 pub mod Owners
-pub mod SmallViews
-pub mod Stages
-pub mod Texts
+pub mod PartLemmas
 pub mod Unique
 pub mod Walks
 pub mod Worlds

@@ -6,12 +6,12 @@ use Rattle.std.specs.Prelude.{IsTrue, String}
 use Rattle.std.specs.declared.alloc.Global.{Global}
 use Rattle.iam_match.specs.Requester.{RequesterValue, IsRequesterOf}
 use Rattle.iam_world.specs.Code.ViewFault.{FindsFirst}
-use Rattle.iam_world.specs.Code.Texts.{HasTexts}
-use Rattle.iam_world.specs.View.{PrincipalView, ResourceView, WorldView}
+use Rattle.iam_shape.specs.Code.Texts.{HasTexts}
+use Rattle.iam_shape.specs.View.{PrincipalView, ResourceView, WorldView}
 use Rattle.iam_world.specs.WorldFault.{IsFirstAt, IsOfUnknownAccount, IsRequesterAt, Owner, of_principal, of_resource, has_account, owners, placed}
-use Rattle.iam_world.specs.declared.path.Name.TheVariants.{Principals, Resources}
-use Rattle.iam_world.specs.declared.path.Path.{Path}
-use Rattle.iam_world.specs.declared.path.Path.TheVariants.{Item}
+use Rattle.iam_shape.specs.declared.path.Name.TheVariants.{Principals, Resources}
+use Rattle.iam_shape.specs.declared.path.Path.{Path}
+use Rattle.iam_shape.specs.declared.path.Path.TheVariants.{Item}
 use Rattle.iam_world.proofs.Firsts.{first_here, first_later, found_by, none-append}
 
 not-true : (b : Bool) → not b ≡ true → b ≡ false
@@ -41,10 +41,10 @@ module _ (world : WorldView) (ids : BTreeSet (String Global)) (has : HasTexts id
   -- the first requester of an unknown account
   pub first_user : ((arn : List ℕ) (session : Option (List ℕ)) (r other : RequesterValue) → IsRequesterOf arn session r → IsRequesterOf arn session other → r ≡ other)
       → (rs : List RequesterValue) → AllZip IsRequesterAt world.principals rs
-      → FindsFirst (IsOfUnknownAccount world) (placed Principals 0 (map of_principal world.principals))
+      → FindsFirst (IsOfUnknownAccount world) (placed (Item Principals) 0 (map of_principal world.principals))
       (option_map (Item Principals) (position_from (λ r. not (contains_text ids r.account)) 0 rs))
   first_user one rs zip =
-      found_by User (IsOfUnknownAccount world) (λ r. not (contains_text ids r.account)) holds fails Principals 0 (map of_principal world.principals) rs
+      found_by User (IsOfUnknownAccount world) (λ r. not (contains_text ids r.account)) holds fails (Item Principals) 0 (map of_principal world.principals) rs
       (users world.principals rs zip)
     where
       holds : (owner : Owner) (r : RequesterValue) → User owner r → not (contains_text ids r.account) ≡ true → IsOfUnknownAccount world owner
@@ -59,11 +59,11 @@ module _ (world : WorldView) (ids : BTreeSet (String Global)) (has : HasTexts id
 
   -- the first resource of an unknown account, where the code holds the resources as `vs`
   pub first_resource : {V : Type 0} (f : V → ResourceView) (vs : List V) → map f vs ≡ world.resources
-      → FindsFirst (IsOfUnknownAccount world) (placed Resources 0 (map of_resource world.resources))
+      → FindsFirst (IsOfUnknownAccount world) (placed (Item Resources) 0 (map of_resource world.resources))
       (option_map (Item Resources) (position_from (λ v. not (contains_text ids (f v).account)) 0 vs))
   first_resource {V} f vs are =
-      subst (λ rs. FindsFirst (IsOfUnknownAccount world) (placed Resources 0 (map of_resource rs)) (option_map (Item Resources) (position_from (λ v. not (contains_text ids (f v).account)) 0 vs))) are
-      (found_by (λ owner v. owner ≡ of_resource (f v)) (IsOfUnknownAccount world) (λ v. not (contains_text ids (f v).account)) holds fails Resources 0
+      subst (λ rs. FindsFirst (IsOfUnknownAccount world) (placed (Item Resources) 0 (map of_resource rs)) (option_map (Item Resources) (position_from (λ v. not (contains_text ids (f v).account)) 0 vs))) are
+      (found_by (λ owner v. owner ≡ of_resource (f v)) (IsOfUnknownAccount world) (λ v. not (contains_text ids (f v).account)) holds fails (Item Resources) 0
       (map of_resource (map f vs)) vs (each vs))
     where
       each : (vs : List V) → AllZip (λ owner v. owner ≡ of_resource (f v)) (map of_resource (map f vs)) vs
@@ -79,16 +79,16 @@ module _ (world : WorldView) (ids : BTreeSet (String Global)) (has : HasTexts id
           at_v.2 (subst (λ id. IsTrue (has_account world id)) (sym at_v.1) (known (f v).account e))
 
   -- an unknown account of a principal comes first
-  pub in_users : (path : Path) → IsFirstAt (IsOfUnknownAccount world) (placed Principals 0 (map of_principal world.principals)) path
+  pub in_users : (path : Path) → IsFirstAt (IsOfUnknownAccount world) (placed (Item Principals) 0 (map of_principal world.principals)) path
       → IsFirstAt (IsOfUnknownAccount world) (owners world) path
   in_users path (x, first) =
-      (x, first_here (λ (y : Path × Owner). IsOfUnknownAccount world y.1) (placed Principals 0 (map of_principal world.principals)) (placed Resources 0 (map of_resource world.resources)) (path, x) first)
+      (x, first_here (λ (y : Path × Owner). IsOfUnknownAccount world y.1) (placed (Item Principals) 0 (map of_principal world.principals)) (placed (Item Resources) 0 (map of_resource world.resources)) (path, x) first)
 
   -- where there is none, the resources decide
-  pub in_resources : (found : Option Path) → AllByRecursion (λ (y : Path × Owner). ¬ IsOfUnknownAccount world y.1) (placed Principals 0 (map of_principal world.principals))
-      → FindsFirst (IsOfUnknownAccount world) (placed Resources 0 (map of_resource world.resources)) found
+  pub in_resources : (found : Option Path) → AllByRecursion (λ (y : Path × Owner). ¬ IsOfUnknownAccount world y.1) (placed (Item Principals) 0 (map of_principal world.principals))
+      → FindsFirst (IsOfUnknownAccount world) (placed (Item Resources) 0 (map of_resource world.resources)) found
       → FindsFirst (IsOfUnknownAccount world) (owners world) found
   in_resources None none rest =
-      none-append (λ (y : Path × Owner). ¬ IsOfUnknownAccount world y.1) (placed Principals 0 (map of_principal world.principals)) (placed Resources 0 (map of_resource world.resources)) none rest
+      none-append (λ (y : Path × Owner). ¬ IsOfUnknownAccount world y.1) (placed (Item Principals) 0 (map of_principal world.principals)) (placed (Item Resources) 0 (map of_resource world.resources)) none rest
   in_resources (Some path) none (x, first) =
-      (x, first_later (λ (y : Path × Owner). IsOfUnknownAccount world y.1) (placed Principals 0 (map of_principal world.principals)) (placed Resources 0 (map of_resource world.resources)) (path, x) none first)
+      (x, first_later (λ (y : Path × Owner). IsOfUnknownAccount world y.1) (placed (Item Principals) 0 (map of_principal world.principals)) (placed (Item Resources) 0 (map of_resource world.resources)) (path, x) none first)

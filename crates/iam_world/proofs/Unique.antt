@@ -1,6 +1,12 @@
 -- Bytes have one world at most, and one first fault.
-use Rattle.std.proofs.Common.{◌≡◌, inl, inr, ℕ, List, Option, Some, refl, sym, ap, ◌∙◌, subst, arith}
+use Rattle.std.proofs.Common.{◌≡◌, inl, inr, ℕ, List, Option, Some, None, true, false, refl, sym, ap, ◌∙◌, subst, arith}
+use Rattle.std.specs.List.{AllZip}
 use Rattle.serde_json.specs.Data.{Data}
+use Rattle.iam_context.specs.Context.{ContextValue}
+use Rattle.iam_context.specs.ContextFault.{IsPartFault}
+use Rattle.iam_context.specs.declared.fault.ContextFault.{ContextFault}
+use Rattle.iam_context.specs.declared.fault.ContextFault.TheVariants.{KeyTwice, DerivedKeyGiven}
+use Rattle.iam_context.specs.declared.fault.ContextFault.TheVariants as context
 use Rattle.iam_match.specs.Requester.{RequesterValue, IsRequesterOf}
 use Rattle.iam_policy.specs.Fault.{IsLeastFault}
 use Rattle.iam_policy.specs.Reading.{PolicyValue, Reads}
@@ -8,47 +14,58 @@ use Rattle.iam_policy.specs.declared.fault.Fault.{Fault}
 use Rattle.iam_policy.specs.declared.fault.Kind.{Kind}
 use Rattle.iam_policy.specs.declared.fault.Kind.TheVariants as kind
 use Rattle.iam_policy.specs.declared.fault.Refused.{Refused}
-use Rattle.iam_world.specs.Reads.{IsWorld, ReadsAccount, ReadsPrincipal, ReadsResource, ReadsWorld}
-use Rattle.iam_world.specs.Shape.{first_bad, shape_checks}
-use Rattle.iam_world.specs.View.{AccountView, PrincipalView, ResourceView, WorldView, IsView}
+use Rattle.iam_world.specs.Reads.{IsWorld, ReadsAccount, ReadsOptional, ReadsPrincipal, ReadsResource, ReadsWorld}
+use Rattle.iam_shape.specs.Shape.{first_bad, shape_checks}
+use Rattle.iam_shape.specs.View.{AccountView, PrincipalView, ResourceView, WorldView, IsView}
 use Rattle.iam_world.specs.World.{AccountValue, PrincipalValue, ResourceValue, WorldValue}
-use Rattle.iam_world.specs.WorldFault.{Document, HasView, IsFirstRefused, IsFirstWorldFault, IsNotAccepted, WorldHasFault, documents, world_number_of}
+use Rattle.iam_world.specs.WorldFault.{Beside, Document, HasView, IsFaulty, IsFirstFaulty, IsFirstRefused, IsFirstWorldFault, IsNotAccepted, WorldHasFault, documents, parts, world_number_of}
 use Rattle.iam_world.specs.declared.fault.WorldFault.{WorldFault}
-use Rattle.iam_world.specs.declared.fault.WorldFault.TheVariants.{NotJson, BadShape, BadRequester, BadAction, BadResourceArn, UnknownAccount, Policy, TooLarge, OutOfMemory}
-use Rattle.iam_world.specs.declared.path.Path.{Path}
-use Rattle.iam_world.proofs.FaultSet.{one_json, view_is}
+use Rattle.iam_world.specs.declared.fault.WorldFault.TheVariants.{NotJson, BadShape, BadRequester, BadAction, BadResourceArn, UnknownAccount, Context, Policy, TooLarge, OutOfMemory}
+use Rattle.iam_shape.specs.declared.path.Path.{Path}
+use Rattle.iam_world.proofs.FaultSet.{OneView, one_json, view_is}
 use Rattle.iam_world.proofs.Firsts.{one_at, one_first}
-use Rattle.iam_world.proofs.OneView.{one_view, zip_unique}
+use Rattle.iam_world.proofs.Walks.{zip_unique}
 
 -- ---- one world
 
-one_account : (v : AccountView) (a b : AccountValue) → ReadsAccount v a → ReadsAccount v b → a ≡ b
-one_account v a b one two =
-    let id : a.id ≡ b.id = one.id ∙ sym two.id in
-    let management : a.management ≡ b.management = one.management ∙ sym two.management in
-    let org : a.org ≡ b.org = one.org ∙ sym two.org in
-    λ i. record { id = id i; management = management i; org = org i }
-
-one_resource : (v : ResourceView) (a b : ResourceValue) → ReadsResource v a → ReadsResource v b → a ≡ b
-one_resource v a b one two =
-    let arn : a.arn ≡ b.arn = one.arn ∙ sym two.arn in
-    let account : a.account ≡ b.account = one.account ∙ sym two.account in
-    let policy : a.policy ≡ b.policy = one.policy ∙ sym two.policy in
-    let sealed : a.sealed ≡ b.sealed = one.sealed ∙ sym two.sealed in
-    let context : a.context ≡ b.context = one.context ∙ sym two.context in
-    λ i. record { arn = arn i; account = account i; policy = policy i; sealed = sealed i; context = context i }
-
 module _
+    (one_view : OneView)
     (requester : (arn : List ℕ) (session : Option (List ℕ)) (r other : RequesterValue) → IsRequesterOf arn session r → IsRequesterOf arn session other → r ≡ other)
     (policy : (kind : Kind) (d : Data) (p q : PolicyValue) → Reads kind d p → Reads kind d q → p ≡ q)
   where
+    one_list : (kind : Kind) (ds : List Data) (ps qs : List PolicyValue) → AllZip (Reads kind) ds ps → AllZip (Reads kind) ds qs → ps ≡ qs
+    one_list kind ds ps qs one two = zip_unique (Reads kind) (policy kind) ds ps qs one two
+
+    one_optional : (kind : Kind) (d : Option Data) (p q : Option PolicyValue) → ReadsOptional kind d p → ReadsOptional kind d q → p ≡ q
+    one_optional kind None None None one two = refl
+    one_optional kind None None (Some q) one two = absurd two
+    one_optional kind None (Some p) q one two = absurd one
+    one_optional kind (Some d) None q one two = absurd one
+    one_optional kind (Some d) (Some p) None one two = absurd two
+    one_optional kind (Some d) (Some p) (Some q) one two = ap Some (policy kind d p q one two)
+
+    one_account : (v : AccountView) (a b : AccountValue) → ReadsAccount v a → ReadsAccount v b → a ≡ b
+    one_account v a b one two =
+        let id : a.id ≡ b.id = one.id ∙ sym two.id in
+        let management : a.management ≡ b.management = one.management ∙ sym two.management in
+        let org : a.org ≡ b.org = zip_unique (AllZip (Reads kind.Org)) (one_list kind.Org) v.org a.org b.org one.org two.org in
+        λ i. record { id = id i; management = management i; org = org i }
+
+    one_resource : (v : ResourceView) (a b : ResourceValue) → ReadsResource v a → ReadsResource v b → a ≡ b
+    one_resource v a b one two =
+        let arn : a.arn ≡ b.arn = one.arn ∙ sym two.arn in
+        let account : a.account ≡ b.account = one.account ∙ sym two.account in
+        let attached : a.policy ≡ b.policy = one_optional kind.Resource v.policy a.policy b.policy one.policy two.policy in
+        let sealed : a.sealed ≡ b.sealed = one.sealed ∙ sym two.sealed in
+        let context : a.context ≡ b.context = one.context ∙ sym two.context in
+        λ i. record { arn = arn i; account = account i; policy = attached i; sealed = sealed i; context = context i }
+
     one_principal : (v : PrincipalView) (p q : PrincipalValue) → ReadsPrincipal v p → ReadsPrincipal v q → p ≡ q
     one_principal v p q one two =
         let asker : p.requester ≡ q.requester = requester v.arn v.session p.requester q.requester one.requester two.requester in
-        let identity : p.identity ≡ q.identity =
-        zip_unique (Reads kind.Identity) (policy kind.Identity) v.identity p.identity q.identity one.identity two.identity in
-        let boundary : p.boundary ≡ q.boundary = one.boundary ∙ sym two.boundary in
-        let session : p.session ≡ q.session = one.session ∙ sym two.session in
+        let identity : p.identity ≡ q.identity = one_list kind.Identity v.identity p.identity q.identity one.identity two.identity in
+        let boundary : p.boundary ≡ q.boundary = one_optional kind.Identity v.boundary p.boundary q.boundary one.boundary two.boundary in
+        let session : p.session ≡ q.session = one_list kind.Identity v.session_policies p.session q.session one.session two.session in
         let context : p.context ≡ q.context = one.context ∙ sym two.context in
         λ i. record { requester = asker i; identity = identity i; boundary = boundary i; session = session i; context = context i }
 
@@ -79,10 +96,11 @@ module _
 -- ---- one first fault
 
 -- two things that a view makes equal
-same_view : {A : Type 0} (bytes : List ℕ) (P Q : WorldView → Type 0) (x y : A) → ((world : WorldView) → P world → Q world → x ≡ y) → HasView bytes P → HasView bytes Q → x ≡ y
-same_view bytes P Q x y step one two = step one.2.0 one.2.2 (view_is bytes one.0 one.2.0 one.1 one.2.1 Q two)
+same_view : (one_view : OneView) {A : Type 0} (bytes : List ℕ) (P Q : WorldView → Type 0) (x y : A) → ((world : WorldView) → P world → Q world → x ≡ y) → HasView bytes P → HasView bytes Q → x ≡ y
+same_view one_view bytes P Q x y step one two = step one.2.0 one.2.2 (view_is one_view bytes one.0 one.2.0 one.1 one.2.1 Q two)
 
 module _
+    (one_view : OneView)
     (least : (kind : Kind) (d : Data) (place other : Option ℕ) (fault fault' : Fault) → IsLeastFault kind d place fault → IsLeastFault kind d other fault'
     → (place ≡ other) × (fault ≡ fault'))
   where
@@ -93,6 +111,22 @@ module _
         let faults = least x.kind x.value r.statement s.statement r.fault s.fault one (subst (λ (d : Document). IsLeastFault d.kind d.value s.statement s.fault) same two) in
         λ i. Policy (path i) (record { statement = faults.0 i; fault = faults.1 i })
 
+    one_part : (others : List (List ℕ)) (part : ContextValue) (f g : ContextFault) → IsPartFault others part f → IsPartFault others part g → f ≡ g
+    one_part others part KeyTwice KeyTwice one two = refl
+    one_part others part KeyTwice DerivedKeyGiven one two = let wrong : true ≡ false = sym one.holds ∙ two.least refl in cc
+    one_part others part DerivedKeyGiven KeyTwice one two = let wrong : true ≡ false = sym two.holds ∙ one.least refl in cc
+    one_part others part DerivedKeyGiven DerivedKeyGiven one two = refl
+    one_part others part context.OutOfMemory g one two = let wrong : false ≡ true = one.holds in cc
+    one_part others part f context.OutOfMemory one two = let wrong : false ≡ true = two.holds in cc
+
+    one_faulty : (ps : List (Path × Beside)) (p q : Path) (f g : ContextFault) → IsFirstFaulty ps p f → IsFirstFaulty ps q g → Context p f ≡ Context q g
+    one_faulty ps p q f g (x, first, one) (y, first', two) =
+        let same : (q, y) ≡ (p, x) = one_first (λ (z : Path × Beside). IsFaulty z.1) ps (q, y) (p, x) first' first in
+        let path : p ≡ q = sym (ap (λ (z : Path × Beside). z.0) same) in
+        let beside : y ≡ x = ap (λ (z : Path × Beside). z.1) same in
+        let fault : f ≡ g = one_part x.others x.part f g one (subst (λ (b : Beside). IsPartFault b.others b.part g) beside two) in
+        λ i. Context (path i) (fault i)
+
     -- the set has one member of a number
     one_of : (bytes : List ℕ) (fault other : WorldFault) → world_number_of fault ≡ world_number_of other → WorldHasFault bytes fault → WorldHasFault bytes other → fault ≡ other
     one_of bytes NotJson NotJson number one two = refl
@@ -101,11 +135,13 @@ module _
         let same : Some p ≡ Some q = sym one ∙ there in
         let path : p ≡ q = cc in
         ap BadShape path
-    one_of bytes (BadRequester p) (BadRequester q) number one two = ap BadRequester (same_view bytes _ _ p q (λ world h k. one_at _ _ p q h k) one two)
-    one_of bytes (BadAction p) (BadAction q) number one two = ap BadAction (same_view bytes _ _ p q (λ world h k. one_at _ _ p q h k) one two)
-    one_of bytes (BadResourceArn p) (BadResourceArn q) number one two = ap BadResourceArn (same_view bytes _ _ p q (λ world h k. one_at _ _ p q h k) one two)
-    one_of bytes (UnknownAccount p) (UnknownAccount q) number one two = ap UnknownAccount (same_view bytes _ _ p q (λ world h k. one_at _ _ p q h k) one two)
-    one_of bytes (Policy p r) (Policy q s) number one two = same_view bytes _ _ (Policy p r) (Policy q s) (λ world h k. one_refused (documents world) p q r s h k) one two
+    one_of bytes (BadRequester p) (BadRequester q) number one two = ap BadRequester (same_view one_view bytes _ _ p q (λ world h k. one_at _ _ p q h k) one two)
+    one_of bytes (BadAction p) (BadAction q) number one two = ap BadAction (same_view one_view bytes _ _ p q (λ world h k. one_at _ _ p q h k) one two)
+    one_of bytes (BadResourceArn p) (BadResourceArn q) number one two = ap BadResourceArn (same_view one_view bytes _ _ p q (λ world h k. one_at _ _ p q h k) one two)
+    one_of bytes (UnknownAccount p) (UnknownAccount q) number one two = ap UnknownAccount (same_view one_view bytes _ _ p q (λ world h k. one_at _ _ p q h k) one two)
+    one_of bytes (Context p f) (Context q g) number one two =
+        same_view one_view bytes _ _ (Context p f) (Context q g) (λ world h k. one_faulty (parts world) p q f g h k) one two
+    one_of bytes (Policy p r) (Policy q s) number one two = same_view one_view bytes _ _ (Policy p r) (Policy q s) (λ world h k. one_refused (documents world) p q r s h k) one two
     one_of bytes TooLarge TooLarge number one two = refl
     one_of bytes OutOfMemory other number one two = absurd one
     one_of bytes fault other number one two = absurd (omega arith)

@@ -1,29 +1,7 @@
--- The walk of checks along a list, and what it finds.
-use Rattle.std.proofs.Common.{◌≡◌, ℕ, suc, zero, ◌+◌, ◌<◌, List, [], ◌∷◌, ◌++◌, map, length, take, drop, get_or, Bool, true, false, cond, Some, None, refl, ap, ◌∙◌, sym, subst, arith}
+-- Lists that are read element by element.
+use Rattle.std.proofs.Common.{◌≡◌, ℕ, suc, zero, ◌+◌, ◌<◌, ◌≤◌, List, [], ◌∷◌, ◌++◌, map, length, take, drop, get_or, refl, ap, ◌∙◌, sym, subst, arith}
 use Rattle.std.specs.List.{AllZip}
 use Rattle.std.proofs.lemmas.List.{get_or_default, map-append}
-use Rattle.serde_json.specs.Data.{Data}
-use Rattle.iam_world.specs.Shape.{Check, first_bad, each}
-use Rattle.iam_world.specs.declared.path.Path.{Path}
-
--- the first check that fails in the first of two lists, or else in the second
-pub first_bad_here : (cs ds : List Check) (path : Path) → first_bad cs ≡ Some path → first_bad (cs ++ ds) ≡ Some path
-first_bad_here [] ds path e = cc
-first_bad_here (c ∷ cs) ds path e = go c.1 (first_bad_here cs ds path) e
-  where
-    go : (b : Bool) → (first_bad cs ≡ Some path → first_bad (cs ++ ds) ≡ Some path) → cond b (first_bad cs) (Some c.0) ≡ Some path
-        → cond b (first_bad (cs ++ ds)) (Some c.0) ≡ Some path
-    go true later e = later e
-    go false later e = e
-
-pub first_bad_later : (cs ds : List Check) → first_bad cs ≡ None → first_bad (cs ++ ds) ≡ first_bad ds
-first_bad_later [] ds e = refl
-first_bad_later (c ∷ cs) ds e = go c.1 (first_bad_later cs ds) e
-  where
-    go : (b : Bool) → (first_bad cs ≡ None → first_bad (cs ++ ds) ≡ first_bad ds) → cond b (first_bad cs) (Some c.0) ≡ None
-        → cond b (first_bad (cs ++ ds)) (Some c.0) ≡ first_bad ds
-    go true later e = later e
-    go false later e = cc
 
 -- the values of a list from i on: that at i, and the rest
 pub drop-at : {X Y : Type 0} (f : X → Y) (xs : List X) (i : ℕ) (x : X) → i < length xs → x ≡ get_or xs i x → map f (drop i xs) ≡ f x ∷ map f (drop (i + 1) xs)
@@ -33,19 +11,6 @@ drop-at f (y ∷ xs) (suc i) x below is =
     let rest : i < length xs = omega arith in
     let number : suc (i + 1) ≡ suc i + 1 = omega arith in
     drop-at f xs i x rest is ∙ ap (λ n. f x ∷ map f (drop n (y ∷ xs))) number
-
--- the checks of the values from i on: those of that at i, then the others
-pub each_here : {X : Type 0} (f : X → Data) (checks : ℕ → Data → List Check) (xs : List X) (i : ℕ) (x : X) (path : Path) → i < length xs → x ≡ get_or xs i x
-    → first_bad (checks i (f x)) ≡ Some path → first_bad (each checks i (map f (drop i xs))) ≡ Some path
-each_here f checks xs i x path below is bad =
-    ap (λ ds. first_bad (each checks i ds)) (drop-at f xs i x below is)
-    ∙ first_bad_here (checks i (f x)) (each checks (i + 1) (map f (drop (i + 1) xs))) path bad
-
-pub each_later : {X : Type 0} (f : X → Data) (checks : ℕ → Data → List Check) (xs : List X) (i : ℕ) (x : X) → i < length xs → x ≡ get_or xs i x
-    → first_bad (checks i (f x)) ≡ None → first_bad (each checks i (map f (drop i xs))) ≡ first_bad (each checks (i + 1) (map f (drop (i + 1) xs)))
-each_later f checks xs i x below is clear =
-    ap (λ ds. first_bad (each checks i ds)) (drop-at f xs i x below is)
-    ∙ first_bad_later (checks i (f x)) (each checks (i + 1) (map f (drop (i + 1) xs))) clear
 
 -- one more element that is read
 pub zip_more : {V D Y : Type 0} (R : D → Y → Type 0) (f : V → D) (vs : List V) (i : ℕ) (v : V) (ys : List Y) (y : Y) → i < length vs → v ≡ get_or vs i v
@@ -69,3 +34,53 @@ zip_more_of R f g vs i v ys y below is zip r =
 pub zip_next : {V D Y : Type 0} (R : D → Y → Type 0) (f : V → D) (vs : List V) (i : ℕ) (d : V) (ys : List Y) (y : Y) → i < length vs
     → AllZip R (map f (take i vs)) ys → R (f (get_or vs i d)) y → AllZip R (map f (take (i + 1) vs)) (ys ++ (y ∷ []))
 zip_next R f vs i d ys y below zip r = zip_more R f vs i (get_or vs i d) ys y below (get_or_default vs i d (get_or vs i d) below) zip r
+
+-- where each element has one reading, so has a list
+pub zip_unique : {X Y : Type 0} (R : X → Y → Type 0) → ((x : X) (y z : Y) → R x y → R x z → y ≡ z) → (xs : List X) (ys zs : List Y) → AllZip R xs ys → AllZip R xs zs → ys ≡ zs
+zip_unique R step [] [] [] one two = refl
+zip_unique R step [] [] (z ∷ zs) one two = absurd two
+zip_unique R step [] (y ∷ ys) zs one two = absurd one
+zip_unique R step (x ∷ xs) [] zs one two = absurd one
+zip_unique R step (x ∷ xs) (y ∷ ys) [] one two = absurd two
+zip_unique R step (x ∷ xs) (y ∷ ys) (z ∷ zs) one two =
+    ap (λ a. a ∷ ys) (step x y z one.0 two.0) ∙ ap (λ rest. z ∷ rest) (zip_unique R step xs ys zs one.1 two.1)
+
+-- a list and what is read of it are as long
+pub zip-length : {X Y : Type 0} (R : X → Y → Type 0) (xs : List X) (ys : List Y) → AllZip R xs ys → length xs ≡ length ys
+zip-length R [] [] zip = refl
+zip-length R [] (y ∷ ys) zip = absurd zip
+zip-length R (x ∷ xs) [] zip = absurd zip
+zip-length R (x ∷ xs) (y ∷ ys) zip = ap suc (zip-length R xs ys zip.1)
+
+-- what is read of lent values is read of what they say
+pub zip-map : {V D Y : Type 0} (R : D → Y → Type 0) (f : V → D) (vs : List V) (ys : List Y) → AllZip (λ v y. R (f v) y) vs ys → AllZip R (map f vs) ys
+zip-map R f [] [] zip = tt
+zip-map R f [] (y ∷ ys) zip = absurd zip
+zip-map R f (v ∷ vs) [] zip = absurd zip
+zip-map R f (v ∷ vs) (y ∷ ys) zip = (zip.0, zip-map R f vs ys zip.1)
+
+-- one more element that is read, where nothing is lent
+pub zip_whole : {V Y : Type 0} (R : V → Y → Type 0) (vs : List V) (i : ℕ) (v : V) (ys : List Y) (y : Y) → i < length vs → v ≡ get_or vs i v → AllZip R (take i vs) ys → R v y
+    → AllZip R (take (i + 1) vs) (ys ++ (y ∷ []))
+zip_whole R [] i v ys y below is zip r = absurd (omega arith)
+zip_whole R (x ∷ vs) zero v [] y below is zip r = (subst (λ z. R z y) is r, tt)
+zip_whole R (x ∷ vs) zero v (z ∷ zs) y below is zip r = absurd zip
+zip_whole R (x ∷ vs) (suc i) v [] y below is zip r = absurd zip
+zip_whole R (x ∷ vs) (suc i) v (z ∷ zs) y below is zip r =
+    let rest : i < length vs = omega arith in
+    let number : suc (i + 1) ≡ suc i + 1 = omega arith in
+    subst (λ n. AllZip R (take n (x ∷ vs)) (z ∷ (zs ++ (y ∷ [])))) number (zip.0, zip_whole R vs i v zs y rest is zip.1 r)
+
+-- the same where both sides are lent
+pub zip-both : {V D Y Z : Type 0} (R : D → Z → Type 0) (f : V → D) (g : Y → Z) (vs : List V) (ys : List Y) → AllZip (λ v y. R (f v) (g y)) vs ys → AllZip R (map f vs) (map g ys)
+zip-both R f g [] [] zip = tt
+zip-both R f g [] (y ∷ ys) zip = absurd zip
+zip-both R f g (v ∷ vs) [] zip = absurd zip
+zip-both R f g (v ∷ vs) (y ∷ ys) zip = (zip.0, zip-both R f g vs ys zip.1)
+
+-- the elements before the end are all
+pub take-all : {X : Type 0} (i : ℕ) (xs : List X) → length xs ≤ i → take i xs ≡ xs
+take-all zero [] end = refl
+take-all zero (x ∷ xs) end = absurd (omega arith)
+take-all (suc i) [] end = refl
+take-all (suc i) (x ∷ xs) end = ap (λ rest. x ∷ rest) (take-all i xs (omega arith))

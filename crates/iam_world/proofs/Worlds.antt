@@ -1,89 +1,68 @@
 -- What a world keeps of the document that it is read from.
-use Rattle.std.proofs.Common.{◌≡◌, inl, inr, ℕ, ◌+◌, ◌*◌, ◌<◌, ◌≤◌, List, [], ◌∷◌, ◌++◌, map, length, Bool, true, false, cond, Some, None, refl, sym, ap, ◌∙◌, subst, arith}
-use Rattle.std.specs.List.{AllByRecursion, AllZip, find, flat_map, sum_by, zip}
-use Rattle.std.specs.Option.{option_to_list}
-use Rattle.std.proofs.lemmas.List.{append-nil}
-use Rattle.std.proofs.lemmas.List.Sums.{sum_by-append, sum_by-cons}
+use Rattle.std.proofs.Common.{◌≡◌, inl, inr, ℕ, ◌*◌, ◌<◌, ◌≤◌, ◌^◌, List, [], ◌∷◌, ◌++◌, map, length, Bool, true, false, cond, Option, Some, refl, sym, ap, ◌∙◌, subst, arith}
+use Rattle.std.specs.List.{AllByRecursion, AllZip, find, flat_map, zip}
+use Rattle.serde_json.specs.Data.{Data}
+use Rattle.iam_context.specs.Context.{ContextValue, keys_of}
+use Rattle.iam_context.specs.ContextFault.{IsClean}
 use Rattle.iam_match.specs.Requester.{RequesterValue}
 use Rattle.iam_policy.specs.declared.fault.Kind.TheVariants as kind
 use Rattle.iam_policy.specs.Reading.{Reads, PolicyValue}
-use Rattle.iam_world.specs.Code.Documents.{HasIdentity}
-use Rattle.iam_world.specs.Code.Invariants.{HasFewDocuments, HasFewLevels, HasFewPolicies, IsSized, statements_in}
-use Rattle.iam_world.specs.Reads.{ReadsAccount, ReadsPrincipal, ReadsResource, ReadsWorld}
-use Rattle.iam_world.specs.View.{AccountView, PrincipalView, WorldView}
-use Rattle.iam_world.specs.World.{AccountValue, PrincipalValue, ResourceValue, WorldValue, org_of, policies_of, world_cells, world_statements}
-use Rattle.iam_world.specs.WorldFault.{IsOverLimits, IsRequesterAt, cell_count, statement_count}
-use Rattle.iam_world.proofs.Counts.{identity-statements, zip-length}
+use Rattle.iam_shape.specs.Few.{HasFewDocuments, HasFewLists}
+use Rattle.iam_shape.specs.Few as few_views
+use Rattle.iam_shape.specs.View.{AccountView, PrincipalView, ResourceView, WorldView}
+use Rattle.iam_world.specs.Code.Contexts.{AllClean, AreClean}
+use Rattle.iam_world.specs.Code.Invariants.{CanJoin, HasFewLevels, HasFewPolicies, IsSized}
+use Rattle.iam_world.specs.Code.Made.{bare_account, bare_resource, made_account, made_principal, made_resource}
+use Rattle.iam_world.specs.Part.{part_of}
+use Rattle.iam_world.specs.Reads.{ReadsAccount, ReadsOptional, ReadsPrincipal, ReadsResource, ReadsWorld}
+use Rattle.iam_world.specs.World.{AccountValue, PrincipalValue, ResourceValue, WorldValue, org_of, world_cells}
+use Rattle.iam_world.specs.WorldFault.{IsOverLimits, IsRequesterAt, cell_count, principal_parts, resource_parts, statement_count}
+use Rattle.iam_world.proofs.Counts.{statements-are}
+use Rattle.iam_world.proofs.Walks.{zip-length}
 
--- the principal of a requester and its identity policies
-abbrev principal_with : RequesterValue × List PolicyValue → PrincipalValue
-principal_with p = record { requester = p.0; identity = p.1; boundary = None; session = []; context = [] }
+-- ---- putting together
 
-pub reads_principals : (ps : List PrincipalView) (rs : List RequesterValue) (identity : List (List PolicyValue)) → AllZip IsRequesterAt ps rs → AllZip HasIdentity ps identity
-    → AllZip ReadsPrincipal ps (map principal_with (zip rs identity))
-reads_principals [] [] [] one two = tt
-reads_principals [] [] (i ∷ is) one two = absurd two
-reads_principals [] (r ∷ rs) is one two = absurd one
-reads_principals (p ∷ ps) [] is one two = absurd one
-reads_principals (p ∷ ps) (r ∷ rs) [] one two = absurd two
-reads_principals (p ∷ ps) (r ∷ rs) (i ∷ is) one two =
-    (record { requester = one.0; identity = two.0; boundary = refl; session = refl; context = refl }, reads_principals ps rs is one.1 two.1)
+pub reads_accounts : {Y : Type 0} (g : Y → List (List PolicyValue)) (vs : List AccountView) (org : List Y) → AllZip (λ v o. AllZip (AllZip (Reads kind.Org)) v.org (g o)) vs org
+    → AllZip ReadsAccount vs (map (λ p. made_account (p.0, g p.1)) (zip (map bare_account vs) org))
+reads_accounts g [] [] zip = tt
+reads_accounts g [] (o ∷ org) zip = absurd zip
+reads_accounts g (v ∷ vs) [] zip = absurd zip
+reads_accounts g (v ∷ vs) (o ∷ org) zip = (record { id = refl; management = refl; org = zip.0 }, reads_accounts g vs org zip.1)
 
--- ---- what is not read yet is absent
+pub reads_resources : {Y : Type 0} (g : Y → ContextValue) (vs : List ResourceView) (ps : List (Option PolicyValue)) (cs : List Y)
+    → AllZip (λ v p. ReadsOptional kind.Resource v.policy p) vs ps → map g cs ≡ map (λ v. part_of v.context) vs
+    → AllZip ReadsResource vs (map (λ p. made_resource (p.0, g p.1)) (zip (zip (map bare_resource vs) ps) cs))
+reads_resources g [] [] cs zip same = tt
+reads_resources g [] (p ∷ ps) cs zip same = absurd zip
+reads_resources g (v ∷ vs) [] cs zip same = absurd zip
+reads_resources g (v ∷ vs) (p ∷ ps) [] zip same = cc
+reads_resources g (v ∷ vs) (p ∷ ps) (c ∷ cs) zip same =
+    let here : g c ≡ part_of v.context = cc in
+    let rest : map g cs ≡ map (λ v. part_of v.context) vs = cc in
+    (record { arn = refl; account = refl; policy = zip.0; sealed = refl; context = here }, reads_resources g vs ps cs zip.1 rest)
 
-none-of : {X : Type 0} (f : X → List PolicyValue) (xs : List X) → AllByRecursion (λ x. f x ≡ []) xs → flat_map f xs ≡ []
-none-of f [] none = refl
-none-of f (x ∷ xs) none = ap (λ ys. ys ++ flat_map f xs) none.0 ∙ none-of f xs none.1
-
-each-of : {X Y : Type 0} (R : X → Y → Type 0) (P : Y → Type 0) → ((x : X) (y : Y) → R x y → P y) → (xs : List X) (ys : List Y) → AllZip R xs ys → AllByRecursion P ys
-each-of R P step [] [] zip = tt
-each-of R P step [] (y ∷ ys) zip = absurd zip
-each-of R P step (x ∷ xs) [] zip = absurd zip
-each-of R P step (x ∷ xs) (y ∷ ys) zip = (step x y zip.0, each-of R P step xs ys zip.1)
-
--- the policies of a world that is read are the identity policies
-identity_alone : (view : WorldView) (world : WorldValue) → ReadsWorld view world → policies_of world ≡ flat_map (λ principal. principal.identity) world.principals
-identity_alone view world reads =
-    let org = λ (a : AccountValue). flat_map (λ level. level) a.org in
-    let attached = λ (r : ResourceValue). option_to_list r.policy in
-    let own = flat_map (λ (p : PrincipalValue). p.identity) world.principals in
-    let boundary = λ (p : PrincipalValue). option_to_list p.boundary in
-    let session = λ (p : PrincipalValue). p.session in
-    let no_org : flat_map org world.accounts ≡ [] =
-    none-of org world.accounts
-    (each-of ReadsAccount (λ a. org a ≡ []) (λ v a r. ap (λ levels. flat_map (λ level. level) levels) r.org) view.accounts world.accounts reads.accounts) in
-    let no_policy : flat_map attached world.resources ≡ [] =
-    none-of attached world.resources
-    (each-of ReadsResource (λ x. attached x ≡ []) (λ v x r. ap option_to_list r.policy) view.resources world.resources reads.resources) in
-    let no_boundary : flat_map boundary world.principals ≡ [] =
-    none-of boundary world.principals
-    (each-of ReadsPrincipal (λ p. boundary p ≡ []) (λ v p r. ap option_to_list r.boundary) view.principals world.principals reads.principals) in
-    let no_session : flat_map session world.principals ≡ [] =
-    none-of session world.principals (each-of ReadsPrincipal (λ p. session p ≡ []) (λ v p r. r.session) view.principals world.principals reads.principals) in
-    ap (λ xs. xs ++ (flat_map attached world.resources ++ (own ++ (flat_map boundary world.principals ++ flat_map session world.principals)))) no_org
-    ∙ ap (λ xs. xs ++ (own ++ (flat_map boundary world.principals ++ flat_map session world.principals))) no_policy
-    ∙ ap (λ xs. own ++ (xs ++ flat_map session world.principals)) no_boundary ∙ ap (λ xs. own ++ xs) no_session ∙ append-nil own
+pub reads_principals : {Y : Type 0} (g : Y → ContextValue) (vs : List PrincipalView) (rs : List RequesterValue) (identity : List (List PolicyValue))
+    (boundary : List (Option PolicyValue)) (session : List (List PolicyValue)) (cs : List Y)
+    → AllZip IsRequesterAt vs rs → AllZip (λ v own. AllZip (Reads kind.Identity) v.identity own) vs identity
+    → AllZip (λ v p. ReadsOptional kind.Identity v.boundary p) vs boundary → AllZip (λ v own. AllZip (Reads kind.Identity) v.session_policies own) vs session
+    → map g cs ≡ map (λ v. part_of v.context) vs
+    → AllZip ReadsPrincipal vs (map (λ p. made_principal (p.0, g p.1)) (zip (zip (zip (zip rs identity) boundary) session) cs))
+reads_principals g [] [] [] [] [] cs r i b s same = tt
+reads_principals g [] (x ∷ rs) is bs ss cs r i b s same = absurd r
+reads_principals g [] [] (x ∷ is) bs ss cs r i b s same = absurd i
+reads_principals g [] [] [] (x ∷ bs) ss cs r i b s same = absurd b
+reads_principals g [] [] [] [] (x ∷ ss) cs r i b s same = absurd s
+reads_principals g (v ∷ vs) [] is bs ss cs r i b s same = absurd r
+reads_principals g (v ∷ vs) (x ∷ rs) [] bs ss cs r i b s same = absurd i
+reads_principals g (v ∷ vs) (x ∷ rs) (y ∷ is) [] ss cs r i b s same = absurd b
+reads_principals g (v ∷ vs) (x ∷ rs) (y ∷ is) (z ∷ bs) [] cs r i b s same = absurd s
+reads_principals g (v ∷ vs) (x ∷ rs) (y ∷ is) (z ∷ bs) (w ∷ ss) [] r i b s same = cc
+reads_principals g (v ∷ vs) (x ∷ rs) (y ∷ is) (z ∷ bs) (w ∷ ss) (c ∷ cs) r i b s same =
+    let here : g c ≡ part_of v.context = cc in
+    let rest : map g cs ≡ map (λ v. part_of v.context) vs = cc in
+    (record { requester = r.0; identity = i.0; boundary = b.0; session = s.0; context = here }, reads_principals g vs rs is bs ss cs r.1 i.1 b.1 s.1 rest)
 
 -- ---- sizes
-
--- the statements of the identity policies, principal by principal
-by_principal : (principals : List PrincipalValue) → statements_in (flat_map (λ principal. principal.identity) principals) ≡ sum_by statements_in (map (λ principal. principal.identity) principals)
-by_principal [] = refl
-by_principal (p ∷ ps) =
-    sum_by-append (λ (policy : PolicyValue). length policy.statements) p.identity (flat_map (λ (principal : PrincipalValue). principal.identity) ps)
-    ∙ ap (λ n. statements_in p.identity + n) (by_principal ps)
-    ∙ sym (sum_by-cons statements_in p.identity (map (λ (principal : PrincipalValue). principal.identity) ps))
-
-read_identity : (ps : List PrincipalView) (principals : List PrincipalValue) → AllZip ReadsPrincipal ps principals → AllZip HasIdentity ps (map (λ principal. principal.identity) principals)
-read_identity [] [] zip = tt
-read_identity [] (p ∷ rest) zip = absurd zip
-read_identity (v ∷ vs) [] zip = absurd zip
-read_identity (v ∷ vs) (p ∷ rest) zip = (zip.0.identity, read_identity vs rest zip.1)
-
-statements-are : (view : WorldView) (world : WorldValue) → ReadsWorld view world → statement_count view ≡ world_statements world
-statements-are view world reads =
-    identity-statements 0 view.principals (map (λ (principal : PrincipalValue). principal.identity) world.principals) (read_identity view.principals world.principals reads.principals)
-    ∙ sym (by_principal world.principals) ∙ sym (ap statements_in (identity_alone view world reads))
 
 cells-are : (view : WorldView) (world : WorldValue) → ReadsWorld view world → cell_count view ≡ world_cells world
 cells-are view world reads =
@@ -91,23 +70,31 @@ cells-are view world reads =
     ∙ ap (λ n. length world.principals * n * length view.resources) (ap length (sym reads.actions))
     ∙ ap (λ n. length world.principals * length world.actions * n) (zip-length ReadsResource view.resources world.resources reads.resources)
 
-few : (ps : List PrincipalView) (principals : List PrincipalValue) → AllByRecursion HasFewDocuments ps → AllZip ReadsPrincipal ps principals → AllByRecursion HasFewPolicies principals
+few : (vs : List PrincipalView) (principals : List PrincipalValue) → AllByRecursion HasFewDocuments vs → AllZip ReadsPrincipal vs principals → AllByRecursion HasFewPolicies principals
 few [] [] small zip = tt
 few [] (p ∷ rest) small zip = absurd zip
 few (v ∷ vs) [] small zip = absurd zip
 few (v ∷ vs) (p ∷ rest) small zip =
-    let long : length v.identity ≡ length p.identity = zip-length (Reads kind.Identity) v.identity p.identity zip.0.identity in
-    let none : length p.session ≡ 0 = ap length zip.0.session in
-    (record { identity = omega (arith, small.0, long); session = omega (arith, none) }, few vs rest small.1 zip.1)
+    let identity : length v.identity ≡ length p.identity = zip-length (Reads kind.Identity) v.identity p.identity zip.0.identity in
+    let session : length v.session_policies ≡ length p.session = zip-length (Reads kind.Identity) v.session_policies p.session zip.0.session in
+    (record { identity = omega (arith, small.0.identity, identity); session = omega (arith, small.0.session, session) }, few vs rest small.1 zip.1)
 
-few_levels : (views : List AccountView) (accounts : List AccountValue) → AllZip ReadsAccount views accounts → AllByRecursion (λ account. HasFewLevels account.org) accounts
-few_levels [] [] zip = tt
-few_levels [] (a ∷ rest) zip = absurd zip
-few_levels (v ∷ views) [] zip = absurd zip
-few_levels (v ∷ views) (a ∷ rest) zip = (subst HasFewLevels (sym zip.0.org) no_levels, few_levels views rest zip.1)
-  where
-    no_levels : HasFewLevels []
-    no_levels = record { levels_few = omega arith; policies_few = tt }
+few_in : (levels : List (List Data)) (org : List (List PolicyValue)) → AllByRecursion (λ level. length level < 2 ^ 32) levels → AllZip (AllZip (Reads kind.Org)) levels org
+    → AllByRecursion (λ level. length level < 2 ^ 32) org
+few_in [] [] small zip = tt
+few_in [] (o ∷ org) small zip = absurd zip
+few_in (l ∷ levels) [] small zip = absurd zip
+few_in (l ∷ levels) (o ∷ org) small zip =
+    let same : length l ≡ length o = zip-length (Reads kind.Org) l o zip.0 in (omega (arith, small.0, same), few_in levels org small.1 zip.1)
+
+few_levels : (views : List AccountView) (accounts : List AccountValue) → AllByRecursion few_views.HasFewLevels views → AllZip ReadsAccount views accounts
+    → AllByRecursion (λ account. HasFewLevels account.org) accounts
+few_levels [] [] small zip = tt
+few_levels [] (a ∷ rest) small zip = absurd zip
+few_levels (v ∷ views) [] small zip = absurd zip
+few_levels (v ∷ views) (a ∷ rest) small zip =
+    let same : length v.org ≡ length a.org = zip-length (AllZip (Reads kind.Org)) v.org a.org zip.0.org in
+    (record { levels_few = omega (arith, small.0.levels, same); policies_few = few_in v.org a.org small.0.policies zip.0.org }, few_levels views rest small.1 zip.1)
 
 -- the levels that apply are few
 pub few_apply : (p : AccountValue → Bool) (accounts : List AccountValue) → AllByRecursion (λ account. HasFewLevels account.org) accounts → HasFewLevels (org_of (find p accounts))
@@ -122,16 +109,63 @@ few_apply p (a ∷ rest) few = go (p a) (few_apply p rest few.1)
     go true later = one a.management
     go false later = later
 
+-- ---- contexts
+
+same_parts : {V X : Type 0} (R : V → X → Type 0) (f : V → ContextValue) (g : X → ContextValue) → ((v : V) (x : X) → R v x → g x ≡ f v) → (vs : List V) (xs : List X) → AllZip R vs xs
+    → map g xs ≡ map f vs
+same_parts R f g step [] [] zip = refl
+same_parts R f g step [] (x ∷ xs) zip = absurd zip
+same_parts R f g step (v ∷ vs) [] zip = absurd zip
+same_parts R f g step (v ∷ vs) (x ∷ xs) zip = ap (λ c. c ∷ map g xs) (step v x zip.0) ∙ ap (λ rest. f v ∷ rest) (same_parts R f g step vs xs zip.1)
+
+of_map : {X Y : Type 0} (P : Y → Type 0) (g : X → Y) (xs : List X) → AllByRecursion P (map g xs) → AllByRecursion (λ x. P (g x)) xs
+of_map P g [] all = tt
+of_map P g (x ∷ xs) all = (all.0, of_map P g xs all.1)
+
+flat-map : {X Y Z : Type 0} (f : Y → List Z) (g : X → Y) (xs : List X) → flat_map f (map g xs) ≡ flat_map (λ x. f (g x)) xs
+flat-map f g [] = refl
+flat-map f g (x ∷ xs) = ap (λ rest. f (g x) ++ rest) (flat-map f g xs)
+
+can_join : (view : WorldView) (world : WorldValue) → ReadsWorld view world → AllClean (part_of view.context) (principal_parts view) (resource_parts view) → CanJoin world
+can_join view world reads clean =
+    let own = clean.own in
+    let ps = clean.principals_clean in
+    let rs = clean.resources_clean in
+    let principals : map (λ (p : PrincipalValue). p.context) world.principals ≡ principal_parts view =
+    same_parts ReadsPrincipal (λ v. part_of v.context) (λ p. p.context) (λ v p r. r.context) view.principals world.principals reads.principals in
+    let resources : map (λ (r : ResourceValue). r.context) world.resources ≡ resource_parts view =
+    same_parts ReadsResource (λ v. part_of v.context) (λ r. r.context) (λ v x r. r.context) view.resources world.resources reads.resources in
+    let keys : keys_of (part_of view.context) ≡ keys_of world.context = ap keys_of (sym reads.context) in
+    let all : keys_of (part_of view.context) ++ flat_map keys_of (principal_parts view) ≡ keys_of world.context ++ flat_map (λ (p : PrincipalValue). keys_of p.context) world.principals =
+    ap (λ ks. ks ++ flat_map keys_of (principal_parts view)) keys
+    ∙ ap (λ parts. keys_of world.context ++ flat_map keys_of parts) (sym principals)
+    ∙ ap (λ ks. keys_of world.context ++ ks) (flat-map keys_of (λ (p : PrincipalValue). p.context) world.principals) in
+    record {
+      own = subst (IsClean []) (sym reads.context) own;
+      principals =
+          of_map (IsClean (keys_of world.context)) (λ (p : PrincipalValue). p.context) world.principals
+          (subst (AreClean (keys_of world.context)) (sym principals) (subst (λ ks. AreClean ks (principal_parts view)) keys ps));
+      resources =
+          of_map (IsClean (keys_of world.context ++ flat_map (λ (p : PrincipalValue). keys_of p.context) world.principals)) (λ (r : ResourceValue). r.context) world.resources
+          (subst (AreClean (keys_of world.context ++ flat_map (λ (p : PrincipalValue). keys_of p.context) world.principals)) (sym resources)
+          (subst (λ ks. AreClean ks (resource_parts view)) all rs));
+    }
+
+-- ---- the whole
+
 -- a world that is read of a document within the limits is within them
-pub sized : (view : WorldView) (world : WorldValue) (cells statements : ℕ) → ReadsWorld view world → AllByRecursion HasFewDocuments view.principals
-    → cells ≡ cell_count view → statements ≡ statement_count view → (¬ IsOverLimits view) → IsSized world cells statements
-sized view world cells statements reads small cells_is statements_is within = record {
+pub sized : (view : WorldView) (world : WorldValue) (cells statements : ℕ) → ReadsWorld view world → HasFewLists view → view.moment ≤ 253402300799
+    → cells ≡ cell_count view → statements ≡ statement_count view → (¬ IsOverLimits view)
+    → AllClean (part_of view.context) (principal_parts view) (resource_parts view) → IsSized world cells statements
+sized view world cells statements reads small moment cells_is statements_is within clean = record {
   cells_are = cells_is ∙ cells-are view world reads;
   statements_are = statements_is ∙ statements-are view world reads;
   few_cells = at_most cells 16777216 (λ many. within (inl (subst (λ n. 16777216 < n) cells_is many)));
   few_statements = at_most statements 4096 (λ many. within (inr (subst (λ n. 4096 < n) statements_is many)));
-  policies = few view.principals world.principals small reads.principals;
-  orgs = few_levels view.accounts world.accounts reads.accounts;
+  policies = few view.principals world.principals small.principals reads.principals;
+  orgs = few_levels view.accounts world.accounts small.accounts reads.accounts;
+  moment = subst (λ n. n ≤ 253402300799) (sym reads.moment) moment;
+  contexts = can_join view world reads clean;
 }
   where
     at_most : (n m : ℕ) → (¬ (m < n)) → n ≤ m

@@ -1,7 +1,6 @@
+pub mod Budget
+pub mod Contexts
 pub mod Documents
 pub mod Invariants
-pub mod Lent
-pub mod LentWorld
-pub mod Texts
+pub mod Made
 pub mod ViewFault
-pub mod Walk

@@ -1,7 +1,5 @@
 pub mod Code
-pub mod Path
+pub mod Part
 pub mod Reads
-pub mod Shape
-pub mod View
 pub mod World
 pub mod WorldFault

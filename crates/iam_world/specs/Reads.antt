@@ -1,32 +1,40 @@
 -- How a world document is read: the world of bytes that have no fault.
-use Rattle.std.specs.Prelude.{◌≡◌, ℕ, List, [], false, None}
+use Rattle.std.specs.Prelude.{◌≡◌, ℕ, List, Option, Some, None, ⊤}
 use Rattle.std.specs.List.{AllZip}
 use Rattle.serde_json.specs.Data.{Data}
+use Rattle.iam_policy.specs.declared.fault.Kind.{Kind}
 use Rattle.iam_policy.specs.declared.fault.Kind.TheVariants as kind
-use Rattle.iam_policy.specs.Reading.{Reads}
-use Rattle.iam_world.specs.View.{AccountView, PrincipalView, ResourceView, WorldView, IsView}
+use Rattle.iam_policy.specs.Reading.{PolicyValue, Reads}
+use Rattle.iam_shape.specs.View.{AccountView, PrincipalView, ResourceView, WorldView, IsView}
+use Rattle.iam_world.specs.Part.{part_of}
 use Rattle.iam_world.specs.World.{WorldValue, AccountValue, PrincipalValue, ResourceValue}
 use Rattle.iam_world.specs.WorldFault.{IsJson, IsRequesterAt, IsAcceptable}
 
--- a member that is not read yet is absent: none, empty or false
+-- a policy that may be absent
+abbrev pub ReadsOptional : Kind → Option Data → Option PolicyValue → Type 0
+ReadsOptional kind None None = ⊤
+ReadsOptional kind None (Some policy) = ⊥
+ReadsOptional kind (Some d) None = ⊥
+ReadsOptional kind (Some d) (Some policy) = Reads kind d policy
+
 pub record ReadsAccount (view : AccountView) (account : AccountValue) : Type 0 where
   pub id : account.id ≡ view.id
-  pub management : account.management ≡ false
-  pub org : account.org ≡ []
+  pub management : account.management ≡ view.management
+  pub org : AllZip (AllZip (Reads kind.Org)) view.org account.org
 
 pub record ReadsPrincipal (view : PrincipalView) (principal : PrincipalValue) : Type 0 where
   pub requester : IsRequesterAt view principal.requester
   pub identity : AllZip (Reads kind.Identity) view.identity principal.identity
-  pub boundary : principal.boundary ≡ None
-  pub session : principal.session ≡ []
-  pub context : principal.context ≡ []
+  pub boundary : ReadsOptional kind.Identity view.boundary principal.boundary
+  pub session : AllZip (Reads kind.Identity) view.session_policies principal.session
+  pub context : principal.context ≡ part_of view.context
 
 pub record ReadsResource (view : ResourceView) (resource : ResourceValue) : Type 0 where
   pub arn : resource.arn ≡ view.arn
   pub account : resource.account ≡ view.account
-  pub policy : resource.policy ≡ None
-  pub sealed : resource.sealed ≡ false
-  pub context : resource.context ≡ []
+  pub policy : ReadsOptional kind.Resource view.policy resource.policy
+  pub sealed : resource.sealed ≡ view.sealed
+  pub context : resource.context ≡ part_of view.context
 
 pub record ReadsWorld (view : WorldView) (world : WorldValue) : Type 0 where
   pub moment : world.moment ≡ view.moment
@@ -34,7 +42,7 @@ pub record ReadsWorld (view : WorldView) (world : WorldValue) : Type 0 where
   pub principals : AllZip ReadsPrincipal view.principals world.principals
   pub actions : world.actions ≡ view.actions
   pub resources : AllZip ReadsResource view.resources world.resources
-  pub context : world.context ≡ []
+  pub context : world.context ≡ part_of view.context
 
 -- the bytes are this world's
 pub record IsWorld (bytes : List ℕ) (world : WorldValue) : Type 0 where

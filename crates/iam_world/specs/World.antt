@@ -1,10 +1,10 @@
 -- A world: accounts with organisation policies, principals and resources with their policies, actions and a moment.
--- A text is the list of its bytes. What is not read yet is absent: empty, none or false.
+-- A text is the list of its bytes.
 use Rattle.std.specs.Prelude.{ℕ, ◌*◌, List, [], ◌++◌, Bool, Option, None, Some, length, if◌then◌else◌}
 use Rattle.std.specs.List.{flat_map, sum_by}
 use Rattle.std.specs.Option.{option_to_list}
 use Rattle.iam_policy.specs.Reading.{PolicyValue}
-use Rattle.iam_match.specs.Context.{ContextValue}
+use Rattle.iam_context.specs.Context.{ContextValue}
 use Rattle.iam_match.specs.Requester.{RequesterValue}
 
 -- an account: its id, whether it manages its organisation, and the organisation policies by level from the root
@@ -13,7 +13,7 @@ pub record AccountValue : Type 0 where
   pub management : Bool
   pub org : List (List PolicyValue)
 
--- a principal: the requester, and the policies that are attached to it
+-- a principal: the requester, the policies that are attached to it, and the context that it gives
 pub record PrincipalValue : Type 0 where
   pub requester : RequesterValue
   pub identity : List PolicyValue
@@ -21,7 +21,8 @@ pub record PrincipalValue : Type 0 where
   pub session : List PolicyValue
   pub context : ContextValue
 
--- a resource: its ARN or `*`, its account, the policy that is attached to it, and whether that one must grant
+-- a resource: its ARN or `*`, its account, the policy that is attached to it, whether that one must
+-- grant, and the context that it gives
 pub record ResourceValue : Type 0 where
   pub arn : List ℕ
   pub account : List ℕ
@@ -29,7 +30,7 @@ pub record ResourceValue : Type 0 where
   pub sealed : Bool
   pub context : ContextValue
 
--- the moment is in seconds from 1970-01-01T00:00:00Z
+-- the moment is in seconds from 1970-01-01T00:00:00Z; the context is that of every request
 pub record WorldValue : Type 0 where
   pub moment : ℕ
   pub accounts : List AccountValue

@@ -1,6 +1,7 @@
 -- Why bytes are no world: the set of their faults, one case a number, and the first of them.
-use Rattle.std.specs.Prelude.{◌≡◌, ◌⊎◌, ℕ, ◌*◌, ◌<◌, ◌≤◌, List, [], ◌∷◌, ◌++◌, Bool, not, ◌&&◌, ◌||◌, ◌==◌, nat_eq, nat_lt, length, codes, Some, IsTrue, map}
+use Rattle.std.specs.Prelude.{◌≡◌, ◌⊎◌, ℕ, ◌+◌, ◌*◌, ◌<◌, ◌≤◌, List, [], ◌∷◌, ◌++◌, Bool, not, ◌&&◌, ◌||◌, ◌==◌, nat_eq, nat_lt, length, codes, Some, IsTrue, map}
 use Rattle.std.specs.List.{before_first, after_first, enumerate_from, flat_map, starts_with, sum_by}
+use Rattle.std.specs.Option.{option_to_list}
 use Rattle.std.specs.Str.{bytes_eq, IsUtf8}
 use Rattle.std.specs.Char.{is_ascii_alphanumeric}
 use Rattle.serde_json.specs.Data.{Data}
@@ -13,16 +14,21 @@ use Rattle.iam_policy.specs.declared.fault.Kind.{Kind}
 use Rattle.iam_policy.specs.declared.fault.Kind.TheVariants as kind
 use Rattle.iam_policy.specs.declared.fault.Refused.{Refused}
 use Rattle.iam_match.specs.Requester.{RequesterValue, IsRequesterOf}
-use Rattle.iam_world.specs.declared.path.Name.{Name}
-use Rattle.iam_world.specs.declared.path.Name.TheVariants.{Principals, Actions, Resources, Identity}
-use Rattle.iam_world.specs.declared.path.Path.{Path}
-use Rattle.iam_world.specs.declared.path.Path.TheVariants.{Item, Entry}
+use Rattle.iam_shape.specs.declared.path.Name.{Name}
+use Rattle.iam_shape.specs.declared.path.Name.TheVariants.{Accounts, Principals, Actions, Resources, Org, Identity, Boundary, SessionPolicies}
+use Rattle.iam_shape.specs.declared.path.Name.TheVariants as name
+use Rattle.iam_shape.specs.declared.path.Path.{Path}
+use Rattle.iam_shape.specs.declared.path.Path.TheVariants.{Member, Item, Field, Entry, Leaf}
 use Rattle.iam_world.specs.declared.fault.WorldFault.{WorldFault}
-use Rattle.iam_world.specs.declared.fault.WorldFault.TheVariants.{NotJson, BadShape, BadRequester, BadAction, BadResourceArn, UnknownAccount, Policy, TooLarge, OutOfMemory}
-use Rattle.iam_world.specs.Shape.{first_bad, shape_checks}
-use Rattle.iam_world.specs.View.{PrincipalView, ResourceView, WorldView, IsView}
+use Rattle.iam_world.specs.declared.fault.WorldFault.TheVariants.{NotJson, BadShape, BadRequester, BadAction, BadResourceArn, UnknownAccount, Context, Policy, TooLarge, OutOfMemory}
+use Rattle.iam_shape.specs.Shape.{first_bad, shape_checks}
+use Rattle.iam_shape.specs.View.{AccountView, PrincipalView, ResourceView, WorldView, IsView}
+use Rattle.iam_context.specs.Context.{ContextValue, keys_of}
+use Rattle.iam_context.specs.ContextFault.{IsClean, IsPartFault}
+use Rattle.iam_context.specs.declared.fault.ContextFault.{ContextFault}
+use Rattle.iam_world.specs.Part.{part_of}
 
--- the number of a fault; 7 is that of a faulty context, which is not read yet
+-- the number of a fault
 abbrev pub world_number_of : WorldFault → ℕ
 world_number_of NotJson = 1
 world_number_of (BadShape path) = 2
@@ -30,6 +36,7 @@ world_number_of (BadRequester path) = 3
 world_number_of (BadAction path) = 4
 world_number_of (BadResourceArn path) = 5
 world_number_of (UnknownAccount path) = 6
+world_number_of (Context path fault) = 7
 world_number_of (Policy path refused) = 8
 world_number_of TooLarge = 9
 world_number_of OutOfMemory = 10
@@ -42,6 +49,7 @@ world_name_of (BadRequester path) = codes "BadRequester"
 world_name_of (BadAction path) = codes "BadAction"
 world_name_of (BadResourceArn path) = codes "BadResourceArn"
 world_name_of (UnknownAccount path) = codes "UnknownAccount"
+world_name_of (Context path fault) = codes "Context"
 world_name_of (Policy path refused) = codes "Policy"
 world_name_of TooLarge = codes "TooLarge"
 world_name_of OutOfMemory = codes "OutOfMemory"
@@ -53,9 +61,9 @@ abbrev pub IsFirst : {X : Type 0} → (X → Type 0) → List X → X → Type 0
 IsFirst P [] x = ⊥
 IsFirst P (y ∷ ys) x = (P y × (x ≡ y)) ⊎ ((¬ P y) × IsFirst P ys x)
 
--- the elements of a list of the document, each with its path, numbered from i
-abbrev pub placed : {X : Type 0} → Name → ℕ → List X → List (Path × X)
-placed list i xs = map (λ x. (Item list x.0, x.1)) (enumerate_from i xs)
+-- the elements of a list, each at the path of its number, numbered from i
+abbrev pub placed : {X : Type 0} → (ℕ → Path) → ℕ → List X → List (Path × X)
+placed at i xs = map (λ x. (at x.0, x.1)) (enumerate_from i xs)
 
 -- the first element of which P holds stands at this path
 abbrev pub IsFirstAt : {X : Type 0} → (X → Type 0) → List (Path × X) → Path → Type 0
@@ -101,7 +109,8 @@ pub data Owner : Type 0 where
 -- the principals, then the resources
 abbrev pub owners : WorldView → List (Path × Owner)
 owners world =
-    placed Principals 0 (map of_principal world.principals) ++ placed Resources 0 (map of_resource world.resources)
+    placed (Item Principals) 0 (map of_principal world.principals)
+    ++ placed (Item Resources) 0 (map of_resource world.resources)
 
 -- the account is that of the requester, where the principal is one, or that which the resource names
 abbrev pub BelongsTo : Owner → List ℕ → Type 0
@@ -118,6 +127,45 @@ abbrev pub IsOfUnknownAccount : WorldView → Owner → Type 0
 IsOfUnknownAccount world owner =
     (account : List ℕ) × BelongsTo owner account × ¬ IsTrue (has_account world account)
 
+-- ---- contexts
+
+-- a part of the context, with the keys of other parts that none of its keys may be
+pub record Beside : Type 0 where
+  pub others : List (List ℕ)
+  pub part : ContextValue
+
+abbrev pub IsFaulty : Beside → Type 0
+IsFaulty beside = ¬ IsClean beside.others beside.part
+
+-- the parts that members of a list give, beside others with these keys
+abbrev pub parts_of : Name → List (List ℕ) → List ContextValue → List (Path × Beside)
+parts_of list others parts =
+    placed (λ i. Field list i name.Context) 0 (map (λ part. record { others = others; part = part }) parts)
+
+-- the contexts of the principals, and those of the resources
+abbrev pub principal_parts : WorldView → List ContextValue
+principal_parts world = map (λ principal. part_of principal.context) world.principals
+
+abbrev pub resource_parts : WorldView → List ContextValue
+resource_parts world = map (λ resource. part_of resource.context) world.resources
+
+-- the parts, in order: that of the world; those of the principals, beside it; those of the resources, beside it and all
+-- principals'
+abbrev pub all_parts : ContextValue → List ContextValue → List ContextValue → List (Path × Beside)
+all_parts world principals resources =
+    (Member name.Context, record { others = []; part = world })
+    ∷ (parts_of Principals (keys_of world) principals
+    ++ parts_of Resources (keys_of world ++ flat_map keys_of principals) resources)
+
+abbrev pub parts : WorldView → List (Path × Beside)
+parts world = all_parts (part_of world.context) (principal_parts world) (resource_parts world)
+
+-- the first faulty part stands at this path, and this is its first fault
+abbrev pub IsFirstFaulty : List (Path × Beside) → Path → ContextFault → Type 0
+IsFirstFaulty ps path fault =
+    (beside : Beside) × IsFirst (λ (p : Path × Beside). IsFaulty p.1) ps (path, beside)
+    × IsPartFault beside.others beside.part fault
+
 -- ---- policy documents
 
 -- a policy document: where it stands, how it is read, and its value
@@ -128,17 +176,43 @@ pub record Document : Type 0 where
 
 -- the values of a list as documents of this kind, each at the path of its number, from i on
 abbrev pub numbered : Kind → (ℕ → Path) → ℕ → List Data → List Document
-numbered kind path i ds = map (λ d. record { path = path d.0; kind = kind; value = d.1 }) (enumerate_from i ds)
+numbered kind at i [] = []
+numbered kind at i (d ∷ ds) = record { path = at i; kind = kind; value = d } ∷ numbered kind at (i + 1) ds
 
--- the identity policies of the principals, which are numbered from i
-abbrev pub identity_documents : ℕ → List PrincipalView → List Document
-identity_documents i principals =
-    flat_map (λ p. numbered kind.Identity (Entry Principals p.0 Identity) 0 p.1.identity)
-    (enumerate_from i principals)
+-- the documents of each member of a list, numbered from i
+abbrev pub of_each : {X : Type 0} → (ℕ → X → List Document) → ℕ → List X → List Document
+of_each documents i [] = []
+of_each documents i (x ∷ xs) = documents i x ++ of_each documents (i + 1) xs
+
+-- the organisation policies of account i, level by level
+abbrev pub org_documents : ℕ → AccountView → List Document
+org_documents i account = of_each (λ j level. numbered kind.Org (Leaf Accounts i Org j) 0 level) 0 account.org
+
+-- the policy of resource i
+abbrev pub resource_documents : ℕ → ResourceView → List Document
+resource_documents i resource =
+    numbered kind.Resource (λ j. Field Resources i name.Policy) 0 (option_to_list resource.policy)
+
+-- the identity policies of principal i, its boundary, and its session policies
+abbrev pub identity_documents : ℕ → PrincipalView → List Document
+identity_documents i principal = numbered kind.Identity (Entry Principals i Identity) 0 principal.identity
+
+abbrev pub boundary_documents : ℕ → PrincipalView → List Document
+boundary_documents i principal =
+    numbered kind.Identity (λ j. Field Principals i Boundary) 0 (option_to_list principal.boundary)
+
+abbrev pub session_documents : ℕ → PrincipalView → List Document
+session_documents i principal =
+    numbered kind.Identity (Entry Principals i SessionPolicies) 0 principal.session_policies
 
 -- the policy documents of a world, layer by layer
 abbrev pub documents : WorldView → List Document
-documents world = identity_documents 0 world.principals
+documents world =
+    of_each org_documents 0 world.accounts
+    ++ (of_each resource_documents 0 world.resources
+    ++ (of_each identity_documents 0 world.principals
+    ++ (of_each boundary_documents 0 world.principals
+    ++ of_each session_documents 0 world.principals)))
 
 abbrev pub IsNotAccepted : Document → Type 0
 IsNotAccepted document = ¬ IsAccepted document.kind document.value
@@ -177,13 +251,14 @@ abbrev pub WorldHasFault : List ℕ → WorldFault → Type 0
 WorldHasFault bytes NotJson = (d : Data) → ¬ IsJson bytes d
 WorldHasFault bytes (BadShape path) = (d : Data) × IsJson bytes d × (first_bad (shape_checks d) ≡ Some path)
 WorldHasFault bytes (BadRequester path) =
-    HasView bytes (λ world. IsFirstAt IsNoRequester (placed Principals 0 world.principals) path)
+    HasView bytes (λ world. IsFirstAt IsNoRequester (placed (Item Principals) 0 world.principals) path)
 WorldHasFault bytes (BadAction path) =
-    HasView bytes (λ world. IsFirstAt IsNoAction (placed Actions 0 world.actions) path)
+    HasView bytes (λ world. IsFirstAt IsNoAction (placed (Item Actions) 0 world.actions) path)
 WorldHasFault bytes (BadResourceArn path) =
-    HasView bytes (λ world. IsFirstAt HasNoResourceArn (placed Resources 0 world.resources) path)
+    HasView bytes (λ world. IsFirstAt HasNoResourceArn (placed (Item Resources) 0 world.resources) path)
 WorldHasFault bytes (UnknownAccount path) =
     HasView bytes (λ world. IsFirstAt (IsOfUnknownAccount world) (owners world) path)
+WorldHasFault bytes (Context path fault) = HasView bytes (λ world. IsFirstFaulty (parts world) path fault)
 WorldHasFault bytes (Policy path refused) = HasView bytes (λ world. IsFirstRefused (documents world) path refused)
 WorldHasFault bytes TooLarge = HasView bytes IsOverLimits
 WorldHasFault bytes OutOfMemory = ⊥

@@ -1,19 +1,105 @@
-ghost use Rattle.std.specs.Prelude.{◌≡◌, ◌≢◌, map, IfOk, IfErr};
+ghost use Rattle.std.specs.Prelude.{◌≡◌, ◌≢◌, ℕ, List, [], ◌∷◌, map, option_map, IfOk, IfErr, OnOk};
 ghost use Rattle.std.specs.List.{AllZip};
+ghost use Rattle.std.specs.Option.{option_to_list};
 ghost use Rattle.serde_json.specs.View.{view};
 ghost use Rattle.iam_policy.specs.Reading.{Reads};
-ghost use Rattle.iam_world.specs.Code.Documents.{HasIdentity, IsRefused, IsRefusedAmong};
-ghost use Rattle.iam_world.specs.Code.Lent.{principal_of};
-ghost use Rattle.iam_world.specs.WorldFault.{identity_documents, numbered};
+ghost use Rattle.iam_policy.specs.declared.fault.Kind.TheVariants as kind;
+ghost use Rattle.iam_world.specs.declared.documents.Place.TheVariants as place;
+ghost use Rattle.iam_shape.specs.Code.Lent.{account_of, principal_of, resource_of};
+ghost use Rattle.iam_shape.specs.Code.LentWorld.{world_of};
+ghost use Rattle.iam_world.specs.Code.Documents.{HasPolicies, IsCleared, IsRefusedAmong, document_at, path_at};
+ghost use Rattle.iam_world.specs.Reads.{ReadsOptional};
+ghost use Rattle.iam_world.specs.WorldFault.{Document, boundary_documents, documents, identity_documents, numbered, of_each, org_documents, resource_documents, session_documents};
 ghost use Rattle.iam_world.specs.declared.fault.WorldFault.TheVariants as w;
 
 use crate::fault::WorldFault;
-use crate::path::{Name, Path};
-use crate::view::PrincipalView;
+use crate::limits::Budget;
 use iam_policy::{Fault, Kind, Policy, Refused};
+use iam_shape::{AccountView, Name, Path, PrincipalView, ResourceView, WorldView};
 use iam_text::Items;
 use serde_json::Value;
 use std::alloc::Global;
+
+/// How the policy documents of a member of a list are read.
+trait Layer<T> {
+    type Read: Drop;
+
+    ghost documents: { Self → ℕ → T → List Document };
+
+    ghost reads: { Self → T → Self.Read → Type 0 };
+
+    /// Reads the documents of the member with this number, or names the first that is refused; their statements
+    /// count.
+    fn read(
+        &self,
+        alloc: Global,
+        budget: &mut Budget,
+        i: usize,
+        of: &T,
+    ) -> Result<Self::Read, WorldFault>
+        ensures ok { IfOk result (reads self.now of.now) }
+        ensures cleared { OnOk result (IsCleared (documents self.now i of.now) budget.old budget.new) }
+        ensures fault { IfErr result (λ fault. fault ≢ w.OutOfMemory → IsRefusedAmong (documents self.now i of.now) fault) };
+}
+
+/// Reads the documents of each member of a list.
+fn read_each<T, L: Layer<T>>(
+    layer: &L,
+    alloc: Global,
+    budget: &mut Budget,
+    list: &[T],
+) -> Result<Vec<L::Read>, WorldFault>
+    ensures ok { IfOk result (λ read. AllZip (L.reads layer.now) list.now read.items) }
+    ensures cleared { OnOk result (IsCleared (of_each (L.documents layer.now) 0 list.now) budget.old budget.new) }
+    ensures fault { IfErr result (λ fault. fault ≢ w.OutOfMemory
+        → IsRefusedAmong (of_each (L.documents layer.now) 0 list.now) fault) }
+{
+    let mut read = Vec::new(alloc);
+    for (i, of) in list.iter().enumerate() {
+        read.push(layer.read(alloc, budget, i, of)?)?;
+    }
+    Ok(read)
+}
+
+/// Where the documents of one list stand.
+#[derive(Clone, Copy)]
+enum Place {
+    /// In a list of a member of a list, as `principals/0/identity`.
+    Entries(Name, usize, Name),
+    /// In a level of an account, as `accounts/0/org/1`.
+    Level(usize, usize),
+    /// Alone under a name, as `principals/0/boundary`.
+    Alone(Name, usize, Name),
+}
+
+impl Place {
+    ghost use Rattle.std.specs.Prelude.{◌≡◌};
+    ghost use Rattle.iam_world.specs.Code.Documents.{path_at};
+
+    /// The path of the document with this number.
+    fn path(self, i: usize) -> Path
+        ensures { result ≡ path_at self i }
+    {
+        match self {
+            Place::Entries(list, of, name) => Path::Entry(list, of, name, i),
+            Place::Level(account, level) => Path::Leaf(
+                Name::Accounts,
+                account,
+                Name::Org,
+                level,
+                i,
+            ),
+            Place::Alone(list, of, name) => Path::Field(list, of, name),
+        }
+    }
+}
+
+/// The documents of one list, all of one kind.
+#[derive(Clone, Copy)]
+struct Documents {
+    kind: Kind,
+    place: Place,
+}
 
 /// The fault of the world whose document at this path is refused.
 fn fault_at(path: Path, refused: Refused) -> WorldFault
@@ -27,54 +113,244 @@ fn fault_at(path: Path, refused: Refused) -> WorldFault
     }
 }
 
-fn read_policy(
-    alloc: Global,
-    kind: Kind,
-    path: Path,
-    document: &Value,
-) -> Result<Policy, WorldFault>
-    ensures ok { IfOk result (λ policy. Reads kind (view document.now) policy) }
-    ensures fault { IfErr result (λ fault. fault ≢ w.OutOfMemory
-        → IsRefused kind path (view document.now) fault) }
-{
-    match Policy::read(alloc, document, kind) {
-        Ok(policy) => Ok(policy),
-        Err(refused) => Err(fault_at(path, refused)),
+impl Layer<Value> for Documents {
+    type Read = Policy;
+
+    ghost documents = { λ self i value. document_at self i (view value) ∷ [] };
+
+    ghost reads = { λ self value policy. Reads self.kind (view value) policy };
+
+    fn read(
+        &self,
+        alloc: Global,
+        budget: &mut Budget,
+        i: usize,
+        document: &Value,
+    ) -> Result<Policy, WorldFault> {
+        match Policy::read(alloc, document, self.kind) {
+            Ok(policy) => {
+                budget.count(policy.statements().len());
+                Ok(policy)
+            }
+            Err(refused) => Err(fault_at(self.place.path(i), refused)),
+        }
     }
 }
 
-/// The identity policies of a principal.
+/// The policies of a list of documents.
 fn read_policies(
     alloc: Global,
-    principal: usize,
+    budget: &mut Budget,
+    kind: Kind,
+    place: Place,
     documents: &[Value],
 ) -> Result<Vec<Policy>, WorldFault>
-    ensures ok { IfOk result (λ policies. AllZip (Reads Kind.Identity) (map view documents.now) policies.items) }
+    ensures ok { IfOk result (λ policies. AllZip (Reads kind) (map view documents.now) policies.items) }
+    ensures cleared { OnOk result (IsCleared (numbered kind (path_at place) 0 (map view documents.now)) budget.old budget.new) }
     ensures fault { IfErr result (λ fault. fault ≢ w.OutOfMemory
-        → IsRefusedAmong (numbered Kind.Identity (Path.Entry Name.Principals principal Name.Identity) 0
-        (map view documents.now)) fault) }
+        → IsRefusedAmong (numbered kind (path_at place) 0 (map view documents.now)) fault) }
 {
-    let mut policies = Vec::new(alloc);
-    for (i, document) in documents.iter().enumerate() {
-        let path = Path::Entry(Name::Principals, principal, Name::Identity, i);
-        policies.push(read_policy(alloc, Kind::Identity, path, document)?)?;
-    }
-    Ok(policies)
+    read_each(&Documents { kind, place }, alloc, budget, documents)
 }
 
-/// The identity policies of all principals, or the first fault of their documents.
-pub fn read_identity(
+/// The policy of a document that may be absent.
+fn read_optional(
     alloc: Global,
-    principals: &[PrincipalView<'_>],
-) -> Result<Vec<Items<Policy>>, WorldFault>
-    ensures ok { IfOk result (λ identity. AllZip HasIdentity (map principal_of principals.now) identity.items) }
-    ensures fault { IfErr result (λ fault. fault ≢ w.OutOfMemory
-        → IsRefusedAmong (identity_documents 0 (map principal_of principals.now)) fault) }
+    budget: &mut Budget,
+    kind: Kind,
+    place: Place,
+    document: Option<&Value>,
+) -> Result<Option<Policy>, WorldFault>
+    ensures ok { IfOk result (λ policy. ReadsOptional kind (option_map (λ d. view d.now) document.entry) policy) }
+    ensures cleared { OnOk result (IsCleared
+        (numbered kind (path_at place) 0 (option_to_list (option_map (λ d. view d.now) document.entry))) budget.old budget.new) }
+    ensures fault { IfErr result (λ fault. fault ≢ w.OutOfMemory → IsRefusedAmong
+        (numbered kind (path_at place) 0 (option_to_list (option_map (λ d. view d.now) document.entry))) fault) }
 {
-    let mut identity = Vec::new(alloc);
-    for (i, principal) in principals.iter().enumerate() {
-        let policies = read_policies(alloc, i, principal.identity)?;
-        identity.push(Items::from_vec(policies))?;
+    match document {
+        Some(document) => {
+            let policy = Documents { kind, place }.read(alloc, budget, 0, document)?;
+            Ok(Some(policy))
+        }
+        None => Ok(None),
     }
-    Ok(identity)
+}
+
+/// The organisation policies of account `account`, level by level.
+#[derive(Clone, Copy)]
+struct Levels {
+    account: usize,
+}
+
+impl<'v> Layer<&'v [Value]> for Levels {
+    type Read = Vec<Policy>;
+
+    ghost documents = { λ self i level. numbered kind.Org (path_at (place.Level self.account i)) 0 (map view level.now) };
+
+    ghost reads = { λ self level policies. AllZip (Reads kind.Org) (map view level.now) policies.items };
+
+    fn read(
+        &self,
+        alloc: Global,
+        budget: &mut Budget,
+        i: usize,
+        level: &&'v [Value],
+    ) -> Result<Vec<Policy>, WorldFault> {
+        let place = Place::Level(self.account, i);
+        read_policies(alloc, budget, Kind::Org, place, level)
+    }
+}
+
+/// The layer of organisation policies.
+#[derive(Clone, Copy)]
+struct OrgPolicies;
+
+impl<'v> Layer<AccountView<'v>> for OrgPolicies {
+    type Read = Vec<Vec<Policy>>;
+
+    ghost documents = { λ self i account. org_documents i (account_of account) };
+
+    ghost reads = { λ self account levels. AllZip (AllZip (Reads kind.Org)) (account_of account).org (map (λ level. level.items) levels.items) };
+
+    fn read(
+        &self,
+        alloc: Global,
+        budget: &mut Budget,
+        i: usize,
+        account: &AccountView<'v>,
+    ) -> Result<Vec<Vec<Policy>>, WorldFault> {
+        read_each(
+            &Levels { account: i },
+            alloc,
+            budget,
+            account.org.as_slice(),
+        )
+    }
+}
+
+/// The layer of resource policies.
+#[derive(Clone, Copy)]
+struct ResourcePolicies;
+
+impl<'v> Layer<ResourceView<'v>> for ResourcePolicies {
+    type Read = Option<Policy>;
+
+    ghost documents = { λ self i resource. resource_documents i (resource_of resource) };
+
+    ghost reads = { λ self resource policy. ReadsOptional kind.Resource (resource_of resource).policy policy };
+
+    fn read(
+        &self,
+        alloc: Global,
+        budget: &mut Budget,
+        i: usize,
+        resource: &ResourceView<'v>,
+    ) -> Result<Option<Policy>, WorldFault> {
+        let place = Place::Alone(Name::Resources, i, Name::Policy);
+        read_optional(alloc, budget, Kind::Resource, place, resource.policy)
+    }
+}
+
+/// The layer of identity policies.
+#[derive(Clone, Copy)]
+struct IdentityPolicies;
+
+impl<'v> Layer<PrincipalView<'v>> for IdentityPolicies {
+    type Read = Items<Policy>;
+
+    ghost documents = { λ self i principal. identity_documents i (principal_of principal) };
+
+    ghost reads = { λ self principal policies. AllZip (Reads kind.Identity) (principal_of principal).identity policies };
+
+    fn read(
+        &self,
+        alloc: Global,
+        budget: &mut Budget,
+        i: usize,
+        principal: &PrincipalView<'v>,
+    ) -> Result<Items<Policy>, WorldFault> {
+        let place = Place::Entries(Name::Principals, i, Name::Identity);
+        let policies = read_policies(alloc, budget, Kind::Identity, place, principal.identity)?;
+        Ok(Items::from_vec(policies))
+    }
+}
+
+/// The layer of boundaries.
+#[derive(Clone, Copy)]
+struct Boundaries;
+
+impl<'v> Layer<PrincipalView<'v>> for Boundaries {
+    type Read = Option<Policy>;
+
+    ghost documents = { λ self i principal. boundary_documents i (principal_of principal) };
+
+    ghost reads = { λ self principal policy. ReadsOptional kind.Identity (principal_of principal).boundary policy };
+
+    fn read(
+        &self,
+        alloc: Global,
+        budget: &mut Budget,
+        i: usize,
+        principal: &PrincipalView<'v>,
+    ) -> Result<Option<Policy>, WorldFault> {
+        let place = Place::Alone(Name::Principals, i, Name::Boundary);
+        read_optional(alloc, budget, Kind::Identity, place, principal.boundary)
+    }
+}
+
+/// The layer of session policies.
+#[derive(Clone, Copy)]
+struct SessionPolicies;
+
+impl<'v> Layer<PrincipalView<'v>> for SessionPolicies {
+    type Read = Items<Policy>;
+
+    ghost documents = { λ self i principal. session_documents i (principal_of principal) };
+
+    ghost reads = { λ self principal policies. AllZip (Reads kind.Identity) (principal_of principal).session_policies policies };
+
+    fn read(
+        &self,
+        alloc: Global,
+        budget: &mut Budget,
+        i: usize,
+        principal: &PrincipalView<'v>,
+    ) -> Result<Items<Policy>, WorldFault> {
+        let place = Place::Entries(Name::Principals, i, Name::SessionPolicies);
+        let documents = principal.session_policies;
+        let policies = read_policies(alloc, budget, Kind::Identity, place, documents)?;
+        Ok(Items::from_vec(policies))
+    }
+}
+
+/// The policies of a world, layer by layer: of each account, each resource or each principal.
+#[derive(Drop)]
+pub struct Policies {
+    pub org: Vec<Vec<Vec<Policy>>>,
+    pub resource: Vec<Option<Policy>>,
+    pub identity: Vec<Items<Policy>>,
+    pub boundary: Vec<Option<Policy>>,
+    pub session: Vec<Items<Policy>>,
+}
+
+/// The policies of a world, with the count of their statements in the budget, or the first fault of their documents.
+pub fn read_documents(
+    alloc: Global,
+    world: &WorldView<'_>,
+    budget: &mut Budget,
+) -> Result<Policies, WorldFault>
+    ensures ok { IfOk result (HasPolicies world.now) }
+    ensures cleared { OnOk result (IsCleared (documents (world_of world.now)) budget.old budget.new) }
+    ensures fault { IfErr result (λ fault. fault ≢ w.OutOfMemory
+        → IsRefusedAmong (documents (world_of world.now)) fault) }
+{
+    let accounts = world.accounts.views.as_slice();
+    let principals = world.principals.as_slice();
+    Ok(Policies {
+        org: read_each(&OrgPolicies, alloc, budget, accounts)?,
+        resource: read_each(&ResourcePolicies, alloc, budget, world.resources.as_slice())?,
+        identity: read_each(&IdentityPolicies, alloc, budget, principals)?,
+        boundary: read_each(&Boundaries, alloc, budget, principals)?,
+        session: read_each(&SessionPolicies, alloc, budget, principals)?,
+    })
 }

@@ -1,5 +1,6 @@
-use crate::path::Path;
+use iam_context::ContextFault;
 use iam_policy::Refused;
+use iam_shape::{Path, ShapeFault};
 use iam_text::OutOfMemory;
 use std::alloc::AllocFailed;
 
@@ -11,7 +12,7 @@ pub enum WorldFault {
     NotJson,
     /// 2: At this path stands a value of the wrong form, a member is absent, or the object has an unknown member.
     BadShape(Path),
-    /// 3: The `user` of the principal at this path is no user's ARN.
+    /// 3: The `user` or `role` of the principal at this path is no such ARN, or its `session` is no session's name.
     BadRequester(Path),
     /// 4: The text at this path is no action, `prefix:name`.
     BadAction(Path),
@@ -19,6 +20,8 @@ pub enum WorldFault {
     BadResourceArn(Path),
     /// 6: The account of the principal or resource at this path is none of the world's.
     UnknownAccount(Path),
+    /// 7: The context at this path gives a key twice, or one that is derived.
+    Context(Path, ContextFault),
     /// 8: The policy document at this path is refused.
     Policy(Path, Refused),
     /// 9: Over 8,388,608 bytes, over 16,777,216 cells or over 4,096 statements.
@@ -31,7 +34,7 @@ impl WorldFault {
     ghost use Rattle.std.specs.Prelude.{◌≡◌};
     ghost use Rattle.iam_world.specs.WorldFault.{world_number_of, world_name_of};
 
-    /// The number of the fault. 7 is that of a faulty context, which is not read yet.
+    /// The number of the fault.
     pub fn number(&self) -> u32
         ensures { result ≡ world_number_of self.now }
     {
@@ -42,6 +45,7 @@ impl WorldFault {
             WorldFault::BadAction(_) => 4,
             WorldFault::BadResourceArn(_) => 5,
             WorldFault::UnknownAccount(_) => 6,
+            WorldFault::Context(_, _) => 7,
             WorldFault::Policy(_, _) => 8,
             WorldFault::TooLarge => 9,
             WorldFault::OutOfMemory => 10,
@@ -59,6 +63,7 @@ impl WorldFault {
             WorldFault::BadAction(_) => "BadAction",
             WorldFault::BadResourceArn(_) => "BadResourceArn",
             WorldFault::UnknownAccount(_) => "UnknownAccount",
+            WorldFault::Context(_, _) => "Context",
             WorldFault::Policy(_, _) => "Policy",
             WorldFault::TooLarge => "TooLarge",
             WorldFault::OutOfMemory => "OutOfMemory",
@@ -85,5 +90,19 @@ impl<T: Drop> From<AllocFailed<T>> for WorldFault {
 
     fn from(_: AllocFailed<T>) -> WorldFault {
         WorldFault::OutOfMemory
+    }
+}
+
+impl From<ShapeFault> for WorldFault {
+    ghost use Rattle.std.specs.Prelude.{◌≡◌};
+    ghost use Rattle.iam_world.specs.Code.ViewFault.{shape_fault};
+
+    ghost from_gives = { λ fault world. world ≡ shape_fault fault };
+
+    fn from(fault: ShapeFault) -> WorldFault {
+        match fault {
+            ShapeFault::At(path) => WorldFault::BadShape(path),
+            ShapeFault::OutOfMemory => WorldFault::OutOfMemory,
+        }
     }
 }

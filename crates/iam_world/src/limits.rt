@@ -1,14 +1,9 @@
 ghost use Rattle.std.specs.Prelude.{◌≡◌, ◌≤◌, ◌<◌, ◌+◌, ◌*◌, map, MatchOption, length};
-ghost use Rattle.std.specs.List.{AllZip, sum_by};
-ghost use Rattle.iam_world.specs.Code.Documents.{HasIdentity};
-ghost use Rattle.iam_world.specs.Code.Invariants.{statements_in};
-ghost use Rattle.iam_world.specs.Code.Lent.{principal_of};
-ghost use Rattle.iam_world.specs.Code.LentWorld.{world_of};
+ghost use Rattle.iam_world.specs.Code.Budget.{Leaves};
+ghost use Rattle.iam_shape.specs.Code.LentWorld.{world_of};
 ghost use Rattle.iam_world.specs.WorldFault.{IsOverLimits, cell_count, statement_count};
 
-use crate::view::WorldView;
-use iam_policy::Policy;
-use iam_text::Items;
+use iam_shape::WorldView;
 
 /// How many cells a world may have.
 const MOST_CELLS: u64 = 16_777_216;
@@ -32,33 +27,46 @@ fn cell_count(principals: usize, actions: usize, resources: usize) -> Option<u64
     Some(cells)
 }
 
-/// What is left of a number once the statements of the policies are counted off; `None` where they are more.
-fn count_off(limit: usize, policies: &[Policy]) -> Option<usize>
-    ensures { MatchOption result (limit < statements_in policies.now)
-        (λ left. left + statements_in policies.now ≡ limit) }
-{
-    let mut left = limit;
-    for policy in policies {
-        left = left.checked_sub(policy.statements().len())?;
-    }
-    Some(left)
+/// How many statements may still come; `None` once they are too many.
+#[derive(Clone, Copy)]
+pub struct Budget {
+    left: Option<usize>,
 }
 
-/// The number of statements of all these policies; `None` where it is over the limit.
-fn statement_count(identity: &[Items<Policy>]) -> Option<usize>
-    ensures { MatchOption result (4096 < sum_by statements_in identity.now)
-        (λ n. (n ≡ sum_by statements_in identity.now) × (n ≤ 4096)) }
-{
-    let mut left = MOST_STATEMENTS;
-    for policies in identity {
-        left = count_off(left, policies.as_slice())?;
+impl Budget {
+    ghost use Rattle.std.specs.Prelude.{◌≡◌, ℕ, ◌+◌, ◌<◌, ◌≤◌, MatchOption};
+    ghost use Rattle.iam_world.specs.Code.Budget.{Leaves};
+
+    /// Nothing was counted.
+    pub fn new() -> Budget
+        ensures { Leaves result 0 }
+    {
+        Budget {
+            left: Some(MOST_STATEMENTS),
+        }
     }
-    Some(MOST_STATEMENTS - left)
+
+    /// Counts so many statements.
+    pub fn count(&mut self, statements: usize)
+        ensures { (total : ℕ) → Leaves self.old total → Leaves self.new (total + statements) }
+    {
+        self.left = match self.left {
+            Some(left) => left.checked_sub(statements),
+            None => None,
+        };
+    }
+
+    /// How many were counted; `None` where they are too many.
+    pub fn counted(&self) -> Option<usize>
+        ensures { (total : ℕ) → Leaves self.now total → MatchOption result (4096 < total) (λ n. (n ≡ total) × (n ≤ 4096)) }
+    {
+        MOST_STATEMENTS.checked_sub(self.left?)
+    }
 }
 
-/// The numbers of cells and of statements, where these are the policies; `None` where one is over its limit.
-pub fn sizes(world: &WorldView<'_>, identity: &[Items<Policy>]) -> Option<(u64, usize)>
-    requires { AllZip HasIdentity (map principal_of world.now.principals.items) identity.now }
+/// The numbers of cells and of statements; `None` where one is over its limit.
+pub fn sizes(world: &WorldView<'_>, budget: &Budget) -> Option<(u64, usize)>
+    requires { Leaves budget.now (statement_count (world_of world.now)) }
     ensures { MatchOption result (IsOverLimits (world_of world.now))
         (λ sizes. (sizes.0 ≡ cell_count (world_of world.now)) × (sizes.1 ≡ statement_count (world_of world.now))
         × (¬ IsOverLimits (world_of world.now))) }
@@ -68,6 +76,6 @@ pub fn sizes(world: &WorldView<'_>, identity: &[Items<Policy>]) -> Option<(u64, 
         world.actions.len(),
         world.resources.len(),
     )?;
-    let statements = statement_count(identity)?;
+    let statements = budget.counted()?;
     Some((cells, statements))
 }

@@ -3,15 +3,14 @@ ghost use Rattle.std.specs.BTreeSet.{contains_text};
 ghost use Rattle.std.specs.Char.{is_ascii_alphanumeric};
 ghost use Rattle.std.specs.List.{AllZip, list_all, position_from};
 ghost use Rattle.iam_world.specs.Code.ViewFault.{FindsFirst, IsClearBelow, IsFaultAt, IsFirstViewFault};
-ghost use Rattle.iam_world.specs.Code.Lent.{principal_of};
-ghost use Rattle.iam_world.specs.Code.LentWorld.{world_of};
+ghost use Rattle.iam_shape.specs.Code.Lent.{principal_of};
+ghost use Rattle.iam_shape.specs.Code.LentWorld.{world_of};
 ghost use Rattle.iam_world.specs.WorldFault.{HasNoResourceArn, IsFirstAt, IsNoAction, IsNoRequester, IsOfUnknownAccount, IsRequesterAt, is_action, is_action_name, is_resource, owners, placed};
 ghost use Rattle.iam_world.specs.declared.fault.WorldFault.TheVariants as w;
 
 use crate::fault::WorldFault;
-use crate::path::{Name, Path};
-use crate::view::{Accounts, PrincipalView, ResourceView, WorldView};
 use iam_match::{Requester, one_requester};
+use iam_shape::{Accounts, Name, Path, PrincipalView, ResourceView, WorldView};
 use iam_text::{Arn, OutOfMemory, is_label};
 use std::alloc::Global;
 
@@ -23,7 +22,10 @@ fn requester_of(
     ensures { IfOk result (λ found. MatchOption found (IsNoRequester (principal_of principal.now))
         (IsRequesterAt (principal_of principal.now))) }
 {
-    Requester::user(alloc, principal.arn)
+    match principal.session {
+        Some(session) => Requester::role(alloc, principal.arn, session),
+        None => Requester::user(alloc, principal.arn),
+    }
 }
 
 /// The requesters of the principals, in order.
@@ -34,7 +36,7 @@ fn read_requesters(
     ensures ok { IfOk result (λ requesters. AllZip IsRequesterAt (map principal_of principals.now) requesters.items) }
     ensures fault { IfErr result (λ fault. fault ≢ w.OutOfMemory
         → IsFaultAt w.BadRequester
-        (IsFirstAt IsNoRequester (placed Name.Principals 0 (map principal_of principals.now))) fault) }
+        (IsFirstAt IsNoRequester (placed (Path.Item Name.Principals) 0 (map principal_of principals.now))) fault) }
 {
     let mut requesters = Vec::new(alloc);
     for (i, principal) in principals.iter().enumerate() {
@@ -115,14 +117,14 @@ fn at(list: Name, number: Option<usize>) -> Option<Path>
 
 /// The first text that is no action.
 fn bad_action(world: &WorldView<'_>) -> Option<Path>
-    ensures { FindsFirst IsNoAction (placed Name.Actions 0 (world_of world.now).actions) result }
+    ensures { FindsFirst IsNoAction (placed (Path.Item Name.Actions) 0 (world_of world.now).actions) result }
 {
     at(Name::Actions, first_no_action(world.actions.as_slice()))
 }
 
 /// The first resource that is neither `*` nor an ARN.
 fn bad_resource(world: &WorldView<'_>) -> Option<Path>
-    ensures { FindsFirst HasNoResourceArn (placed Name.Resources 0 (world_of world.now).resources) result }
+    ensures { FindsFirst HasNoResourceArn (placed (Path.Item Name.Resources) 0 (world_of world.now).resources) result }
 {
     at(
         Name::Resources,
@@ -149,7 +151,7 @@ fn unknown_account(world: &WorldView<'_>, requesters: &[Requester]) -> Option<Pa
 /// The first fault of actions, resources and accounts.
 fn bad_name(world: &WorldView<'_>, requesters: &[Requester]) -> Option<WorldFault>
     requires { AllZip IsRequesterAt (map principal_of world.now.principals.items) requesters.now }
-    ensures { MatchOption result (IsClearBelow 8 (world_of world.now)) (IsFirstViewFault (world_of world.now)) }
+    ensures { MatchOption result (IsClearBelow 7 (world_of world.now)) (IsFirstViewFault (world_of world.now)) }
 {
     if let Some(path) = bad_action(world) {
         return Some(WorldFault::BadAction(path));
@@ -163,11 +165,11 @@ fn bad_name(world: &WorldView<'_>, requesters: &[Requester]) -> Option<WorldFaul
     None
 }
 
-/// Tests what a document says, but its policies and its size; the requesters of its principals.
+/// Tests what a document says, except its contexts, its policies and its size; the requesters of its principals.
 pub fn check_names(alloc: Global, world: &WorldView<'_>) -> Result<Vec<Requester>, WorldFault>
     ensures requesters { IfOk result (λ requesters.
         AllZip IsRequesterAt (map principal_of world.now.principals.items) requesters.items) }
-    ensures clear { OnOk result (IsClearBelow 8 (world_of world.now)) }
+    ensures clear { OnOk result (IsClearBelow 7 (world_of world.now)) }
     ensures fault { IfErr result (λ fault. fault ≢ w.OutOfMemory → IsFirstViewFault (world_of world.now) fault) }
 {
     let requesters = read_requesters(alloc, world.principals.as_slice())?;

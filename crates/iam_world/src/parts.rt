@@ -1,11 +1,12 @@
-ghost use Rattle.std.specs.Prelude.{◌≡◌, None, [], map, string_bytes, IfOk};
-ghost use Rattle.std.specs.List.{AllZip, zip};
-ghost use Rattle.iam_world.specs.Code.Lent.{account_of, resource_of};
-ghost use Rattle.iam_world.specs.Reads.{ReadsAccount, ReadsResource};
+ghost use Rattle.std.specs.Prelude.{◌≡◌, map, string_bytes, IfOk};
+ghost use Rattle.std.specs.List.{zip};
+ghost use Rattle.iam_shape.specs.Code.Lent.{account_of, resource_of};
+ghost use Rattle.iam_world.specs.Code.Made.{bare_account, bare_resource, made_account, made_principal, made_resource};
 
-use crate::view::{AccountView, ResourceView};
+use iam_context::Part;
 use iam_match::Requester;
 use iam_policy::Policy;
+use iam_shape::{AccountView, ResourceView};
 use iam_text::{Items, OutOfMemory};
 use std::alloc::Global;
 use std::marker::Model;
@@ -34,19 +35,30 @@ impl Model for Account {
 impl Account {
     ghost use Rattle.std.specs.Prelude.{◌≡◌, map, Some, IfOk};
     ghost use Rattle.std.specs.Str.{bytes_eq};
-    ghost use Rattle.iam_world.specs.Code.Lent.{account_of};
-    ghost use Rattle.iam_world.specs.Reads.{ReadsAccount};
+    ghost use Rattle.iam_shape.specs.Code.Lent.{account_of};
+    ghost use Rattle.iam_world.specs.Code.Made.{bare_account, made_account};
     ghost use Rattle.iam_world.specs.World.{org_of};
 
-    /// The account that a document gives; organisation policies are not read yet.
+    /// The account that a document gives, without its policies.
     fn read(alloc: Global, account: &AccountView<'_>) -> Result<Account, OutOfMemory>
-        ensures { IfOk result (ReadsAccount (account_of account.now)) }
+        ensures { IfOk result (λ a. a ≡ bare_account (account_of account.now)) }
     {
         Ok(Account {
             id: String::from_str(alloc, account.id)?,
-            management: false,
+            management: account.management,
             org: Vec::new(alloc),
         })
+    }
+
+    /// The account with these organisation policies.
+    fn with(self, org: Vec<Vec<Policy>>) -> Account
+        ensures { result ≡ made_account (self, map (λ level. level.items) org.items) }
+    {
+        Account {
+            id: self.id,
+            management: self.management,
+            org,
+        }
     }
 
     /// Whether it has this id.
@@ -78,10 +90,10 @@ pub struct Principal {
     identity: Items<Policy>,
     boundary: Option<Policy>,
     session: Items<Policy>,
+    context: Part,
 }
 
 impl Model for Principal {
-    ghost use Rattle.std.specs.Prelude.{[]};
     ghost use Rattle.iam_world.specs.World.{PrincipalValue};
 
     ghost Value = { PrincipalValue };
@@ -91,7 +103,7 @@ impl Model for Principal {
       identity = p.identity;
       boundary = p.boundary;
       session = p.session;
-      context = [];
+      context = p.context.items;
     } };
 }
 
@@ -125,6 +137,13 @@ impl Principal {
     {
         self.session.as_slice()
     }
+
+    /// The keys that it gives to the context of its requests.
+    pub fn context(&self) -> &Part
+        ensures { result.now.items ≡ self.now.context }
+    {
+        &self.context
+    }
 }
 
 /// A resource, with the policy that is attached to it.
@@ -134,10 +153,11 @@ pub struct Resource {
     account: String,
     policy: Option<Policy>,
     sealed: bool,
+    context: Part,
 }
 
 impl Model for Resource {
-    ghost use Rattle.std.specs.Prelude.{string_bytes, []};
+    ghost use Rattle.std.specs.Prelude.{string_bytes};
     ghost use Rattle.iam_world.specs.World.{ResourceValue};
 
     ghost Value = { ResourceValue };
@@ -147,25 +167,39 @@ impl Model for Resource {
       account = string_bytes r.account;
       policy = r.policy;
       sealed = r.sealed;
-      context = [];
+      context = r.context.items;
     } };
 }
 
 impl Resource {
     ghost use Rattle.std.specs.Prelude.{◌≡◌, option_map, IfOk};
-    ghost use Rattle.iam_world.specs.Code.Lent.{resource_of};
-    ghost use Rattle.iam_world.specs.Reads.{ReadsResource};
+    ghost use Rattle.iam_shape.specs.Code.Lent.{resource_of};
+    ghost use Rattle.iam_world.specs.Code.Made.{bare_resource, made_resource};
 
-    /// The resource that a document gives; its policy is not read yet.
+    /// The resource that a document gives, without its policy and its context.
     fn read(alloc: Global, resource: &ResourceView<'_>) -> Result<Resource, OutOfMemory>
-        ensures { IfOk result (ReadsResource (resource_of resource.now)) }
+        ensures { IfOk result (λ r. r ≡ bare_resource (resource_of resource.now)) }
     {
         Ok(Resource {
             arn: String::from_str(alloc, resource.arn)?,
             account: String::from_str(alloc, resource.account)?,
             policy: None,
-            sealed: false,
+            sealed: resource.sealed,
+            context: Vec::new(alloc),
         })
+    }
+
+    /// The resource with this policy and this context.
+    fn with(self, policy: Option<Policy>, context: Part) -> Resource
+        ensures { result ≡ made_resource ((self, policy), context.items) }
+    {
+        Resource {
+            arn: self.arn,
+            account: self.account,
+            policy,
+            sealed: self.sealed,
+            context,
+        }
     }
 
     /// The ARN, or `*`.
@@ -195,14 +229,18 @@ impl Resource {
     {
         self.sealed
     }
+
+    /// The keys that it gives to the context of requests for it.
+    pub fn context(&self) -> &Part
+        ensures { result.now.items ≡ self.now.context }
+    {
+        &self.context
+    }
 }
 
-/// The accounts that a document gives.
-pub fn read_accounts(
-    alloc: Global,
-    accounts: &[AccountView<'_>],
-) -> Result<Vec<Account>, OutOfMemory>
-    ensures { IfOk result (λ read. AllZip ReadsAccount (map account_of accounts.now) read.items) }
+/// The accounts that a document gives, without their policies.
+fn bare_accounts(alloc: Global, accounts: &[AccountView<'_>]) -> Result<Vec<Account>, OutOfMemory>
+    ensures { IfOk result (λ read. read.items ≡ map bare_account (map account_of accounts.now)) }
 {
     let mut read = Vec::new(alloc);
     for account in accounts {
@@ -211,24 +249,46 @@ pub fn read_accounts(
     Ok(read)
 }
 
-/// The principals that are these requesters and have these identity policies; other policies are not read yet.
+/// The accounts that a document gives, with these organisation policies.
+pub fn accounts(
+    alloc: Global,
+    accounts: &[AccountView<'_>],
+    org: Vec<Vec<Vec<Policy>>>,
+) -> Result<Vec<Account>, OutOfMemory>
+    ensures { IfOk result (λ read. read.items ≡ map (λ p. made_account (p.0, map (λ level. level.items) p.1.items))
+        (zip (map bare_account (map account_of accounts.now)) org.items)) }
+{
+    bare_accounts(alloc, accounts)?
+        .into_iter()
+        .zip(org)
+        .map(|(account, org)| account.with(org))
+        .collect(alloc)
+}
+
+/// The principals that are these requesters, with their policies and contexts.
 pub fn principals(
     alloc: Global,
     requesters: Vec<Requester>,
     identity: Vec<Items<Policy>>,
+    boundary: Vec<Option<Policy>>,
+    session: Vec<Items<Policy>>,
+    contexts: Vec<Part>,
 ) -> Result<Vec<Principal>, OutOfMemory>
-    ensures { IfOk result (λ read. read.items
-        ≡ map (λ p. record { requester = p.0; identity = p.1; boundary = None; session = []; context = [] })
-        (zip requesters.items identity.items)) }
+    ensures { IfOk result (λ read. read.items ≡ map (λ p. made_principal (p.0, p.1.items))
+        (zip (zip (zip (zip requesters.items identity.items) boundary.items) session.items) contexts.items)) }
 {
     requesters
         .into_iter()
         .zip(identity)
-        .map(|(requester, identity)| Principal {
+        .zip(boundary)
+        .zip(session)
+        .zip(contexts)
+        .map(|((((requester, identity), boundary), session), context)| Principal {
             requester,
             identity,
-            boundary: None,
-            session: Items::from_vec(Vec::new(alloc)),
+            boundary,
+            session,
+            context,
         })
         .collect(alloc)
 }
@@ -244,16 +304,34 @@ pub fn read_actions(alloc: Global, actions: &[&str]) -> Result<Vec<String>, OutO
     Ok(read)
 }
 
-/// The resources that a document gives.
-pub fn read_resources(
+/// The resources that a document gives, without their policies and contexts.
+fn bare_resources(
     alloc: Global,
     resources: &[ResourceView<'_>],
 ) -> Result<Vec<Resource>, OutOfMemory>
-    ensures { IfOk result (λ read. AllZip ReadsResource (map resource_of resources.now) read.items) }
+    ensures { IfOk result (λ read. read.items ≡ map bare_resource (map resource_of resources.now)) }
 {
     let mut read = Vec::new(alloc);
     for resource in resources {
         read.push(Resource::read(alloc, resource)?)?;
     }
     Ok(read)
+}
+
+/// The resources that a document gives, with these policies and contexts.
+pub fn resources(
+    alloc: Global,
+    resources: &[ResourceView<'_>],
+    policies: Vec<Option<Policy>>,
+    contexts: Vec<Part>,
+) -> Result<Vec<Resource>, OutOfMemory>
+    ensures { IfOk result (λ read. read.items ≡ map (λ p. made_resource (p.0, p.1.items))
+        (zip (zip (map bare_resource (map resource_of resources.now)) policies.items) contexts.items)) }
+{
+    bare_resources(alloc, resources)?
+        .into_iter()
+        .zip(policies)
+        .zip(contexts)
+        .map(|((resource, policy), context)| resource.with(policy, context))
+        .collect(alloc)
 }

@@ -1,31 +1,30 @@
-ghost use Rattle.std.specs.Prelude.{◌≡◌, ◌≢◌, true, map, option_map, IfOk, IfErr};
-ghost use Rattle.std.specs.List.{AllByRecursion, AllZip, find};
+ghost use Rattle.std.specs.Prelude.{◌≡◌, ◌≢◌, ◌≤◌, true, map, option_map, IfOk, IfErr};
+ghost use Rattle.std.specs.List.{AllZip, find};
 ghost use Rattle.std.specs.Str.{bytes_eq};
 ghost use Rattle.serde_json.specs.Data.{Data};
 ghost use Rattle.serde_json.specs.View.{view};
 ghost use Rattle.iam_world.specs.Code.ViewFault.{IsFirstViewFault, ViewHasFault};
-ghost use Rattle.iam_world.specs.Code.Documents.{HasIdentity};
-ghost use Rattle.iam_world.specs.Code.Invariants.{HasFewDocuments};
-ghost use Rattle.iam_world.specs.Code.Lent.{principal_of};
-ghost use Rattle.iam_world.specs.Code.LentWorld.{world_of};
+ghost use Rattle.iam_world.specs.Code.Contexts.{HasContexts};
+ghost use Rattle.iam_world.specs.Code.Documents.{HasPolicies};
+ghost use Rattle.iam_shape.specs.Few.{HasFewLists};
+ghost use Rattle.iam_shape.specs.Code.Lent.{principal_of};
+ghost use Rattle.iam_shape.specs.Code.LentWorld.{world_of};
 ghost use Rattle.iam_world.specs.Reads.{ReadsWorld};
 ghost use Rattle.iam_world.specs.WorldFault.{IsJson, IsOverLimits, IsRequesterAt, cell_count, statement_count};
 ghost use Rattle.iam_world.specs.declared.fault.WorldFault.{WorldFault};
 ghost use Rattle.iam_world.specs.declared.fault.WorldFault.TheVariants as w;
 
-use crate::documents::read_identity;
+use crate::contexts::{Contexts, read_contexts};
+use crate::documents::{Policies, read_documents};
 use crate::fault::WorldFault;
-use crate::laws::few_documents;
-use crate::limits::sizes;
+use crate::limits::{Budget, sizes};
 use crate::names::check_names;
-use crate::parts::{
-    Account, Principal, Resource, principals, read_accounts, read_actions, read_resources,
-};
-use crate::shape::walk;
-use crate::view::WorldView;
+use crate::parts::{Account, Principal, Resource, accounts, principals, read_actions, resources};
+use iam_context::Part;
 use iam_match::Requester;
 use iam_policy::Policy;
-use iam_text::{Items, OutOfMemory};
+use iam_shape::{WorldView, few_documents, one_view, walk};
+use iam_text::OutOfMemory;
 use serde_json::Value;
 use std::alloc::Global;
 use std::marker::Model;
@@ -41,12 +40,13 @@ pub struct WorldParts {
     principals: Vec<Principal>,
     actions: Vec<String>,
     resources: Vec<Resource>,
+    context: Part,
     cells: u64,
     statements: usize,
 }
 
 impl Model for WorldParts {
-    ghost use Rattle.std.specs.Prelude.{[], map, string_bytes};
+    ghost use Rattle.std.specs.Prelude.{map, string_bytes};
     ghost use Rattle.iam_world.specs.World.{WorldValue};
     ghost use Rattle.iam_world.specs.Code.Invariants.{IsSized};
 
@@ -58,7 +58,7 @@ impl Model for WorldParts {
       principals = w.principals.items;
       actions = map string_bytes w.actions.items;
       resources = w.resources.items;
-      context = [];
+      context = w.context.items;
     } };
 
     ghost invariant = { λ w. IsSized (record {
@@ -67,7 +67,7 @@ impl Model for WorldParts {
       principals = w.principals.items;
       actions = map string_bytes w.actions.items;
       resources = w.resources.items;
-      context = [];
+      context = w.context.items;
     }) w.cells w.statements };
 }
 
@@ -94,17 +94,20 @@ fn parse_fault(memory: bool) -> WorldFault
     }
 }
 
-/// The world of a document without a fault, and of these requesters and policies.
+/// The world of a document without a fault, and of what was read of it.
 fn build(
     alloc: Global,
     world: &WorldView<'_>,
     requesters: Vec<Requester>,
-    identity: Vec<Items<Policy>>,
+    contexts: Contexts,
+    policies: Policies,
     sizes: (u64, usize),
 ) -> Result<WorldParts, OutOfMemory>
     requires requesters { AllZip IsRequesterAt (map principal_of world.now.principals.items) requesters.items }
-    requires identity { AllZip HasIdentity (map principal_of world.now.principals.items) identity.items }
-    requires small { AllByRecursion HasFewDocuments (map principal_of world.now.principals.items) }
+    requires contexts { HasContexts (world_of world.now) contexts }
+    requires policies { HasPolicies world.now policies }
+    requires small { HasFewLists (world_of world.now) }
+    requires moment { world.now.moment ≤ 253402300799 }
     requires cells { sizes.0 ≡ cell_count (world_of world.now) }
     requires statements { sizes.1 ≡ statement_count (world_of world.now) }
     requires within { ¬ IsOverLimits (world_of world.now) }
@@ -112,10 +115,23 @@ fn build(
 {
     Ok(WorldParts {
         moment: world.moment,
-        accounts: read_accounts(alloc, world.accounts.views.as_slice())?,
-        principals: principals(alloc, requesters, identity)?,
+        accounts: accounts(alloc, world.accounts.views.as_slice(), policies.org)?,
+        principals: principals(
+            alloc,
+            requesters,
+            policies.identity,
+            policies.boundary,
+            policies.session,
+            contexts.principals,
+        )?,
         actions: read_actions(alloc, world.actions.as_slice())?,
-        resources: read_resources(alloc, world.resources.as_slice())?,
+        resources: resources(
+            alloc,
+            world.resources.as_slice(),
+            policies.resource,
+            contexts.resources,
+        )?,
+        context: contexts.world,
         cells: sizes.0,
         statements: sizes.1,
     })
@@ -123,15 +139,18 @@ fn build(
 
 /// The world that a document of the right shape says, or its first fault.
 fn read_view(alloc: Global, world: &WorldView<'_>) -> Result<WorldParts, WorldFault>
-    requires small { AllByRecursion HasFewDocuments (map principal_of world.now.principals.items) }
+    requires small { HasFewLists (world_of world.now) }
+    requires moment { world.now.moment ≤ 253402300799 }
     ensures ok { IfOk result (λ parts. ReadsWorld (world_of world.now) parts
         × ((fault : WorldFault) → ¬ ViewHasFault (world_of world.now) fault)) }
     ensures fault { IfErr result (λ fault. fault ≢ w.OutOfMemory → IsFirstViewFault (world_of world.now) fault) }
 {
     let requesters = check_names(alloc, world)?;
-    let identity = read_identity(alloc, world.principals.as_slice())?;
-    match sizes(world, identity.as_slice()) {
-        Some(sizes) => Ok(build(alloc, world, requesters, identity, sizes)?),
+    let contexts = read_contexts(alloc, world)?;
+    let mut budget = Budget::new();
+    let policies = read_documents(alloc, world, &mut budget)?;
+    match sizes(world, &budget) {
+        Some(sizes) => Ok(build(alloc, world, requesters, contexts, policies, sizes)?),
         None => Err(WorldFault::TooLarge),
     }
 }
@@ -148,7 +167,7 @@ impl WorldParts {
     ghost use Rattle.std.specs.Prelude.{◌≡◌, ◌≢◌, ◌≤◌, IfOk, IfErr, map, string_bytes};
     ghost use Rattle.std.specs.List.{AllByRecursion, find};
     ghost use Rattle.std.specs.Str.{bytes_eq};
-    ghost use Rattle.iam_world.specs.Code.Invariants.{HasFewLevels, HasFewPolicies};
+    ghost use Rattle.iam_world.specs.Code.Invariants.{CanJoin, HasFewLevels, HasFewPolicies};
     ghost use Rattle.iam_world.specs.Reads.{IsWorld};
     ghost use Rattle.iam_world.specs.World.{org_of, world_cells, world_statements};
     ghost use Rattle.iam_world.specs.WorldFault.{IsFirstWorldFault};
@@ -166,8 +185,26 @@ impl WorldParts {
         }
         let value = parse(alloc, bytes)?;
         let world = walk(alloc, &value)?;
+        one_view();
         few_documents();
         read_view(alloc, &world)
+    }
+
+    /// The moment, in seconds from 1970-01-01T00:00:00Z, at most 253,402,300,799: the end of the year 9999.
+    pub fn moment(&self) -> u64
+        ensures value { result ≡ self.now.moment }
+        ensures most { result ≤ 253402300799 }
+    {
+        self.moment
+    }
+
+    /// The keys that the world gives to the context of each request. They can be joined with those of a principal
+    /// and of a resource.
+    pub fn context(&self) -> &Part
+        ensures value { result.now.items ≡ self.now.context }
+        ensures join { CanJoin self.now }
+    {
+        &self.context
     }
 
     /// The principals, in order; each list of their policies has fewer than 2^32 members.

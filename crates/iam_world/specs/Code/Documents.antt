@@ -1,28 +1,59 @@
--- How the code refuses a policy document of a world, and what it reads of the others, beside `WorldFault`.
-use Rattle.std.specs.Prelude.{◌≡◌, List}
-use Rattle.std.specs.List.{AllZip}
+-- How the code reads the documents of a world one after another, beside `WorldFault`.
+use Rattle.std.specs.Prelude.{◌≡◌, ℕ, ◌+◌, List, length, map}
+use Rattle.std.specs.List.{AllByRecursion, AllZip, sum_by}
 use Rattle.serde_json.specs.Data.{Data}
-use Rattle.iam_policy.specs.Fault.{IsLeastFault}
-use Rattle.iam_policy.specs.Reading.{PolicyValue, Reads}
-use Rattle.iam_policy.specs.declared.fault.Kind.{Kind}
+use Rattle.iam_policy.specs.Fault.{statements_in}
+use Rattle.iam_policy.specs.Reading.{Reads}
 use Rattle.iam_policy.specs.declared.fault.Kind.TheVariants as kind
 use Rattle.iam_policy.specs.declared.fault.Refused.{Refused}
-use Rattle.iam_world.specs.View.{PrincipalView}
-use Rattle.iam_world.specs.WorldFault.{Document, IsFirstRefused}
+use Rattle.iam_world.specs.Code.Budget.{Leaves}
+use Rattle.iam_world.specs.WorldFault.{Document, IsFirstRefused, IsNotAccepted}
 use Rattle.iam_world.specs.declared.fault.WorldFault.{WorldFault}
 use Rattle.iam_world.specs.declared.fault.WorldFault.TheVariants.{Policy}
-use Rattle.iam_world.specs.declared.path.Path.{Path}
+use Rattle.iam_world.specs.declared.limits.Budget.{Budget}
+use Rattle.iam_shape.specs.declared.path.Path.{Path}
+use Rattle.iam_shape.specs.declared.path.Path.TheVariants.{Field, Entry, Leaf}
+use Rattle.iam_shape.specs.declared.path.Name.TheVariants.{Accounts, Org}
+use Rattle.iam_shape.specs.declared.view.WorldView as lent
+use Rattle.iam_shape.specs.Code.Lent.{account_of, principal_of, resource_of}
+use Rattle.iam_world.specs.Reads.{ReadsOptional}
+use Rattle.iam_world.specs.declared.documents.Documents.{Documents}
+use Rattle.iam_world.specs.declared.documents.Policies.{Policies}
+use Rattle.iam_world.specs.declared.documents.Place.{Place}
+use Rattle.iam_world.specs.declared.documents.Place.TheVariants.{Entries, Level, Alone}
 
--- the document at this path is refused by its least fault
-abbrev pub IsRefused : Kind → Path → Data → WorldFault → Type 0
-IsRefused kind path d fault =
-    (refused : Refused) × (fault ≡ Policy path refused) × IsLeastFault kind d refused.statement refused.fault
+-- how many statements documents have
+abbrev pub statements_of : List Document → ℕ
+statements_of ds = sum_by (λ document. length (statements_in document.value)) ds
 
 -- the first of the documents that is not accepted is refused by its least fault
 abbrev pub IsRefusedAmong : List Document → WorldFault → Type 0
-IsRefusedAmong documents fault =
-    (path : Path) × (refused : Refused) × (fault ≡ Policy path refused) × IsFirstRefused documents path refused
+IsRefusedAmong ds fault = (path : Path) × (refused : Refused) × (fault ≡ Policy path refused) × IsFirstRefused ds path refused
 
--- the identity policies of the principal
-abbrev pub HasIdentity : PrincipalView → List PolicyValue → Type 0
-HasIdentity principal policies = AllZip (Reads kind.Identity) principal.identity policies
+-- the documents are accepted, and their statements are counted
+pub record IsCleared (ds : List Document) (before after : Budget) : Type 0 where
+  pub accepted : AllByRecursion (λ d. ¬ IsNotAccepted d) ds
+  pub counted : (total : ℕ) → Leaves before total → Leaves after (total + statements_of ds)
+
+-- the path of a document of a list
+abbrev pub path_at : Place → ℕ → Path
+path_at (Entries list i name) j = Entry list i name j
+path_at (Level i level) j = Leaf Accounts i Org level j
+path_at (Alone list i name) j = Field list i name
+
+-- document j of a list
+abbrev pub document_at : Documents → ℕ → Data → Document
+document_at ds j value = record { path = path_at ds.place j; kind = ds.kind; value = value }
+
+-- these are the policies of the documents, layer by layer
+pub record HasPolicies (world : lent.WorldView) (policies : Policies) : Type 0 where
+  pub org : AllZip (λ v levels. AllZip (AllZip (Reads kind.Org)) v.org (map (λ level. level.items) levels.items))
+      (map account_of world.accounts.views.items) policies.org.items
+  pub resource : AllZip (λ v policy. ReadsOptional kind.Resource v.policy policy) (map resource_of world.resources.items)
+      policies.resource.items
+  pub identity : AllZip (λ v own. AllZip (Reads kind.Identity) v.identity own) (map principal_of world.principals.items)
+      policies.identity.items
+  pub boundary : AllZip (λ v policy. ReadsOptional kind.Identity v.boundary policy) (map principal_of world.principals.items)
+      policies.boundary.items
+  pub session : AllZip (λ v own. AllZip (Reads kind.Identity) v.session_policies own) (map principal_of world.principals.items)
+      policies.session.items

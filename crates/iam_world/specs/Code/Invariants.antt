@@ -1,19 +1,16 @@
 -- What a `WorldParts` keeps of its value, so that its calls need not test it again.
-use Rattle.std.specs.Prelude.{◌≡◌, ℕ, ◌<◌, ◌≤◌, ◌^◌, List, length}
-use Rattle.std.specs.List.{AllByRecursion, sum_by}
+use Rattle.std.specs.Prelude.{◌≡◌, ℕ, ◌<◌, ◌≤◌, ◌^◌, List, [], ◌++◌, length}
+use Rattle.std.specs.List.{AllByRecursion, flat_map, sum_by}
+use Rattle.iam_context.specs.Context.{keys_of}
+use Rattle.iam_context.specs.ContextFault.{IsClean}
 use Rattle.iam_policy.specs.Reading.{PolicyValue}
-use Rattle.iam_world.specs.View.{PrincipalView}
 use Rattle.iam_world.specs.World.{PrincipalValue, WorldValue, world_cells, world_statements}
 
 -- how many statements these policies have
 abbrev pub statements_in : List PolicyValue → ℕ
 statements_in policies = sum_by (λ policy. length policy.statements) policies
 
--- the documents of the principal have numbers of 32 bits
-abbrev pub HasFewDocuments : PrincipalView → Type 0
-HasFewDocuments principal = length principal.identity < 2 ^ 32
-
--- and so have its policies
+-- the policies of the principal have numbers of 32 bits
 pub record HasFewPolicies (principal : PrincipalValue) : Type 0 where
   pub identity : length principal.identity < 2 ^ 32
   pub session : length principal.session < 2 ^ 32
@@ -23,6 +20,14 @@ pub record HasFewLevels (levels : List (List PolicyValue)) : Type 0 where
   pub levels_few : length levels < 2 ^ 32
   pub policies_few : AllByRecursion (λ level. length level < 2 ^ 32) levels
 
+-- the contexts of the world, of a principal and of a resource can be joined
+pub record CanJoin (world : WorldValue) : Type 0 where
+  pub own : IsClean [] world.context
+  pub principals : AllByRecursion (λ p. IsClean (keys_of world.context) p.context) world.principals
+  pub resources :
+      AllByRecursion (λ r. IsClean (keys_of world.context ++ flat_map (λ p. keys_of p.context) world.principals) r.context)
+      world.resources
+
 -- the world is within the limits, and has so many cells and statements
 pub record IsSized (world : WorldValue) (cells statements : ℕ) : Type 0 where
   pub cells_are : cells ≡ world_cells world
@@ -31,3 +36,5 @@ pub record IsSized (world : WorldValue) (cells statements : ℕ) : Type 0 where
   pub few_statements : statements ≤ 4096
   pub policies : AllByRecursion HasFewPolicies world.principals
   pub orgs : AllByRecursion (λ account. HasFewLevels account.org) world.accounts
+  pub moment : world.moment ≤ 253402300799
+  pub contexts : CanJoin world

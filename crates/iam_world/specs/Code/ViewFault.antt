@@ -1,20 +1,24 @@
 -- The faults that a document of the right shape has, by what it says alone: those of numbers 3 to 9.
 use Rattle.std.specs.Prelude.{◌≡◌, ℕ, ◌≤◌, List, Option, MatchOption}
 use Rattle.std.specs.List.{AllByRecursion}
-use Rattle.iam_world.specs.View.{WorldView}
-use Rattle.iam_world.specs.WorldFault.{world_number_of, placed, IsFirstAt, IsNoRequester, IsNoAction, HasNoResourceArn, owners, IsOfUnknownAccount, documents, IsFirstRefused, IsOverLimits}
-use Rattle.iam_world.specs.declared.path.Name.TheVariants.{Principals, Actions, Resources}
-use Rattle.iam_world.specs.declared.path.Path.{Path}
+use Rattle.iam_shape.specs.View.{WorldView}
+use Rattle.iam_world.specs.WorldFault.{world_number_of, placed, IsFirstAt, IsNoRequester, IsNoAction, HasNoResourceArn, owners, IsOfUnknownAccount, documents, parts, IsFirstFaulty, IsFirstRefused, IsOverLimits}
+use Rattle.iam_shape.specs.declared.path.Name.TheVariants.{Principals, Actions, Resources}
+use Rattle.iam_shape.specs.declared.path.Path.{Path}
+use Rattle.iam_shape.specs.declared.path.Path.TheVariants.{Item}
+use Rattle.iam_shape.specs.declared.fault.ShapeFault.{ShapeFault}
+use Rattle.iam_shape.specs.declared.fault.ShapeFault.TheVariants as shape
 use Rattle.iam_world.specs.declared.fault.WorldFault.{WorldFault}
-use Rattle.iam_world.specs.declared.fault.WorldFault.TheVariants.{NotJson, BadShape, BadRequester, BadAction, BadResourceArn, UnknownAccount, Policy, TooLarge, OutOfMemory}
+use Rattle.iam_world.specs.declared.fault.WorldFault.TheVariants.{NotJson, BadShape, BadRequester, BadAction, BadResourceArn, UnknownAccount, Context, Policy, TooLarge, OutOfMemory}
 
 abbrev pub ViewHasFault : WorldView → WorldFault → Type 0
 ViewHasFault world NotJson = ⊥
 ViewHasFault world (BadShape path) = ⊥
-ViewHasFault world (BadRequester path) = IsFirstAt IsNoRequester (placed Principals 0 world.principals) path
-ViewHasFault world (BadAction path) = IsFirstAt IsNoAction (placed Actions 0 world.actions) path
-ViewHasFault world (BadResourceArn path) = IsFirstAt HasNoResourceArn (placed Resources 0 world.resources) path
+ViewHasFault world (BadRequester path) = IsFirstAt IsNoRequester (placed (Item Principals) 0 world.principals) path
+ViewHasFault world (BadAction path) = IsFirstAt IsNoAction (placed (Item Actions) 0 world.actions) path
+ViewHasFault world (BadResourceArn path) = IsFirstAt HasNoResourceArn (placed (Item Resources) 0 world.resources) path
 ViewHasFault world (UnknownAccount path) = IsFirstAt (IsOfUnknownAccount world) (owners world) path
+ViewHasFault world (Context path fault) = IsFirstFaulty (parts world) path fault
 ViewHasFault world (Policy path refused) = IsFirstRefused (documents world) path refused
 ViewHasFault world TooLarge = IsOverLimits world
 ViewHasFault world OutOfMemory = ⊥
@@ -35,3 +39,8 @@ IsFaultAt make P fault = (path : Path) × (fault ≡ make path) × P path
 -- the path of the first element of which P holds, or none where P holds of none
 abbrev pub FindsFirst : {X : Type 0} → (X → Type 0) → List (Path × X) → Option Path → Type 0
 FindsFirst P xs result = MatchOption result (AllByRecursion (λ x. ¬ P x.1) xs) (IsFirstAt P xs)
+
+-- the fault of a world whose shape has this fault
+abbrev pub shape_fault : ShapeFault → WorldFault
+shape_fault (shape.At path) = BadShape path
+shape_fault shape.OutOfMemory = OutOfMemory

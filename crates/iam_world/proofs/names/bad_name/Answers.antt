@@ -1,5 +1,5 @@
-use Rattle.iam_world.specs.Code.LentWorld.{world_of}
-use Rattle.iam_world.proofs.Clearing.{clear_4, clear_5, clear_6, clear_8}
+use Rattle.iam_shape.specs.Code.LentWorld.{world_of}
+use Rattle.iam_world.proofs.Clearing.{clear_4, clear_5, clear_6, clear_7}
 use Rattle.iam_world.proofs.names.bad_name.Goals as goal
 
 pub returns-in-Some : goal.returns-in-Some
@@ -26,4 +26,4 @@ pub returns : goal.returns
 returns c =
     let world = world_of c.args.world.now in
     let four = clear_4 world c.args.requesters.now c.requires in
-    clear_8 world (clear_6 world (clear_5 world four c.in_default.ensures) c.in_default-bad_resource.ensures) c.in_default-unknown_account.ensures
+    clear_7 world (clear_6 world (clear_5 world four c.in_default.ensures) c.in_default-bad_resource.ensures) c.in_default-unknown_account.ensures

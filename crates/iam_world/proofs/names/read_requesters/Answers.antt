@@ -1,8 +1,8 @@
 use Rattle.std.proofs.Common.{refl}
-use Rattle.iam_world.specs.Code.Lent.{principal_of}
+use Rattle.iam_shape.specs.Code.Lent.{principal_of}
 use Rattle.iam_world.specs.WorldFault.{IsNoRequester, IsRequesterAt}
-use Rattle.iam_world.specs.declared.path.Name.TheVariants.{Principals}
-use Rattle.iam_world.specs.declared.path.Path.TheVariants.{Item}
+use Rattle.iam_shape.specs.declared.path.Name.TheVariants.{Principals}
+use Rattle.iam_shape.specs.declared.path.Path.TheVariants.{Item}
 use Rattle.iam_world.proofs.Firsts.{at_here, at_later}
 use Rattle.iam_world.proofs.Walks.{zip_more}
 use Rattle.iam_world.proofs.names.read_requesters.Goals as goal
@@ -14,7 +14,7 @@ returns-in_default-clause-fault c = λ other.
       path,
       refl,
       c.loop-i.invariant.first path
-          (at_here IsNoRequester Principals principal_of c.args.principals.now c.loop-i.i c.index-principals-i.result c.loop-i-test.true
+          (at_here IsNoRequester (Item Principals) principal_of c.args.principals.now c.loop-i.i c.index-principals-i.result c.loop-i-test.true
           c.index-principals-i.is none),
     )
 
@@ -31,5 +31,5 @@ loop-i-preserved c =
           (zip_more IsRequesterAt principal_of ps i p c.loop-i.requesters.items r c.loop-i-test.true c.index-principals-i.is c.loop-i.invariant.read is);
       first = λ path later.
           c.loop-i.invariant.first path
-          (at_later IsNoRequester Principals principal_of ps i p c.loop-i-test.true c.index-principals-i.is (λ none. none r is) path later);
+          (at_later IsNoRequester (Item Principals) principal_of ps i p c.loop-i-test.true c.index-principals-i.is (λ none. none r is) path later);
     }

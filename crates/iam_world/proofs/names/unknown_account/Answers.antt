@@ -2,12 +2,12 @@ use Rattle.std.proofs.Common.{◌≡◌, ◌∙◌, List, map, not, option_map, 
 use Rattle.std.specs.BTreeSet.{contains_text}
 use Rattle.std.specs.List.{position_from}
 use Rattle.iam_world.specs.Code.ViewFault.{FindsFirst}
-use Rattle.iam_world.specs.Code.Lent.{resource_of}
-use Rattle.iam_world.specs.Code.LentWorld.{world_of}
+use Rattle.iam_shape.specs.Code.Lent.{resource_of}
+use Rattle.iam_shape.specs.Code.LentWorld.{world_of}
 use Rattle.iam_world.specs.WorldFault.{IsOfUnknownAccount, of_principal, of_resource, placed}
-use Rattle.iam_world.specs.declared.path.Name.TheVariants.{Principals, Resources}
-use Rattle.iam_world.specs.declared.path.Path.TheVariants.{Item}
-use Rattle.iam_world.specs.declared.view.ResourceView.{ResourceView}
+use Rattle.iam_shape.specs.declared.path.Name.TheVariants.{Principals, Resources}
+use Rattle.iam_shape.specs.declared.path.Path.TheVariants.{Item}
+use Rattle.iam_shape.specs.declared.view.ResourceView.{ResourceView}
 use Rattle.iam_world.proofs.Owners.{first_user, first_resource, in_users, in_resources}
 use Rattle.iam_world.proofs.names.unknown_account.Goals as goal
 
@@ -16,7 +16,7 @@ returns-in-Some c =
     let world = world_of c.args.world.now in
     let ids = c.args.world.now.accounts.ids in
     let known = c.args.world.now.accounts.known in
-    let users = placed Principals 0 (map of_principal world.principals) in
+    let users = placed (Item Principals) 0 (map of_principal world.principals) in
     let found = ap (option_map (Item Principals)) (sym c.first_unknown_user.ensures) ∙ sym c.at.ensures ∙ c.in-Some.is in
     in_users world ids known c.in-Some.path
     (subst (FindsFirst (IsOfUnknownAccount world) users) found (first_user world ids known c.one_requester.ensures c.args.requesters.now c.requires))
@@ -26,8 +26,8 @@ returns-in-None c =
     let world = world_of c.args.world.now in
     let ids = c.args.world.now.accounts.ids in
     let known = c.args.world.now.accounts.known in
-    let users = placed Principals 0 (map of_principal world.principals) in
-    let resources = placed Resources 0 (map of_resource world.resources) in
+    let users = placed (Item Principals) 0 (map of_principal world.principals) in
+    let resources = placed (Item Resources) 0 (map of_resource world.resources) in
     let none = ap (option_map (Item Principals)) (sym c.first_unknown_user.ensures) ∙ sym c.at.ensures ∙ c.in-None.is in
     let owners : List ResourceView = c.args.world.now.resources.items in
     let test = λ (r : ResourceView). not (contains_text ids r.account.now) in

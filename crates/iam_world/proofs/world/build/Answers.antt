@@ -1,38 +1,50 @@
-use Rattle.std.proofs.Common.{List, [], map, string_bytes, refl, sym, subst}
+use Rattle.std.proofs.Common.{List, map, string_bytes, refl, sym, subst}
 use Rattle.std.specs.List.{AllZip}
-use Rattle.iam_world.specs.Code.Lent.{principal_of}
-use Rattle.iam_world.specs.Code.LentWorld.{world_of}
-use Rattle.iam_world.specs.Reads.{ReadsPrincipal, ReadsWorld}
-use Rattle.iam_world.specs.World.{PrincipalValue}
-use Rattle.iam_world.proofs.Worlds.{reads_principals, sized}
+use Rattle.iam_shape.specs.Code.Lent.{account_of, principal_of, resource_of}
+use Rattle.iam_shape.specs.Code.LentWorld.{world_of}
+use Rattle.iam_world.specs.Reads.{ReadsAccount, ReadsPrincipal, ReadsResource, ReadsWorld}
+use Rattle.iam_world.specs.World.{AccountValue, PrincipalValue, ResourceValue}
+use Rattle.iam_world.proofs.Worlds.{reads_accounts, reads_principals, reads_resources, sized}
 use Rattle.iam_world.proofs.world.build.Goals as goal
 
 -- the world that is built is read of the view
-read : (c : goal.In_ok-read_resources) → ReadsWorld (world_of c.args.world.now) (record {
+read : (c : goal.In_ok-resources) → ReadsWorld (world_of c.args.world.now) (record {
   moment = c.args.world.now.moment;
-  accounts = c.in_ok-read_accounts.field-0.items;
+  accounts = c.in_ok-accounts.field-0.items;
   principals = c.in_ok-principals.field-0.items;
   actions = map string_bytes c.in_ok-read_actions.field-0.items;
-  resources = c.in_ok-read_resources.field-0.items;
-  context = [];
+  resources = c.in_ok-resources.field-0.items;
+  context = c.args.contexts.world.items;
 })
 read c =
     let lent = c.args.world.now in
+    let policies = c.args.policies in
+    let contexts = c.args.contexts in
+    let A : List AccountValue → Type 0 = AllZip ReadsAccount (map account_of lent.accounts.views.items) in
     let P : List PrincipalValue → Type 0 = AllZip ReadsPrincipal (map principal_of lent.principals.items) in
+    let R : List ResourceValue → Type 0 = AllZip ReadsResource (map resource_of lent.resources.items) in
     record {
       moment = refl;
-      accounts = rw c.as_slice.ensures.value at c.in_ok-read_accounts.ensures;
+      accounts =
+          subst A (sym (rw c.as_slice.ensures.value at c.in_ok-accounts.ensures))
+          (reads_accounts (λ levels. map (λ level. level.items) levels.items) (map account_of lent.accounts.views.items) policies.org.items c.requires.policies.org);
       principals =
           subst P (sym c.in_ok-principals.ensures)
-          (reads_principals (map principal_of lent.principals.items) c.args.requesters.items c.args.identity.items c.requires.requesters c.requires.identity);
+          (reads_principals (λ part. part.items) (map principal_of lent.principals.items) c.args.requesters.items policies.identity.items policies.boundary.items
+          policies.session.items contexts.principals.items c.requires.requesters c.requires.policies.identity c.requires.policies.boundary c.requires.policies.session
+          c.requires.contexts.principals);
       actions = rw c.as_slice-2.ensures.value at c.in_ok-read_actions.ensures;
-      resources = rw c.as_slice-3.ensures.value at c.in_ok-read_resources.ensures;
-      context = refl;
+      resources =
+          subst R (sym (rw c.as_slice-3.ensures.value at c.in_ok-resources.ensures))
+          (reads_resources (λ part. part.items) (map resource_of lent.resources.items) policies.resource.items contexts.resources.items c.requires.policies.resource
+          c.requires.contexts.resources);
+      context = c.requires.contexts.world;
     }
 
 pub invariant_of-result : goal.invariant_of-result
 invariant_of-result c =
-    sized (world_of c.args.world.now) _ c.args.sizes.0 c.args.sizes.1 (read c) c.requires.small c.requires.cells c.requires.statements c.requires.within
+    sized (world_of c.args.world.now) _ c.args.sizes.0 c.args.sizes.1 (read c) c.requires.small c.requires.moment c.requires.cells c.requires.statements
+    c.requires.within c.requires.contexts.clean
 
 pub returns : goal.returns
 returns c = read c

@@ -1,6 +1,6 @@
 use Rattle.std.proofs.lemmas.Result.{IfOk-weaker, IfErr-weaker}
 use Rattle.serde_json.specs.View.{view}
-use Rattle.iam_world.specs.Code.LentWorld.{world_of}
+use Rattle.iam_shape.specs.Code.LentWorld.{world_of}
 use Rattle.iam_world.proofs.FaultSet.{first_of_view, to_view}
 use Rattle.iam_world.proofs.world.WorldParts.read.Goals as goal
 
@@ -9,6 +9,7 @@ read_view-requires c = record {
   small =
       c.few_documents.ensures c.args.bytes.now (view c.in_ok-value.value) (world_of c.in_ok-world.world) c.if-bytes-gt-MOST_BYTES.false c.in_ok-value.ensures.ok
       c.in_ok-world.ensures.ok.1;
+  moment = c.in_ok-world.ensures.moment;
 }
 
 pub returns-clause-ok : goal.returns-clause-ok
@@ -20,7 +21,7 @@ returns-clause-ok c =
     (λ world read. record {
       acceptable = (
         c.if-bytes-gt-MOST_BYTES.false,
-        (λ fault has. read.1 fault (to_view bytes d (world_of c.in_ok-world.world) c.in_ok-value.ensures.ok says.0 says.1 fault has)),
+        (λ fault has. read.1 fault (to_view c.one_view.ensures bytes d (world_of c.in_ok-world.world) c.in_ok-value.ensures.ok says.0 says.1 fault has)),
       );
       value = d;
       json = c.in_ok-value.ensures.ok;
@@ -37,5 +38,5 @@ returns-clause-fault c =
     let says = c.in_ok-world.ensures.ok in
     IfErr-weaker c.read_view.result _ _
     (λ fault first other.
-    first_of_view bytes d (world_of c.in_ok-world.world) c.if-bytes-gt-MOST_BYTES.false c.in_ok-value.ensures.ok says.0 says.1 fault (first other))
+    first_of_view c.one_view.ensures bytes d (world_of c.in_ok-world.world) c.if-bytes-gt-MOST_BYTES.false c.in_ok-value.ensures.ok says.0 says.1 fault (first other))
     c.read_view.ensures.fault

@@ -1,5 +1,0 @@
-use Rattle.iam_world.proofs.Texts.{has_more}
-use Rattle.iam_world.proofs.accounts.keep.Goals as goal
-
-pub returns : goal.returns
-returns c = has_more c.in_ok-from_str.field-0 c.args.texts.now c.insert.new.self c.args.text.now c.in_ok-from_str.ensures.ok c.in_ok-insert.ensures.updates

@@ -1,0 +1,37 @@
+-- How accounts, principals and resources are put together of what was read.
+use Rattle.std.specs.Prelude.{List, [], Option, None}
+use Rattle.iam_context.specs.Context.{ContextValue}
+use Rattle.iam_match.specs.Requester.{RequesterValue}
+use Rattle.iam_policy.specs.Reading.{PolicyValue}
+use Rattle.iam_shape.specs.View.{AccountView, ResourceView}
+use Rattle.iam_world.specs.World.{AccountValue, PrincipalValue, ResourceValue}
+
+-- without policies and context
+abbrev pub bare_account : AccountView → AccountValue
+bare_account view = record { id = view.id; management = view.management; org = [] }
+
+abbrev pub bare_resource : ResourceView → ResourceValue
+bare_resource view = record { arn = view.arn; account = view.account; policy = None; sealed = view.sealed; context = [] }
+
+-- with these
+abbrev pub made_account : AccountValue × List (List PolicyValue) → AccountValue
+made_account p = record { id = p.0.id; management = p.0.management; org = p.1 }
+
+abbrev pub made_principal :
+    (((RequesterValue × List PolicyValue) × Option PolicyValue) × List PolicyValue) × ContextValue → PrincipalValue
+made_principal p = record {
+  requester = p.0.0.0.0;
+  identity = p.0.0.0.1;
+  boundary = p.0.0.1;
+  session = p.0.1;
+  context = p.1;
+}
+
+abbrev pub made_resource : (ResourceValue × Option PolicyValue) × ContextValue → ResourceValue
+made_resource p = record {
+  arn = p.0.0.arn;
+  account = p.0.0.account;
+  policy = p.0.1;
+  sealed = p.0.0.sealed;
+  context = p.1;
+}
