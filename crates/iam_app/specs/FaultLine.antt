@@ -1,8 +1,10 @@
 -- The numbers of the faults of a run, and the line that tells of one. It has no line feed at its end.
 use Rattle.std.specs.Prelude.{Option, ℕ, List, [], ◌++◌, codes, decimal, Some, None}
+use Rattle.iam_context.specs.ContextFault.{context_number_of, context_name_of}
+use Rattle.iam_context.specs.declared.fault.ContextFault.{ContextFault}
 use Rattle.iam_policy.specs.Table.{number_of, name_of}
 use Rattle.iam_policy.specs.declared.fault.Refused.{Refused}
-use Rattle.iam_world.specs.Path.{path_text}
+use Rattle.iam_shape.specs.Path.{path_text}
 use Rattle.iam_world.specs.WorldFault.{world_number_of, world_name_of}
 use Rattle.iam_world.specs.declared.fault.WorldFault.{WorldFault}
 use Rattle.iam_world.specs.declared.fault.WorldFault.TheVariants as w
@@ -28,6 +30,10 @@ refused_text refused =
     statement_text refused.statement
     ++ (codes ": " ++ (decimal (number_of refused.fault) ++ (codes " " ++ name_of refused.fault)))
 
+-- `1 KeyTwice`
+abbrev pub context_text : ContextFault → List ℕ
+context_text fault = decimal (context_number_of fault) ++ (codes " " ++ context_name_of fault)
+
 -- the path of a world's fault, which follows its number and name
 abbrev pub fault_path_text : WorldFault → List ℕ
 fault_path_text w.NotJson = []
@@ -36,6 +42,7 @@ fault_path_text (w.BadRequester path) = codes " at " ++ path_text path
 fault_path_text (w.BadAction path) = codes " at " ++ path_text path
 fault_path_text (w.BadResourceArn path) = codes " at " ++ path_text path
 fault_path_text (w.UnknownAccount path) = codes " at " ++ path_text path
+fault_path_text (w.Context path fault) = codes " at " ++ (path_text path ++ (codes ": " ++ context_text fault))
 fault_path_text (w.Policy path refused) = codes " at " ++ (path_text path ++ (codes ": " ++ refused_text refused))
 fault_path_text w.TooLarge = []
 fault_path_text w.OutOfMemory = []

@@ -2,6 +2,7 @@ ghost use Rattle.std.specs.Prelude.{◌≡◌, IfOk, MatchResult, string_bytes};
 ghost use Rattle.iam_app.specs.FaultLine.{fault_text};
 
 use crate::OutOfMemory;
+use iam_context::ContextFault;
 use iam_layers::WorldFault;
 use iam_policy::Refused;
 use std::alloc::Global;
@@ -103,9 +104,27 @@ impl Display for PathText {
             | WorldFault::BadAction(path)
             | WorldFault::BadResourceArn(path)
             | WorldFault::UnknownAccount(path) => write!(f, " at {path}"),
+            WorldFault::Context(path, fault) => write!(f, " at {path}: {}", ContextText(fault)),
             WorldFault::Policy(path, refused) => write!(f, " at {path}: {}", RefusedText(refused)),
             WorldFault::NotJson | WorldFault::TooLarge | WorldFault::OutOfMemory => Ok(()),
         }
+    }
+}
+
+/// The number and the name of the fault of a context.
+#[derive(Clone, Copy)]
+struct ContextText(ContextFault);
+
+impl Display for ContextText {
+    ghost use Rattle.std.specs.Prelude.{Some};
+    ghost use Rattle.iam_app.specs.FaultLine.{context_text};
+
+    ghost output = { λ text. Some (context_text text.0) };
+
+    fn fmt<W: Write>(&self, f: &mut Formatter<W>) -> Result<(), fmt::Error> {
+        let number = self.0.number();
+        let name = self.0.name();
+        write!(f, "{number} {name}")
     }
 }
 

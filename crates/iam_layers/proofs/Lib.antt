@@ -1,1 +1,3 @@
 mod CellLemmas
+pub mod ContextLemmas
+pub mod VerdictLemmas

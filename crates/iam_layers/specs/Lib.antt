@@ -1,2 +1,4 @@
 pub mod Applicable
 pub mod Cell
+pub mod Code
+pub mod Derived

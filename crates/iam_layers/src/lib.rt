@@ -4,6 +4,7 @@
 //! verdict on one request by a scan of all statements that apply.
 #![tactic(auto)]
 
+mod derived;
 mod world;
 
 pub use iam_decision::{Applicable, Decision, Layer, Place, Verdict};

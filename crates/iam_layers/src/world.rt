@@ -1,5 +1,7 @@
 ghost use Rattle.std.specs.Prelude.{◌≡◌, ◌+◌, ◌*◌, ◌≤◌, ◌<◌};
 
+use crate::derived::derived_keys;
+use iam_context::{Context, ContextFault, Derived, clean_beside_fewer, clean_parts_join};
 use iam_decision::{Applicable, Verdict};
 use iam_match::{OutOfMemory, Request, Requester};
 use iam_world::{Principal, Resource, WorldFault, WorldParts};
@@ -29,6 +31,14 @@ fn cell_number(p: u64, a: u64, r: u64, actions: u64, resources: u64) -> u64
     (p * actions + a) * resources + r
 }
 
+/// The one fault of keys that can be joined.
+fn memory_fault(fault: ContextFault) -> OutOfMemory
+    requires { fault ≡ ContextFault.OutOfMemory }
+{
+    let _wanting = fault;
+    OutOfMemory
+}
+
 impl World {
     ghost use Rattle.std.specs.Prelude.{◌≡◌, ◌≢◌, ℕ, ◌<◌, ◌≤◌, IfOk, IfErr, Some, length};
     ghost use Rattle.std.specs.List.{slice_get};
@@ -39,7 +49,7 @@ impl World {
     ghost use Rattle.iam_world.specs.Code.Invariants.{HasFewPolicies};
     ghost use Rattle.iam_world.specs.declared.fault.WorldFault.TheVariants as w;
     ghost use Rattle.iam_layers.specs.Applicable.{applicable_of};
-    ghost use Rattle.iam_layers.specs.Cell.{IsAction, IsCell, IsPrincipal, IsResource, IsVerdictAt, principal_text};
+    ghost use Rattle.iam_layers.specs.Cell.{IsAction, IsCell, IsContextAt, IsDerivedAt, IsPrincipal, IsResource, IsVerdictAt, principal_text};
 
     /// The world of a JSON document, or the first fault of its bytes: `TooLarge` for over 8,388,608 of them, then 1
     /// to 8 by number, each at its first place, then `TooLarge` for over 16,777,216 cells or 4,096 statements.
@@ -150,6 +160,48 @@ impl World {
         self.resource(r).arn()
     }
 
+    /// The keys that follow from principal p, resource r and the moment, each number below that of its kind.
+    ///
+    /// AWS IAM User Guide, "AWS global condition context keys".
+    pub fn derived(&self, alloc: Global, p: u64, r: u64) -> Result<Derived, OutOfMemory>
+        requires principal { p < length self.now.principals }
+        requires resource { r < length self.now.resources }
+        ensures { IfOk result (λ derived. IsDerivedAt self.now p r derived.items) }
+    {
+        let account = self.resource(r).account();
+        derived_keys(alloc, self.requester(p), account, self.parts.moment())
+    }
+
+    /// The context of requests of principal p for resource r: the keys that the world, the principal and the resource
+    /// give, and the derived ones, which have to be those of p and r.
+    ///
+    /// AWS IAM User Guide, "AWS global condition context keys".
+    pub fn context<'a>(
+        &'a self,
+        alloc: Global,
+        p: u64,
+        r: u64,
+        derived: &'a Derived,
+    ) -> Result<Context<'a>, OutOfMemory>
+        requires principal { p < length self.now.principals }
+        requires resource { r < length self.now.resources }
+        requires derived { IsDerivedAt self.now p r derived.now.items }
+        ensures { IfOk result (IsContextAt self.entry.now p r derived.entry.now.items) }
+    {
+        // The world's contexts can be joined, so only memory can be wanting.
+        clean_parts_join();
+        clean_beside_fewer();
+        let given = [
+            self.parts.context(),
+            self.principal(p).context(),
+            self.resource(r).context(),
+        ];
+        match Context::join(alloc, &given, derived) {
+            Ok(context) => Ok(context),
+            Err(fault) => Err(memory_fault(fault)),
+        }
+    }
+
     /// The policies that apply where principal p asks for resource r, each below the number of its kind.
     ///
     /// AWS IAM User Guide, "Policy evaluation logic".
@@ -189,6 +241,31 @@ impl World {
         &self.parts.resources()[r as usize]
     }
 
+    /// The verdict in the context that these derived keys complete.
+    fn decide_in<'c>(
+        &'c self,
+        alloc: Global,
+        p: u64,
+        a: u64,
+        r: u64,
+        derived: &'c Derived,
+    ) -> Result<Verdict, OutOfMemory>
+        requires principal { p < length self.now.principals }
+        requires action { a < length self.now.actions }
+        requires resource { r < length self.now.resources }
+        requires derived { IsDerivedAt self.now p r derived.now.items }
+        ensures { IfOk result (IsVerdictAt self.entry.now p a r) }
+    {
+        let context = self.context(alloc, p, r, derived)?;
+        let request = Request {
+            requester: self.requester(p),
+            action: self.action_text(a),
+            resource: self.resource_text(r),
+            context: &context,
+        };
+        self.applicable(p, r).decide(alloc, &request)
+    }
+
     /// The verdict on principal p's request for action a on resource r, each below the number of its kind, by a scan of
     /// all statements that apply. `OutOfMemory` comes where the found statements or the answer find no memory.
     ///
@@ -205,11 +282,7 @@ impl World {
         requires resource { r < length self.now.resources }
         ensures { IfOk result (IsVerdictAt self.now p a r) }
     {
-        let request = Request {
-            requester: self.requester(p),
-            action: self.action_text(a),
-            resource: self.resource_text(r),
-        };
-        self.applicable(p, r).decide(alloc, &request)
+        let derived = self.derived(alloc, p, r)?;
+        self.decide_in(alloc, p, a, r, &derived)
     }
 }

@@ -1,0 +1,105 @@
+ghost use Rattle.std.specs.Prelude.{◌≡◌, ◌≤◌, ℕ, List, ◌++◌, pos, option_map, IfOk, OnOk};
+ghost use Rattle.iam_value.specs.Moment.{IsStamp};
+ghost use Rattle.iam_layers.specs.Code.Keys.{moment_keys, requester_keys, username_key, word_of};
+ghost use Rattle.iam_layers.specs.Derived.{derived_of, key};
+
+use iam_context::Derived;
+use iam_match::{OutOfMemory, Requester};
+use iam_text::{Items, Text};
+use iam_value::stamp;
+use std::alloc::Global;
+
+/// Adds a key with one value.
+fn add(alloc: Global, keys: &mut Derived, name: &str, value: &str) -> Result<(), OutOfMemory>
+    ensures { OnOk result (keys.new.items ≡ keys.old.items ++ key name.now value.now) }
+{
+    let mut values = Vec::new(alloc);
+    values.push(Text::read(alloc, value)?)?;
+    keys.push((Text::read(alloc, name)?, Items::from_vec(values)))?;
+    Ok(())
+}
+
+/// Adds the user name, which a session has not.
+fn add_username(
+    alloc: Global,
+    keys: &mut Derived,
+    username: Option<&str>,
+) -> Result<(), OutOfMemory>
+    ensures { OnOk result (keys.new.items ≡ keys.old.items ++ username_key (option_map (λ name. name.now) username.entry)) }
+{
+    match username {
+        Some(name) => add(alloc, keys, "aws:username", name),
+        None => Ok(()),
+    }
+}
+
+/// What a requester is, by its user name.
+fn type_word(username: Option<&str>) -> &'static str
+    ensures { result.now ≡ word_of (option_map (λ name. name.now) username.entry) }
+{
+    match username {
+        Some(_) => "User",
+        None => "AssumedRole",
+    }
+}
+
+/// Adds the keys of a requester.
+fn add_requester(
+    alloc: Global,
+    keys: &mut Derived,
+    requester: &Requester,
+) -> Result<(), OutOfMemory>
+    ensures { OnOk result (keys.new.items ≡ keys.old.items ++ requester_keys requester.now) }
+{
+    let username = requester.username();
+    add(alloc, keys, "aws:PrincipalArn", requester.arn())?;
+    add_username(alloc, keys, username)?;
+    add(alloc, keys, "aws:PrincipalType", type_word(username))?;
+    add(alloc, keys, "aws:PrincipalAccount", requester.account())
+}
+
+/// Adds the keys of a moment, which is written so.
+fn add_moment(
+    alloc: Global,
+    keys: &mut Derived,
+    moment: u64,
+    stamp: &str,
+) -> Result<(), OutOfMemory>
+    ensures { OnOk result (keys.new.items ≡ keys.old.items ++ moment_keys moment stamp.now) }
+{
+    let seconds = moment.to_string(alloc)?;
+    add(alloc, keys, "aws:CurrentTime", stamp)?;
+    add(alloc, keys, "aws:EpochTime", seconds.as_str())
+}
+
+/// The keys of a requester, of an account of a resource and of a moment, which is written so.
+fn keys_with(
+    alloc: Global,
+    requester: &Requester,
+    account: &str,
+    moment: u64,
+    stamp: &str,
+) -> Result<Derived, OutOfMemory>
+    ensures { IfOk result (λ keys. keys.items ≡ derived_of requester.now account.now moment stamp.now) }
+{
+    let mut keys = Vec::new(alloc);
+    add_requester(alloc, &mut keys, requester)?;
+    add(alloc, &mut keys, "aws:ResourceAccount", account)?;
+    add_moment(alloc, &mut keys, moment, stamp)?;
+    Ok(keys)
+}
+
+/// The keys that follow from the requester, the resource's account and the moment.
+pub fn derived_keys(
+    alloc: Global,
+    requester: &Requester,
+    account: &str,
+    moment: u64,
+) -> Result<Derived, OutOfMemory>
+    requires { moment ≤ 253402300799 }
+    ensures { IfOk result (λ keys. (text : List ℕ) × IsStamp (pos moment) text
+        × (keys.items ≡ derived_of requester.now account.now moment text)) }
+{
+    let stamp = stamp(alloc, moment as i64)?;
+    keys_with(alloc, requester, account, moment, stamp.as_str())
+}
