@@ -16,10 +16,12 @@ use std::thread::Threads;
 const WORLDS: &str = "worlds.json";
 
 /// The files of rows, by theme.
-const ROWS: [&str; 5] = [
+const ROWS: [&str; 7] = [
     "commands.json",
+    "contexts.json",
     "decisions.json",
     "documents.json",
+    "layers.json",
     "limits.json",
     "shape.json",
 ];

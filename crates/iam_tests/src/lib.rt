@@ -2,7 +2,7 @@
 #![tactic(auto)]
 
 #[cfg(test)]
-mod decision;
+mod contexts;
 #[cfg(test)]
 mod drafts;
 #[cfg(test)]
