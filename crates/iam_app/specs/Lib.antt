@@ -1,3 +1,4 @@
+pub mod Code
 pub mod FaultLine
 pub mod Output
 pub mod Streams

@@ -4,6 +4,7 @@ ghost use Rattle.iam_app.specs.FaultLine.{fault_text};
 use crate::OutOfMemory;
 use iam_context::ContextFault;
 use iam_layers::WorldFault;
+use iam_matrix::{CutFault, MatrixFault};
 use iam_policy::Refused;
 use std::alloc::Global;
 use std::fmt::{self, Display, Formatter, Write};
@@ -16,10 +17,14 @@ pub enum RunFault {
     Read,
     /// 2: The input is no world.
     World(WorldFault),
+    /// 3: The matrix can't be made.
+    Matrix(MatrixFault),
     /// 4: The report can't be written.
     Write,
     /// 5: A number of `decide` is not below its axis.
     NoSuchCell,
+    /// 6: The cells can't be cut into tiles of this length.
+    Cut(CutFault),
     /// 7: The allocator refused a growth.
     OutOfMemory,
 }
@@ -28,15 +33,17 @@ impl RunFault {
     ghost use Rattle.std.specs.Prelude.{◌≡◌};
     ghost use Rattle.iam_app.specs.FaultLine.{run_number_of};
 
-    /// The number of the fault. 3 and 6 are those of a matrix and of a cut, which are not there yet.
+    /// The number of the fault.
     pub fn number(&self) -> u32
         ensures { result ≡ run_number_of self.now }
     {
         match self {
             RunFault::Read => 1,
             RunFault::World(_) => 2,
+            RunFault::Matrix(_) => 3,
             RunFault::Write => 4,
             RunFault::NoSuchCell => 5,
+            RunFault::Cut(_) => 6,
             RunFault::OutOfMemory => 7,
         }
     }
@@ -53,6 +60,28 @@ impl From<OutOfMemory> for RunFault {
     }
 }
 
+impl From<MatrixFault> for RunFault {
+    ghost use Rattle.std.specs.Prelude.{◌≡◌};
+    ghost use Rattle.iam_app.specs.declared.fault.RunFault.TheVariants as f;
+
+    ghost from_gives = { λ matrix fault. fault ≡ f.Matrix matrix };
+
+    fn from(fault: MatrixFault) -> RunFault {
+        RunFault::Matrix(fault)
+    }
+}
+
+impl From<CutFault> for RunFault {
+    ghost use Rattle.std.specs.Prelude.{◌≡◌};
+    ghost use Rattle.iam_app.specs.declared.fault.RunFault.TheVariants as f;
+
+    ghost from_gives = { λ cut fault. fault ≡ f.Cut cut };
+
+    fn from(fault: CutFault) -> RunFault {
+        RunFault::Cut(fault)
+    }
+}
+
 impl Display for RunFault {
     ghost use Rattle.std.specs.Prelude.{Some};
     ghost use Rattle.iam_app.specs.FaultLine.{fault_text};
@@ -63,8 +92,10 @@ impl Display for RunFault {
         match *self {
             RunFault::Read => write!(f, "fault 1 Read"),
             RunFault::World(fault) => write!(f, "fault 2 World: {}", WorldText(fault)),
+            RunFault::Matrix(fault) => write!(f, "fault 3 Matrix: {}", MatrixText(fault)),
             RunFault::Write => write!(f, "fault 4 Write"),
             RunFault::NoSuchCell => write!(f, "fault 5 NoSuchCell"),
+            RunFault::Cut(fault) => write!(f, "fault 6 Cut: {}", CutText(fault)),
             RunFault::OutOfMemory => write!(f, "fault 7 OutOfMemory"),
         }
     }
@@ -145,6 +176,40 @@ impl Display for RefusedText {
             None => write!(f, "document: {number} {name}"),
             Some(statement) => write!(f, "statement {statement}: {number} {name}"),
         }
+    }
+}
+
+/// The number and the name of a matrix's fault.
+#[derive(Clone, Copy)]
+struct MatrixText(MatrixFault);
+
+impl Display for MatrixText {
+    ghost use Rattle.std.specs.Prelude.{Some};
+    ghost use Rattle.iam_app.specs.FaultLine.{matrix_text};
+
+    ghost output = { λ text. Some (matrix_text text.0) };
+
+    fn fmt<W: Write>(&self, f: &mut Formatter<W>) -> Result<(), fmt::Error> {
+        let number = self.0.number();
+        let name = self.0.name();
+        write!(f, "{number} {name}")
+    }
+}
+
+/// The number and the name of a cut's fault.
+#[derive(Clone, Copy)]
+struct CutText(CutFault);
+
+impl Display for CutText {
+    ghost use Rattle.std.specs.Prelude.{Some};
+    ghost use Rattle.iam_app.specs.FaultLine.{cut_text};
+
+    ghost output = { λ text. Some (cut_text text.0) };
+
+    fn fmt<W: Write>(&self, f: &mut Formatter<W>) -> Result<(), fmt::Error> {
+        let number = self.0.number();
+        let name = self.0.name();
+        write!(f, "{number} {name}")
     }
 }
 

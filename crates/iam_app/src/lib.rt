@@ -1,6 +1,7 @@
 //! The program behind `iamsim`: its command line, its streams and what it says of a fault.
 #![tactic(auto)]
 
+mod cells;
 mod fault;
 mod input;
 mod output;

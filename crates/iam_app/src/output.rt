@@ -1,8 +1,19 @@
-ghost use Rattle.std.specs.Prelude.{OnOk, OnErr};
+ghost use Rattle.std.specs.Prelude.{OnOk, OnErr, string_bytes};
 ghost use Rattle.std.specs.Io.KnownBytes.{Appends};
+ghost use Rattle.std.specs.List.{flat_map};
+ghost use Rattle.iam_app.specs.Code.Pieces.{report_text};
 ghost use Rattle.iam_app.specs.Streams.{AppendsBeginning};
 
 use std::io::Write;
+
+/// A report, as it was made.
+#[derive(Drop)]
+pub enum Report {
+    /// In one text.
+    Whole(Vec<u8>),
+    /// In pieces that follow one another.
+    Pieces(Vec<String>),
+}
 
 /// A write or the flush failed, or a write took no bytes.
 #[derive(Clone, Copy, Debug, PartialEq, Eq)]
@@ -26,5 +37,27 @@ pub fn write_output<W: Write>(writer: &mut W, text: &[u8]) -> Result<(), OutputF
     match writer.flush() {
         Ok(()) => Ok(()),
         Err(_) => Err(OutputFault),
+    }
+}
+
+/// Writes pieces one behind the other.
+fn write_pieces<W: Write>(writer: &mut W, pieces: &[String]) -> Result<(), OutputFault>
+    ensures ok { OnOk result (Appends (W.contents writer.old) (W.contents writer.new) (flat_map string_bytes pieces.now)) }
+    ensures err { OnErr result (AppendsBeginning (W.contents writer.old) (W.contents writer.new) (flat_map string_bytes pieces.now)) }
+{
+    for piece in pieces {
+        write_output(writer, piece.as_bytes())?;
+    }
+    Ok(())
+}
+
+/// Writes the whole report. After a fault the writer gained a beginning of its text.
+pub fn write_report<W: Write>(writer: &mut W, report: &Report) -> Result<(), OutputFault>
+    ensures ok { OnOk result (Appends (W.contents writer.old) (W.contents writer.new) (report_text report.now)) }
+    ensures err { OnErr result (AppendsBeginning (W.contents writer.old) (W.contents writer.new) (report_text report.now)) }
+{
+    match report {
+        Report::Whole(text) => write_output(writer, text.as_slice()),
+        Report::Pieces(pieces) => write_pieces(writer, pieces.as_slice()),
     }
 }

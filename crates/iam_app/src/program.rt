@@ -1,12 +1,15 @@
 ghost use Rattle.std.specs.Prelude.{◌≡◌, ◌≢◌, ◌↔◌, IsTrue, IfOk, IfErr, OnOk, string_bytes};
+ghost use Rattle.iam_app.specs.Code.Pieces.{report_text};
+ghost use Rattle.iam_app.specs.Code.Refusal.{IsWorldRefusal};
 ghost use Rattle.iam_app.specs.Output.{EndsBy, HasTriple, IsAnswer, IsOutput, IsRefusal, IsReport, LacksCell, WritesOutput, check_text, counts_text, fault_of_input};
 ghost use Rattle.iam_app.specs.Streams.{ConsumesAtMost};
 ghost use Rattle.iam_app.specs.declared.fault.RunFault.TheVariants as f;
 
 use crate::OutOfMemory;
+use crate::cells::{first, matrix};
 use crate::fault::RunFault;
 use crate::input::{InputFault, read_input};
-use crate::output::write_output;
+use crate::output::{Report, write_report};
 use iam_layers::{World, WorldFault};
 use iam_matrix::csv_row;
 use iam_options::{Options, Task};
@@ -65,23 +68,35 @@ fn check(alloc: Global, world: &World) -> Result<Vec<u8>, OutOfMemory>
 }
 
 /// The report that the options ask for, of this world.
-fn report(alloc: Global, options: &Options, world: &World) -> Result<Vec<u8>, RunFault>
-    ensures ok { IfOk result (λ text. IsReport options.now world.now text.items) }
-    ensures fault { IfErr result (λ fault. fault ≢ f.OutOfMemory → (fault ≡ f.NoSuchCell) × LacksCell options.now world.now) }
+fn report<T: Threads + Sync>(
+    rt: &T,
+    alloc: Global,
+    options: &Options,
+    world: &World,
+) -> Result<Report, RunFault>
+    ensures ok { IfOk result (λ report. IsReport options.now world.now (report_text report)) }
+    ensures fault { IfErr result (λ fault. IsWorldRefusal options.now world.now fault) }
 {
     match options.task {
-        Task::Check => Ok(check(alloc, world)?),
-        Task::Decide(p, a, r) => decide(alloc, world, p, a, r),
+        Task::Check => Ok(Report::Whole(check(alloc, world)?)),
+        Task::Decide(p, a, r) => Ok(Report::Whole(decide(alloc, world, p, a, r)?)),
+        Task::Matrix => matrix(rt, alloc, options, world),
+        Task::First => first(rt, alloc, options, world),
     }
 }
 
 /// The report that the options ask for, of the world of these bytes.
-fn answer(alloc: Global, options: &Options, bytes: &[u8]) -> Result<Vec<u8>, RunFault>
-    ensures ok { IfOk result (λ text. IsOutput options.now bytes.now text.items) }
+fn answer<T: Threads + Sync>(
+    rt: &T,
+    alloc: Global,
+    options: &Options,
+    bytes: &[u8],
+) -> Result<Report, RunFault>
+    ensures ok { IfOk result (λ report. IsOutput options.now bytes.now (report_text report)) }
     ensures fault { IfErr result (λ fault. IsRefusal options.now bytes.now fault) }
 {
     match World::read(alloc, bytes) {
-        Ok(world) => report(alloc, options, &world),
+        Ok(world) => report(rt, alloc, options, &world),
         Err(fault) => Err(RunFault::World(fault)),
     }
 }
@@ -99,10 +114,11 @@ fn input_fault(fault: InputFault) -> RunFault
 
 /// Reads a world, and writes the report that the options ask for: the whole report is made before its first byte is
 /// written. At most 8,388,609 bytes are read. The first fault in this order ends the run: `Read`, `World`, `NoSuchCell`,
-/// `Write`; `OutOfMemory` can come at any point before the writing. After every fault except `Write` nothing was written;
-/// after `Write` a beginning of the report. No command starts a thread yet.
+/// `Cut`, `Matrix`, `Write`; that there is no memory can come at any point before the writing: as `Cut` or `Matrix`
+/// where a cut or the workers find none, as `OutOfMemory` elsewhere. After every fault except `Write` nothing was
+/// written; after `Write` a beginning of the report. `Matrix` and `First` start threads, and wait for their end.
 pub fn run<T: Threads + Sync, R: Read, W: Write>(
-    _rt: &T,
+    rt: &T,
     alloc: Global,
     options: &Options,
     reader: &mut R,
@@ -116,8 +132,8 @@ pub fn run<T: Threads + Sync, R: Read, W: Write>(
         Ok(bytes) => bytes,
         Err(fault) => return Err(input_fault(fault)),
     };
-    let text = answer(alloc, options, bytes.as_slice())?;
-    match write_output(writer, text.as_slice()) {
+    let report = answer(rt, alloc, options, bytes.as_slice())?;
+    match write_report(writer, &report) {
         Ok(()) => Ok(()),
         Err(_) => Err(RunFault::Write),
     }

@@ -221,6 +221,7 @@ impl Lanes {
         ensures inside { (lane n : ℕ) → slice_index self.lengths lane ≤ n → taken_by lane n seats.items ≡ 0 }
         ensures all { (lane n : ℕ) → 0 < ends_by lane seats.items → n < slice_index self.lengths lane → taken_by lane n seats.items ≡ 1 }
         ensures ended { result.ended ≡ ended_below (length self.lengths) seats.items }
+        ensures cell { IfSome result.low (λ cell. cell < no_cell) }
         ensures low { IfSome result.low (λ cell. 0 < offers_by cell seats.items) }
         ensures least { IfSome result.low (λ cell. (other : ℕ) → 0 < offers_by other seats.items → cell ≤ other) }
         ensures none { IfNone result.low ((cell : ℕ) → offers_by cell seats.items ≡ 0) }

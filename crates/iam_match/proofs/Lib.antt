@@ -1,3 +1,5 @@
+pub mod ColonLemmas
+pub mod CompareLemmas
 pub mod GrantLemmas
 pub mod JoinLemmas
 pub mod PartsLemmas

@@ -8,8 +8,8 @@ use Rattle.iam_text.specs.declared.draft.Piece.{Piece}
 use Rattle.iam_text.specs.Draft.{plain_draft}
 use Rattle.iam_context.specs.Context.{ContextValue}
 use Rattle.iam_context.specs.Resolve.{resolved}
-use Rattle.iam_policy.specs.Reading.{EntryValue, ResourceElement}
-use Rattle.iam_match.specs.Statement.{EntryHolds, ResourceMatches, TextMatches}
+use Rattle.iam_policy.specs.Reading.{ResourceElement}
+use Rattle.iam_match.specs.Statement.{ResourceMatches, TextMatches}
 use Rattle.iam_match.specs.Code.Texts.{TextDiffers}
 
 -- a text without variables becomes its pattern
@@ -28,16 +28,12 @@ all-taken P xs i past all = subst (λ ys. All P ys) (take_all i xs past) all
 pub none-any : {X : Type 0} (P : X → Type 0) (xs : List X) → All (λ x. ¬ P x) xs → ¬ Any P xs
 none-any P xs none (k, x, below, at, p) = none k x below (subst P (sym at) p)
 
--- each text becomes a pattern and none matches
-pub all-differ : (context : ContextValue) (resource : List ℕ) (texts : List (List Piece)) → All (TextDiffers context resource) texts
-    ↔ (All (λ text. IsSome (resolved context text)) texts × ¬ Any (TextMatches context resource) texts)
-all-differ context resource texts = (
-  λ all. (λ k d below. (all k d below).0, none-any (TextMatches context resource) texts (λ k d below. (all k d below).1)),
-  λ both k d below. (both.0 k d below, λ m. both.1 (k, get_or texts k d, below, same k d below, m)),
+-- all are P and none is Q
+pub all-but : {X : Type 0} (P Q : X → Type 0) (xs : List X) → All (λ x. P x × ¬ Q x) xs ↔ (All P xs × ¬ Any Q xs)
+all-but P Q xs = (
+  λ all. (λ k d below. (all k d below).0, none-any Q xs (λ k d below. (all k d below).1)),
+  λ both k d below. (both.0 k d below, λ q. both.1 (k, get_or xs k d, below, get_or_default xs k (get_or xs k d) d below, q)),
 )
-  where
-    same : (k : ℕ) (d : List Piece) → k < length texts → get_or texts k (get_or texts k d) ≡ get_or texts k d
-    same k d below = get_or_default texts k (get_or texts k d) d below
 
 -- an element that is not negated, and one that is
 pub plain-element : (element : ResourceElement) (texts : List (List Piece)) (resource : List ℕ) (context : ContextValue) (matched : Bool)
@@ -53,12 +49,7 @@ pub negated-element : (element : ResourceElement) (texts : List (List Piece)) (r
     → IsTrue differ ↔ ResourceMatches (Some element) resource context
 negated-element element texts resource context differ negated same agrees =
     let some = Any (TextMatches context resource) element.texts in
-    let both = all-differ context resource element.texts in
+    let both = all-but (λ text. IsSome (resolved context text)) (TextMatches context resource) element.texts in
     let here = subst (λ (ts : List (List Piece)). IsTrue differ ↔ All (TextDiffers context resource) ts) same agrees in
     subst (λ (negated : Bool). IsTrue differ ↔ MatchBool negated (All (λ text. IsSome (resolved context text)) element.texts × ¬ some) some)
     (sym negated) (λ t. both.0 (here.0 t), λ b. here.1 (both.1 b))
-
--- no entry holds, so all do where there is none
-pub no_entry : (context : ContextValue) (entries : List EntryValue) → (entries ≡ []) ↔ All (EntryHolds context) entries
-no_entry context [] = (λ e k d below. absurd (omega arith), λ all. refl)
-no_entry context (entry ∷ entries) = (λ e. absurd (let wrong : ⊥ = cc in wrong), λ all. absurd (all 0 entry (omega arith)))

@@ -1,4 +1,5 @@
 pub mod Code
+pub mod Entry
 pub mod Principal
 pub mod Request
 pub mod Requester

@@ -5,9 +5,10 @@ use Rattle.std.specs.Str.{chars}
 use Rattle.iam_text.specs.declared.sign.Sign.{Sign}
 use Rattle.iam_text.specs.Glob.{Matches, MatchesFold}
 use Rattle.iam_text.specs.declared.draft.Piece.{Piece}
-use Rattle.iam_policy.specs.Reading.{ActionElement, EntryValue, ResourceElement, StatementValue}
+use Rattle.iam_policy.specs.Reading.{ActionElement, ResourceElement, StatementValue}
 use Rattle.iam_context.specs.Context.{ContextValue}
 use Rattle.iam_context.specs.Resolve.{resolved}
+use Rattle.iam_match.specs.Entry.{EntryHolds}
 use Rattle.iam_match.specs.Principal.{PrincipalMatches}
 use Rattle.iam_match.specs.Requester.{RequesterValue}
 
@@ -35,10 +36,6 @@ ResourceMatches None resource context = ⊤
 ResourceMatches (Some element) resource context =
     let some_matches = Any (TextMatches context resource) element.texts in
     MatchBool element.negated (All (λ text. IsSome (resolved context text)) element.texts × ¬ some_matches) some_matches
-
--- an entry of `Condition` holds in a context. Entries are not read yet, so no statement has one
-abbrev pub EntryHolds : ContextValue → EntryValue → Type 0
-EntryHolds context entry = ⊥
 
 -- a statement matches a request where each of its elements does. Its action element alone sees the action
 pub record StatementMatches (s : StatementValue) (request : RequestValue) : Type 0 where

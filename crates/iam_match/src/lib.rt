@@ -1,6 +1,10 @@
 //! Requesters and requests, and which statements match them.
 #![tactic(auto)]
 
+mod arn;
+mod asked;
+mod compare;
+mod entry;
 mod laws;
 mod parts;
 mod principal;
@@ -9,6 +13,8 @@ mod requester;
 mod resource;
 mod statement;
 
+pub use entry::holds;
+pub use iam_condition::{Entry, Operand, Operator};
 pub use iam_context::Context;
 pub use iam_text::OutOfMemory;
 pub use laws::one_requester;

@@ -1,4 +1,6 @@
 ghost use Rattle.std.specs.Prelude.{◌↔◌, All, Any, IsTrue, IfOk, Some};
+ghost use Rattle.std.specs.Str.{chars};
+ghost use Rattle.iam_text.specs.Glob.{Matches};
 ghost use Rattle.iam_context.specs.Resolve.{resolved};
 ghost use Rattle.iam_match.specs.Statement.{ResourceMatches, TextMatches};
 ghost use Rattle.iam_match.specs.Code.Texts.{IsAnswer, TextDiffers};
@@ -112,7 +114,7 @@ fn answer<'c>(
     resource: &str,
     context: &Context<'c>,
 ) -> Result<Option<bool>, OutOfMemory>
-    ensures { IfOk result (IsAnswer (resolved context.now text.now) resource.now) }
+    ensures { IfOk result (IsAnswer (resolved context.now text.now) (λ signs. Matches signs (chars resource.now))) }
 {
     match text.form() {
         TemplateForm::Fixed(glob) => Ok(Some(glob.matches(resource))),
@@ -127,7 +129,7 @@ fn open_answer<'c>(
     resource: &str,
     context: &Context<'c>,
 ) -> Result<Option<bool>, OutOfMemory>
-    ensures { IfOk result (IsAnswer (resolved context.now draft.now) resource.now) }
+    ensures { IfOk result (IsAnswer (resolved context.now draft.now) (λ signs. Matches signs (chars resource.now))) }
 {
     match resolve(alloc, draft, context)? {
         Some(glob) => Ok(Some(glob.matches(resource))),

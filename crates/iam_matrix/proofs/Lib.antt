@@ -1,3 +1,3 @@
-mod Collected
-mod Joins
-mod Lines
+pub mod Offers
+pub mod Rendered
+pub mod Tiles

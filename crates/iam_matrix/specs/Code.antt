@@ -1,2 +1,2 @@
-pub mod Collector
-pub mod Written
+pub mod Starts
+pub mod Tiles

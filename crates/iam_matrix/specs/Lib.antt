@@ -1,3 +1,5 @@
 pub mod Code
-pub mod CsvRow
+pub mod Cut
+pub mod Fault
+pub mod Matrix
 pub mod Report

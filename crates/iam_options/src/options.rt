@@ -3,7 +3,7 @@ ghost use Rattle.clap.specs.Words.{subcommand_name_of};
 ghost use Rattle.iam_options.specs.Words.{IsDecide, IsNumberAt, command_name};
 
 use clap::error::ErrorKind;
-use clap::{Arg, ArgMatches, Command, Error, value_parser};
+use clap::{Arg, ArgAction, ArgMatches, Command, Error, value_parser};
 use std::alloc::{AllocError, Global};
 
 /// The version that `--version` tells.
@@ -14,11 +14,25 @@ const ABOUT: &str =
 The world comes on standard input: one JSON document with the accounts, the principals, the
 actions, the resources and their policies. The answer goes to standard output.";
 
+/// How many workers there are where the command line does not say.
+const WORKERS: u32 = 4;
+
+/// The formats of a report.
+static FORMATS: [&str; 2] = ["csv", "json"];
+
 /// What the command line asks for.
 #[derive(Clone, Copy, Debug, PartialEq, Eq)]
 pub struct Options {
     /// The command.
     pub task: Task,
+    /// How many workers decide the cells; 4 where nothing is said.
+    pub workers: u32,
+    /// How many cells a worker takes at once, where this is said.
+    pub tile: Option<u64>,
+    /// Whether the report is JSON, in place of CSV.
+    pub json: bool,
+    /// Whether the report has the decisions alone, without statements and lacks.
+    pub brief: bool,
 }
 
 /// A command.
@@ -28,6 +42,10 @@ pub enum Task {
     Check,
     /// Decide one request: the numbers of its principal, its action and its resource.
     Decide(u64, u64, u64),
+    /// Decide all requests.
+    Matrix,
+    /// Find the first request that is allowed.
+    First,
 }
 
 /// Why a command line gives no options.
@@ -56,11 +74,34 @@ impl From<AllocError> for Usage {
 pub fn options_of(alloc: Global, words: &[&str]) -> Result<Options, Usage> {
     let mut command = iamsim(alloc)?;
     match command.try_get_matches_from_mut(words) {
-        Ok(matches) => match task_of(&matches) {
-            Some(task) => Ok(Options { task }),
+        Ok(matches) => match options_in(&matches) {
+            Some(options) => Ok(options),
             None => Err(Usage::Refused(command.render_usage()?)),
         },
         Err(error) => Err(usage_of(alloc, &error)),
+    }
+}
+
+/// The command that was read, with its options. `None` does not come.
+fn options_in(matches: &ArgMatches<'_>) -> Option<Options>
+    ensures { IfSome result (λ options. subcommand_name_of matches.now ≡ Some (command_name options.task)) }
+{
+    let task = task_of(matches)?;
+    let (_, command) = matches.subcommand()?;
+    Some(with_options(task, command))
+}
+
+/// A task with the options that stand behind its command; one that the command does not have is left as it is where
+/// nothing is said.
+fn with_options(task: Task, command: &ArgMatches<'_>) -> Options
+    ensures { result.task ≡ task }
+{
+    Options {
+        task,
+        workers: command.get_one("workers").unwrap_or(WORKERS),
+        tile: command.get_one("tile"),
+        json: command.get_str("format") == Some("json"),
+        brief: command.get_flag("brief"),
     }
 }
 
@@ -71,6 +112,8 @@ fn task_of(matches: &ArgMatches<'_>) -> Option<Task>
     match matches.subcommand() {
         Some(("check", _)) => Some(Task::Check),
         Some(("decide", decide)) => decide_task(decide),
+        Some(("matrix", _)) => Some(Task::Matrix),
+        Some(("first", _)) => Some(Task::First),
         _ => None,
     }
 }
@@ -111,7 +154,9 @@ fn iamsim<'a>(alloc: Global) -> Result<Command<'a>, AllocError> {
         .about(ABOUT)
         .subcommand_required(true)
         .subcommand(check(alloc))?
-        .subcommand(decide(alloc)?)
+        .subcommand(decide(alloc)?)?
+        .subcommand(matrix(alloc)?)?
+        .subcommand(first(alloc)?)
 }
 
 fn check<'a>(alloc: Global) -> Command<'a> {
@@ -124,6 +169,55 @@ fn decide<'a>(alloc: Global) -> Result<Command<'a>, AllocError> {
         .arg(number(alloc, "P", "The principal's number in the world, from 0"))?
         .arg(number(alloc, "A", "The action's number in the world, from 0"))?
         .arg(number(alloc, "R", "The resource's number in the world, from 0"))
+}
+
+fn matrix<'a>(alloc: Global) -> Result<Command<'a>, AllocError> {
+    Command::new(alloc, "matrix")
+        .about("Decide all requests, and report each")
+        .arg(workers(alloc))?
+        .arg(tile(alloc))?
+        .arg(format(alloc))?
+        .arg(brief(alloc))
+}
+
+fn first<'a>(alloc: Global) -> Result<Command<'a>, AllocError> {
+    Command::new(alloc, "first")
+        .about("Find the first request that is allowed, in the order of the matrix")
+        .arg(workers(alloc))?
+        .arg(tile(alloc))
+}
+
+fn workers<'a>(alloc: Global) -> Arg<'a> {
+    Arg::new(alloc, "workers")
+        .long("workers")
+        .value_name("N")
+        .value_parser(value_parser!(u32))
+        .default_value("4")
+        .help("How many threads decide, from 1 to 64")
+}
+
+fn tile<'a>(alloc: Global) -> Arg<'a> {
+    Arg::new(alloc, "tile")
+        .long("tile")
+        .value_name("N")
+        .value_parser(value_parser!(u64))
+        .help("How many requests a thread takes at once [default: 1/256 of all, rounded up]")
+}
+
+fn format<'a>(alloc: Global) -> Arg<'a> {
+    Arg::new(alloc, "format")
+        .long("format")
+        .value_name("FORMAT")
+        .value_parser(FORMATS.as_slice())
+        .default_value("csv")
+        .help("The format of the report")
+}
+
+fn brief<'a>(alloc: Global) -> Arg<'a> {
+    Arg::new(alloc, "brief")
+        .long("brief")
+        .action(ArgAction::SetTrue)
+        .help("Report the decisions alone, without statements and lacks")
 }
 
 fn number<'a>(alloc: Global, name: &'static str, help: &'static str) -> Arg<'a> {

@@ -6,13 +6,15 @@ use Rattle.serde_json.specs.Data.{Data}
 use Rattle.serde_json.specs.Find.{get}
 use Rattle.iam_text.specs.declared.draft.Piece.{Piece}
 use Rattle.iam_text.specs.Draft.{IsDraft}
+use Rattle.iam_condition.specs.Condition.{ReadsCondition}
+use Rattle.iam_condition.specs.Entry.{EntryValue}
 use Rattle.iam_policy.specs.declared.fault.Fault.{Fault}
 use Rattle.iam_policy.specs.declared.fault.Fault.TheVariants.{ActionCount, BadPrincipal, PrincipalMisplaced, ResourceCount}
 use Rattle.iam_policy.specs.declared.fault.Kind.{Kind}
 use Rattle.iam_policy.specs.declared.fault.Kind.TheVariants.{Identity, Resource, Org}
 use Rattle.iam_policy.specs.Element.{both, texts_of}
 use Rattle.iam_policy.specs.Fault.{IsAccepted, IsLeastFault, IsNotAfter, rank, statements_in}
-use Rattle.iam_policy.specs.Reading.{ActionElement, ResourceElement, PrincipalElement, PrincipalText, StatementValue, PolicyValue, action_name, resource_name, principal_name, pattern_of, names_of, ReadsAction, ReadsText, ReadsResource, ReadsPrincipal, ReadsStatement, Reads}
+use Rattle.iam_policy.specs.Reading.{ActionElement, ResourceElement, PrincipalElement, PrincipalText, StatementValue, PolicyValue, action_name, resource_name, principal_name, pattern_of, names_of, ReadsAction, ReadsText, ReadsResource, ReadsConditions, ReadsPrincipal, ReadsStatement, Reads}
 use Rattle.iam_policy.specs.Table.{number_of}
 use Rattle.iam_policy.proofs.FaultLaws.{accepted_line}
 use Rattle.iam_policy.proofs.TableLaws.{same_number}
@@ -118,9 +120,17 @@ single_principal Org d i s none at =
     neither_both (is_some (get (codes "Principal") s)) (is_some (get (codes "NotPrincipal") s)) (accepted_line Org d i s PrincipalMisplaced none at)
 single_principal Resource d i s none at = both_false _ _ (both_false _ _ (accepted_line Resource d i s BadPrincipal none at))
 
-statement_is_one : OneDraft → (kind : Kind) (d : Data) → IsAccepted kind d → (i : ℕ) (s : Data) → slice_get (statements_in d) i ≡ Some s
+-- a condition is read as at most one list of entries
+abbrev OneCondition : Type 0
+OneCondition = (condition : Data) (entries other : List EntryValue) → ReadsCondition condition entries → ReadsCondition condition other → entries ≡ other
+
+conditions_are_one : OneCondition → (element : Option Data) (a b : List EntryValue) → ReadsConditions element a → ReadsConditions element b → a ≡ b
+conditions_are_one one None a b p q = p ∙ sym q
+conditions_are_one one (Some condition) a b p q = one condition a b p q
+
+statement_is_one : OneDraft → OneCondition → (kind : Kind) (d : Data) → IsAccepted kind d → (i : ℕ) (s : Data) → slice_get (statements_in d) i ≡ Some s
     → (a b : StatementValue) → ReadsStatement d s a → ReadsStatement d s b → a ≡ b
-statement_is_one one kind d none i s at a b p q =
+statement_is_one one entries kind d none i s at a b p q =
     let sid : a.sid ≡ b.sid = p.sid ∙ sym q.sid in
     let found : Some a.effect ≡ Some b.effect = sym p.effect ∙ q.effect in
     let effect : a.effect ≡ b.effect = cc in
@@ -128,7 +138,7 @@ statement_is_one one kind d none i s at a b p q =
     let resource : a.resource ≡ b.resource =
     resource_is_one one d s a.resource b.resource (both_false _ _ (accepted_line kind d i s ResourceCount none at)) p.resource q.resource in
     let principal : a.principal ≡ b.principal = principal_is_one s a.principal b.principal (single_principal kind d i s none at) p.principal q.principal in
-    let conditions : a.conditions ≡ b.conditions = p.conditions ∙ sym q.conditions in
+    let conditions : a.conditions ≡ b.conditions = conditions_are_one entries (get (codes "Condition") s) a.conditions b.conditions p.conditions q.conditions in
     ap (λ x. record a { sid = x }) sid
     ∙ ap (λ x. record a { sid = b.sid; effect = x }) effect
     ∙ ap (λ x. record b { action = x; resource = a.resource; principal = a.principal; conditions = a.conditions }) action
@@ -136,6 +146,6 @@ statement_is_one one kind d none i s at a b p q =
     ∙ ap (λ x. record b { principal = x; conditions = a.conditions }) principal
     ∙ ap (λ x. record b { conditions = x }) conditions
 
-pub policy_is_one : OneDraft → (kind : Kind) (d : Data) (a b : PolicyValue) → Reads kind d a → Reads kind d b → a ≡ b
-policy_is_one one kind d a b p q =
-    ap (λ ss. record { statements = ss }) (zip_is_one (ReadsStatement d) (statements_in d) a.statements b.statements (statement_is_one one kind d p.0) p.1 q.1)
+pub policy_is_one : OneDraft → OneCondition → (kind : Kind) (d : Data) (a b : PolicyValue) → Reads kind d a → Reads kind d b → a ≡ b
+policy_is_one one entries kind d a b p q =
+    ap (λ ss. record { statements = ss }) (zip_is_one (ReadsStatement d) (statements_in d) a.statements b.statements (statement_is_one one entries kind d p.0) p.1 q.1)

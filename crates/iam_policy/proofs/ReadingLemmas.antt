@@ -10,14 +10,15 @@ use Rattle.iam_policy.specs.declared.effect.Effect.{Effect}
 use Rattle.iam_policy.specs.declared.fault.Fault.TheVariants.{BadEffect, ActionCount, BadVariable}
 use Rattle.iam_policy.specs.declared.fault.Kind.{Kind}
 use Rattle.iam_text.specs.Draft.{IsDraft}
-use Rattle.iam_policy.specs.Element.{both, neither, effect_of, has_text, texts_of}
+use Rattle.iam_condition.specs.Condition.{has_bad_text}
+use Rattle.iam_policy.specs.Element.{both, neither, effect_of, has_text, stands_as, texts_of}
 use Rattle.iam_policy.specs.Fault.{has_bad_variable}
 use Rattle.iam_policy.specs.Grammar.{is_bad_variable}
 use Rattle.iam_policy.specs.Reading.{ResourceElement, ReadsResource, ReadsText, resource_name}
-use Rattle.iam_policy.specs.Code.First.{fault_of}
+use Rattle.iam_policy.specs.Code.First.{HasLeast}
 use Rattle.iam_policy.specs.Code.Readable.{IsReadable}
 use Rattle.iam_policy.proofs.ElementLemmas.{filter_map-next, first_false, second_false, take_next}
-use Rattle.iam_policy.proofs.FaultLaws.{no_line}
+use Rattle.iam_policy.proofs.FaultLaws.{no_bad_value, no_line}
 
 zip_push : {A B : Type 0} (R : A → B → Type 0) (xs : List A) (ys : List B) (x : A) (y : B) → AllZip R xs ys → R x y → AllZip R (xs ++ (x ∷ [])) (ys ++ (y ∷ []))
 zip_push R [] [] x y zip here = (here, tt)
@@ -45,14 +46,16 @@ zip_none {D} {A} {B} R h xs i x ys at is zip =
     let P : List A → Type 0 = λ front. AllZip R front ys in
     subst P (sym (filter_map-next h xs i x at ∙ ap (λ o. filter_map h (take i xs) ++ option_to_list o) is ∙ append-nil (filter_map h (take i xs)))) zip
 
--- a statement that has no fault has an effect, one of the two action elements, and no bad variable
-pub readable : (kind : Kind) (d : Data) (i : ℕ) (s : Data) → fault_of kind d i s ≡ None → IsReadable s
+-- a statement that has no fault has an effect, one of the two action elements, no bad variable and no bad value
+pub readable : (kind : Kind) (d : Data) (i : ℕ) (s : Data) → HasLeast kind d i s None → IsReadable s
 readable kind d i s none = record {
-  effect = effect (effect_of s) (no_line kind d i s BadEffect none);
+  effect = effect (effect_of s) (no_line kind d i s none.bad BadEffect none.least);
   action =
       second_false (both (get (codes "Action") s) (get (codes "NotAction") s)) (neither (get (codes "Action") s) (get (codes "NotAction") s))
-      (no_line kind d i s ActionCount none);
-  variables = no_line kind d i s BadVariable none;
+      (no_line kind d i s none.bad ActionCount none.least);
+  variables = first_false _ _ (no_line kind d i s none.bad BadVariable none.least);
+  texts = second_false (has_bad_variable s) (stands_as has_bad_text (get (codes "Condition") s)) (no_line kind d i s none.bad BadVariable none.least);
+  values = no_bad_value kind d i s none;
 }
   where
     effect : (o : Option Effect) → is_none o ≡ false → IsSome o

@@ -1,18 +1,20 @@
 -- The faults of a document, as a set: AWS IAM User Guide, "Grammar of the IAM JSON policy language".
--- Each line of the fault table is one case, by itself. The operators of conditions are not read yet: each member
--- of a `Condition` is an unknown one, and BadValue has no case.
-use Rattle.std.specs.Prelude.{◌≡◌, ℕ, suc, ◌<◌, ◌≤◌, ◌⊎◌, List, [], ◌∷◌, Bool, true, false, not, ◌&&◌, ◌||◌, ◌==◌, Option, Some, None, is_some, is_none, IsTrue, codes, if◌then◌else◌, length, nat_lt, take, unwrap_or}
+-- Each line of the fault table is one case, by itself. BadValue is no test of a `Bool`: it is the last case of
+-- `HasFault`.
+use Rattle.std.specs.Prelude.{◌≡◌, ℕ, suc, ◌<◌, ◌≤◌, ◌⊎◌, List, [], ◌∷◌, Bool, true, false, not, ◌&&◌, ◌||◌, ◌==◌, Option, Some, None, is_some, is_none, IsTrue, codes, if◌then◌else◌, length, nat_lt, take, unwrap_or, MatchOption}
 use Rattle.std.specs.List.{slice_get, filter_map}
 use Rattle.std.specs.Option.{option_map_or}
 use Rattle.serde_json.specs.Data.{Data}
 use Rattle.serde_json.specs.Find.{get, as_object}
 use Rattle.iam_json.specs.Look.{values, has_unknown, is_one_of}
+use Rattle.iam_condition.specs.Condition.{HasBadValue, has_bad_text, has_many_values, has_unknown_operator, is_bad_form}
 use Rattle.iam_policy.specs.declared.fault.Fault.{Fault}
-use Rattle.iam_policy.specs.declared.fault.Fault.TheVariants.{NotObject, UnknownElement, BadVersion, NoStatement, BadStatement, BadSid, DuplicateSid, BadEffect, ActionCount, BadAction, PrincipalMisplaced, PrincipalMissing, BadPrincipal, NotPrincipalAllow, ResourceCount, BadResource, BadVariable, UnknownOperator, BadCondition, TooMany}
+use Rattle.iam_policy.specs.declared.fault.Fault.TheVariants.{NotObject, UnknownElement, BadVersion, NoStatement, BadStatement, BadSid, DuplicateSid, BadEffect, ActionCount, BadAction, PrincipalMisplaced, PrincipalMissing, BadPrincipal, NotPrincipalAllow, ResourceCount, BadResource, BadVariable, UnknownOperator, BadCondition, BadValue, TooMany}
 use Rattle.iam_policy.specs.declared.fault.Kind.{Kind}
 use Rattle.iam_policy.specs.declared.fault.Kind.TheVariants.{Identity, Resource, Org}
 use Rattle.iam_policy.specs.Element.{both, neither, stands_as, is_no_text, is_this, is_bad_list, has_text, is_too_long, sid_of, effect_of}
-use Rattle.iam_policy.specs.Grammar.{is_action, is_resource, is_bad_variable}
+use Rattle.iam_text.specs.Action.{is_action}
+use Rattle.iam_policy.specs.Grammar.{is_resource, is_bad_variable}
 use Rattle.iam_policy.specs.Principal.{is_principal, has_long_kind}
 use Rattle.iam_policy.specs.Table.{number_of, fault_is}
 
@@ -26,17 +28,19 @@ statement_names =
     codes "Sid" ∷ (codes "Effect" ∷ (codes "Action" ∷ (codes "NotAction" ∷ (codes "Resource" ∷ (codes "NotResource"
     ∷ (codes "Principal" ∷ (codes "NotPrincipal" ∷ (codes "Condition" ∷ []))))))))
 
--- the members of a condition that are known
-abbrev pub operator_names : List (List ℕ)
-operator_names = []
-
 -- whether each statement of this kind must have `Resource` or `NotResource`
 abbrev pub wants_resource : Kind → Bool
 wants_resource Identity = true
 wants_resource Resource = false
 wants_resource Org = true
 
--- whether each statement of this kind must have `Principal` or `NotPrincipal`; of another kind none may
+-- whether a statement of this kind may have `Principal` or `NotPrincipal`
+abbrev pub may_have_principal : Kind → Bool
+may_have_principal Identity = false
+may_have_principal Resource = true
+may_have_principal Org = false
+
+-- whether each statement of this kind must have `Principal` or `NotPrincipal`
 abbrev pub wants_principal : Kind → Bool
 wants_principal Identity = false
 wants_principal Resource = true
@@ -102,26 +106,26 @@ statement_line kind d i s ActionCount =
 statement_line kind d i s BadAction =
     is_bad_list is_action (get (codes "Action") s) || is_bad_list is_action (get (codes "NotAction") s)
 statement_line kind d i s PrincipalMisplaced =
-    not (wants_principal kind) && (is_some (get (codes "Principal") s) || is_some (get (codes "NotPrincipal") s))
+    not (may_have_principal kind) && (is_some (get (codes "Principal") s) || is_some (get (codes "NotPrincipal") s))
 statement_line kind d i s PrincipalMissing =
     wants_principal kind && not (is_some (get (codes "Principal") s) || is_some (get (codes "NotPrincipal") s))
 statement_line kind d i s BadPrincipal =
-    wants_principal kind
+    may_have_principal kind
     && (both (get (codes "Principal") s) (get (codes "NotPrincipal") s)
     || stands_as (λ p. not (is_principal p)) (get (codes "Principal") s)
     || stands_as (λ p. not (is_principal p)) (get (codes "NotPrincipal") s))
 statement_line kind d i s NotPrincipalAllow =
-    wants_principal kind
+    may_have_principal kind
     && (is_some (get (codes "NotPrincipal") s) && is_this (codes "Allow") (get (codes "Effect") s))
 statement_line kind d i s ResourceCount =
     both (get (codes "Resource") s) (get (codes "NotResource") s)
     || (wants_resource kind && neither (get (codes "Resource") s) (get (codes "NotResource") s))
 statement_line kind d i s BadResource =
     is_bad_list is_resource (get (codes "Resource") s) || is_bad_list is_resource (get (codes "NotResource") s)
-statement_line kind d i s BadVariable = has_bad_variable s
-statement_line kind d i s UnknownOperator = stands_as (has_unknown operator_names) (get (codes "Condition") s)
-statement_line kind d i s BadCondition = stands_as (λ c. is_none (as_object c)) (get (codes "Condition") s)
-statement_line kind d i s TooMany = has_long_list s
+statement_line kind d i s BadVariable = has_bad_variable s || stands_as has_bad_text (get (codes "Condition") s)
+statement_line kind d i s UnknownOperator = stands_as has_unknown_operator (get (codes "Condition") s)
+statement_line kind d i s BadCondition = stands_as is_bad_form (get (codes "Condition") s)
+statement_line kind d i s TooMany = has_long_list s || stands_as has_many_values (get (codes "Condition") s)
 statement_line kind d i s _ = false
 
 -- a document that is no object has that fault alone
@@ -134,11 +138,16 @@ abbrev pub statement_has : Kind → Data → ℕ → Data → Fault → Bool
 statement_has kind d i s fault =
     if is_some (as_object s) then statement_line kind d i s fault else fault_is BadStatement fault
 
--- the set of faults: a place is the document, or the number of a statement
+-- a value of a condition is off the grammar of its operator
+abbrev pub HasBadValueIn : Data → Type 0
+HasBadValueIn s = MatchOption (get (codes "Condition") s) ⊥ HasBadValue
+
+-- the set of faults: a place is the document, or the number of a statement. The last case is the line BadValue
 abbrev pub HasFault : Kind → Data → Option ℕ → Fault → Type 0
 HasFault kind d None fault = IsTrue (document_has kind d fault)
 HasFault kind d (Some i) fault =
     IsTrue (option_map_or (λ s. statement_has kind d i s fault) (slice_get (statements_in d) i) false)
+    ⊎ ((fault ≡ BadValue) × (s : Data) × (slice_get (statements_in d) i ≡ Some s) × HasBadValueIn s)
 
 -- the set is empty
 abbrev pub IsAccepted : Kind → Data → Type 0

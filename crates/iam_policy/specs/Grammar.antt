@@ -1,32 +1,14 @@
 -- Tests on the texts of a document: AWS IAM User Guide, "Grammar of the IAM JSON policy language".
 -- A text is the list of its bytes.
 use Rattle.std.specs.Prelude.{ℕ, List, [], ◌∷◌, Bool, true, false, not, ◌&&◌, ◌||◌, ◌==◌, length, nat_eq, nat_le, nat_lt, codes, Option, Some, None, option_map, if◌then◌else◌}
-use Rattle.std.specs.List.{before_first, after_first, starts_with, list_any}
+use Rattle.std.specs.List.{starts_with, list_any}
 use Rattle.std.specs.Option.{option_map_or}
 use Rattle.std.specs.Str.{bytes_eq}
 use Rattle.std.specs.Char.{is_ascii_alphanumeric}
+use Rattle.iam_text.specs.Action.{is_wildcard}
 use Rattle.iam_text.specs.Arn.{colons}
-use Rattle.iam_text.specs.Characters.{is_run, is_label_character, is_account}
+use Rattle.iam_text.specs.Characters.{is_run, is_account}
 use Rattle.iam_text.specs.Variables.{is_draft}
-
--- a wildcard: `*` or `?`
-abbrev pub is_wildcard : ℕ → Bool
-is_wildcard c = c == 42 || c == 63
-
--- a character of the service prefix of an action pattern: an ASCII letter or digit, `-`, `*` or `?`
-abbrev pub is_prefix_character : ℕ → Bool
-is_prefix_character c = is_label_character c || is_wildcard c
-
--- a character of the name of an action pattern: these, `_` and `.`
-abbrev pub is_name_character : ℕ → Bool
-is_name_character c = is_prefix_character c || c == 95 || c == 46
-
--- `*`, or a prefix and a name, parted by the first colon; where there is no colon, nothing stands behind it
-abbrev pub is_action : List ℕ → Bool
-is_action text =
-    bytes_eq text (codes "*")
-    || (is_run is_prefix_character (before_first (λ c. c == 58) text)
-    && is_run is_name_character (after_first (λ c. c == 58) text))
 
 -- a text that begins with `arn:`
 abbrev pub begins_as_arn : List ℕ → Bool

@@ -1,6 +1,6 @@
 -- What a policy is, and how an accepted document is read: AWS IAM User Guide, "IAM JSON policy elements
 -- reference".
-use Rattle.std.specs.Prelude.{◌≡◌, ℕ, ℤ, List, [], ◌∷◌, Bool, true, false, Option, Some, None, IsSome, map, codes, option_map, if◌then◌else◌}
+use Rattle.std.specs.Prelude.{◌≡◌, ℕ, List, [], ◌∷◌, Bool, true, false, Option, Some, None, IsSome, map, codes, option_map, if◌then◌else◌}
 use Rattle.std.specs.List.{AllZip, flat_map}
 use Rattle.std.specs.Str.{chars}
 use Rattle.serde_json.specs.Data.{Data, null, boolean, number, string, array, object}
@@ -9,6 +9,8 @@ use Rattle.iam_text.specs.declared.sign.Sign.{Sign}
 use Rattle.iam_text.specs.Glob.{wild_sign}
 use Rattle.iam_text.specs.declared.draft.Piece.{Piece}
 use Rattle.iam_text.specs.Draft.{IsDraft}
+use Rattle.iam_condition.specs.Condition.{ReadsCondition}
+use Rattle.iam_condition.specs.Entry.{EntryValue}
 use Rattle.iam_policy.specs.declared.effect.Effect.{Effect}
 use Rattle.iam_policy.specs.declared.principals.PrincipalKind.{PrincipalKind}
 use Rattle.iam_policy.specs.declared.principals.PrincipalKind.TheVariants.{Aws}
@@ -36,64 +38,6 @@ pub record PrincipalText : Type 0 where
 pub record PrincipalElement : Type 0 where
   pub negated : Bool
   pub names : List PrincipalText
-
--- what stands before an operator of a condition
-pub data Quantifier : Type 0 where
-  ForAllValues : Quantifier
-  ForAnyValue : Quantifier
-
--- an operator of a condition without what stands before and behind it; `Boolean` is written `Bool`
-pub data Base : Type 0 where
-  StringEquals : Base
-  StringNotEquals : Base
-  StringEqualsIgnoreCase : Base
-  StringNotEqualsIgnoreCase : Base
-  StringLike : Base
-  StringNotLike : Base
-  NumericEquals : Base
-  NumericNotEquals : Base
-  NumericLessThan : Base
-  NumericLessThanEquals : Base
-  NumericGreaterThan : Base
-  NumericGreaterThanEquals : Base
-  DateEquals : Base
-  DateNotEquals : Base
-  DateLessThan : Base
-  DateLessThanEquals : Base
-  DateGreaterThan : Base
-  DateGreaterThanEquals : Base
-  Boolean : Base
-  BinaryEquals : Base
-  IpAddress : Base
-  NotIpAddress : Base
-  ArnEquals : Base
-  ArnNotEquals : Base
-  ArnLike : Base
-  ArnNotLike : Base
-  Null : Base
-
--- an operator of a condition, as `ForAllValues:StringLikeIfExists`
-pub record Operator : Type 0 where
-  pub quantifier : Option Quantifier
-  pub base : Base
-  pub if_exists : Bool
-
--- a value of a condition, as its operator reads it: a text with its variables, a whole number, nanoseconds since
--- 1970, a truth value, bytes, or a range of addresses (how many bits an address has, the address as a number, and
--- how many of its first bits count)
-pub data Operand : Type 0 where
-  Text : List Piece → Operand
-  Whole : ℤ → Operand
-  Moment : ℤ → Operand
-  Truth : Bool → Operand
-  Bytes : List ℕ → Operand
-  Range : ℕ → ℕ → ℕ → Operand
-
--- an operator, a key under it, and the values of that key
-pub record EntryValue : Type 0 where
-  pub operator : Operator
-  pub key : List ℕ
-  pub values : List Operand
 
 -- a statement, element by element
 pub record StatementValue : Type 0 where
@@ -160,14 +104,19 @@ abbrev pub ReadsPrincipal : Data → Option PrincipalElement → Type 0
 ReadsPrincipal s None = (get (principal_name false) s ≡ None) × (get (principal_name true) s ≡ None)
 ReadsPrincipal s (Some r) = option_map names_of (get (principal_name r.negated) s) ≡ Some r.names
 
--- a statement is read element by element; conditions are not read yet
+-- an absent condition has no entries
+abbrev pub ReadsConditions : Option Data → List EntryValue → Type 0
+ReadsConditions None entries = entries ≡ []
+ReadsConditions (Some condition) entries = ReadsCondition condition entries
+
+-- a statement is read element by element
 pub record ReadsStatement (d s : Data) (r : StatementValue) : Type 0 where
   pub sid : r.sid ≡ sid_of s
   pub effect : effect_of s ≡ Some r.effect
   pub action : ReadsAction s r.action
   pub resource : ReadsResource d s r.resource
   pub principal : ReadsPrincipal s r.principal
-  pub conditions : r.conditions ≡ []
+  pub conditions : ReadsConditions (get (codes "Condition") s) r.conditions
 
 -- the document is accepted, and read statement by statement
 abbrev pub Reads : Kind → Data → PolicyValue → Type 0

@@ -31,10 +31,9 @@ pub enum Fault {
     NotPrincipalAllow,
     /// Both of `Resource` and `NotResource`, or neither in a document that wants one.
     ResourceCount,
-    /// The resources are no text and no list of at least one text, or a text is neither `*` nor begins with
-    /// `arn:`.
+    /// The resources are no text and no list of texts, or a text is neither `*` nor begins with `arn:`.
     BadResource,
-    /// A variable that is off its grammar, or stands where none may.
+    /// A variable of a resource or of a condition's text that is off its grammar, or stands where none may.
     BadVariable,
     /// A member of `Condition` that is no condition operator.
     UnknownOperator,
@@ -42,7 +41,7 @@ pub enum Fault {
     BadCondition,
     /// A value of a condition that is off the operator's grammar.
     BadValue,
-    /// Over 4,096 statements, or a list of over 4,096 members.
+    /// Over 4,096 statements, a list of over 4,096 members, or a key of a condition with over 4,096 values.
     TooMany,
     /// The allocator refused a growth.
     OutOfMemory,
@@ -103,7 +102,7 @@ pub enum Kind {
 
 impl Kind {
     ghost use Rattle.std.specs.Prelude.{◌≡◌};
-    ghost use Rattle.iam_policy.specs.Fault.{wants_resource, wants_principal, wants_distinct_sids};
+    ghost use Rattle.iam_policy.specs.Fault.{may_have_principal, wants_resource, wants_principal, wants_distinct_sids};
 
     /// Whether each statement must have `Resource` or `NotResource`.
     pub(crate) fn wants_resource(self) -> bool
@@ -112,7 +111,14 @@ impl Kind {
         matches!(self, Kind::Identity | Kind::Org)
     }
 
-    /// Whether each statement must have `Principal` or `NotPrincipal`; of another kind none may.
+    /// Whether a statement may have `Principal` or `NotPrincipal`.
+    pub(crate) fn may_have_principal(self) -> bool
+        ensures { result ≡ may_have_principal self }
+    {
+        matches!(self, Kind::Resource)
+    }
+
+    /// Whether each statement must have `Principal` or `NotPrincipal`.
     pub(crate) fn wants_principal(self) -> bool
         ensures { result ≡ wants_principal self }
     {
@@ -127,8 +133,8 @@ impl Kind {
     }
 }
 
-/// Why a document is not read: its least fault, or want of memory. The faults of the document itself come
-/// first, then those of each statement in turn, and at one place the lower number.
+/// Why a document is not read: want of memory, or its least fault, by place and then by number. The document itself
+/// comes first, then each statement in turn.
 #[derive(Clone, Copy, Debug, PartialEq, Eq)]
 pub struct Refused {
     /// The statement's number, from 0; `None` for a fault of the document and for want of memory.

@@ -2,10 +2,10 @@ ghost use Rattle.std.specs.Prelude.{◌≡◌, nat_le, ◌&&◌, not};
 ghost use Rattle.std.specs.List.{list_all, list_any};
 ghost use Rattle.std.specs.Char.{is_ascii_alphanumeric};
 ghost use Rattle.iam_text.specs.Arn.{colons};
-ghost use Rattle.iam_text.specs.Characters.{is_run};
-ghost use Rattle.iam_policy.specs.Grammar.{is_wildcard, is_prefix_character, is_name_character, is_action, begins_as_arn, is_resource, has_early_variable, is_bad_variable, is_whole_arn, is_unique_id, is_aws_name};
+ghost use Rattle.iam_text.specs.Action.{is_wildcard};
+ghost use Rattle.iam_policy.specs.Grammar.{begins_as_arn, is_resource, has_early_variable, is_bad_variable, is_whole_arn, is_unique_id, is_aws_name};
 
-use iam_text::{Arn, has_draft, is_account};
+use iam_text::{Arn, has_draft, is_account, is_action, is_wildcard};
 
 /// A form that a text of a statement may have.
 #[derive(Clone, Copy)]
@@ -37,60 +37,6 @@ impl Form {
             Form::AnyName => true,
         }
     }
-}
-
-fn is_action(text: &str) -> bool
-    ensures { result ≡ is_action text.now }
-{
-    if text == "*" {
-        return true;
-    }
-    match text.split_once(':') {
-        Some((prefix, name)) => is_prefix(prefix) && is_name(name),
-        None => false,
-    }
-}
-
-fn is_prefix(text: &str) -> bool
-    ensures { result ≡ is_run is_prefix_character text.now }
-{
-    !text.is_empty() && all_prefix_characters(text.as_bytes())
-}
-
-fn all_prefix_characters(text: &[u8]) -> bool
-    ensures { result ≡ list_all is_prefix_character text.now }
-{
-    text.iter().all(|&character| is_prefix_character(character))
-}
-
-fn is_name(text: &str) -> bool
-    ensures { result ≡ is_run is_name_character text.now }
-{
-    !text.is_empty() && all_name_characters(text.as_bytes())
-}
-
-fn all_name_characters(text: &[u8]) -> bool
-    ensures { result ≡ list_all is_name_character text.now }
-{
-    text.iter().all(|&character| is_name_character(character))
-}
-
-fn is_wildcard(character: u8) -> bool
-    ensures { result ≡ is_wildcard character }
-{
-    character == b'*' || character == b'?'
-}
-
-fn is_prefix_character(character: u8) -> bool
-    ensures { result ≡ is_prefix_character character }
-{
-    character.is_ascii_alphanumeric() || character == b'-' || is_wildcard(character)
-}
-
-fn is_name_character(character: u8) -> bool
-    ensures { result ≡ is_name_character character }
-{
-    is_prefix_character(character) || character == b'_' || character == b'.'
 }
 
 fn begins_as_arn(text: &str) -> bool

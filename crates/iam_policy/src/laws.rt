@@ -6,6 +6,7 @@ ghost use Rattle.iam_policy.specs.declared.fault.Kind.{Kind};
 ghost use Rattle.iam_policy.specs.Fault.{IsLeastFault};
 ghost use Rattle.iam_policy.specs.Reading.{PolicyValue, Reads};
 
+use iam_condition::one_condition;
 use iam_text::one_draft;
 
 /// A document has at most one least fault.
@@ -20,4 +21,5 @@ pub fn one_policy()
         → Reads kind d policy → Reads kind d policy' → policy ≡ policy' }
 {
     one_draft();
+    one_condition();
 }

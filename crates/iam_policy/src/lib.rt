@@ -20,6 +20,7 @@ mod table;
 pub use actions::Actions;
 pub use effect::Effect;
 pub use fault::{Fault, Kind, Refused};
+pub use iam_condition::{Base, Entry, Operand, Operator, Order, Quantifier, TextTest};
 pub use laws::{one_least_fault, one_policy};
 pub use policy::Policy;
 pub use principals::{PrincipalKind, PrincipalName, Principals};

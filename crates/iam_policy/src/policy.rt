@@ -11,6 +11,7 @@ use crate::document_checks::statements_in;
 use crate::fault::{Fault, Kind, Refused};
 use crate::sids::note_sid;
 use crate::statement::Statement;
+use crate::statement_checks::has_bad_value;
 use crate::table::{document_fault, statement_fault};
 use serde_json::Value;
 use std::alloc::Global;
@@ -40,8 +41,7 @@ impl Policy {
     ghost use Rattle.iam_policy.specs.Fault.{IsLeastFault};
     ghost use Rattle.iam_policy.specs.Reading.{Reads};
 
-    /// The policy of a document, or the document's least fault: those of the document first, then by
-    /// statement, then by number.
+    /// The policy of a document, or the document's least fault: by place, the document first, then by number.
     ///
     /// AWS IAM User Guide, "Grammar of the IAM JSON policy language".
     pub fn read(alloc: Global, value: &Value, kind: Kind) -> Result<Policy, Refused>
@@ -97,7 +97,8 @@ fn read_statements(alloc: Global, document: &Value, kind: Kind) -> Result<Vec<St
     let mut read = Vec::new(alloc);
     for (number, statement) in statements_in(document).iter().enumerate() {
         let repeats = note_sid(&mut sids, statement)?;
-        if let Some(fault) = statement_fault(statement, kind, repeats) {
+        let bad_value = has_bad_value(alloc, statement)?;
+        if let Some(fault) = statement_fault(statement, kind, repeats, bad_value) {
             return Err(Refused {
                 statement: Some(number as u32),
                 fault,

@@ -2,9 +2,10 @@ ghost use Rattle.std.specs.Prelude.{◌≡◌, IfOk, codes, false, option_map, s
 ghost use Rattle.serde_json.specs.Data.{Data};
 ghost use Rattle.serde_json.specs.Find.{get};
 ghost use Rattle.serde_json.specs.View.{view};
-ghost use Rattle.iam_policy.specs.Element.{neither, sid_of};
-ghost use Rattle.iam_policy.specs.Fault.{has_bad_variable};
-ghost use Rattle.iam_policy.specs.Reading.{ReadsAction, ReadsResource, ReadsPrincipal};
+ghost use Rattle.iam_condition.specs.Condition.{has_bad_text};
+ghost use Rattle.iam_policy.specs.Element.{neither, sid_of, stands_as};
+ghost use Rattle.iam_policy.specs.Fault.{HasBadValueIn, has_bad_variable};
+ghost use Rattle.iam_policy.specs.Reading.{ReadsAction, ReadsConditions, ReadsResource, ReadsPrincipal};
 
 use crate::OutOfMemory;
 use crate::actions::Actions;
@@ -12,6 +13,7 @@ use crate::effect::Effect;
 use crate::element::{effect_of, either, sid_of};
 use crate::principals::Principals;
 use crate::resources::Resources;
+use iam_condition::{Entry, read_entries};
 use serde_json::Value;
 use std::alloc::Global;
 use std::marker::Model;
@@ -24,10 +26,11 @@ pub struct Statement {
     action: Actions,
     resource: Option<Resources>,
     principal: Option<Principals>,
+    conditions: Vec<Entry>,
 }
 
 impl Model for Statement {
-    ghost use Rattle.std.specs.Prelude.{[], option_map, string_bytes};
+    ghost use Rattle.std.specs.Prelude.{option_map, string_bytes};
     ghost use Rattle.iam_policy.specs.Reading.{StatementValue};
 
     ghost Value = { StatementValue };
@@ -38,12 +41,12 @@ impl Model for Statement {
       action = s.action;
       resource = s.resource;
       principal = s.principal;
-      conditions = [];
+      conditions = s.conditions.items;
     } };
 }
 
 impl Statement {
-    ghost use Rattle.std.specs.Prelude.{◌≡◌, ◌↔◌, [], IfOk, IsTrue};
+    ghost use Rattle.std.specs.Prelude.{◌≡◌, IfOk};
     ghost use Rattle.std.specs.Option.{option_copied};
     ghost use Rattle.serde_json.specs.Data.{Data};
     ghost use Rattle.serde_json.specs.View.{view};
@@ -85,13 +88,11 @@ impl Statement {
         self.principal.as_ref()
     }
 
-    /// Whether it has no entry of `Condition`. Conditions are not read yet, so no statement has one.
-    pub fn is_unconditional(&self) -> bool
-        ensures { IsTrue result ↔ (self.now.conditions ≡ []) }
+    /// The entries of `Condition`; an absent one has none.
+    pub fn conditions(&self) -> &[Entry]
+        ensures { result.now ≡ self.now.conditions }
     {
-        // The proof knows of a statement what its fields say, once one is read.
-        let _effect = self.effect;
-        true
+        self.conditions.as_slice()
     }
 
     /// Reads a statement that has an effect and an action element.
@@ -105,6 +106,7 @@ impl Statement {
             action: read_action(alloc, statement)?,
             resource: read_resource(alloc, statement)?,
             principal: read_principal(alloc, statement)?,
+            conditions: read_conditions(alloc, statement)?,
         })
     }
 }
@@ -141,5 +143,16 @@ fn read_principal(alloc: Global, statement: &Value) -> Result<Option<Principals>
     match either(statement, "Principal", "NotPrincipal") {
         Some(element) => Ok(Some(Principals::read(alloc, element)?)),
         None => Ok(None),
+    }
+}
+
+fn read_conditions(alloc: Global, statement: &Value) -> Result<Vec<Entry>, OutOfMemory>
+    requires texts { stands_as has_bad_text (get (codes "Condition") (view statement.now)) ≡ false }
+    requires values { ¬ HasBadValueIn (view statement.now) }
+    ensures { IfOk result (λ entries. ReadsConditions (get (codes "Condition") (view statement.now)) entries.items) }
+{
+    match statement.get("Condition") {
+        Some(condition) => read_entries(alloc, condition),
+        None => Ok(Vec::new(alloc)),
     }
 }

@@ -1,17 +1,22 @@
-ghost use Rattle.std.specs.Prelude.{◌≡◌, ◌||◌, ◌&&◌, codes, is_some, is_none, not};
-ghost use Rattle.serde_json.specs.Find.{as_object, get};
+ghost use Rattle.std.specs.Prelude.{◌≡◌, ◌↔◌, ◌||◌, ◌&&◌, codes, is_some, not, IfOk, IsTrue};
+ghost use Rattle.serde_json.specs.Find.{get};
 ghost use Rattle.serde_json.specs.View.{view};
 ghost use Rattle.iam_json.specs.Look.{has_unknown};
+ghost use Rattle.iam_policy.specs.Code.First.{condition_line};
 ghost use Rattle.iam_policy.specs.Code.Form.{form_of};
 ghost use Rattle.iam_policy.specs.Element.{both, neither, stands_as, is_bad_list, is_this};
-ghost use Rattle.iam_policy.specs.Fault.{statement_names, operator_names, has_bad_variable, has_long_list};
+ghost use Rattle.iam_policy.specs.Fault.{HasBadValueIn, statement_names, has_bad_variable, has_long_list};
 ghost use Rattle.iam_policy.specs.Principal.{is_principal};
 
+use crate::OutOfMemory;
 use crate::element::{has_both, has_neither, has_text, is_bad_list, is_this, is_too_long};
+use crate::fault::Fault;
 use crate::grammar::Form;
 use crate::principal_grammar::{has_long_kind, is_bad_principal};
+use iam_condition::{has_bad_text, has_many_values, has_unknown_operator, is_bad_form};
 use iam_json::has_unknown;
 use serde_json::Value;
+use std::alloc::Global;
 
 /// Whether the statement has a member that it does not know.
 pub fn has_unknown_member(statement: &Value) -> bool
@@ -33,22 +38,36 @@ pub fn has_unknown_member(statement: &Value) -> bool
     )
 }
 
-/// Whether a member of `Condition` is no operator.
-pub fn has_unknown_operator(statement: &Value) -> bool
-    ensures { result ≡ stands_as (has_unknown operator_names) (get (codes "Condition") (view statement.now)) }
+/// One line of the table for a `Condition`.
+fn condition_line(condition: &Value, fault: Fault) -> bool
+    ensures { result ≡ condition_line fault (view condition.now) }
 {
-    statement
-        .get("Condition")
-        .is_some_and(|condition| has_unknown(condition, &[]))
+    match fault {
+        Fault::BadVariable => has_bad_text(condition),
+        Fault::UnknownOperator => has_unknown_operator(condition),
+        Fault::BadCondition => is_bad_form(condition),
+        Fault::TooMany => has_many_values(condition),
+        _ => false,
+    }
 }
 
-/// Whether `Condition` stands there and is no object.
-pub fn is_bad_condition(statement: &Value) -> bool
-    ensures { result ≡ stands_as (λ c. is_none (as_object c)) (get (codes "Condition") (view statement.now)) }
+/// Whether `Condition` stands there, and that line of the table holds of it.
+pub fn condition_has(statement: &Value, fault: Fault) -> bool
+    ensures { result ≡ stands_as (condition_line fault) (get (codes "Condition") (view statement.now)) }
 {
     statement
         .get("Condition")
-        .is_some_and(|condition| !condition.is_object())
+        .is_some_and(|condition| condition_line(condition, fault))
+}
+
+/// Whether a value of `Condition` is off the grammar of its operator.
+pub fn has_bad_value(alloc: Global, statement: &Value) -> Result<bool, OutOfMemory>
+    ensures { IfOk result (λ bad. IsTrue bad ↔ HasBadValueIn (view statement.now)) }
+{
+    match statement.get("Condition") {
+        Some(condition) => iam_condition::has_bad_value(alloc, condition),
+        None => Ok(false),
+    }
 }
 
 /// Whether not exactly one of `Action` and `NotAction` stands there.

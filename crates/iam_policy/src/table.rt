@@ -1,7 +1,7 @@
 ghost use Rattle.std.specs.Prelude.{◌≡◌, ℕ};
 ghost use Rattle.serde_json.specs.Data.{Data};
 ghost use Rattle.serde_json.specs.View.{view};
-ghost use Rattle.iam_policy.specs.Code.First.{document_fault, fault_of};
+ghost use Rattle.iam_policy.specs.Code.First.{document_fault, fault_of, line_has};
 ghost use Rattle.iam_policy.specs.Fault.{sids_before, repeats_sid, document_line, statement_line, document_has, statement_has};
 
 use crate::document_checks::{has_unknown_element, is_bad_statement, statements_in};
@@ -9,9 +9,8 @@ use crate::element::{MOST, effect_of, has_both, has_neither, is_no_text, is_this
 use crate::fault::{Fault, Kind};
 use crate::grammar::Form;
 use crate::statement_checks::{
-    allows_by_not_principal, has_bad_list, has_bad_principal, has_bad_variable,
-    has_no_single_action, has_principal, has_too_many, has_unknown_member, has_unknown_operator,
-    is_bad_condition,
+    allows_by_not_principal, condition_has, has_bad_list, has_bad_principal, has_bad_variable,
+    has_no_single_action, has_principal, has_too_many, has_unknown_member,
 };
 use serde_json::Value;
 
@@ -66,19 +65,18 @@ fn statement_line(statement: &Value, kind: Kind, repeats: bool, fault: Fault) ->
         Fault::BadEffect => effect_of(statement).is_none(),
         Fault::ActionCount => has_no_single_action(statement),
         Fault::BadAction => has_bad_list(statement, "Action", "NotAction", Form::Action),
-        Fault::PrincipalMisplaced => !kind.wants_principal() && has_principal(statement),
+        Fault::PrincipalMisplaced => !kind.may_have_principal() && has_principal(statement),
         Fault::PrincipalMissing => kind.wants_principal() && !has_principal(statement),
-        Fault::BadPrincipal => kind.wants_principal() && has_bad_principal(statement),
-        Fault::NotPrincipalAllow => kind.wants_principal() && allows_by_not_principal(statement),
+        Fault::BadPrincipal => kind.may_have_principal() && has_bad_principal(statement),
+        Fault::NotPrincipalAllow => kind.may_have_principal() && allows_by_not_principal(statement),
         Fault::ResourceCount => {
             has_both(statement, "Resource", "NotResource")
                 || kind.wants_resource() && has_neither(statement, "Resource", "NotResource")
         }
         Fault::BadResource => has_bad_list(statement, "Resource", "NotResource", Form::Resource),
-        Fault::BadVariable => has_bad_variable(statement),
-        Fault::UnknownOperator => has_unknown_operator(statement),
-        Fault::BadCondition => is_bad_condition(statement),
-        Fault::TooMany => has_too_many(statement),
+        Fault::BadVariable => has_bad_variable(statement) || condition_has(statement, fault),
+        Fault::UnknownOperator | Fault::BadCondition => condition_has(statement, fault),
+        Fault::TooMany => has_too_many(statement) || condition_has(statement, fault),
         _ => false,
     }
 }
@@ -114,13 +112,26 @@ pub fn document_fault(document: &Value, kind: Kind) -> Option<Fault>
         .find(|&fault| document_has(document, kind, fault))
 }
 
-/// The first fault of a statement.
-pub fn statement_fault(statement: &Value, kind: Kind, repeats: bool) -> Option<Fault>
+/// One line of the table for a statement. `bad_value` is whether a value of its condition is off its grammar.
+fn line_has(statement: &Value, kind: Kind, repeats: bool, bad_value: bool, fault: Fault) -> bool
     ensures { (d : Data) (i : ℕ) → repeats ≡ repeats_sid (sids_before d i) (view statement.now)
-        → result ≡ fault_of kind d i (view statement.now) }
+        → result ≡ line_has kind d i (view statement.now) bad_value fault }
+{
+    statement_has(statement, kind, repeats, fault) || fault == Fault::BadValue && bad_value
+}
+
+/// The first fault of a statement.
+pub fn statement_fault(
+    statement: &Value,
+    kind: Kind,
+    repeats: bool,
+    bad_value: bool,
+) -> Option<Fault>
+    ensures { (d : Data) (i : ℕ) → repeats ≡ repeats_sid (sids_before d i) (view statement.now)
+        → result ≡ fault_of kind d i (view statement.now) bad_value }
 {
     for fault in TABLE {
-        if statement_has(statement, kind, repeats, fault) {
+        if line_has(statement, kind, repeats, bad_value, fault) {
             return Some(fault);
         }
     }

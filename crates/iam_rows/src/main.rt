@@ -16,13 +16,15 @@ use std::thread::Threads;
 const WORLDS: &str = "worlds.json";
 
 /// The files of rows, by theme.
-const ROWS: [&str; 7] = [
+const ROWS: [&str; 9] = [
     "commands.json",
+    "conditions.json",
     "contexts.json",
     "decisions.json",
     "documents.json",
     "layers.json",
     "limits.json",
+    "matrix.json",
     "shape.json",
 ];
 

@@ -1,37 +1,11 @@
-ghost use Rattle.std.specs.Prelude.{◌≡◌, ◌+◌, ◌<◌, ◌≤◌, [], All, length, sum};
+ghost use Rattle.std.specs.Prelude.{◌≡◌, ◌<◌, All, length};
 
 use iam_lanes::{LaneSeat, Lanes};
-use iam_matrix::collect;
 use std::alloc::{AllocError, Global};
 use std::sync::{Mutex, Wait};
 use std::test::Fail;
 use std::thread;
 use std::thread::Threads;
-
-/// Whether the workers bring each number of each lane once.
-fn is_whole<R: Threads + Sync>(rt: &R, alloc: Global, lengths: &[u64]) -> Result<bool, AllocError>
-    requires some { 0 < length lengths.now }
-    requires few { length lengths.now ≤ 64 }
-    requires fits { sum lengths.now ≤ 4096 }
-{
-    let mut collected = collect(rt, alloc, lengths)?;
-    collected.sort()?;
-    let mut expected = Vec::new(alloc);
-    for (lane, length) in lengths.iter().enumerate() {
-        for number in 0..*length {
-            expected.push((lane as u64, number))?;
-        }
-    }
-    Ok(collected.as_slice() == expected.as_slice())
-}
-
-#[test]
-fn workers_bring_each_number_once(rt: HostRuntime) -> Result<(), Fail> {
-    assert!(rt; is_whole(&rt, rt.alloc(), &[5])?);
-    assert!(rt; is_whole(&rt, rt.alloc(), &[3, 200])?);
-    assert!(rt; is_whole(&rt, rt.alloc(), &[7, 0, 300, 1, 90, 2, 4, 6])?);
-    Ok(())
-}
 
 #[test]
 fn one_seat_of_many_takes_the_only_number(rt: HostRuntime) -> Result<(), Fail> {

@@ -18,6 +18,10 @@ const REPORT: &str = "cell,principal,action,resource,decision,statements,lacks
 
 const FIRST: Options = Options {
     task: Task::Decide(0, 0, 0),
+    workers: 4,
+    tile: None,
+    json: false,
+    brief: false,
 };
 
 /// The status of the outcome, and the line of its fault; of a run that is done there is none.

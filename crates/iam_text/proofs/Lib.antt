@@ -1,5 +1,6 @@
 pub mod ArnLemmas
 pub mod DraftLemmas
 pub mod FormLemmas
+pub mod GivenLemmas
 pub mod VariableLemmas
 pub mod WalkLemmas

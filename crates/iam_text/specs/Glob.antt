@@ -37,3 +37,11 @@ sign_by f Any = Any
 -- a match without regard to case: both sides are folded first
 abbrev pub MatchesFold : List Sign → List ℕ → Type 0
 MatchesFold signs text = Matches (map (sign_by folded) signs) (map folded text)
+
+-- the signs are the characters of the text, each given
+abbrev pub Equals : List Sign → List ℕ → Type 0
+Equals signs text = signs ≡ map plain_sign text
+
+-- the same without regard to case
+abbrev pub EqualsFold : List Sign → List ℕ → Type 0
+EqualsFold signs text = Equals (map (sign_by folded) signs) (map folded text)

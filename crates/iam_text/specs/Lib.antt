@@ -1,3 +1,4 @@
+pub mod Action
 pub mod Arn
 pub mod Characters
 pub mod Code

@@ -1,5 +1,5 @@
 -- The walk that the matcher takes, beside the definition that it meets (`Glob`).
-use Rattle.std.specs.Prelude.{◌≡◌, ◌↔◌, ℕ, suc, List, [], ◌∷◌, ⊤, ◌⊎◌, length}
+use Rattle.std.specs.Prelude.{◌≡◌, ◌↔◌, ℕ, suc, List, [], ◌∷◌, ⊤, ◌⊎◌, length, All}
 use Rattle.std.specs.Str.{chars}
 use Rattle.iam_text.specs.Glob.{folded}
 use Rattle.iam_text.specs.declared.sign.Sign.{Sign}
@@ -69,3 +69,13 @@ abbrev pub signs_left : Front → ℕ
 signs_left Whole = 0
 signs_left (Star signs text) = suc (length signs.now)
 signs_left Off = 0
+
+-- a given character
+abbrev pub IsGiven : Sign → Type 0
+IsGiven (Given c) = ⊤
+IsGiven One = ⊥
+IsGiven Any = ⊥
+
+-- no sign is a wildcard
+abbrev pub AreGiven : List Sign → Type 0
+AreGiven signs = All IsGiven signs

@@ -1,11 +1,11 @@
 ghost use Rattle.std.specs.Prelude.{◌≡◌, ◌↔◌, List, IsTrue, IfOk, map};
 ghost use Rattle.std.specs.Str.{chars};
 ghost use Rattle.iam_text.specs.declared.sign.Sign.{Sign};
-ghost use Rattle.iam_text.specs.Glob.{wild_sign, plain_sign, Matches, MatchesFold};
+ghost use Rattle.iam_text.specs.Glob.{wild_sign, plain_sign, Equals, EqualsFold, Matches, MatchesFold};
 
 use crate::OutOfMemory;
 use crate::sign::Sign;
-use crate::walk::{Case, matches};
+use crate::walk::{Case, equals, matches};
 use std::alloc::Global;
 use std::marker::Model;
 
@@ -68,4 +68,24 @@ impl Glob {
     {
         matches(self.signs.as_slice(), text, Case::Folded)
     }
+    /// Whether the pattern is the text itself, without a wildcard, with regard to case.
+    pub fn equals(&self, text: &str) -> bool
+        ensures { IsTrue result ↔ Equals self.now (chars text.now) }
+    {
+        equals(self.signs.as_slice(), text, Case::Kept)
+    }
+
+    /// Whether the pattern is the text itself, without a wildcard, once the ASCII letters of both sides are folded.
+    pub fn equals_fold(&self, text: &str) -> bool
+        ensures { IsTrue result ↔ EqualsFold self.now (chars text.now) }
+    {
+        equals(self.signs.as_slice(), text, Case::Folded)
+    }
+}
+
+/// Whether the signs match the whole text, with regard to case.
+pub fn signs_match(signs: &[Sign], text: &str) -> bool
+    ensures { IsTrue result ↔ Matches signs.now (chars text.now) }
+{
+    matches(signs, text, Case::Kept)
 }

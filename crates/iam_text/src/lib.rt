@@ -1,6 +1,7 @@
 //! Texts of IAM policies: patterns with wildcards, texts with variables, and the parts of an ARN.
 #![tactic(auto)]
 
+mod action;
 mod arn;
 mod characters;
 mod draft;
@@ -13,10 +14,11 @@ mod template;
 mod text;
 mod walk;
 
+pub use action::{is_action, is_wildcard};
 pub use arn::Arn;
 pub use characters::{is_account, is_label};
 pub use draft::{Draft, Piece, has_draft};
-pub use glob::Glob;
+pub use glob::{Glob, signs_match};
 pub use items::Items;
 pub use laws::{drafts_are_tested, one_arn, one_draft};
 pub use sign::Sign;

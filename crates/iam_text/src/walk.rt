@@ -1,6 +1,7 @@
-ghost use Rattle.std.specs.Prelude.{◌≡◌, ◌↔◌, ◌≤◌, IsTrue, IfSome, IfNone, length};
+ghost use Rattle.std.specs.Prelude.{◌≡◌, ◌↔◌, ◌≤◌, IsTrue, IfSome, IfNone, length, map};
 ghost use Rattle.std.specs.Str.{chars};
-ghost use Rattle.iam_text.specs.Walk.{char_in, Covers, GoesOn, Stops, Walks, IsFront, Settles, Later, signs_left};
+ghost use Rattle.iam_text.specs.Glob.{Equals, sign_by};
+ghost use Rattle.iam_text.specs.Walk.{AreGiven, char_in, Covers, GoesOn, Stops, Walks, IsFront, Settles, Later, signs_left};
 
 use crate::sign::Sign;
 
@@ -112,4 +113,18 @@ pub fn matches(signs: &[Sign], text: &str, case: Case) -> bool
         place = first_place(signs, text, case);
     }
     matches!(place, Front::Whole)
+}
+
+/// Whether each sign is a given character.
+fn are_given(signs: &[Sign]) -> bool
+    ensures { IsTrue result ↔ AreGiven signs.now }
+{
+    signs.iter().all(|sign| matches!(sign, Sign::Given(_)))
+}
+
+/// Whether the signs are the characters of the text, each given.
+pub fn equals(signs: &[Sign], text: &str, case: Case) -> bool
+    ensures { IsTrue result ↔ Equals (map (sign_by (char_in case)) signs.now) (map (char_in case) (chars text.now)) }
+{
+    are_given(signs) && matches(signs, text, case)
 }

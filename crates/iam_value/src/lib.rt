@@ -9,6 +9,7 @@ ghost use Rattle.iam_value.specs.Bytes.{IsBase64};
 
 mod addresses;
 mod dates;
+mod laws;
 mod numbers;
 mod pieces;
 mod ranges;
@@ -16,6 +17,7 @@ mod ranges;
 use base64::DecodeAllocError;
 use base64::engine::general_purpose::STANDARD;
 pub use dates::{moment, stamp};
+pub use laws::{one_bytes, one_moment, one_range, one_truth, one_whole};
 pub use numbers::whole;
 pub use ranges::{Address, Range};
 pub use std::alloc::AllocError as OutOfMemory;

@@ -2,11 +2,12 @@
 use Rattle.std.specs.Prelude.{All}
 use Rattle.iam_policy.specs.Reading.{StatementValue}
 use Rattle.iam_match.specs.Principal.{PrincipalMatches}
-use Rattle.iam_match.specs.Statement.{EntryHolds, RequestValue, ResourceMatches}
+use Rattle.iam_match.specs.Entry.{EntryHolds}
+use Rattle.iam_match.specs.Statement.{RequestValue, ResourceMatches}
 
--- the principal, the conditions and the resource
+-- the principal, the resource and the conditions
 abbrev pub RestMatches : StatementValue → RequestValue → Type 0
 RestMatches s request =
     PrincipalMatches s.principal request.requester
-    × All (EntryHolds request.context) s.conditions
     × ResourceMatches s.resource request.resource request.context
+    × All (EntryHolds request.context) s.conditions

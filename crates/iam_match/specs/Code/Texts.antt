@@ -1,18 +1,15 @@
 -- What the code asks of a text of a resource element, beside the definition (`Statement`).
 use Rattle.std.specs.Prelude.{◌≡◌, ◌↔◌, ℕ, List, Bool, Option, Some, None, IsSome, IsTrue}
-use Rattle.std.specs.Str.{chars}
 use Rattle.iam_text.specs.declared.draft.Piece.{Piece}
 use Rattle.iam_text.specs.declared.sign.Sign.{Sign}
-use Rattle.iam_text.specs.Glob.{Matches}
 use Rattle.iam_context.specs.Context.{ContextValue}
 use Rattle.iam_context.specs.Resolve.{resolved}
 use Rattle.iam_match.specs.Statement.{TextMatches}
 
--- nothing where there is no pattern, else whether it matches the resource
-abbrev pub IsAnswer : Option (List Sign) → List ℕ → Option Bool → Type 0
-IsAnswer pattern resource None = pattern ≡ None
-IsAnswer pattern resource (Some matched) =
-    (signs : List Sign) × (pattern ≡ Some signs) × (IsTrue matched ↔ Matches signs (chars resource))
+-- nothing where there is no pattern, else whether P holds of it
+abbrev pub IsAnswer : Option (List Sign) → (List Sign → Type 0) → Option Bool → Type 0
+IsAnswer pattern P None = pattern ≡ None
+IsAnswer pattern P (Some holds) = (signs : List Sign) × (pattern ≡ Some signs) × (IsTrue holds ↔ P signs)
 
 -- the text becomes a pattern that does not match the resource
 abbrev pub TextDiffers : ContextValue → List ℕ → List Piece → Type 0

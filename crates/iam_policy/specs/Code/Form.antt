@@ -2,7 +2,8 @@
 use Rattle.std.specs.Prelude.{ℕ, List, Bool}
 use Rattle.iam_policy.specs.declared.grammar.Form.{Form}
 use Rattle.iam_policy.specs.declared.grammar.Form.TheVariants.{Action, Resource, BadVariable, AwsName, AnyName}
-use Rattle.iam_policy.specs.Grammar.{is_action, is_resource, is_bad_variable, is_aws_name, is_any_name}
+use Rattle.iam_text.specs.Action.{is_action}
+use Rattle.iam_policy.specs.Grammar.{is_resource, is_bad_variable, is_aws_name, is_any_name}
 
 abbrev pub form_of : Form → List ℕ → Bool
 form_of Action = is_action

@@ -1,8 +1,8 @@
 use Rattle.std.proofs.Common.{sym, subst}
-use Rattle.std.proofs.lemmas.Result.{IfOk-weaker}
 use Rattle.iam_app.specs.Output.{IsReportOf}
 use Rattle.iam_app.proofs.program.report.Goals as goal
 
-pub returns-in-Decide-clause-ok : goal.returns-in-Decide-clause-ok
-returns-in-Decide-clause-ok c =
-    IfOk-weaker c.decide.result _ _ (λ text answer. subst (λ task. IsReportOf task c.args.world.now text.items) (sym c.in-Decide.is) answer) c.decide.ensures.ok
+pub returns-in_ok-decide-in-Decide-clause-ok : goal.returns-in_ok-decide-in-Decide-clause-ok
+returns-in_ok-decide-in-Decide-clause-ok g c =
+    subst (λ task. IsReportOf task c.args.options.now c.args.world.now c.in_ok-decide-in-Decide.field-0.items) (sym c.in-Decide.is)
+    c.in_ok-decide-in-Decide.ensures.ok

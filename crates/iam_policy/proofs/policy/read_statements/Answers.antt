@@ -1,7 +1,7 @@
 use Rattle.std.proofs.Common.{ℕ, ◌≡◌, ◌+◌, ◌∙◌, List, Some, None, refl, sym, subst, arith, take}
 use Rattle.std.specs.List.{AllZip, slice_get}
 use Rattle.serde_json.specs.View.{view}
-use Rattle.iam_policy.specs.Code.First.{fault_of}
+use Rattle.iam_policy.specs.Code.First.{HasLeast}
 use Rattle.iam_policy.specs.Code.Sids.{HasSids}
 use Rattle.iam_policy.specs.Element.{sid_of}
 use Rattle.iam_policy.specs.Fault.{sids_before, statements_in}
@@ -23,7 +23,7 @@ returns-in-Some-clause-first c = λ _.
         before = c.loop-number.invariant.clean;
         statement = s;
         at = item_at view c.statements_in-statement-items.result.now (statements_in d) i c.statement-item.result c.statements_in-statement-items.ensures c.loop-number-test.true c.statement-item.is;
-        fault_is = sym (c.statement_fault.ensures d i noted.0) ∙ c.in-Some.is;
+        fault_is = record { bad = c.in_ok-bad_value.bad_value; decides = c.in_ok-bad_value.ensures; least = sym (c.statement_fault.ensures d i noted.0) ∙ c.in-Some.is };
       },
     )
 
@@ -32,14 +32,15 @@ returns-in-Some-clause-memory c = λ memory.
     let d = view c.args.document.now in
     let i = c.loop-number.number in
     let noted = c.in_ok-repeats.ensures (sids_before d i) c.loop-number.invariant.sids in
-    absurd (fault_not_memory c.args.kind d i (view c.statement-item.result) c.in-Some.fault (sym (c.statement_fault.ensures d i noted.0) ∙ c.in-Some.is) memory)
+    absurd (fault_not_memory c.args.kind d i (view c.statement-item.result) c.in_ok-bad_value.bad_value c.in-Some.fault (sym (c.statement_fault.ensures d i noted.0) ∙ c.in-Some.is) memory)
 
 pub add-requires : goal.add-requires
 add-requires c =
     let d = view c.args.document.now in
     let i = c.loop-number.number in
     let noted = c.in_ok-repeats.ensures (sids_before d i) c.loop-number.invariant.sids in
-    readable c.args.kind d i (view c.statement-item.result) (sym (c.statement_fault.ensures d i noted.0) ∙ c.in_default.is)
+    readable c.args.kind d i (view c.statement-item.result)
+    record { bad = c.in_ok-bad_value.bad_value; decides = c.in_ok-bad_value.ensures; least = sym (c.statement_fault.ensures d i noted.0) ∙ c.in_default.is }
 
 pub loop-number-preserved : goal.loop-number-preserved
 loop-number-preserved c =
@@ -49,7 +50,8 @@ loop-number-preserved c =
     let at : slice_get (statements_in d) i ≡ Some s =
     item_at view c.statements_in-statement-items.result.now (statements_in d) i c.statement-item.result c.statements_in-statement-items.ensures c.loop-number-test.true c.statement-item.is in
     let noted = c.in_ok-repeats.ensures (sids_before d i) c.loop-number.invariant.sids in
-    let clean : fault_of c.args.kind d i s ≡ None = sym (c.statement_fault.ensures d i noted.0) ∙ c.in_default.is in
+    let clean : HasLeast c.args.kind d i s None =
+    record { bad = c.in_ok-bad_value.bad_value; decides = c.in_ok-bad_value.ensures; least = sym (c.statement_fault.ensures d i noted.0) ∙ c.in_default.is } in
     let added = c.in_ok-add.ensures.items in record {
       sids = let P : List (List ℕ) → Type 0 = λ sids. HasSids c.note_sid.new.sids sids in subst P (sym (filter_map-next sid_of (statements_in d) i s at)) noted.1;
       clean = faultless_more c.args.kind d i s c.loop-number.invariant.clean at clean;

@@ -1,7 +1,7 @@
 use Rattle.std.proofs.Common.{◌∙◌, sym}
 use Rattle.serde_json.specs.View.{view}
 use Rattle.iam_policy.specs.declared.fault.Fault.TheVariants.{NotObject}
-use Rattle.iam_policy.specs.Fault.{statement_has}
+use Rattle.iam_policy.specs.Code.First.{line_has}
 use Rattle.iam_policy.specs.Table.{table}
 use Rattle.iam_policy.proofs.ElementLemmas.{find-next}
 use Rattle.iam_policy.proofs.table.statement_fault.Goals as goal
@@ -9,5 +9,5 @@ use Rattle.iam_policy.proofs.table.statement_fault.Goals as goal
 pub loop-fault-preserved : goal.loop-fault-preserved
 loop-fault-preserved c = λ d i same.
     c.loop-fault.invariant d i same
-    ∙ find-next (statement_has c.args.kind d i (view c.args.statement.now)) table c.loop-fault.fault-index NotObject _ c.loop-fault-test.true
-    (sym (c.statement_has.ensures d i same) ∙ c.if-statement_has.false)
+    ∙ find-next (line_has c.args.kind d i (view c.args.statement.now) c.args.bad_value) table c.loop-fault.fault-index NotObject _ c.loop-fault-test.true
+    (sym (c.line_has.ensures d i same) ∙ c.if-line_has.false)

@@ -1,4 +1,4 @@
-use Rattle.std.proofs.Common.{refl, sym, ◌∙◌}
+use Rattle.std.proofs.Common.{sym, ◌∙◌}
 use Rattle.iam_policy.proofs.statement.Statement.read.Goals as goal
 
 pub returns : goal.returns
@@ -8,5 +8,5 @@ returns c = λ d. record {
   action = c.in_ok-read_action.ensures;
   resource = c.in_ok-read_resource.ensures d;
   principal = c.in_ok-read_principal.ensures;
-  conditions = refl;
+  conditions = c.in_ok-read_conditions.ensures;
 }

@@ -1,0 +1,5 @@
+mod NameLemmas
+mod WalkLemmas
+mod ValueLemmas
+mod ReadingLemmas
+mod OneReading

@@ -1,0 +1,5 @@
+pub mod Names
+pub mod Walks
+pub mod Values
+pub mod Operands
+pub mod Reading

@@ -1,0 +1,5 @@
+pub mod Code
+pub mod Condition
+pub mod Entry
+pub mod Operand
+pub mod Operator

@@ -1,0 +1,117 @@
+ghost use Rattle.std.specs.Prelude.{◌≡◌, IfOk};
+ghost use Rattle.iam_value.specs.Reading.{IsReading};
+ghost use Rattle.iam_condition.specs.Code.Operands.{IsAddressOperand, IsBytesOperand, IsDateOperand, IsNumberOperand, IsTextOperand, IsTruthOperand};
+
+use crate::operator::{Base, TextTest};
+use iam_text::{Items, OutOfMemory, Template};
+use iam_value::{Range, bytes, moment, truth, whole};
+use std::alloc::Global;
+
+/// A value of an entry, read as its operator reads it.
+#[derive(Debug, Drop)]
+pub enum Operand {
+    /// A text, which may hold variables.
+    Text(Template),
+    /// A whole number.
+    Number(i64),
+    /// An instant, in nanoseconds from 1970-01-01T00:00:00Z.
+    Instant(i128),
+    /// A truth value.
+    Truth(bool),
+    /// Bytes.
+    Bytes(Items<u8>),
+    /// A range of addresses.
+    Range(Range),
+}
+
+impl Operand {
+    ghost use Rattle.std.specs.Prelude.{IfOk};
+    ghost use Rattle.iam_value.specs.Reading.{IsReading};
+    ghost use Rattle.iam_condition.specs.Operand.{IsOperand};
+
+    /// The value of a text under an operator; `None` where the text has none.
+    pub(crate) fn read(
+        alloc: Global,
+        base: Base,
+        text: &str,
+    ) -> Result<Option<Operand>, OutOfMemory>
+        ensures { IfOk result (λ found. IsReading found (IsOperand base text.now)) }
+    {
+        match base {
+            Base::Text(test) => read_text(alloc, text, test.is_wild()),
+            Base::Arn => read_text(alloc, text, true),
+            Base::Number(_) => Ok(read_number(text)),
+            Base::Date(_) => Ok(read_date(text)),
+            Base::Truth | Base::Null => Ok(read_truth(text)),
+            Base::Binary => read_bytes(alloc, text),
+            Base::Address => Ok(read_range(text)),
+        }
+    }
+}
+
+impl TextTest {
+    ghost use Rattle.std.specs.Prelude.{◌≡◌};
+    ghost use Rattle.iam_condition.specs.Operand.{is_wild};
+
+    /// Whether `*` and `?` are wildcards.
+    fn is_wild(self) -> bool
+        ensures { result ≡ is_wild self }
+    {
+        matches!(self, TextTest::Like)
+    }
+}
+
+/// A text, in which `*` and `?` are wildcards where `wild` says so.
+fn read_text(alloc: Global, text: &str, wild: bool) -> Result<Option<Operand>, OutOfMemory>
+    ensures { IfOk result (λ found. IsReading found (IsTextOperand wild text.now)) }
+{
+    match Template::read(alloc, text, wild)? {
+        Some(template) => Ok(Some(Operand::Text(template))),
+        None => Ok(None),
+    }
+}
+
+fn read_number(text: &str) -> Option<Operand>
+    ensures { IsReading result (IsNumberOperand text.now) }
+{
+    match whole(text) {
+        Some(number) => Some(Operand::Number(number)),
+        None => None,
+    }
+}
+
+fn read_date(text: &str) -> Option<Operand>
+    ensures { IsReading result (IsDateOperand text.now) }
+{
+    match moment(text) {
+        Some(instant) => Some(Operand::Instant(instant)),
+        None => None,
+    }
+}
+
+fn read_truth(text: &str) -> Option<Operand>
+    ensures { IsReading result (IsTruthOperand text.now) }
+{
+    match truth(text) {
+        Some(value) => Some(Operand::Truth(value)),
+        None => None,
+    }
+}
+
+fn read_bytes(alloc: Global, text: &str) -> Result<Option<Operand>, OutOfMemory>
+    ensures { IfOk result (λ found. IsReading found (IsBytesOperand text.now)) }
+{
+    match bytes(alloc, text)? {
+        Some(value) => Ok(Some(Operand::Bytes(Items::from_vec(value)))),
+        None => Ok(None),
+    }
+}
+
+fn read_range(text: &str) -> Option<Operand>
+    ensures { IsReading result (IsAddressOperand text.now) }
+{
+    match Range::read(text) {
+        Some(range) => Some(Operand::Range(range)),
+        None => None,
+    }
+}

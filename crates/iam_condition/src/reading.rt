@@ -1,0 +1,152 @@
+//! Reading the entries of a `Condition`.
+ghost use Rattle.std.specs.Prelude.{◌≡◌, ◌++◌, false, map, IfOk, OnOk};
+ghost use Rattle.std.specs.List.{AllByRecursion, AllZip, flat_map};
+ghost use Rattle.serde_json.specs.View.{members_view, view};
+ghost use Rattle.iam_condition.specs.Code.Reading.{IsFine, IsFineGiven, IsFineText, given_of};
+ghost use Rattle.iam_condition.specs.Code.Walks.{given};
+ghost use Rattle.iam_condition.specs.Condition.{HasBadValue, ReadsCondition, ReadsEntry, ReadsValue, given_in, given_under, has_bad_text, member_list, members_of, values_under};
+ghost use Rattle.iam_condition.specs.Operand.{IsOperand};
+
+use crate::entry::Entry;
+use crate::form::values_under;
+use crate::names::operator_of;
+use crate::operand::Operand;
+use crate::operator::{Base, Operator};
+use iam_json::scalar_text;
+use iam_text::{OutOfMemory, drafts_are_tested};
+use serde_json::{Map, Value};
+use std::alloc::Global;
+
+/// A key under an operator, and what stands there.
+#[derive(Clone, Copy)]
+struct Key<'v> {
+    operator: Operator,
+    name: &'v str,
+    value: &'v Value,
+}
+
+/// Adds the keys under an operator.
+fn add_keys<'v>(
+    keys: &mut Vec<Key<'v>>,
+    operator: Operator,
+    members: &'v Map<String, Value>,
+) -> Result<(), OutOfMemory>
+    ensures { OnOk result (map given_of keys.new.items
+        ≡ map given_of keys.old.items ++ map (given operator) (member_list (members_view members.now.entries))) }
+{
+    for (name, value) in members.iter() {
+        keys.push(Key {
+            operator,
+            name: name.as_str(),
+            value,
+        })?;
+    }
+    Ok(())
+}
+
+fn add_under<'v>(
+    keys: &mut Vec<Key<'v>>,
+    operator: Operator,
+    under: &'v Value,
+) -> Result<(), OutOfMemory>
+    ensures { OnOk result (map given_of keys.new.items
+        ≡ map given_of keys.old.items ++ map (given operator) (members_of (view under.now))) }
+{
+    match under.as_object() {
+        Some(members) => add_keys(keys, operator, members),
+        None => Ok(()),
+    }
+}
+
+/// Adds the keys under a name, where it is that of an operator.
+fn add_member<'v>(keys: &mut Vec<Key<'v>>, name: &str, under: &'v Value) -> Result<(), OutOfMemory>
+    ensures { OnOk result (map given_of keys.new.items
+        ≡ map given_of keys.old.items ++ given_under (name.now, view under.now)) }
+{
+    match operator_of(name) {
+        Some(operator) => add_under(keys, operator, under),
+        None => Ok(()),
+    }
+}
+
+fn keys_among(alloc: Global, members: &Map<String, Value>) -> Result<Vec<Key<'_>>, OutOfMemory>
+    ensures { IfOk result (λ keys. map given_of keys.items
+        ≡ flat_map given_under (member_list (members_view members.now.entries))) }
+{
+    let mut keys = Vec::new(alloc);
+    for (name, under) in members.iter() {
+        add_member(&mut keys, name.as_str(), under)?;
+    }
+    Ok(keys)
+}
+
+/// The keys of a `Condition`, under the operators in the order of their names.
+fn keys_in(alloc: Global, condition: &Value) -> Result<Vec<Key<'_>>, OutOfMemory>
+    ensures { IfOk result (λ keys. map given_of keys.items ≡ given_in (view condition.now)) }
+{
+    match condition.as_object() {
+        Some(members) => keys_among(alloc, members),
+        None => Ok(Vec::new(alloc)),
+    }
+}
+
+/// The value of a text that has one.
+fn read_text(alloc: Global, base: Base, text: &str) -> Result<Operand, OutOfMemory>
+    requires { IsFineText base text.now }
+    ensures { IfOk result (IsOperand base text.now) }
+{
+    drafts_are_tested();
+    Ok(Operand::read(alloc, base, text)?.unwrap())
+}
+
+fn read_value(alloc: Global, base: Base, value: &Value) -> Result<Operand, OutOfMemory>
+    requires { IsFine base (view value.now) }
+    ensures { IfOk result (ReadsValue base (view value.now)) }
+{
+    if let Some(text) = value.as_str() {
+        return read_text(alloc, base, text);
+    }
+    let text = scalar_text(alloc, value)?.unwrap();
+    read_text(alloc, base, text.as_str())
+}
+
+fn read_values(alloc: Global, base: Base, values: &[Value]) -> Result<Vec<Operand>, OutOfMemory>
+    requires { AllByRecursion (IsFine base) (map view values.now) }
+    ensures { IfOk result (λ read. AllZip (ReadsValue base) (map view values.now) read.items) }
+{
+    let mut read = Vec::new(alloc);
+    for value in values {
+        read.push(read_value(alloc, base, value)?)?;
+    }
+    Ok(read)
+}
+
+fn read_key(alloc: Global, key: &Key<'_>) -> Result<Entry, OutOfMemory>
+    requires { IsFineGiven (given_of key.now) }
+    ensures { IfOk result (ReadsEntry (given_of key.now)) }
+{
+    let values = read_values(alloc, key.operator.base, values_under(key.value))?;
+    Entry::new(alloc, key.operator, key.name, values)
+}
+
+fn read_keys(alloc: Global, keys: &[Key<'_>]) -> Result<Vec<Entry>, OutOfMemory>
+    requires { AllByRecursion IsFineGiven (map given_of keys.now) }
+    ensures { IfOk result (λ entries. AllZip ReadsEntry (map given_of keys.now) entries.items) }
+{
+    let mut entries = Vec::new(alloc);
+    for key in keys {
+        entries.push(read_key(alloc, key)?)?;
+    }
+    Ok(entries)
+}
+
+/// The entries of a `Condition` whose texts and values are on their grammars, in the order of their operators' and keys'
+/// bytes. A member that is no operator has none.
+pub fn read_entries(alloc: Global, condition: &Value) -> Result<Vec<Entry>, OutOfMemory>
+    requires texts { has_bad_text (view condition.now) ≡ false }
+    requires values { ¬ HasBadValue (view condition.now) }
+    ensures { IfOk result (λ entries. ReadsCondition (view condition.now) entries.items) }
+{
+    let keys = keys_in(alloc, condition)?;
+    read_keys(alloc, keys.as_slice())
+}

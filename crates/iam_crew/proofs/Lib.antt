@@ -1,0 +1,5 @@
+mod Bounds
+mod Runs
+mod Slots
+mod Tiles
+mod Workers

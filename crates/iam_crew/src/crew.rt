@@ -1,0 +1,88 @@
+// What a crew makes of a tile, and what is told before it begins one.
+ghost use Rattle.std.specs.Prelude.{◌≡◌, ℕ, ◌≤◌, All, IfOk};
+ghost use Rattle.iam_crew.specs.Bound.{floor};
+
+use iam_lanes::{LaneSeat, Lanes};
+use iam_text::OutOfMemory;
+use std::alloc::Global;
+
+/// Told before a worker begins a tile: a place to count tiles, to wait, or to do nothing.
+pub trait Gate {
+    /// A worker begins this tile.
+    fn before(&self, tile: u64);
+}
+
+/// The gate that does nothing.
+#[derive(Clone, Copy, Debug)]
+pub struct Open;
+
+impl Gate for Open {
+    fn before(&self, _tile: u64) {}
+}
+
+/// What is made of a tile, by any number of workers at once, each with tools of its own.
+///
+/// A crew is read by all workers and changed by none; what a worker changes, as a cache, stands in its
+/// tools. A crew says four things of its work, as ghost members: `fits`, which tools belong to it; `takes`,
+/// which tiles it may be given; `offers`, which cells it may offer; and `gives`, what the output of a tile
+/// has to be, where the least cell that anybody offered is at or below a bound. Its law `lasts` says that
+/// what is given at a bound is given at every lower one. Cells and tiles are numbers of the crew's own; what
+/// cells a tile has is known to `gives` alone.
+///
+/// A plain crew offers nothing (`offers` is `⊥`), makes the same output at any bound (`gives` does not look
+/// at it, and `lasts` hands its last argument back) and leaves the seat alone. A crew that searches for the
+/// least cell of some kind gives, of a tile, that each such cell is at or above the bound. It looks at the
+/// bound first (`look`), and where the tile lies behind it, it is done; else it tells the gate, searches the
+/// tile, and offers what it finds (`offer`). Both calls say what becomes of the seat, so `work` is proved
+/// from their clauses where the search of one tile stands in a function of its own.
+pub trait Crew {
+    /// What is made of one tile.
+    type Output: Drop + Send;
+
+    /// What one worker keeps from tile to tile.
+    type Tools: Drop + Send;
+
+    // The tools belong to this crew.
+    ghost fits: { Self → Self.Tools → Type 0 };
+
+    // The tile may be worked.
+    ghost takes: { Self → ℕ → Type 0 };
+
+    // The cell may be offered.
+    ghost offers: { Self → ℕ → Type 0 };
+
+    // The tile's output, where the least cell offered is at or below a bound.
+    ghost gives: { Self → ℕ → Self.Output → ℕ → Type 0 };
+
+    /// The tools of a worker that begins. The only error is want of memory.
+    fn tools(&self, alloc: Global) -> Result<Self::Tools, OutOfMemory>
+        ensures { IfOk result (fits self.now) };
+
+    /// Makes the output of a tile. The only error is want of memory.
+    ///
+    /// The crew tells the gate before it begins the tile, and need not where it passes the tile over. With
+    /// the seat it may look at the bound and offer cells, and nothing else: it takes no number of a lane.
+    fn work<G: Gate>(
+        &self,
+        alloc: Global,
+        tools: &mut Self::Tools,
+        lanes: &Lanes,
+        gate: &G,
+        seat: &mut LaneSeat,
+        tile: u64,
+    ) -> Result<Self::Output, OutOfMemory>
+        requires tile { takes self.now tile }
+        requires tools { fits self.now tools.old }
+        requires seat { seat.old.lanes ≡ lanes.now }
+        requires offered { All (offers self.now) seat.old.offers }
+        ensures fits { fits self.now tools.new }
+        ensures given { IfOk result (λ output. gives self.now tile output (floor seat.new)) }
+        ensures offered { All (offers self.now) seat.new.offers }
+        ensures lanes { seat.new.lanes ≡ seat.old.lanes }
+        ensures taken { seat.new.taken ≡ seat.old.taken }
+        ensures ends { seat.new.ends ≡ seat.old.ends }
+        ensures lower { floor seat.new ≤ floor seat.old };
+
+    // What is given at a bound is given at every lower one.
+    ghost lasts: { (crew : Self) (tile : ℕ) (output : Self.Output) (bound lower : ℕ) → lower ≤ bound → gives crew tile output bound → gives crew tile output lower };
+}

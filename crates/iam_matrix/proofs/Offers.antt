@@ -1,0 +1,40 @@
+-- The search for the first allowed cell.
+use Rattle.std.proofs.Common.{◌≡◌, ◌<◌, ◌≤◌, ℕ, ◌+◌, List, [], ◌∷◌, ◌++◌, Option, Some, None, IfSome, All, length, take, get_or, sum, sym, subst, refl, arith, ⊎_elim}
+use Rattle.std.specs.List.{slice_get}
+use Rattle.std.proofs.lemmas.Bool.{cases_lt}
+use Rattle.std.proofs.lemmas.List.Elements.{All-nil, All-append, All-cons}
+use Rattle.std.proofs.lemmas.List.Sums.{sum_by-cons}
+use Rattle.iam_crew.specs.Bound.{bound_of}
+use Rattle.iam_world.specs.World.{WorldValue, world_cells}
+use Rattle.iam_matrix.specs.Matrix.{IsDenied, IsFirstAllowed}
+use Rattle.iam_matrix.specs.Code.Tiles.{AreDeniedBelow, Chain, IsAllowedCell}
+
+-- the offers after an offer
+pub offered-more : (world : WorldValue) (old new : List ℕ) (cell : ℕ) → new ≡ old ++ cell ∷ [] → All (IsAllowedCell world) old → IsAllowedCell world cell
+    → All (IsAllowedCell world) new
+offered-more world old new cell e all one =
+    subst (λ os. All (IsAllowedCell world) os) (sym e)
+    (All-append (IsAllowedCell world) old (cell ∷ []) all (All-cons (IsAllowedCell world) cell [] one (All-nil (IsAllowedCell world))))
+
+-- the cells of all tiles
+denied : {O : Type 0} (world : WorldValue) (bound from : ℕ) (lengths : List ℕ) (outputs : List O)
+    → Chain (λ f n output. AreDeniedBelow world f n bound) from lengths outputs
+    → (cell : ℕ) → from ≤ cell → cell < from + sum lengths → cell < bound → IsDenied world cell
+denied world bound from [] outputs c cell least most below = absurd (omega arith)
+denied world bound from (n ∷ lengths) [] c cell least most below = absurd c
+denied world bound from (n ∷ lengths) (output ∷ outputs) c cell least most below =
+    ⊎_elim (λ here. c.0 cell least here below)
+    (λ past. denied world bound (from + n) lengths outputs c.1 cell past (omega (arith, sum_by-cons (λ (x : ℕ). x) n lengths)) below)
+    (cases_lt cell (from + n))
+
+-- the least offer in the end
+pub first-allowed : {O : Type 0} (world : WorldValue) (lengths : List ℕ) (outputs : List O) (low : Option ℕ) → sum lengths ≡ world_cells world
+    → world_cells world ≤ 16777216 → Chain (λ f n output. AreDeniedBelow world f n (bound_of low)) 0 lengths outputs → IfSome low (IsAllowedCell world)
+    → IsFirstAllowed world low
+first-allowed world lengths outputs None e few c offered = λ cell below.
+    denied world (bound_of None) 0 lengths outputs c cell (omega arith) (omega (arith, e)) (omega arith)
+first-allowed world lengths outputs (Some found) e few c offered = (
+  offered.below,
+  offered.allowed,
+  λ lower less. let below = offered.below in denied world found 0 lengths outputs c lower (omega arith) (omega (arith, e)) less,
+)

@@ -1,0 +1,24 @@
+use Rattle.std.proofs.Common.{ℕ, List, All, Option, sym, subst}
+use Rattle.iam_matrix.specs.Code.Tiles.{IsAllowedCell, IsFirstIn}
+use Rattle.iam_matrix.proofs.Offers.{offered-more}
+use Rattle.iam_matrix.proofs.search.SearchCrew.work.Goals as goal
+
+pub returns-then-is_behind-clause-offered : goal.returns-then-is_behind-clause-offered
+returns-then-is_behind-clause-offered g c =
+    let P : List ℕ → Type 0 = λ os. All (IsAllowedCell c.args.self.now.world.now) os in subst P (sym c.look.ensures.offers) c.requires.offered
+
+pub returns-in_err-cell-clause-offered : goal.returns-in_err-cell-clause-offered
+returns-in_err-cell-clause-offered g c =
+    let P : List ℕ → Type 0 = λ os. All (IsAllowedCell c.args.self.now.world.now) os in subst P (sym c.look.ensures.offers) c.requires.offered
+
+pub returns-in_default-clause-offered : goal.returns-in_default-clause-offered
+returns-in_default-clause-offered g c =
+    let P : List ℕ → Type 0 = λ os. All (IsAllowedCell c.args.self.now.world.now) os in subst P (sym c.look.ensures.offers) c.requires.offered
+
+pub returns-clause-offered : goal.returns-clause-offered
+returns-clause-offered g c =
+    let world = c.args.self.now.world.now in
+    let P : List ℕ → Type 0 = λ os. All (IsAllowedCell world) os in
+    let Q : Option ℕ → Type 0 = λ found. IsFirstIn world c.cells_of-from.result.0 c.cells_of-from.result.1 found in
+    offered-more world c.look.new.seat.offers c.offer.new.seat.offers c.in-Some.cell c.offer.ensures.offers (subst P (sym c.look.ensures.offers) c.requires.offered)
+    (subst Q c.in-Some.is c.in_ok-cell.ensures).0

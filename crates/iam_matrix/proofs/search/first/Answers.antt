@@ -1,0 +1,18 @@
+use Rattle.std.proofs.Common.{ℕ, ◌≤◌, List, length, subst, ap, ◌∙◌}
+use Rattle.iam_crew.specs.Bound.{bound_of}
+use Rattle.iam_matrix.specs.Code.Tiles.{AreDeniedBelow}
+use Rattle.iam_matrix.proofs.Offers.{first-allowed}
+use Rattle.iam_matrix.proofs.Tiles.{chain-all}
+use Rattle.iam_matrix.proofs.search.first.Goals as goal
+
+pub returns-clause-ok : goal.returns-clause-ok
+returns-clause-ok g c =
+    let world = c.args.world.now in
+    let lengths = c.args.cut.now in
+    let gathered = c.in_ok-gathered.ensures in
+    let low = c.in_ok-gathered.gathered.low in
+    let outputs = c.in_ok-gathered.gathered.outputs.items in
+    let chained = chain-all (λ from n output. AreDeniedBelow world from n (bound_of low)) lengths outputs
+    (gathered.count ∙ ap (λ (ls : List ℕ). length ls) c.lengths.ensures.value) gathered.given in
+    let few = let P : ℕ → Type 0 = λ n. n ≤ 16777216 in subst P c.cells-cells.ensures.value c.cells-cells.ensures.few in
+    first-allowed world lengths outputs low c.requires few chained gathered.low

@@ -1,0 +1,10 @@
+use Rattle.std.proofs.Common.{◌-◌, ◌≤◌}
+use Rattle.iam_matrix.specs.Code.Tiles.{AreVerdicts}
+use Rattle.iam_matrix.proofs.verdicts.verdicts_of.Given as goal
+
+-- the cells so far
+abbrev pub invariant-loop-cell : goal.invariant-loop-cell
+invariant-loop-cell l = record {
+  least : l.from ≤ l.cell;
+  so_far : AreVerdicts l.world l.from (l.cell - l.from) l.verdicts.items;
+}

@@ -1,0 +1,60 @@
+-- What the workers make of a tile, and of tiles that follow one another.
+use Rattle.std.specs.Prelude.{◌≡◌, ℕ, ◌+◌, ◌<◌, ◌≤◌, List, [], ◌∷◌, ⊤, Bool, Option, Some, None, MatchBool, length, map, sum, slice_index}
+use Rattle.iam_decision.specs.declared.verdict.Decision.{Decision}
+use Rattle.iam_decision.specs.declared.verdict.Decision.TheVariants.{Allowed}
+use Rattle.iam_decision.specs.declared.verdict.Verdict.{Verdict}
+use Rattle.iam_report.specs.Piece.{AddsRows, brief_row, full_row}
+use Rattle.iam_report.specs.declared.quoted.Format.{Format}
+use Rattle.iam_world.specs.World.{WorldValue, world_cells}
+use Rattle.iam_lanes.specs.LaneRule.{no_cell}
+use Rattle.iam_matrix.specs.Matrix.{AreVerdictsFrom, IsDecisionOf, IsDenied}
+
+-- the cut has this tile, and is one of the world's cells
+abbrev pub IsTileOf : WorldValue → List ℕ → ℕ → Type 0
+IsTileOf world lengths tile = (sum lengths ≡ world_cells world) × (tile < length lengths)
+
+-- the verdicts of so many cells from this one on
+pub record AreVerdicts (world : WorldValue) (from count : ℕ) (verdicts : List Verdict) : Type 0 where
+  pub count_is : length verdicts ≡ count
+  pub each : AreVerdictsFrom world from verdicts
+
+-- the decisions of these cells
+abbrev pub AreDecisions : WorldValue → ℕ → ℕ → List Decision → Type 0
+AreDecisions world from count decisions =
+    (verdicts : List Verdict) × AreVerdicts world from count verdicts × (decisions ≡ map (λ verdict. verdict.decision) verdicts)
+
+-- the rows of these cells
+abbrev pub AreFullRows : Format → WorldValue → ℕ → ℕ → List ℕ → Type 0
+AreFullRows format world from count text =
+    (verdicts : List Verdict) × AreVerdicts world from count verdicts × AddsRows world (full_row format) from verdicts [] text
+
+abbrev pub AreBriefRows : Format → WorldValue → ℕ → ℕ → List ℕ → Type 0
+AreBriefRows format world from count text =
+    (decisions : List Decision) × AreDecisions world from count decisions × AddsRows world (brief_row format) from decisions [] text
+
+abbrev pub AreRowsOf : Format → Bool → WorldValue → ℕ → ℕ → List ℕ → Type 0
+AreRowsOf format brief world from count text =
+    MatchBool brief (AreBriefRows format world from count text) (AreFullRows format world from count text)
+
+-- a cell that is allowed, and below all numbers that are no cells
+pub record IsAllowedCell (world : WorldValue) (cell : ℕ) : Type 0 where
+  pub below : cell < world_cells world
+  pub small : cell < no_cell
+  pub allowed : IsDecisionOf world cell Allowed
+
+-- each cell of these that is below a bound is denied
+abbrev pub AreDeniedBelow : WorldValue → ℕ → ℕ → ℕ → Type 0
+AreDeniedBelow world from count bound = (cell : ℕ) → from ≤ cell → cell < from + count → cell < bound → IsDenied world cell
+
+-- the first allowed cell of these, or nothing where all are denied
+abbrev pub IsFirstIn : WorldValue → ℕ → ℕ → Option ℕ → Type 0
+IsFirstIn world from count None = (cell : ℕ) → from ≤ cell → cell < from + count → IsDenied world cell
+IsFirstIn world from count (Some found) =
+    IsAllowedCell world found × (found < from + count) × ((cell : ℕ) → from ≤ cell → cell < found → IsDenied world cell)
+
+-- a relation of a first cell, a number of cells and an output, for tiles that follow one another from a cell on
+abbrev pub Chain : {O : Type 0} → (ℕ → ℕ → O → Type 0) → ℕ → List ℕ → List O → Type 0
+Chain Makes from [] [] = ⊤
+Chain Makes from [] (output ∷ outputs) = ⊥
+Chain Makes from (n ∷ lengths) [] = ⊥
+Chain Makes from (n ∷ lengths) (output ∷ outputs) = Makes from n output × Chain Makes (from + n) lengths outputs

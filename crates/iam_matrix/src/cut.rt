@@ -1,0 +1,198 @@
+ghost use Rattle.std.specs.Prelude.{◌≡◌, ◌≢◌, ◌↔◌, ℕ, ◌+◌, ◌/◌, ◌%◌, ◌^◌, ◌<◌, ◌≤◌, List, All, Any, IsTrue, IfOk, IfErr, IfSome, IfNone, length, slice_index, sum, vec_len};
+ghost use Rattle.iam_matrix.specs.Code.Starts.{AreStarts};
+ghost use Rattle.iam_matrix.specs.Cut.{even_lengths};
+
+use iam_text::OutOfMemory;
+use std::alloc::Global;
+use std::marker::Model;
+
+const MOST_TILES: usize = 4096;
+
+/// A cut of the cells of a matrix into tiles, which follow one another. A contract sees the lengths of the tiles.
+#[derive(Debug, Drop)]
+pub struct Cut {
+    lengths: Vec<u64>,
+    /// The first cell of each tile.
+    starts: Vec<u64>,
+}
+
+impl Model for Cut {
+    ghost use Rattle.std.specs.Prelude.{◌≤◌, List, ℕ, vec_len};
+    ghost use Rattle.iam_matrix.specs.Code.Starts.{AreStarts};
+
+    ghost Value = { List ℕ };
+
+    ghost view = { λ cut. cut.lengths.items };
+
+    ghost invariant = { λ cut. AreStarts cut.lengths.items cut.starts.items × (vec_len cut.lengths ≤ 4096) };
+}
+
+/// Why lengths are no cut; [`CutFault::number`] gives the number.
+#[derive(Clone, Copy, Debug, PartialEq, Eq)]
+pub enum CutFault {
+    /// A tile has no cell.
+    ZeroTile,
+    /// The tiles have more or fewer cells than the matrix.
+    WrongSum,
+    /// Over 4,096 tiles.
+    TooMany,
+    /// The allocator refused a growth.
+    OutOfMemory,
+}
+
+impl CutFault {
+    ghost use Rattle.std.specs.Prelude.{◌≡◌};
+    ghost use Rattle.iam_matrix.specs.Fault.{cut_name_of, cut_number_of};
+
+    /// The number of the fault.
+    pub fn number(self) -> u32
+        ensures { result ≡ cut_number_of self }
+    {
+        match self {
+            CutFault::ZeroTile => 1,
+            CutFault::WrongSum => 2,
+            CutFault::TooMany => 3,
+            CutFault::OutOfMemory => 4,
+        }
+    }
+
+    /// The name of the fault, as it is declared.
+    pub fn name(self) -> &'static str
+        ensures { result.now ≡ cut_name_of self }
+    {
+        match self {
+            CutFault::ZeroTile => "ZeroTile",
+            CutFault::WrongSum => "WrongSum",
+            CutFault::TooMany => "TooMany",
+            CutFault::OutOfMemory => "OutOfMemory",
+        }
+    }
+}
+
+impl From<OutOfMemory> for CutFault {
+    ghost use Rattle.std.specs.Prelude.{◌≡◌};
+    ghost use Rattle.iam_matrix.specs.declared.cut.CutFault.TheVariants as c;
+
+    ghost from_gives = { λ _ fault. fault ≡ c.OutOfMemory };
+
+    fn from(_: OutOfMemory) -> CutFault {
+        CutFault::OutOfMemory
+    }
+}
+
+impl Cut {
+    ghost use Rattle.std.specs.Prelude.{◌≡◌, ◌≢◌, ◌+◌, ◌<◌, ◌≤◌, IfOk, IfErr, length, slice_index, sum};
+    ghost use Rattle.iam_matrix.specs.Cut.{IsCut, IsEvenFault, IsFirstCutFault, even_lengths, start_of};
+
+    /// The cut of so many cells into tiles of these lengths, or the first fault in the order of their numbers.
+    pub fn new(alloc: Global, lengths: &[u64], cells: u64) -> Result<Cut, CutFault>
+        ensures ok { IfOk result (λ cut. (cut ≡ lengths.now) × IsCut cells cut) }
+        ensures fault { IfErr result (λ fault. fault ≢ CutFault.OutOfMemory → IsFirstCutFault lengths.now cells fault) }
+    {
+        if lengths.contains(&0) {
+            return Err(CutFault::ZeroTile);
+        }
+        if !adds_up(lengths, cells) {
+            return Err(CutFault::WrongSum);
+        }
+        if lengths.len() > MOST_TILES {
+            return Err(CutFault::TooMany);
+        }
+        Ok(of_lengths(alloc, Vec::from_slice(alloc, lengths)?)?)
+    }
+
+    /// The cut of so many cells into tiles of this length, of which the last may be shorter, or the first fault in the
+    /// order of their numbers. No cells have the cut without tiles.
+    pub fn even(alloc: Global, tile: u64, cells: u64) -> Result<Cut, CutFault>
+        ensures ok { IfOk result (λ cut. (cut ≡ even_lengths tile cells) × IsCut cells cut) }
+        ensures fault { IfErr result (λ fault. fault ≢ CutFault.OutOfMemory → IsEvenFault tile cells fault) }
+    {
+        if tile == 0 {
+            return Err(CutFault::ZeroTile);
+        }
+        if is_too_many(tile, cells) {
+            return Err(CutFault::TooMany);
+        }
+        Ok(of_lengths(alloc, even_tiles(alloc, tile, cells)?)?)
+    }
+
+    /// The lengths of the tiles, in order, at most 4,096.
+    pub fn lengths(&self) -> &[u64]
+        ensures value { result.now ≡ self.now }
+        ensures few { length result.now ≤ 4096 }
+    {
+        self.lengths.as_slice()
+    }
+
+    /// The first cell of a tile, and how many it has; there has to be such a tile.
+    pub(crate) fn cells_of(&self, tile: u64) -> (u64, u64)
+        requires { tile < length self.now }
+        ensures from { result.0 ≡ start_of self.now tile }
+        ensures count { result.1 ≡ slice_index self.now tile }
+        ensures within { result.0 + result.1 ≤ sum self.now }
+    {
+        (self.starts[tile as usize], self.lengths[tile as usize])
+    }
+}
+
+/// Whether the lengths add up to this.
+fn adds_up(lengths: &[u64], cells: u64) -> bool
+    ensures { IsTrue result ↔ (sum lengths.now ≡ cells) }
+{
+    let mut left = cells;
+    for length in lengths {
+        if *length > left {
+            return false;
+        }
+        left -= *length;
+    }
+    left == 0
+}
+
+/// Whether so many cells have more tiles of this length than are allowed.
+fn is_too_many(tile: u64, cells: u64) -> bool
+    requires { 0 < tile }
+    ensures { IsTrue result ↔ (4096 < length (even_lengths tile cells)) }
+{
+    let whole = cells / tile;
+    let rest = u64::from(cells % tile != 0);
+    whole > 4096 || whole + rest > 4096
+}
+
+/// Tiles of this length, of which the last may be shorter.
+fn even_tiles(alloc: Global, tile: u64, cells: u64) -> Result<Vec<u64>, OutOfMemory>
+    requires some { 0 < tile }
+    requires few { length (even_lengths tile cells) ≤ 4096 }
+    ensures { IfOk result (λ lengths. lengths.items ≡ even_lengths tile cells) }
+{
+    let mut lengths = vec![in alloc; tile; (cells / tile) as usize]?;
+    let rest = cells % tile;
+    if rest != 0 {
+        lengths.push(rest)?;
+    }
+    Ok(lengths)
+}
+
+/// The cut of these lengths.
+fn of_lengths(alloc: Global, lengths: Vec<u64>) -> Result<Cut, OutOfMemory>
+    requires sum { sum lengths.items < 2 ^ 64 }
+    requires few { vec_len lengths ≤ 4096 }
+    ensures { IfOk result (λ cut. cut ≡ lengths.items) }
+{
+    let starts = starts_of(alloc, lengths.as_slice())?;
+    Ok(Cut { lengths, starts })
+}
+
+/// The sums of the lengths before each.
+fn starts_of(alloc: Global, lengths: &[u64]) -> Result<Vec<u64>, OutOfMemory>
+    requires { sum lengths.now < 2 ^ 64 }
+    ensures { IfOk result (λ starts. AreStarts lengths.now starts.items) }
+{
+    let mut starts = Vec::new(alloc);
+    let mut start = 0;
+    for length in lengths {
+        starts.push(start)?;
+        start += *length;
+    }
+    Ok(starts)
+}

@@ -1,0 +1,56 @@
+ghost use Rattle.std.specs.Prelude.{◌≡◌, ◌↔◌, ◌⊎◌, ◌<◌, IsTrue};
+ghost use Rattle.iam_matrix.specs.Fault.{IsUnlawful};
+
+use iam_text::OutOfMemory;
+
+/// Why there is no matrix; [`MatrixFault::number`] gives the number.
+#[derive(Clone, Copy, Debug, PartialEq, Eq)]
+pub enum MatrixFault {
+    /// No worker, or over 64.
+    Workers,
+    /// The allocator refused a growth.
+    OutOfMemory,
+}
+
+impl MatrixFault {
+    ghost use Rattle.std.specs.Prelude.{◌≡◌};
+    ghost use Rattle.iam_matrix.specs.Fault.{matrix_name_of, matrix_number_of};
+
+    /// The number of the fault.
+    pub fn number(self) -> u32
+        ensures { result ≡ matrix_number_of self }
+    {
+        match self {
+            MatrixFault::Workers => 1,
+            MatrixFault::OutOfMemory => 2,
+        }
+    }
+
+    /// The name of the fault, as it is declared.
+    pub fn name(self) -> &'static str
+        ensures { result.now ≡ matrix_name_of self }
+    {
+        match self {
+            MatrixFault::Workers => "Workers",
+            MatrixFault::OutOfMemory => "OutOfMemory",
+        }
+    }
+}
+
+impl From<OutOfMemory> for MatrixFault {
+    ghost use Rattle.std.specs.Prelude.{◌≡◌};
+    ghost use Rattle.iam_matrix.specs.declared.fault.MatrixFault.TheVariants as m;
+
+    ghost from_gives = { λ _ fault. fault ≡ m.OutOfMemory };
+
+    fn from(_: OutOfMemory) -> MatrixFault {
+        MatrixFault::OutOfMemory
+    }
+}
+
+/// Whether so many workers are none, or more than 64.
+pub(crate) fn is_unlawful(workers: u32) -> bool
+    ensures { IsTrue result ↔ IsUnlawful workers }
+{
+    workers == 0 || workers > 64
+}

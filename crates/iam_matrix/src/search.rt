@@ -1,0 +1,124 @@
+ghost use Rattle.std.specs.Prelude.{◌≡◌, ◌+◌, ◌<◌, ◌≤◌, ◌↔◌, ℕ, IfOk, IfSome, IfNone, IsTrue, sum};
+ghost use Rattle.iam_crew.specs.Bound.{bound_of};
+ghost use Rattle.iam_world.specs.World.{world_cells};
+ghost use Rattle.iam_matrix.specs.Fault.{IsUnlawful};
+ghost use Rattle.iam_matrix.specs.Matrix.{IsDenied, IsFirstAllowed};
+ghost use Rattle.iam_matrix.specs.Code.Tiles.{IsAllowedCell, IsFirstIn};
+
+use crate::cut::Cut;
+use crate::fault::{MatrixFault, is_unlawful};
+use crate::verdicts::{end_of, verdict_of};
+use iam_crew::{Crew, Gate, gather, look, offer};
+use iam_lanes::{LaneSeat, Lanes};
+use iam_layers::{Decision, World};
+use iam_text::OutOfMemory;
+use std::alloc::Global;
+use std::thread::Threads;
+
+/// Those who look for the first allowed cell of a world.
+#[derive(Clone, Copy)]
+struct Search<'a> {
+    world: &'a World,
+    cut: &'a Cut,
+}
+
+impl<'a> Crew for Search<'a> {
+    ghost use Rattle.std.specs.Prelude.{◌≡◌, ◌+◌, ◌<◌, ◌≤◌, ℕ, slice_index};
+    ghost use Rattle.std.proofs.Math.Nat.{le_trans};
+    ghost use Rattle.iam_matrix.specs.Cut.{start_of};
+    ghost use Rattle.iam_matrix.specs.Code.Tiles.{AreDeniedBelow, IsAllowedCell, IsTileOf};
+
+    type Output = ();
+
+    type Tools = ();
+
+    ghost fits = { λ _ _. Unit {0} };
+
+    ghost takes = { λ crew tile. IsTileOf crew.world.now crew.cut.now tile };
+
+    ghost offers = { λ crew cell. IsAllowedCell crew.world.now cell };
+
+    ghost gives = { λ crew tile _ bound. AreDeniedBelow crew.world.now (start_of crew.cut.now tile) (slice_index crew.cut.now tile) bound };
+
+    fn tools(&self, _alloc: Global) -> Result<(), OutOfMemory> {
+        Ok(())
+    }
+
+    fn work<G: Gate>(
+        &self,
+        alloc: Global,
+        _tools: &mut (),
+        lanes: &Lanes,
+        gate: &G,
+        seat: &mut LaneSeat,
+        tile: u64,
+    ) -> Result<(), OutOfMemory> {
+        let (from, count) = self.cut.cells_of(tile);
+        if is_behind(look(lanes, seat), from) {
+            return Ok(());
+        }
+        gate.before(tile);
+        let Some(cell) = first_in(alloc, self.world, from, count)? else {
+            return Ok(());
+        };
+        offer(lanes, seat, cell);
+        Ok(())
+    }
+
+    ghost lasts = { λ _ _ _ _ _ lower given cell from to below. given cell from to (le_trans below lower) };
+}
+
+/// Whether all cells from this one on lie behind the least cell offered.
+fn is_behind(low: Option<u64>, from: u64) -> bool
+    ensures { IsTrue result → bound_of low < from }
+{
+    match low {
+        Some(cell) => cell < from,
+        None => false,
+    }
+}
+
+fn is_allowed(decision: Decision) -> bool
+    ensures { IsTrue result ↔ (decision ≡ Decision.Allowed) }
+{
+    matches!(decision, Decision::Allowed)
+}
+
+/// The first allowed cell of so many from this one on.
+fn first_in(alloc: Global, world: &World, from: u64, count: u64) -> Result<Option<u64>, OutOfMemory>
+    requires { from + count ≤ world_cells world.now }
+    ensures { IfOk result (IsFirstIn world.now from count) }
+{
+    for cell in from..end_of(world, from, count) {
+        if is_allowed(verdict_of(alloc, world, cell)?.decision) {
+            return Ok(Some(cell));
+        }
+    }
+    Ok(None)
+}
+
+/// The least allowed cell of a world, or nothing where none is. The cut, the workers and the gate are as in
+/// [`crate::matrix`], and so are the faults; a tile that lies wholly behind a cell that was found is skipped, and the
+/// gate is not told.
+pub fn first<R: Threads + Sync, G: Gate + Sync>(
+    rt: &R,
+    alloc: Global,
+    world: &World,
+    cut: &Cut,
+    workers: u32,
+    gate: &G,
+) -> Result<Option<u64>, MatrixFault>
+    requires { sum cut.now ≡ world_cells world.now }
+    ensures ok { IfOk result (IsFirstAllowed world.now) }
+    ensures workers { (result ≡ Err MatrixFault.Workers) ↔ IsUnlawful workers }
+{
+    if is_unlawful(workers) {
+        return Err(MatrixFault::Workers);
+    }
+    // A world has at most 16,777,216 cells, so each is below the bound that stands for none.
+    let _cells = world.cells();
+    let tiles = cut.lengths().len() as u64;
+    let crew = Search { world, cut };
+    let gathered = gather(rt, alloc, &crew, tiles, workers, gate)?;
+    Ok(gathered.low)
+}

@@ -1,0 +1,133 @@
+ghost use Rattle.std.specs.Prelude.{◌≡◌, ◌+◌, ◌<◌, ◌≤◌, ◌↔◌, IfOk, sum};
+ghost use Rattle.std.specs.List.{flat_map};
+ghost use Rattle.iam_world.specs.World.{world_cells};
+ghost use Rattle.iam_matrix.specs.Fault.{IsUnlawful};
+ghost use Rattle.iam_matrix.specs.Matrix.{IsMatrix, IsVerdictOf};
+ghost use Rattle.iam_matrix.specs.Code.Tiles.{AreVerdicts};
+
+use crate::cut::Cut;
+use crate::fault::{MatrixFault, is_unlawful};
+use iam_crew::{Crew, Gate, gather};
+use iam_lanes::{LaneSeat, Lanes};
+use iam_layers::{Verdict, World};
+use iam_text::OutOfMemory;
+use std::alloc::Global;
+use std::thread::Threads;
+
+/// Those who make the verdicts of a world's cells.
+#[derive(Clone, Copy)]
+struct Verdicts<'a> {
+    world: &'a World,
+    cut: &'a Cut,
+}
+
+impl<'a> Crew for Verdicts<'a> {
+    ghost use Rattle.std.specs.Prelude.{◌≡◌, ⊤, slice_index};
+    ghost use Rattle.iam_matrix.specs.Cut.{start_of};
+    ghost use Rattle.iam_matrix.specs.Code.Tiles.{AreVerdicts, IsTileOf};
+
+    type Output = Vec<Verdict>;
+
+    type Tools = ();
+
+    ghost fits = { λ _ _. Unit {0} };
+
+    ghost takes = { λ crew tile. IsTileOf crew.world.now crew.cut.now tile };
+
+    ghost offers = { λ _ _. ⊥ };
+
+    ghost gives = { λ crew tile output _. AreVerdicts crew.world.now (start_of crew.cut.now tile) (slice_index crew.cut.now tile) output.items };
+
+    fn tools(&self, _alloc: Global) -> Result<(), OutOfMemory> {
+        Ok(())
+    }
+
+    fn work<G: Gate>(
+        &self,
+        alloc: Global,
+        _tools: &mut (),
+        _lanes: &Lanes,
+        gate: &G,
+        _seat: &mut LaneSeat,
+        tile: u64,
+    ) -> Result<Vec<Verdict>, OutOfMemory> {
+        gate.before(tile);
+        let (from, count) = self.cut.cells_of(tile);
+        verdicts_of(alloc, self.world, from, count)
+    }
+
+    ghost lasts = { λ _ _ _ _ _ _ given. given };
+}
+
+/// The verdict of a cell.
+pub fn verdict_of(alloc: Global, world: &World, cell: u64) -> Result<Verdict, OutOfMemory>
+    requires { cell < world_cells world.now }
+    ensures { IfOk result (IsVerdictOf world.now cell) }
+{
+    let (p, a, r) = world.triple(cell);
+    world.decide_plain(alloc, p, a, r)
+}
+
+/// The cell behind so many from this one on. A world has at most 16,777,216 cells, so its number fits.
+pub fn end_of(world: &World, from: u64, count: u64) -> u64
+    requires { from + count ≤ world_cells world.now }
+    ensures value { result ≡ from + count }
+    ensures few { result ≤ 16777216 }
+{
+    let _cells = world.cells();
+    from + count
+}
+
+/// The verdicts of so many cells from this one on.
+fn verdicts_of(
+    alloc: Global,
+    world: &World,
+    from: u64,
+    count: u64,
+) -> Result<Vec<Verdict>, OutOfMemory>
+    requires { from + count ≤ world_cells world.now }
+    ensures { IfOk result (λ verdicts. AreVerdicts world.now from count verdicts.items) }
+{
+    let mut verdicts = Vec::new(alloc);
+    for cell in from..end_of(world, from, count) {
+        verdicts.push(verdict_of(alloc, world, cell)?)?;
+    }
+    Ok(verdicts)
+}
+
+/// The verdicts of all tiles, one behind the other.
+fn joined(alloc: Global, tiles: Vec<Vec<Verdict>>) -> Result<Vec<Verdict>, OutOfMemory>
+    ensures { IfOk result (λ all. all.items ≡ flat_map (λ verdicts. verdicts.items) tiles.items) }
+{
+    let mut all = Vec::new(alloc);
+    for mut verdicts in tiles {
+        all.append(&mut verdicts)?;
+    }
+    Ok(all)
+}
+
+/// The matrix of a world: the verdict of each cell, in the order of the cells' numbers. The tiles of the cut, which has
+/// to be one of the world's cells, are worked off by 1 to 64 workers; the gate is told before each.
+///
+/// `Workers` comes for another number of workers, before any work; where one worker is refused memory the answer is
+/// `OutOfMemory`.
+pub fn matrix<R: Threads + Sync, G: Gate + Sync>(
+    rt: &R,
+    alloc: Global,
+    world: &World,
+    cut: &Cut,
+    workers: u32,
+    gate: &G,
+) -> Result<Vec<Verdict>, MatrixFault>
+    requires { sum cut.now ≡ world_cells world.now }
+    ensures ok { IfOk result (λ verdicts. IsMatrix world.now verdicts.items) }
+    ensures workers { (result ≡ Err MatrixFault.Workers) ↔ IsUnlawful workers }
+{
+    if is_unlawful(workers) {
+        return Err(MatrixFault::Workers);
+    }
+    let tiles = cut.lengths().len() as u64;
+    let crew = Verdicts { world, cut };
+    let gathered = gather(rt, alloc, &crew, tiles, workers, gate)?;
+    Ok(joined(alloc, gathered.outputs)?)
+}

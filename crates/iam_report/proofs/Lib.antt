@@ -1,0 +1,5 @@
+mod Plain
+mod Rendered
+mod Reports
+mod Rows
+mod Texts

@@ -1,0 +1,5 @@
+pub mod Code
+pub mod CsvRow
+pub mod Piece
+pub mod Report
+pub mod Words

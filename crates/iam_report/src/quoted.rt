@@ -1,0 +1,118 @@
+// Texts as they stand in rows.
+ghost use Rattle.std.specs.Prelude.{◌≡◌, IfOk, map, string_bytes};
+ghost use Rattle.csv.specs.Writing.{default_writer, field_text};
+ghost use Rattle.serde_json.specs.Data.{string};
+ghost use Rattle.serde_json.specs.Written.{compact_text};
+ghost use Rattle.iam_layers.specs.Cell.{principal_text};
+ghost use Rattle.iam_report.specs.Piece.{IsQuotedOf, quote_of};
+
+use csv::Writer;
+use iam_layers::World;
+use iam_text::{Items, OutOfMemory, Text};
+use serde_json::Value;
+use std::alloc::Global;
+
+/// The format of a report.
+#[derive(Clone, Copy, Debug, PartialEq, Eq)]
+pub enum Format {
+    /// Comma-separated values: a header and a row for each cell.
+    Csv,
+    /// A JSON list with an object for each cell.
+    Json,
+}
+
+/// The texts of a world's principals, actions and resources as they stand in rows, each quoted once for the whole report.
+#[derive(Debug, Drop)]
+pub struct Quoted {
+    pub(crate) format: Format,
+    pub(crate) principals: Items<Text>,
+    pub(crate) actions: Items<Text>,
+    pub(crate) resources: Items<Text>,
+}
+
+/// A text as a field of CSV.
+fn csv_field(alloc: Global, text: &str) -> Result<String, OutOfMemory>
+    ensures { IfOk result (λ field. string_bytes field ≡ field_text default_writer text.now) }
+{
+    let mut writer = Writer::from_writer(Vec::new(alloc));
+    if writer.write_field(text.as_bytes()).is_err() {
+        return Err(OutOfMemory);
+    }
+    let Ok(bytes) = writer.into_inner() else {
+        return Err(OutOfMemory);
+    };
+    match String::from_utf8(bytes) {
+        Ok(field) => Ok(field),
+        Err(_) => Err(OutOfMemory),
+    }
+}
+
+/// A text as a string of JSON.
+fn json_string(alloc: Global, text: &str) -> Result<String, OutOfMemory>
+    ensures { IfOk result (λ quoted. string_bytes quoted ≡ compact_text (string text.now)) }
+{
+    Value::String(String::from_str(alloc, text)?).to_string(alloc)
+}
+
+/// A text as it stands in a row. `OutOfMemory` comes where it finds no memory.
+pub fn quote(alloc: Global, format: Format, text: &str) -> Result<Text, OutOfMemory>
+    ensures { IfOk result (λ quoted. quoted ≡ quote_of format text.now) }
+{
+    let quoted = match format {
+        Format::Csv => csv_field(alloc, text)?,
+        Format::Json => json_string(alloc, text)?,
+    };
+    Ok(Text::from_string(quoted))
+}
+
+fn principals(alloc: Global, world: &World, format: Format) -> Result<Items<Text>, OutOfMemory>
+    ensures { IfOk result (λ texts. texts ≡ map (λ principal. quote_of format (principal_text principal)) world.now.principals) }
+{
+    let mut texts = Vec::new(alloc);
+    for p in 0..world.principals() {
+        texts.push(quote(alloc, format, world.principal_text(p))?)?;
+    }
+    Ok(Items::from_vec(texts))
+}
+
+fn actions(alloc: Global, world: &World, format: Format) -> Result<Items<Text>, OutOfMemory>
+    ensures { IfOk result (λ texts. texts ≡ map (quote_of format) world.now.actions) }
+{
+    let mut texts = Vec::new(alloc);
+    for a in 0..world.actions() {
+        texts.push(quote(alloc, format, world.action_text(a))?)?;
+    }
+    Ok(Items::from_vec(texts))
+}
+
+fn resources(alloc: Global, world: &World, format: Format) -> Result<Items<Text>, OutOfMemory>
+    ensures { IfOk result (λ texts. texts ≡ map (λ resource. quote_of format resource.arn) world.now.resources) }
+{
+    let mut texts = Vec::new(alloc);
+    for r in 0..world.resources() {
+        texts.push(quote(alloc, format, world.resource_text(r))?)?;
+    }
+    Ok(Items::from_vec(texts))
+}
+
+impl Quoted {
+    /// The texts of this world in this format. `OutOfMemory` comes where they find no memory.
+    pub fn of(alloc: Global, world: &World, format: Format) -> Result<Quoted, OutOfMemory>
+        ensures format { IfOk result (λ quoted. quoted.format ≡ format) }
+        ensures texts { IfOk result (λ quoted. IsQuotedOf world.now quoted) }
+    {
+        Ok(Quoted {
+            format,
+            principals: principals(alloc, world, format)?,
+            actions: actions(alloc, world, format)?,
+            resources: resources(alloc, world, format)?,
+        })
+    }
+
+    /// The format that the texts are quoted for.
+    pub fn format(&self) -> Format
+        ensures { result ≡ self.now.format }
+    {
+        self.format
+    }
+}

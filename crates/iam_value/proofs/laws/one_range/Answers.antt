@@ -1,0 +1,5 @@
+use Rattle.iam_value.proofs.OneAddress.{same_range}
+use Rattle.iam_value.proofs.laws.one_range.Goals as goal
+
+pub returns : goal.returns
+returns c = same_range
