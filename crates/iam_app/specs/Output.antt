@@ -11,7 +11,7 @@ use Rattle.iam_world.specs.declared.fault.WorldFault.TheVariants as w
 use Rattle.iam_report.specs.CsvRow.{IsCsvRow}
 use Rattle.iam_report.specs.declared.quoted.Format.{Format}
 use Rattle.iam_report.specs.declared.quoted.Format.TheVariants.{Csv, Json}
-use Rattle.iam_matrix.specs.Cut.{IsCut, IsEvenFault, even_lengths}
+use Rattle.iam_matrix.specs.Cut.{IsEvenCut, IsEvenFault}
 use Rattle.iam_matrix.specs.Fault.{IsUnlawful}
 use Rattle.iam_matrix.specs.Report.{IsFirstReport, IsMatrixReport}
 use Rattle.iam_matrix.specs.declared.cut.CutFault.{CutFault}
@@ -58,13 +58,6 @@ check_text world =
 abbrev pub format_of : Options → Format
 format_of options = if options.json then Json else Csv
 
--- the report of a command
-abbrev pub IsReportOf : Task → Options → WorldValue → List ℕ → Type 0
-IsReportOf t.Check options world text = text ≡ check_text world
-IsReportOf (t.Decide p a r) options world text = IsAnswer world p a r text
-IsReportOf t.Matrix options world text = IsMatrixReport (format_of options) options.brief world text
-IsReportOf t.First options world text = IsFirstReport world text
-
 -- the command is about a cell that the world does not have
 abbrev pub LacksCellOf : Task → WorldValue → Type 0
 LacksCellOf t.Check world = ⊥
@@ -93,11 +86,23 @@ tile_of options world = tile_or_default options.tile (world_cells world)
 
 -- the tiles of this length are a cut of the world's cells
 abbrev pub HasCut : Options → WorldValue → Type 0
-HasCut options world = IsCut (world_cells world) (even_lengths (tile_of options world) (world_cells world))
+HasCut options world = IsEvenCut (tile_of options world) (world_cells world)
 
 -- they are none, for this fault
 abbrev pub HasCutFault : Options → WorldValue → CutFault → Type 0
 HasCutFault options world fault = IsEvenFault (tile_of options world) (world_cells world) fault
+
+-- the world's cells can be worked off: they have such a cut, and the number of workers is lawful
+pub record CanWork (options : Options) (world : WorldValue) : Type 0 where
+  pub cut : HasCut options world
+  pub workers : ¬ IsUnlawful options.workers
+
+-- the report of a command
+abbrev pub IsReportOf : Task → Options → WorldValue → List ℕ → Type 0
+IsReportOf t.Check options world text = text ≡ check_text world
+IsReportOf (t.Decide p a r) options world text = IsAnswer world p a r text
+IsReportOf t.Matrix options world text = CanWork options world × IsMatrixReport (format_of options) options.brief world text
+IsReportOf t.First options world text = CanWork options world × IsFirstReport world text
 
 -- the report that the options ask for, of this world
 abbrev pub IsReport : Options → WorldValue → List ℕ → Type 0

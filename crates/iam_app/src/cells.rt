@@ -5,7 +5,7 @@ ghost use Rattle.iam_matrix.specs.Report.{IsFirstReport, IsMatrixReport};
 ghost use Rattle.iam_matrix.specs.declared.cut.CutFault.TheVariants as c;
 ghost use Rattle.iam_app.specs.Code.Pieces.{report_text};
 ghost use Rattle.iam_app.specs.Code.Refusal.{IsCellsRefusal};
-ghost use Rattle.iam_app.specs.Output.{HasCut, HasCutFault, format_of, tile_or_default};
+ghost use Rattle.iam_app.specs.Output.{CanWork, HasCut, HasCutFault, format_of, tile_or_default};
 
 use crate::fault::RunFault;
 use crate::output::Report;
@@ -55,6 +55,7 @@ pub fn matrix<T: Threads + Sync>(
     options: &Options,
     world: &World,
 ) -> Result<Report, RunFault>
+    ensures work { OnOk result (CanWork options.now world.now) }
     ensures ok { IfOk result (λ report. IsMatrixReport (format_of options.now) options.now.brief world.now (report_text report)) }
     ensures fault { IfErr result (λ fault. IsCellsRefusal options.now world.now fault) }
 {
@@ -80,6 +81,7 @@ pub fn first<T: Threads + Sync>(
     options: &Options,
     world: &World,
 ) -> Result<Report, RunFault>
+    ensures work { OnOk result (CanWork options.now world.now) }
     ensures ok { IfOk result (λ report. IsFirstReport world.now (report_text report)) }
     ensures fault { IfErr result (λ fault. IsCellsRefusal options.now world.now fault) }
 {

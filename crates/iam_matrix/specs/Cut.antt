@@ -32,6 +32,10 @@ IsFirstCutFault lengths cells OutOfMemory = ⊥
 abbrev pub even_lengths : ℕ → ℕ → List ℕ
 even_lengths tile cells = replicate (cells / tile) tile ++ (if cells % tile == 0 then [] else (cells % tile ∷ []))
 
+-- tiles of this length, which has at least one cell, are a cut
+abbrev pub IsEvenCut : ℕ → ℕ → Type 0
+IsEvenCut tile cells = (0 < tile) × IsCut cells (even_lengths tile cells)
+
 -- the first fault of tiles of one length: their sum is right
 abbrev pub IsEvenFault : ℕ → ℕ → CutFault → Type 0
 IsEvenFault tile cells ZeroTile = tile ≡ 0

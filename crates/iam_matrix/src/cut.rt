@@ -82,7 +82,7 @@ impl From<OutOfMemory> for CutFault {
 
 impl Cut {
     ghost use Rattle.std.specs.Prelude.{◌≡◌, ◌≢◌, ◌+◌, ◌<◌, ◌≤◌, IfOk, IfErr, length, slice_index, sum};
-    ghost use Rattle.iam_matrix.specs.Cut.{IsCut, IsEvenFault, IsFirstCutFault, even_lengths, start_of};
+    ghost use Rattle.iam_matrix.specs.Cut.{IsCut, IsEvenCut, IsEvenFault, IsFirstCutFault, even_lengths, start_of};
 
     /// The cut of so many cells into tiles of these lengths, or the first fault in the order of their numbers.
     pub fn new(alloc: Global, lengths: &[u64], cells: u64) -> Result<Cut, CutFault>
@@ -104,7 +104,7 @@ impl Cut {
     /// The cut of so many cells into tiles of this length, of which the last may be shorter, or the first fault in the
     /// order of their numbers. No cells have the cut without tiles.
     pub fn even(alloc: Global, tile: u64, cells: u64) -> Result<Cut, CutFault>
-        ensures ok { IfOk result (λ cut. (cut ≡ even_lengths tile cells) × IsCut cells cut) }
+        ensures ok { IfOk result (λ cut. (cut ≡ even_lengths tile cells) × IsEvenCut tile cells) }
         ensures fault { IfErr result (λ fault. fault ≢ CutFault.OutOfMemory → IsEvenFault tile cells fault) }
     {
         if tile == 0 {
