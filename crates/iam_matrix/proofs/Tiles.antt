@@ -1,5 +1,5 @@
 -- What is made of tiles that follow one another, put together.
-use Rattle.std.proofs.Common.{◌≡◌, ◌<◌, ◌≤◌, ℕ, zero, suc, ◌+◌, ◌-◌, List, [], ◌∷◌, ◌++◌, Some, length, map, take, get_or, sum, refl, sym, ap, ◌∙◌, subst, arith}
+use Rattle.std.proofs.Common.{◌≡◌, ◌≤◌, ℕ, zero, suc, ◌+◌, ◌-◌, List, [], ◌∷◌, ◌++◌, Some, length, map, take, get_or, sum, refl, sym, ap, ◌∙◌, subst, arith}
 use Rattle.std.specs.List.{flat_map, slice_get}
 use Rattle.std.proofs.lemmas.List.{length-append, map-append}
 use Rattle.std.proofs.lemmas.List.Concat.{flat_map-cons}
@@ -8,7 +8,7 @@ use Rattle.iam_decision.specs.declared.verdict.Decision.{Decision}
 use Rattle.iam_decision.specs.declared.verdict.Verdict.{Verdict}
 use Rattle.iam_world.specs.World.{WorldValue, world_cells}
 use Rattle.iam_matrix.specs.Cut.{start_of}
-use Rattle.iam_matrix.specs.Matrix.{AreVerdictsFrom, IsBriefMatrix, IsMatrix, IsVerdictOf}
+use Rattle.iam_matrix.specs.Matrix.{IsMatrix, IsVerdictOf}
 use Rattle.iam_matrix.specs.Code.Tiles.{AreDecisions, AreVerdicts, Chain}
 
 -- facts of items that follow one another from a number on

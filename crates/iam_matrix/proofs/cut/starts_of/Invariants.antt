@@ -1,4 +1,4 @@
-use Rattle.std.proofs.Common.{◌≡◌, ◌<◌, ℕ, get_or, sum, take, vec_len}
+use Rattle.std.proofs.Common.{◌≡◌, ◌<◌, ℕ, get_or, vec_len}
 use Rattle.iam_matrix.specs.Cut.{start_of}
 use Rattle.iam_matrix.proofs.cut.starts_of.Given as goal
 

@@ -1,4 +1,4 @@
-use Rattle.std.proofs.Common.{ℕ, Vec, Global, List, length, ap, ◌∙◌, sym}
+use Rattle.std.proofs.Common.{ℕ, Vec, Global, List, length, ap, ◌∙◌}
 use Rattle.iam_decision.specs.declared.verdict.Decision.{Decision}
 use Rattle.iam_matrix.specs.Code.Tiles.{AreDecisions}
 use Rattle.iam_matrix.proofs.Tiles.{chain-all, chain-decisions, whole}

@@ -1,6 +1,6 @@
 use Rattle.std.proofs.Common.{ℕ, List, String, Global, length, string_bytes, ◌++◌, sym, ap, ◌∙◌, subst}
 use Rattle.std.specs.List.{flat_map}
-use Rattle.iam_report.specs.Piece.{closing_text, opening_text}
+use Rattle.iam_report.specs.Piece.{opening_text}
 use Rattle.iam_report.specs.declared.quoted.Format.{Format}
 use Rattle.iam_matrix.specs.Report.{IsMatrixReport}
 use Rattle.iam_matrix.specs.Code.Tiles.{AreRowsOf, Chain}

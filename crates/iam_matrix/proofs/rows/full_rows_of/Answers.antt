@@ -1,4 +1,4 @@
-use Rattle.std.proofs.Common.{◌≡◌, ℕ, List, subst, ◌+◌, ◌-◌, ◌++◌, ◌∷◌, [], length, sym, ap, ◌∙◌, arith}
+use Rattle.std.proofs.Common.{◌≡◌, ℕ, List, subst, ◌+◌, ◌-◌, ◌++◌, ◌∷◌, [], length, sym, arith}
 use Rattle.iam_report.specs.Piece.{AddsRows, full_row}
 use Rattle.iam_matrix.specs.Code.Tiles.{AreVerdicts}
 use Rattle.iam_matrix.proofs.Tiles.{more-verdicts, no-verdicts}
