@@ -1,6 +1,5 @@
 -- What comparing a text of a request with a value of a policy tells of the definition (`Entry`).
 use Rattle.std.proofs.Common.{◌≡◌, ◌↔◌, ◌≤◌, arith, length, inl, inr, ℕ, ℤ, List, [], ◌∷◌, Bool, true, false, not, Option, Some, None, IsTrue, refl, sym, ap, ◌∙◌, subst}
-use Rattle.iam_text.specs.Arn.{IsArn}
 use Rattle.iam_text.specs.Parts.{parts_of}
 use Rattle.iam_text.specs.declared.arn.Arn.{Arn}
 use Rattle.iam_text.specs.declared.draft.Piece.{Piece}
@@ -16,7 +15,7 @@ use Rattle.iam_condition.specs.declared.operator.Base.TheVariants as base
 use Rattle.iam_condition.specs.declared.operator.Order.{Order}
 use Rattle.iam_condition.specs.Operand.{has_texts}
 use Rattle.iam_condition.specs.Entry.{EntryValue}
-use Rattle.iam_match.specs.Entry.{ArnMatches, HoldsOn, HoldsWith, Ordered, PartsMatch, Resolves, ResolvesTo, ValueMatches}
+use Rattle.iam_match.specs.Entry.{ArnMatches, HoldsOn, HoldsWith, Ordered, PartsMatch, ResolvesTo, ValueMatches}
 use Rattle.iam_match.specs.Code.Asked.{IsComparison, IsCut, IsThe}
 use Rattle.iam_match.specs.Code.Compared.{ArnFits, IsTextAnswer}
 

@@ -1,5 +1,5 @@
 -- Elements of a statement as the code holds them.
-use Rattle.std.proofs.Common.{◌≡◌, ◌↔◌, ℕ, ◌+◌, ◌<◌, ◌≤◌, List, [], ◌∷◌, ◌++◌, All, Bool, true, false, Some, IsSome, length, get_or, take, MatchBool, refl, sym, ap, subst, arith, IsTrue, option_map}
+use Rattle.std.proofs.Common.{◌≡◌, ◌↔◌, ℕ, ◌+◌, ◌<◌, ◌≤◌, List, [], ◌∷◌, ◌++◌, All, Bool, true, false, Some, IsSome, length, get_or, take, MatchBool, refl, sym, ap, subst, IsTrue, option_map}
 use Rattle.std.proofs.lemmas.List.{get_or_default, take_all}
 use Rattle.std.proofs.lemmas.List.Elements.{All-more}
 use Rattle.std.specs.List.{Any}

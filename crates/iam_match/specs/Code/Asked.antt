@@ -1,10 +1,9 @@
 -- A text of a request as the code reads it under an operator, beside the definition (`Entry`).
-use Rattle.std.specs.Prelude.{◌≡◌, ◌↔◌, ℕ, ℤ, List, Bool, true, false, Option, Some, None, IsTrue, MatchOption}
+use Rattle.std.specs.Prelude.{◌≡◌, ◌↔◌, ℕ, List, Bool, false, Option, Some, None, IsTrue, MatchOption}
 use Rattle.iam_text.specs.Arn.{IsArn}
 use Rattle.iam_text.specs.Parts.{parts_of}
 use Rattle.iam_text.specs.declared.arn.Arn.{Arn}
-use Rattle.iam_text.specs.declared.sign.Sign.{Sign}
-use Rattle.iam_value.specs.Address.{AddressBits, IsAddress}
+use Rattle.iam_value.specs.Address.{IsAddress}
 use Rattle.iam_value.specs.Bytes.{IsBase64}
 use Rattle.iam_value.specs.Moment.{IsMoment}
 use Rattle.iam_value.specs.Truth.{IsTruth}

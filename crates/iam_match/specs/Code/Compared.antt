@@ -1,8 +1,7 @@
 -- What comparing a text of a request with a text of a policy gives, beside the definition (`Entry`).
-use Rattle.std.specs.Prelude.{◌≡◌, ◌↔◌, ◌⊎◌, ℕ, List, [], ◌∷◌, Bool, Option, Some, None, IsTrue, false}
+use Rattle.std.specs.Prelude.{◌≡◌, ◌⊎◌, List, [], ◌∷◌, Bool, Option, Some, None, false}
 use Rattle.iam_text.specs.Parts.{parts_of}
 use Rattle.iam_text.specs.declared.arn.Arn.{Arn}
-use Rattle.iam_text.specs.declared.draft.Piece.{Piece}
 use Rattle.iam_text.specs.declared.sign.Sign.{Sign}
 use Rattle.iam_text.specs.declared.sign.Sign.TheVariants as sign
 use Rattle.iam_context.specs.Context.{ContextValue}

@@ -1,4 +1,4 @@
-use Rattle.std.proofs.Common.{◌≡◌, ◌↔◌, ℕ, ℤ, List, Bool, Option, Some, IfOk, IsTrue, FitsSigned, refl, sym, subst}
+use Rattle.std.proofs.Common.{◌≡◌, ◌↔◌, ℕ, ℤ, List, Some, IfOk, IsTrue, FitsSigned, refl, sym, subst}
 use Rattle.std.specs.Int.{w128}
 use Rattle.std.proofs.lemmas.Int.{to_z-of_z}
 use Rattle.iam_condition.specs.declared.operand.Operand.TheVariants as operand
@@ -6,7 +6,7 @@ use Rattle.std.proofs.lemmas.Result.{IfOk-weaker}
 use Rattle.iam_condition.specs.declared.operator.Base.{Base}
 use Rattle.iam_condition.specs.declared.operator.Base.TheVariants as base
 use Rattle.iam_match.specs.Code.Asked.{IsAsked, IsComparison}
-use Rattle.iam_match.specs.Code.Compared.{ArnFits, IsTextAnswer}
+use Rattle.iam_match.specs.Code.Compared.{IsTextAnswer}
 use Rattle.iam_match.specs.Entry.{Ordered, PatternMatches}
 use Rattle.iam_match.specs.declared.asked.Asked.{Asked}
 use Rattle.iam_match.proofs.CompareLemmas.{address-comparison, arn-comparison, comparison, instant-comparison}

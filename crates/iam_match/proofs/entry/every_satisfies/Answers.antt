@@ -1,4 +1,4 @@
-use Rattle.std.proofs.Common.{◌↔◌, List, ℕ, IsTrue, refl, sym, arith, subst}
+use Rattle.std.proofs.Common.{refl, sym, arith, subst}
 use Rattle.iam_match.specs.Entry.{Satisfies}
 use Rattle.iam_match.proofs.StatementLemmas.{one-more, all-taken}
 use Rattle.iam_match.proofs.CompareLemmas.{not-false}

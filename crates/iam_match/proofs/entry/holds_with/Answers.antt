@@ -1,5 +1,5 @@
 use Rattle.std.proofs.Common.{◌↔◌, Bool, false, IsTrue, IfOk, All, Any, MatchBool, sym, ◌∙◌, subst}
-use Rattle.iam_match.specs.Entry.{HasTruth, Satisfies, is_null, asks_every}
+use Rattle.iam_match.specs.Entry.{HasTruth, Satisfies, asks_every}
 use Rattle.iam_match.proofs.entry.holds_with.Goals as goal
 
 pub returns-then-asks_every : goal.returns-then-asks_every

@@ -1,4 +1,4 @@
-use Rattle.std.proofs.Common.{refl, arith}
+use Rattle.std.proofs.Common.{arith}
 use Rattle.iam_match.specs.Entry.{ValueMatches}
 use Rattle.iam_match.proofs.StatementLemmas.{one-more, all-taken, none-any}
 use Rattle.iam_match.proofs.entry.matches_some.Goals as goal
