@@ -1,7 +1,6 @@
 -- The lists of a small document are short.
 use Rattle.std.proofs.Common.{◌≡◌, inl, inr, ℕ, suc, zero, ◌<◌, ◌≤◌, ◌^◌, List, [], ◌∷◌, length, Option, Some, None, option_and_then, refl, ap, arith}
 use Rattle.std.specs.List.{AllByRecursion, AllZip, slice_get}
-use Rattle.std.specs.Str.{IsUtf8}
 use Rattle.serde_json.specs.Data.{Data}
 use Rattle.serde_json.specs.Find.{get}
 use Rattle.serde_json.specs.Read.{read}
@@ -68,26 +67,26 @@ module _
     same_length Says (d ∷ ds) [] zip = absurd zip
     same_length Says (d ∷ ds) (x ∷ xs) zip = let rest : length xs ≡ length ds = same_length Says ds xs zip.1 in omega arith
 
-    few_levels : (n : ℕ) → n < 2 ^ 32 → (d : Data) (a : AccountView) → size d ≤ n → IsAccountView d a → HasFewLevels a
+    few_levels : (n : ℕ) → n < 2 ^ 32 → (d : Data) (a : AccountView) → size d ≤ n → IsAccountView d a → HasFewLevels a.org
     few_levels n small d a within says = go a.org says.org
       where
-        go : (org : List (List Data)) → HasListOfOrNone (λ level ds. values level ≡ Some ds) Org d org → HasFewLevels (record { id = a.id; management = a.management; org = org })
+        go : (org : List (List Data)) → HasListOfOrNone (λ level ds. values level ≡ Some ds) Org d org → HasFewLevels org
         go org (inl (ds, at, zip)) =
             let long : length ds ≤ size d = short_list Org d ds at in
             let same : length org ≡ length ds = same_length (λ level ds. values level ≡ Some ds) ds org zip in
             record {
-              levels = omega arith;
-              policies = list_few (λ level ds. values level ≡ Some ds) (λ level. length level < 2 ^ 32) n (few_policies n small) Org d within org (ds, at, zip);
+              levels_few = omega arith;
+              policies_few = list_few (λ level ds. values level ≡ Some ds) (λ level. length level < 2 ^ 32) n (few_policies n small) Org d within org (ds, at, zip);
             }
-        go [] (inr none) = record { levels = omega arith; policies = tt }
+        go [] (inr none) = record { levels_few = omega arith; policies_few = tt }
         go (level ∷ levels) (inr none) = let wrong : level ∷ levels ≡ [] = none.1 in cc
 
-    pub few : (bytes : List ℕ) (d : Data) (world : WorldView) → length bytes ≤ 8388608 → IsUtf8 bytes × (read bytes ≡ Some d) → IsView d world → HasFewLists world
-    few bytes d world short json says =
-        let whole : size d ≤ length bytes = of_read bytes d json.1 in
+    pub few : (bytes : List ℕ) (d : Data) (world : WorldView) → length bytes ≤ 8388608 → read bytes ≡ Some d → IsView d world → HasFewLists world
+    few bytes d world short is says =
+        let whole : size d ≤ length bytes = of_read bytes d is in
         let small : size d < 2 ^ 32 = omega arith in
         let same : size d ≤ size d = omega arith in
         record {
           principals = list_few IsPrincipalView HasFewDocuments (size d) (few_documents (size d) small) Principals d same world.principals says.principals;
-          accounts = list_few IsAccountView HasFewLevels (size d) (few_levels (size d) small) Accounts d same world.accounts says.accounts;
+          accounts = list_few IsAccountView (λ account. HasFewLevels account.org) (size d) (few_levels (size d) small) Accounts d same world.accounts says.accounts;
         }

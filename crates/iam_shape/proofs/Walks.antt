@@ -1,7 +1,7 @@
 -- The walk of checks along a list, and what it finds.
 use Rattle.std.proofs.Common.{◌≡◌, ℕ, suc, zero, ◌+◌, ◌<◌, List, [], ◌∷◌, ◌++◌, map, length, take, drop, get_or, Bool, true, false, cond, Some, None, refl, ap, ◌∙◌, sym, subst, arith}
 use Rattle.std.specs.List.{AllZip}
-use Rattle.std.proofs.lemmas.List.{get_or_default, map-append}
+use Rattle.std.proofs.lemmas.List.{map-append}
 use Rattle.serde_json.specs.Data.{Data}
 use Rattle.iam_shape.specs.Shape.{Check, first_bad, each}
 use Rattle.iam_shape.specs.Code.Walk.{IsShapeFault}
@@ -72,8 +72,3 @@ pub zip_more_of : {V D Y Z : Type 0} (R : D → Z → Type 0) (f : V → D) (g :
     → v ≡ get_or vs i v → AllZip R (map f (take i vs)) (map g ys) → R (f v) (g y) → AllZip R (map f (take (i + 1) vs)) (map g (ys ++ (y ∷ [])))
 zip_more_of R f g vs i v ys y below is zip r =
     subst (AllZip R (map f (take (i + 1) vs))) (sym (map-append g ys (y ∷ []))) (zip_more R f vs i v (map g ys) (g y) below is zip r)
-
--- one more element that is read, by its place
-pub zip_next : {V D Y : Type 0} (R : D → Y → Type 0) (f : V → D) (vs : List V) (i : ℕ) (d : V) (ys : List Y) (y : Y) → i < length vs
-    → AllZip R (map f (take i vs)) ys → R (f (get_or vs i d)) y → AllZip R (map f (take (i + 1) vs)) (ys ++ (y ∷ []))
-zip_next R f vs i d ys y below zip r = zip_more R f vs i (get_or vs i d) ys y below (get_or_default vs i d (get_or vs i d) below) zip r

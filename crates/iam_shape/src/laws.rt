@@ -1,6 +1,5 @@
 // Laws of the definitions, for the crates above.
 ghost use Rattle.std.specs.Prelude.{◌≡◌, ◌≤◌, ℕ, List, Some, length};
-ghost use Rattle.std.specs.Str.{IsUtf8};
 ghost use Rattle.serde_json.specs.Data.{Data};
 ghost use Rattle.serde_json.specs.Read.{read};
 ghost use Rattle.iam_shape.specs.Few.{HasFewLists};
@@ -17,7 +16,7 @@ pub fn one_view()
 /// The lists of a document that is not too large have numbers of 32 bits.
 pub fn few_documents()
     ensures { (bytes : List ℕ) (d : Data) (world : WorldView)
-        → length bytes ≤ 8388608 → IsUtf8 bytes × (read bytes ≡ Some d) → IsView d world → HasFewLists world }
+        → length bytes ≤ 8388608 → read bytes ≡ Some d → IsView d world → HasFewLists world }
 {
     read_is_small();
     list_is_small();

@@ -5,7 +5,9 @@ use Rattle.iam_match.specs.Requester.{RequesterValue}
 use Rattle.iam_world.specs.Code.ViewFault.{ViewHasFault, IsClearBelow, IsFirstViewFault}
 use Rattle.iam_world.specs.Code.Documents.{IsRefusedAmong}
 use Rattle.iam_shape.specs.View.{WorldView}
-use Rattle.iam_world.specs.WorldFault.{IsNoRequester, IsRequesterAt, IsNoAction, HasNoResourceArn, IsOfUnknownAccount, Beside, IsFaulty, IsNotAccepted, IsOverLimits, documents, owners, parts, placed}
+use Rattle.iam_shape.specs.First.{placed}
+use Rattle.iam_world_context.specs.Contexts.{Beside, IsFaulty, parts}
+use Rattle.iam_world.specs.WorldFault.{IsNoRequester, IsRequesterAt, IsNoAction, HasNoResourceArn, IsOfUnknownAccount, IsNotAccepted, IsOverLimits, documents, owners}
 use Rattle.iam_shape.specs.declared.path.Name.TheVariants.{Principals, Actions, Resources}
 use Rattle.iam_shape.specs.declared.path.Path.{Path}
 use Rattle.iam_shape.specs.declared.path.Path.TheVariants.{Item}

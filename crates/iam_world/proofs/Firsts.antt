@@ -3,7 +3,7 @@ use Rattle.std.proofs.Common.{◌≡◌, inl, inr, ℕ, ◌+◌, ◌<◌, List, 
 use Rattle.std.specs.List.{AllByRecursion, AllZip, position_from}
 use Rattle.std.specs.Prelude.{IsTrue}
 use Rattle.iam_world.specs.Code.ViewFault.{FindsFirst}
-use Rattle.iam_world.specs.WorldFault.{IsFirst, IsFirstAt, placed}
+use Rattle.iam_shape.specs.First.{IsFirst, IsFirstAt, placed}
 use Rattle.iam_shape.specs.declared.path.Path.{Path}
 use Rattle.iam_world.proofs.Walks.{drop-at}
 

@@ -4,7 +4,6 @@ pub mod DocumentLemmas
 pub mod FaultSet
 pub mod Firsts
 pub mod Owners
-pub mod PartLemmas
 pub mod Unique
 pub mod Walks
 pub mod Worlds

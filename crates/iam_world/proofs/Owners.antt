@@ -8,7 +8,8 @@ use Rattle.iam_match.specs.Requester.{RequesterValue, IsRequesterOf}
 use Rattle.iam_world.specs.Code.ViewFault.{FindsFirst}
 use Rattle.iam_shape.specs.Code.Texts.{HasTexts}
 use Rattle.iam_shape.specs.View.{PrincipalView, ResourceView, WorldView}
-use Rattle.iam_world.specs.WorldFault.{IsFirstAt, IsOfUnknownAccount, IsRequesterAt, Owner, of_principal, of_resource, has_account, owners, placed}
+use Rattle.iam_shape.specs.First.{IsFirstAt, placed}
+use Rattle.iam_world.specs.WorldFault.{IsOfUnknownAccount, IsRequesterAt, Owner, of_principal, of_resource, has_account, owners}
 use Rattle.iam_shape.specs.declared.path.Name.TheVariants.{Principals, Resources}
 use Rattle.iam_shape.specs.declared.path.Path.{Path}
 use Rattle.iam_shape.specs.declared.path.Path.TheVariants.{Item}

@@ -18,7 +18,8 @@ use Rattle.iam_world.specs.Reads.{IsWorld, ReadsAccount, ReadsOptional, ReadsPri
 use Rattle.iam_shape.specs.Shape.{first_bad, shape_checks}
 use Rattle.iam_shape.specs.View.{AccountView, PrincipalView, ResourceView, WorldView, IsView}
 use Rattle.iam_world.specs.World.{AccountValue, PrincipalValue, ResourceValue, WorldValue}
-use Rattle.iam_world.specs.WorldFault.{Beside, Document, HasView, IsFaulty, IsFirstFaulty, IsFirstRefused, IsFirstWorldFault, IsNotAccepted, WorldHasFault, documents, parts, world_number_of}
+use Rattle.iam_world_context.specs.Contexts.{Beside, IsFaulty, IsFirstFaulty, parts}
+use Rattle.iam_world.specs.WorldFault.{Document, HasView, IsFirstRefused, IsFirstWorldFault, IsNotAccepted, WorldHasFault, documents, world_number_of}
 use Rattle.iam_world.specs.declared.fault.WorldFault.{WorldFault}
 use Rattle.iam_world.specs.declared.fault.WorldFault.TheVariants.{NotJson, BadShape, BadRequester, BadAction, BadResourceArn, UnknownAccount, Context, Policy, TooLarge, OutOfMemory}
 use Rattle.iam_shape.specs.declared.path.Path.{Path}

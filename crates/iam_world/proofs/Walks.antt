@@ -1,7 +1,6 @@
 -- Lists that are read element by element.
-use Rattle.std.proofs.Common.{◌≡◌, ℕ, suc, zero, ◌+◌, ◌<◌, ◌≤◌, List, [], ◌∷◌, ◌++◌, map, length, take, drop, get_or, refl, ap, ◌∙◌, sym, subst, arith}
+use Rattle.std.proofs.Common.{◌≡◌, ℕ, suc, zero, ◌+◌, ◌<◌, List, [], ◌∷◌, ◌++◌, map, length, take, drop, get_or, refl, ap, ◌∙◌, sym, subst, arith}
 use Rattle.std.specs.List.{AllZip}
-use Rattle.std.proofs.lemmas.List.{get_or_default, map-append}
 
 -- the values of a list from i on: that at i, and the rest
 pub drop-at : {X Y : Type 0} (f : X → Y) (xs : List X) (i : ℕ) (x : X) → i < length xs → x ≡ get_or xs i x → map f (drop i xs) ≡ f x ∷ map f (drop (i + 1) xs)
@@ -23,17 +22,6 @@ zip_more R f (x ∷ vs) (suc i) v (z ∷ zs) y below is zip r =
     let rest : i < length vs = omega arith in
     let number : suc (i + 1) ≡ suc i + 1 = omega arith in
     subst (λ n. AllZip R (map f (take n (x ∷ vs))) (z ∷ (zs ++ (y ∷ [])))) number (zip.0, zip_more R f vs i v zs y rest is zip.1 r)
-
--- the same where what is read is a part of what the code holds
-pub zip_more_of : {V D Y Z : Type 0} (R : D → Z → Type 0) (f : V → D) (g : Y → Z) (vs : List V) (i : ℕ) (v : V) (ys : List Y) (y : Y) → i < length vs
-    → v ≡ get_or vs i v → AllZip R (map f (take i vs)) (map g ys) → R (f v) (g y) → AllZip R (map f (take (i + 1) vs)) (map g (ys ++ (y ∷ [])))
-zip_more_of R f g vs i v ys y below is zip r =
-    subst (AllZip R (map f (take (i + 1) vs))) (sym (map-append g ys (y ∷ []))) (zip_more R f vs i v (map g ys) (g y) below is zip r)
-
--- one more element that is read, by its place
-pub zip_next : {V D Y : Type 0} (R : D → Y → Type 0) (f : V → D) (vs : List V) (i : ℕ) (d : V) (ys : List Y) (y : Y) → i < length vs
-    → AllZip R (map f (take i vs)) ys → R (f (get_or vs i d)) y → AllZip R (map f (take (i + 1) vs)) (ys ++ (y ∷ []))
-zip_next R f vs i d ys y below zip r = zip_more R f vs i (get_or vs i d) ys y below (get_or_default vs i d (get_or vs i d) below) zip r
 
 -- where each element has one reading, so has a list
 pub zip_unique : {X Y : Type 0} (R : X → Y → Type 0) → ((x : X) (y z : Y) → R x y → R x z → y ≡ z) → (xs : List X) (ys zs : List Y) → AllZip R xs ys → AllZip R xs zs → ys ≡ zs
@@ -77,10 +65,3 @@ zip-both R f g [] [] zip = tt
 zip-both R f g [] (y ∷ ys) zip = absurd zip
 zip-both R f g (v ∷ vs) [] zip = absurd zip
 zip-both R f g (v ∷ vs) (y ∷ ys) zip = (zip.0, zip-both R f g vs ys zip.1)
-
--- the elements before the end are all
-pub take-all : {X : Type 0} (i : ℕ) (xs : List X) → length xs ≤ i → take i xs ≡ xs
-take-all zero [] end = refl
-take-all zero (x ∷ xs) end = absurd (omega arith)
-take-all (suc i) [] end = refl
-take-all (suc i) (x ∷ xs) end = ap (λ rest. x ∷ rest) (take-all i xs (omega arith))

@@ -7,16 +7,16 @@ use Rattle.iam_context.specs.ContextFault.{IsClean}
 use Rattle.iam_match.specs.Requester.{RequesterValue}
 use Rattle.iam_policy.specs.declared.fault.Kind.TheVariants as kind
 use Rattle.iam_policy.specs.Reading.{Reads, PolicyValue}
-use Rattle.iam_shape.specs.Few.{HasFewDocuments, HasFewLists}
-use Rattle.iam_shape.specs.Few as few_views
+use Rattle.iam_shape.specs.Few.{HasFewDocuments, HasFewLevels, HasFewLists}
 use Rattle.iam_shape.specs.View.{AccountView, PrincipalView, ResourceView, WorldView}
-use Rattle.iam_world.specs.Code.Contexts.{AllClean, AreClean}
-use Rattle.iam_world.specs.Code.Invariants.{CanJoin, HasFewLevels, HasFewPolicies, IsSized}
+use Rattle.iam_world_context.specs.Code.Contexts.{AllClean, AreClean}
+use Rattle.iam_world.specs.Code.Invariants.{CanJoin, HasFewPolicies, IsSized}
 use Rattle.iam_world.specs.Code.Made.{bare_account, bare_resource, made_account, made_principal, made_resource}
-use Rattle.iam_world.specs.Part.{part_of}
+use Rattle.iam_world_context.specs.Part.{part_of}
 use Rattle.iam_world.specs.Reads.{ReadsAccount, ReadsOptional, ReadsPrincipal, ReadsResource, ReadsWorld}
 use Rattle.iam_world.specs.World.{AccountValue, PrincipalValue, ResourceValue, WorldValue, org_of, world_cells}
-use Rattle.iam_world.specs.WorldFault.{IsOverLimits, IsRequesterAt, cell_count, principal_parts, resource_parts, statement_count}
+use Rattle.iam_world_context.specs.Contexts.{principal_parts, resource_parts}
+use Rattle.iam_world.specs.WorldFault.{IsOverLimits, IsRequesterAt, cell_count, statement_count}
 use Rattle.iam_world.proofs.Counts.{statements-are}
 use Rattle.iam_world.proofs.Walks.{zip-length}
 
@@ -87,14 +87,14 @@ few_in (l ∷ levels) [] small zip = absurd zip
 few_in (l ∷ levels) (o ∷ org) small zip =
     let same : length l ≡ length o = zip-length (Reads kind.Org) l o zip.0 in (omega (arith, small.0, same), few_in levels org small.1 zip.1)
 
-few_levels : (views : List AccountView) (accounts : List AccountValue) → AllByRecursion few_views.HasFewLevels views → AllZip ReadsAccount views accounts
+few_levels : (views : List AccountView) (accounts : List AccountValue) → AllByRecursion (λ view. HasFewLevels view.org) views → AllZip ReadsAccount views accounts
     → AllByRecursion (λ account. HasFewLevels account.org) accounts
 few_levels [] [] small zip = tt
 few_levels [] (a ∷ rest) small zip = absurd zip
 few_levels (v ∷ views) [] small zip = absurd zip
 few_levels (v ∷ views) (a ∷ rest) small zip =
     let same : length v.org ≡ length a.org = zip-length (AllZip (Reads kind.Org)) v.org a.org zip.0.org in
-    (record { levels_few = omega (arith, small.0.levels, same); policies_few = few_in v.org a.org small.0.policies zip.0.org }, few_levels views rest small.1 zip.1)
+    (record { levels_few = omega (arith, small.0.levels_few, same); policies_few = few_in v.org a.org small.0.policies_few zip.0.org }, few_levels views rest small.1 zip.1)
 
 -- the levels that apply are few
 pub few_apply : (p : AccountValue → Bool) (accounts : List AccountValue) → AllByRecursion (λ account. HasFewLevels account.org) accounts → HasFewLevels (org_of (find p accounts))

@@ -1,5 +1,4 @@
 pub mod Budget
-pub mod Contexts
 pub mod Documents
 pub mod Invariants
 pub mod Made

@@ -6,7 +6,7 @@ use Rattle.iam_policy.specs.declared.fault.Kind.{Kind}
 use Rattle.iam_policy.specs.declared.fault.Kind.TheVariants as kind
 use Rattle.iam_policy.specs.Reading.{PolicyValue, Reads}
 use Rattle.iam_shape.specs.View.{AccountView, PrincipalView, ResourceView, WorldView, IsView}
-use Rattle.iam_world.specs.Part.{part_of}
+use Rattle.iam_world_context.specs.Part.{part_of}
 use Rattle.iam_world.specs.World.{WorldValue, AccountValue, PrincipalValue, ResourceValue}
 use Rattle.iam_world.specs.WorldFault.{IsJson, IsRequesterAt, IsAcceptable}
 

@@ -1,6 +1,6 @@
 -- Why bytes are no world: the set of their faults, one case a number, and the first of them.
 use Rattle.std.specs.Prelude.{◌≡◌, ◌⊎◌, ℕ, ◌+◌, ◌*◌, ◌<◌, ◌≤◌, List, [], ◌∷◌, ◌++◌, Bool, not, ◌&&◌, ◌||◌, ◌==◌, nat_eq, nat_lt, length, codes, Some, IsTrue, map}
-use Rattle.std.specs.List.{before_first, after_first, enumerate_from, flat_map, starts_with, sum_by}
+use Rattle.std.specs.List.{before_first, after_first, starts_with, sum_by}
 use Rattle.std.specs.Option.{option_to_list}
 use Rattle.std.specs.Str.{bytes_eq, IsUtf8}
 use Rattle.std.specs.Char.{is_ascii_alphanumeric}
@@ -14,19 +14,16 @@ use Rattle.iam_policy.specs.declared.fault.Kind.{Kind}
 use Rattle.iam_policy.specs.declared.fault.Kind.TheVariants as kind
 use Rattle.iam_policy.specs.declared.fault.Refused.{Refused}
 use Rattle.iam_match.specs.Requester.{RequesterValue, IsRequesterOf}
-use Rattle.iam_shape.specs.declared.path.Name.{Name}
 use Rattle.iam_shape.specs.declared.path.Name.TheVariants.{Accounts, Principals, Actions, Resources, Org, Identity, Boundary, SessionPolicies}
 use Rattle.iam_shape.specs.declared.path.Name.TheVariants as name
 use Rattle.iam_shape.specs.declared.path.Path.{Path}
-use Rattle.iam_shape.specs.declared.path.Path.TheVariants.{Member, Item, Field, Entry, Leaf}
+use Rattle.iam_shape.specs.declared.path.Path.TheVariants.{Item, Field, Entry, Leaf}
 use Rattle.iam_world.specs.declared.fault.WorldFault.{WorldFault}
 use Rattle.iam_world.specs.declared.fault.WorldFault.TheVariants.{NotJson, BadShape, BadRequester, BadAction, BadResourceArn, UnknownAccount, Context, Policy, TooLarge, OutOfMemory}
+use Rattle.iam_shape.specs.First.{IsFirst, IsFirstAt, placed}
 use Rattle.iam_shape.specs.Shape.{first_bad, shape_checks}
 use Rattle.iam_shape.specs.View.{AccountView, PrincipalView, ResourceView, WorldView, IsView}
-use Rattle.iam_context.specs.Context.{ContextValue, keys_of}
-use Rattle.iam_context.specs.ContextFault.{IsClean, IsPartFault}
-use Rattle.iam_context.specs.declared.fault.ContextFault.{ContextFault}
-use Rattle.iam_world.specs.Part.{part_of}
+use Rattle.iam_world_context.specs.Contexts.{IsFirstFaulty, parts}
 
 -- the number of a fault
 abbrev pub world_number_of : WorldFault → ℕ
@@ -53,21 +50,6 @@ world_name_of (Context path fault) = codes "Context"
 world_name_of (Policy path refused) = codes "Policy"
 world_name_of TooLarge = codes "TooLarge"
 world_name_of OutOfMemory = codes "OutOfMemory"
-
--- ---- the first of a list
-
--- x is the first element of which P holds
-abbrev pub IsFirst : {X : Type 0} → (X → Type 0) → List X → X → Type 0
-IsFirst P [] x = ⊥
-IsFirst P (y ∷ ys) x = (P y × (x ≡ y)) ⊎ ((¬ P y) × IsFirst P ys x)
-
--- the elements of a list, each at the path of its number, numbered from i
-abbrev pub placed : {X : Type 0} → (ℕ → Path) → ℕ → List X → List (Path × X)
-placed at i xs = map (λ x. (at x.0, x.1)) (enumerate_from i xs)
-
--- the first element of which P holds stands at this path
-abbrev pub IsFirstAt : {X : Type 0} → (X → Type 0) → List (Path × X) → Path → Type 0
-IsFirstAt {X} P xs path = (x : X) × IsFirst (λ (y : Path × X). P y.1) xs (path, x)
 
 -- ---- requesters
 
@@ -126,45 +108,6 @@ has_account world id = is_one_of (map (λ account. account.id) world.accounts) i
 abbrev pub IsOfUnknownAccount : WorldView → Owner → Type 0
 IsOfUnknownAccount world owner =
     (account : List ℕ) × BelongsTo owner account × ¬ IsTrue (has_account world account)
-
--- ---- contexts
-
--- a part of the context, with the keys of other parts that none of its keys may be
-pub record Beside : Type 0 where
-  pub others : List (List ℕ)
-  pub part : ContextValue
-
-abbrev pub IsFaulty : Beside → Type 0
-IsFaulty beside = ¬ IsClean beside.others beside.part
-
--- the parts that members of a list give, beside others with these keys
-abbrev pub parts_of : Name → List (List ℕ) → List ContextValue → List (Path × Beside)
-parts_of list others parts =
-    placed (λ i. Field list i name.Context) 0 (map (λ part. record { others = others; part = part }) parts)
-
--- the contexts of the principals, and those of the resources
-abbrev pub principal_parts : WorldView → List ContextValue
-principal_parts world = map (λ principal. part_of principal.context) world.principals
-
-abbrev pub resource_parts : WorldView → List ContextValue
-resource_parts world = map (λ resource. part_of resource.context) world.resources
-
--- the parts, in order: that of the world; those of the principals, beside it; those of the resources, beside it and all
--- principals'
-abbrev pub all_parts : ContextValue → List ContextValue → List ContextValue → List (Path × Beside)
-all_parts world principals resources =
-    (Member name.Context, record { others = []; part = world })
-    ∷ (parts_of Principals (keys_of world) principals
-    ++ parts_of Resources (keys_of world ++ flat_map keys_of principals) resources)
-
-abbrev pub parts : WorldView → List (Path × Beside)
-parts world = all_parts (part_of world.context) (principal_parts world) (resource_parts world)
-
--- the first faulty part stands at this path, and this is its first fault
-abbrev pub IsFirstFaulty : List (Path × Beside) → Path → ContextFault → Type 0
-IsFirstFaulty ps path fault =
-    (beside : Beside) × IsFirst (λ (p : Path × Beside). IsFaulty p.1) ps (path, beside)
-    × IsPartFault beside.others beside.part fault
 
 -- ---- policy documents
 

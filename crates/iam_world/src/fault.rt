@@ -2,6 +2,7 @@ use iam_context::ContextFault;
 use iam_policy::Refused;
 use iam_shape::{Path, ShapeFault};
 use iam_text::OutOfMemory;
+use iam_world_context::PartFault;
 use std::alloc::AllocFailed;
 
 /// Why bytes are no world. A document with several faults is refused by the first: `TooLarge` for its bytes, then by
@@ -103,6 +104,20 @@ impl From<ShapeFault> for WorldFault {
         match fault {
             ShapeFault::At(path) => WorldFault::BadShape(path),
             ShapeFault::OutOfMemory => WorldFault::OutOfMemory,
+        }
+    }
+}
+
+impl From<PartFault> for WorldFault {
+    ghost use Rattle.std.specs.Prelude.{◌≡◌};
+    ghost use Rattle.iam_world.specs.Code.ViewFault.{part_fault};
+
+    ghost from_gives = { λ fault world. world ≡ part_fault fault };
+
+    fn from(fault: PartFault) -> WorldFault {
+        match fault {
+            PartFault::At(path, found) => WorldFault::Context(path, found),
+            PartFault::OutOfMemory => WorldFault::OutOfMemory,
         }
     }
 }

@@ -1,12 +1,11 @@
 //! Worlds as data: the first fault of a world document, and the plain record that it says.
 //!
 //! `WorldParts::read` reads a document in the order of its faults, on the view that the walk of its shape lends
-//! (`iam_shape`): `names.rt` reads the requesters and tests actions, resources and accounts, `contexts.rt` reads the
+//! (`iam_shape`): `names.rt` reads the requesters and tests actions, resources and accounts, `iam_world_context` reads the
 //! contexts, `documents.rt` the policy documents layer by layer, and `limits.rt` counts cells and statements. `parts.rt`
 //! has what a world is made of, `world.rt` puts it together, `fault.rt` names the faults.
 #![tactic(auto)]
 
-mod contexts;
 mod documents;
 mod fault;
 mod laws;

@@ -5,7 +5,8 @@ ghost use Rattle.std.specs.List.{AllZip, list_all, position_from};
 ghost use Rattle.iam_world.specs.Code.ViewFault.{FindsFirst, IsClearBelow, IsFaultAt, IsFirstViewFault};
 ghost use Rattle.iam_shape.specs.Code.Lent.{principal_of};
 ghost use Rattle.iam_shape.specs.Code.LentWorld.{world_of};
-ghost use Rattle.iam_world.specs.WorldFault.{HasNoResourceArn, IsFirstAt, IsNoAction, IsNoRequester, IsOfUnknownAccount, IsRequesterAt, is_action, is_action_name, is_resource, owners, placed};
+ghost use Rattle.iam_shape.specs.First.{IsFirstAt, placed};
+ghost use Rattle.iam_world.specs.WorldFault.{HasNoResourceArn, IsNoAction, IsNoRequester, IsOfUnknownAccount, IsRequesterAt, is_action, is_action_name, is_resource, owners};
 ghost use Rattle.iam_world.specs.declared.fault.WorldFault.TheVariants as w;
 
 use crate::fault::WorldFault;

@@ -4,7 +4,7 @@ ghost use Rattle.std.specs.Str.{bytes_eq};
 ghost use Rattle.serde_json.specs.Data.{Data};
 ghost use Rattle.serde_json.specs.View.{view};
 ghost use Rattle.iam_world.specs.Code.ViewFault.{IsFirstViewFault, ViewHasFault};
-ghost use Rattle.iam_world.specs.Code.Contexts.{HasContexts};
+ghost use Rattle.iam_world_context.specs.Code.Contexts.{HasContexts};
 ghost use Rattle.iam_world.specs.Code.Documents.{HasPolicies};
 ghost use Rattle.iam_shape.specs.Few.{HasFewLists};
 ghost use Rattle.iam_shape.specs.Code.Lent.{principal_of};
@@ -14,7 +14,6 @@ ghost use Rattle.iam_world.specs.WorldFault.{IsJson, IsOverLimits, IsRequesterAt
 ghost use Rattle.iam_world.specs.declared.fault.WorldFault.{WorldFault};
 ghost use Rattle.iam_world.specs.declared.fault.WorldFault.TheVariants as w;
 
-use crate::contexts::{Contexts, read_contexts};
 use crate::documents::{Policies, read_documents};
 use crate::fault::WorldFault;
 use crate::limits::{Budget, sizes};
@@ -25,6 +24,7 @@ use iam_match::Requester;
 use iam_policy::Policy;
 use iam_shape::{WorldView, few_documents, one_view, walk};
 use iam_text::OutOfMemory;
+use iam_world_context::{Contexts, read_contexts};
 use serde_json::Value;
 use std::alloc::Global;
 use std::marker::Model;
@@ -167,7 +167,8 @@ impl WorldParts {
     ghost use Rattle.std.specs.Prelude.{◌≡◌, ◌≢◌, ◌≤◌, IfOk, IfErr, map, string_bytes};
     ghost use Rattle.std.specs.List.{AllByRecursion, find};
     ghost use Rattle.std.specs.Str.{bytes_eq};
-    ghost use Rattle.iam_world.specs.Code.Invariants.{CanJoin, HasFewLevels, HasFewPolicies};
+    ghost use Rattle.iam_shape.specs.Few.{HasFewLevels};
+    ghost use Rattle.iam_world.specs.Code.Invariants.{CanJoin, HasFewPolicies};
     ghost use Rattle.iam_world.specs.Reads.{IsWorld};
     ghost use Rattle.iam_world.specs.World.{org_of, world_cells, world_statements};
     ghost use Rattle.iam_world.specs.WorldFault.{IsFirstWorldFault};

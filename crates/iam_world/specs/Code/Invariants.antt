@@ -4,6 +4,7 @@ use Rattle.std.specs.List.{AllByRecursion, flat_map, sum_by}
 use Rattle.iam_context.specs.Context.{keys_of}
 use Rattle.iam_context.specs.ContextFault.{IsClean}
 use Rattle.iam_policy.specs.Reading.{PolicyValue}
+use Rattle.iam_shape.specs.Few.{HasFewLevels}
 use Rattle.iam_world.specs.World.{PrincipalValue, WorldValue, world_cells, world_statements}
 
 -- how many statements these policies have
@@ -14,11 +15,6 @@ statements_in policies = sum_by (λ policy. length policy.statements) policies
 pub record HasFewPolicies (principal : PrincipalValue) : Type 0 where
   pub identity : length principal.identity < 2 ^ 32
   pub session : length principal.session < 2 ^ 32
-
--- the levels, and the policies of each, have numbers of 32 bits
-pub record HasFewLevels (levels : List (List PolicyValue)) : Type 0 where
-  pub levels_few : length levels < 2 ^ 32
-  pub policies_few : AllByRecursion (λ level. length level < 2 ^ 32) levels
 
 -- the contexts of the world, of a principal and of a resource can be joined
 pub record CanJoin (world : WorldValue) : Type 0 where

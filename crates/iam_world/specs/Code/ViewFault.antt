@@ -2,12 +2,16 @@
 use Rattle.std.specs.Prelude.{◌≡◌, ℕ, ◌≤◌, List, Option, MatchOption}
 use Rattle.std.specs.List.{AllByRecursion}
 use Rattle.iam_shape.specs.View.{WorldView}
-use Rattle.iam_world.specs.WorldFault.{world_number_of, placed, IsFirstAt, IsNoRequester, IsNoAction, HasNoResourceArn, owners, IsOfUnknownAccount, documents, parts, IsFirstFaulty, IsFirstRefused, IsOverLimits}
+use Rattle.iam_shape.specs.First.{IsFirstAt, placed}
+use Rattle.iam_world_context.specs.Contexts.{parts, IsFirstFaulty}
+use Rattle.iam_world.specs.WorldFault.{world_number_of, IsNoRequester, IsNoAction, HasNoResourceArn, owners, IsOfUnknownAccount, documents, IsFirstRefused, IsOverLimits}
 use Rattle.iam_shape.specs.declared.path.Name.TheVariants.{Principals, Actions, Resources}
 use Rattle.iam_shape.specs.declared.path.Path.{Path}
 use Rattle.iam_shape.specs.declared.path.Path.TheVariants.{Item}
 use Rattle.iam_shape.specs.declared.fault.ShapeFault.{ShapeFault}
 use Rattle.iam_shape.specs.declared.fault.ShapeFault.TheVariants as shape
+use Rattle.iam_world_context.specs.declared.fault.PartFault.{PartFault}
+use Rattle.iam_world_context.specs.declared.fault.PartFault.TheVariants as part
 use Rattle.iam_world.specs.declared.fault.WorldFault.{WorldFault}
 use Rattle.iam_world.specs.declared.fault.WorldFault.TheVariants.{NotJson, BadShape, BadRequester, BadAction, BadResourceArn, UnknownAccount, Context, Policy, TooLarge, OutOfMemory}
 
@@ -44,3 +48,8 @@ FindsFirst P xs result = MatchOption result (AllByRecursion (λ x. ¬ P x.1) xs)
 abbrev pub shape_fault : ShapeFault → WorldFault
 shape_fault (shape.At path) = BadShape path
 shape_fault shape.OutOfMemory = OutOfMemory
+
+-- the fault of a world whose contexts have this fault
+abbrev pub part_fault : PartFault → WorldFault
+part_fault (part.At path found) = Context path found
+part_fault part.OutOfMemory = OutOfMemory

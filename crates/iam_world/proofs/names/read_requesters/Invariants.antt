@@ -1,7 +1,8 @@
 use Rattle.std.proofs.Common.{map, take, drop}
 use Rattle.std.specs.List.{AllZip}
 use Rattle.iam_shape.specs.Code.Lent.{principal_of}
-use Rattle.iam_world.specs.WorldFault.{IsFirstAt, IsNoRequester, IsRequesterAt, placed}
+use Rattle.iam_shape.specs.First.{IsFirstAt, placed}
+use Rattle.iam_world.specs.WorldFault.{IsNoRequester, IsRequesterAt}
 use Rattle.iam_shape.specs.declared.path.Path.TheVariants.{Item}
 use Rattle.iam_shape.specs.declared.path.Name.TheVariants.{Principals}
 use Rattle.iam_shape.specs.declared.path.Path.{Path}

@@ -4,7 +4,8 @@ use Rattle.std.specs.List.{position_from}
 use Rattle.iam_world.specs.Code.ViewFault.{FindsFirst}
 use Rattle.iam_shape.specs.Code.Lent.{resource_of}
 use Rattle.iam_shape.specs.Code.LentWorld.{world_of}
-use Rattle.iam_world.specs.WorldFault.{IsOfUnknownAccount, of_principal, of_resource, placed}
+use Rattle.iam_shape.specs.First.{placed}
+use Rattle.iam_world.specs.WorldFault.{IsOfUnknownAccount, of_principal, of_resource}
 use Rattle.iam_shape.specs.declared.path.Name.TheVariants.{Principals, Resources}
 use Rattle.iam_shape.specs.declared.path.Path.TheVariants.{Item}
 use Rattle.iam_shape.specs.declared.view.ResourceView.{ResourceView}

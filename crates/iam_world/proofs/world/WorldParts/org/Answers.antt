@@ -2,7 +2,7 @@ use Rattle.std.proofs.Common.{◌≡◌, ◌∙◌, List, map, sym, ap, subst}
 use Rattle.std.specs.List.{find}
 use Rattle.std.specs.Str.{bytes_eq}
 use Rattle.iam_policy.specs.Reading.{PolicyValue}
-use Rattle.iam_world.specs.Code.Invariants.{HasFewLevels}
+use Rattle.iam_shape.specs.Few.{HasFewLevels}
 use Rattle.iam_world.specs.World.{AccountValue, org_of}
 use Rattle.iam_world.proofs.Worlds.{few_apply}
 use Rattle.iam_world.proofs.world.WorldParts.org.Goals as goal

@@ -7,7 +7,7 @@ use Rattle.iam_world.proofs.world.WorldParts.read.Goals as goal
 pub read_view-requires : goal.read_view-requires
 read_view-requires c = record {
   small =
-      c.few_documents.ensures c.args.bytes.now (view c.in_ok-value.value) (world_of c.in_ok-world.world) c.if-bytes-gt-MOST_BYTES.false c.in_ok-value.ensures.ok
+      c.few_documents.ensures c.args.bytes.now (view c.in_ok-value.value) (world_of c.in_ok-world.world) c.if-bytes-gt-MOST_BYTES.false c.in_ok-value.ensures.ok.1
       c.in_ok-world.ensures.ok.1;
   moment = c.in_ok-world.ensures.moment;
 }

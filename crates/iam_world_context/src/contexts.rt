@@ -1,18 +1,18 @@
 ghost use Rattle.std.specs.Prelude.{◌≡◌, ◌≢◌, ℕ, List, [], ◌++◌, map, option_map, IfOk, IfErr, OnOk};
-ghost use Rattle.std.specs.List.{filter_map, flat_map};
+ghost use Rattle.std.specs.List.{AllByRecursion, filter_map, flat_map};
 ghost use Rattle.serde_json.specs.View.{members_view, view};
 ghost use Rattle.iam_context.specs.Code.Keys.{HasKeys};
 ghost use Rattle.iam_context.specs.Context.{keys_of};
 ghost use Rattle.iam_context.specs.ContextFault.{IsClean};
 ghost use Rattle.iam_json.specs.Scalar.{scalar_text};
 ghost use Rattle.iam_shape.specs.Code.LentWorld.{world_of};
-ghost use Rattle.iam_world.specs.Code.Contexts.{AllClean, AreClean, HasContexts, IsFaultyAmong, IsFaultyPart};
-ghost use Rattle.iam_world.specs.Part.{members_part, part_of, value_texts};
-ghost use Rattle.iam_world.specs.WorldFault.{all_parts, parts, parts_of};
-ghost use Rattle.iam_world.specs.declared.fault.WorldFault.TheVariants as w;
+ghost use Rattle.iam_world_context.specs.Code.Contexts.{AllClean, AreClean, HasContexts, IsFaultyAmong, IsFaultyPart};
+ghost use Rattle.iam_world_context.specs.Contexts.{IsFaulty, all_parts, parts, parts_of};
+ghost use Rattle.iam_world_context.specs.Part.{members_part, part_of, value_texts};
+ghost use Rattle.iam_world_context.specs.declared.fault.PartFault.TheVariants as p;
 
-use crate::fault::WorldFault;
-use iam_context::{ContextFault, Keys, Part, part_fault};
+use crate::fault::PartFault;
+use iam_context::{Keys, Part, part_fault};
 use iam_json::{scalar_text, values};
 use iam_shape::{Name, Path, PrincipalView, ResourceView, WorldView};
 use iam_text::{Items, OutOfMemory, Text};
@@ -94,13 +94,13 @@ fn check_part<'a>(
     path: Path,
     part: &'a Part,
     others: &Keys<'a>,
-) -> Result<(), WorldFault>
+) -> Result<(), PartFault>
     ensures clean { OnOk result ((keys : List (List ℕ)) → HasKeys others.now keys → IsClean keys part.now.items) }
-    ensures fault { IfErr result (λ fault. fault ≢ w.OutOfMemory
+    ensures fault { IfErr result (λ fault. fault ≢ p.OutOfMemory
         → (keys : List (List ℕ)) → HasKeys others.now keys → IsFaultyPart path keys part.now.items fault) }
 {
     match part_fault(alloc, part, others)? {
-        Some(fault) => Err(WorldFault::Context(path, fault)),
+        Some(fault) => Err(PartFault::At(path, fault)),
         None => Ok(()),
     }
 }
@@ -111,10 +111,10 @@ fn check_parts<'a>(
     list: Name,
     parts: &'a [Part],
     others: &Keys<'a>,
-) -> Result<(), WorldFault>
+) -> Result<(), PartFault>
     ensures clean { OnOk result ((keys : List (List ℕ)) → HasKeys others.now keys
         → AreClean keys (map (λ part. part.items) parts.now)) }
-    ensures fault { IfErr result (λ fault. fault ≢ w.OutOfMemory
+    ensures fault { IfErr result (λ fault. fault ≢ p.OutOfMemory
         → (keys : List (List ℕ)) → HasKeys others.now keys
         → IsFaultyAmong (parts_of list keys (map (λ part. part.items) parts.now)) fault) }
 {
@@ -125,18 +125,18 @@ fn check_parts<'a>(
 }
 
 /// Tests the part that the document itself gives.
-fn check_own(alloc: Global, world: &Part) -> Result<(), WorldFault>
+fn check_own(alloc: Global, world: &Part) -> Result<(), PartFault>
     ensures clean { OnOk result (IsClean [] world.now.items) }
-    ensures fault { IfErr result (λ fault. fault ≢ w.OutOfMemory
+    ensures fault { IfErr result (λ fault. fault ≢ p.OutOfMemory
         → IsFaultyPart (Path.Member Name.Context) [] world.now.items fault) }
 {
     check_part(alloc, Path::Member(Name::Context), world, &Keys::new(alloc))
 }
 
 /// Tests the parts of the principals, beside that of the world.
-fn check_principals(alloc: Global, world: &Part, principals: &[Part]) -> Result<(), WorldFault>
+fn check_principals(alloc: Global, world: &Part, principals: &[Part]) -> Result<(), PartFault>
     ensures clean { OnOk result (AreClean (keys_of world.now.items) (map (λ part. part.items) principals.now)) }
-    ensures fault { IfErr result (λ fault. fault ≢ w.OutOfMemory
+    ensures fault { IfErr result (λ fault. fault ≢ p.OutOfMemory
         → IsFaultyAmong (parts_of Name.Principals (keys_of world.now.items) (map (λ part. part.items) principals.now)) fault) }
 {
     let mut keys = Keys::new(alloc);
@@ -150,10 +150,10 @@ fn check_resources(
     world: &Part,
     principals: &[Part],
     resources: &[Part],
-) -> Result<(), WorldFault>
+) -> Result<(), PartFault>
     ensures clean { OnOk result (AreClean (keys_of world.now.items ++ flat_map keys_of (map (λ part. part.items) principals.now))
         (map (λ part. part.items) resources.now)) }
-    ensures fault { IfErr result (λ fault. fault ≢ w.OutOfMemory
+    ensures fault { IfErr result (λ fault. fault ≢ p.OutOfMemory
         → IsFaultyAmong (parts_of Name.Resources (keys_of world.now.items ++ flat_map keys_of (map (λ part. part.items) principals.now))
         (map (λ part. part.items) resources.now)) fault) }
 {
@@ -166,10 +166,10 @@ fn check_resources(
 }
 
 /// Tests all parts, in order.
-fn check_contexts(alloc: Global, contexts: &Contexts) -> Result<(), WorldFault>
+fn check_contexts(alloc: Global, contexts: &Contexts) -> Result<(), PartFault>
     ensures clean { OnOk result (AllClean contexts.now.world.items (map (λ part. part.items) contexts.now.principals.items)
         (map (λ part. part.items) contexts.now.resources.items)) }
-    ensures fault { IfErr result (λ fault. fault ≢ w.OutOfMemory
+    ensures fault { IfErr result (λ fault. fault ≢ p.OutOfMemory
         → IsFaultyAmong (all_parts contexts.now.world.items (map (λ part. part.items) contexts.now.principals.items)
         (map (λ part. part.items) contexts.now.resources.items)) fault) }
 {
@@ -206,10 +206,12 @@ fn of_resources<'v>(
         .collect(alloc)
 }
 
-/// The contexts that a document gives, or the first fault of them.
-pub fn read_contexts(alloc: Global, world: &WorldView<'_>) -> Result<Contexts, WorldFault>
+/// The contexts that a document gives, or the first fault of them: that of the world is tested first, then that of each
+/// principal beside the keys of the world, then that of each resource beside those of the world and of all principals.
+pub fn read_contexts(alloc: Global, world: &WorldView<'_>) -> Result<Contexts, PartFault>
     ensures ok { IfOk result (HasContexts (world_of world.now)) }
-    ensures fault { IfErr result (λ fault. fault ≢ w.OutOfMemory → IsFaultyAmong (parts (world_of world.now)) fault) }
+    ensures clean { OnOk result (AllByRecursion (λ part. ¬ IsFaulty part.1) (parts (world_of world.now))) }
+    ensures fault { IfErr result (λ fault. fault ≢ p.OutOfMemory → IsFaultyAmong (parts (world_of world.now)) fault) }
 {
     let principals = of_principals(alloc, world.principals.as_slice())?;
     let resources = of_resources(alloc, world.resources.as_slice())?;

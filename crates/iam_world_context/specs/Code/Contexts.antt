@@ -1,4 +1,4 @@
--- How the code tests the parts of the context one after another, beside `WorldFault`.
+-- How the code tests the parts of the context one after another, beside `Contexts`.
 use Rattle.std.specs.Prelude.{◌≡◌, ℕ, List, [], ◌++◌, map}
 use Rattle.std.specs.List.{AllByRecursion, flat_map}
 use Rattle.iam_context.specs.Context.{ContextValue, keys_of}
@@ -6,24 +6,24 @@ use Rattle.iam_context.specs.ContextFault.{IsClean, IsPartFault}
 use Rattle.iam_context.specs.declared.fault.ContextFault.{ContextFault}
 use Rattle.iam_shape.specs.declared.path.Path.{Path}
 use Rattle.iam_shape.specs.View.{WorldView}
-use Rattle.iam_world.specs.Part.{part_of}
-use Rattle.iam_world.specs.WorldFault.{Beside, IsFirstFaulty, principal_parts, resource_parts}
-use Rattle.iam_world.specs.declared.contexts.Contexts.{Contexts}
-use Rattle.iam_world.specs.declared.fault.WorldFault.{WorldFault}
-use Rattle.iam_world.specs.declared.fault.WorldFault.TheVariants.{Context}
+use Rattle.iam_world_context.specs.Part.{part_of}
+use Rattle.iam_world_context.specs.Contexts.{Beside, IsFirstFaulty, principal_parts, resource_parts}
+use Rattle.iam_world_context.specs.declared.contexts.Contexts.{Contexts}
+use Rattle.iam_world_context.specs.declared.fault.PartFault.{PartFault}
+use Rattle.iam_world_context.specs.declared.fault.PartFault.TheVariants.{At}
 
 -- no part has a fault beside others with these keys
 abbrev pub AreClean : List (List ℕ) → List ContextValue → Type 0
 AreClean keys parts = AllByRecursion (IsClean keys) parts
 
 -- this is the fault of the part at this path
-abbrev pub IsFaultyPart : Path → List (List ℕ) → ContextValue → WorldFault → Type 0
-IsFaultyPart path keys part fault = (found : ContextFault) × (fault ≡ Context path found) × IsPartFault keys part found
+abbrev pub IsFaultyPart : Path → List (List ℕ) → ContextValue → PartFault → Type 0
+IsFaultyPart path keys part fault = (found : ContextFault) × (fault ≡ At path found) × IsPartFault keys part found
 
 -- the first faulty part of these has this fault
-abbrev pub IsFaultyAmong : List (Path × Beside) → WorldFault → Type 0
+abbrev pub IsFaultyAmong : List (Path × Beside) → PartFault → Type 0
 IsFaultyAmong parts fault =
-    (path : Path) × (found : ContextFault) × (fault ≡ Context path found) × IsFirstFaulty parts path found
+    (path : Path) × (found : ContextFault) × (fault ≡ At path found) × IsFirstFaulty parts path found
 
 -- no part has a fault: neither that of the world, nor one of a principal, nor one of a resource
 pub record AllClean (world : ContextValue) (principals resources : List ContextValue) : Type 0 where

@@ -4,10 +4,10 @@ use Rattle.serde_json.specs.View.{view}
 use Rattle.iam_shape.specs.Code.Lent.{principal_of, resource_of}
 use Rattle.iam_shape.specs.Code.LentWorld.{world_of}
 use Rattle.iam_shape.specs.View.{PrincipalView, ResourceView}
-use Rattle.iam_world.specs.Part.{part_of}
-use Rattle.iam_world.specs.WorldFault.{principal_parts, resource_parts}
-use Rattle.iam_world.proofs.PartLemmas.{faulty-same, parts-are}
-use Rattle.iam_world.proofs.contexts.read_contexts.Goals as goal
+use Rattle.iam_world_context.specs.Part.{part_of}
+use Rattle.iam_world_context.specs.Contexts.{principal_parts, resource_parts}
+use Rattle.iam_world_context.proofs.PartLemmas.{faulty-same, none_faulty, parts-are}
+use Rattle.iam_world_context.proofs.contexts.read_contexts.Goals as goal
 
 pub returns-in_err-check_contexts-clause-fault : goal.returns-in_err-check_contexts-clause-fault
 returns-in_err-check_contexts-clause-fault c =
@@ -47,3 +47,8 @@ returns-clause-ok c =
           )
           at c.in_ok-check_contexts.ensures.clean;
     }
+
+pub returns-clause-clean : goal.returns-clause-clean
+returns-clause-clean c =
+    let world = world_of c.args.world.now in
+    none_faulty (part_of world.context) (principal_parts world) (resource_parts world) (returns-clause-ok c).clean

@@ -1,12 +1,11 @@
 use Rattle.std.proofs.Common.{[], ◌++◌, map, take, subst, sym}
 use Rattle.std.specs.List.{flat_map}
 use Rattle.std.proofs.lemmas.Result.{IfErr-weaker, on_ok_weaker}
-use Rattle.std.proofs.lemmas.List.{append-nil}
+use Rattle.std.proofs.lemmas.List.{append-nil, take_all}
 use Rattle.iam_context.specs.Code.Keys.{HasKeys}
 use Rattle.iam_context.specs.Context.{keys_of}
-use Rattle.iam_world.proofs.PartLemmas.{keys_next}
-use Rattle.iam_world.proofs.Walks.{take-all}
-use Rattle.iam_world.proofs.contexts.check_resources.Goals as goal
+use Rattle.iam_world_context.proofs.PartLemmas.{keys_next}
+use Rattle.iam_world_context.proofs.contexts.check_resources.Goals as goal
 
 pub loop-part-init : goal.loop-part-init
 loop-part-init c =
@@ -21,14 +20,14 @@ loop-part-preserved c =
 
 pub returns-clause-clean : goal.returns-clause-clean
 returns-clause-clean c =
-    let all = take-all c.loop-part.part-index c.args.principals.now c.loop-part-test.false in
+    let all = take_all c.loop-part.part-index c.args.principals.now c.loop-part-test.false in
     on_ok_weaker c.check_parts.result
     (λ clean. clean (keys_of c.args.world.now.items ++ flat_map keys_of (map (λ part. part.items) c.args.principals.now)) (rw all at c.loop-part.invariant))
     c.check_parts.ensures.clean
 
 pub returns-clause-fault : goal.returns-clause-fault
 returns-clause-fault c =
-    let all = take-all c.loop-part.part-index c.args.principals.now c.loop-part-test.false in
+    let all = take_all c.loop-part.part-index c.args.principals.now c.loop-part-test.false in
     IfErr-weaker c.check_parts.result _ _
     (λ fault first other.
     first other (keys_of c.args.world.now.items ++ flat_map keys_of (map (λ part. part.items) c.args.principals.now)) (rw all at c.loop-part.invariant))

@@ -1,7 +1,7 @@
 use Rattle.std.proofs.Common.{map}
 use Rattle.std.proofs.lemmas.Result.{IfErr-weaker, on_ok_weaker, err_from_is_err_and}
-use Rattle.iam_world.proofs.PartLemmas.{in_own, in_principals, in_resources}
-use Rattle.iam_world.proofs.contexts.check_contexts.Goals as goal
+use Rattle.iam_world_context.proofs.PartLemmas.{in_own, in_principals, in_resources}
+use Rattle.iam_world_context.proofs.contexts.check_contexts.Goals as goal
 
 pub returns-in_err-check_own-clause-fault : goal.returns-in_err-check_own-clause-fault
 returns-in_err-check_own-clause-fault c =

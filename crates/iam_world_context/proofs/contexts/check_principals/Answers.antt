@@ -1,7 +1,7 @@
 use Rattle.std.proofs.Common.{[]}
 use Rattle.std.proofs.lemmas.Result.{IfErr-weaker, on_ok_weaker}
 use Rattle.iam_context.specs.Context.{keys_of}
-use Rattle.iam_world.proofs.contexts.check_principals.Goals as goal
+use Rattle.iam_world_context.proofs.contexts.check_principals.Goals as goal
 
 pub returns-clause-clean : goal.returns-clause-clean
 returns-clause-clean c =

@@ -1,8 +1,8 @@
 use Rattle.std.proofs.lemmas.Result.{err_from_is_err_and}
 use Rattle.iam_shape.specs.declared.path.Name.TheVariants.{Context}
 use Rattle.iam_shape.specs.declared.path.Path.TheVariants.{Field}
-use Rattle.iam_world.proofs.PartLemmas.{clean_next, part_here, part_later}
-use Rattle.iam_world.proofs.contexts.check_parts.Goals as goal
+use Rattle.iam_world_context.proofs.PartLemmas.{clean_next, part_here, part_later}
+use Rattle.iam_world_context.proofs.contexts.check_parts.Goals as goal
 
 pub returns-in_err-check_part-clause-fault : goal.returns-in_err-check_part-clause-fault
 returns-in_err-check_part-clause-fault c =

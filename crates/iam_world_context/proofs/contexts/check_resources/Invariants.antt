@@ -2,7 +2,7 @@ use Rattle.std.proofs.Common.{◌++◌, map, take}
 use Rattle.std.specs.List.{flat_map}
 use Rattle.iam_context.specs.Code.Keys.{HasKeys}
 use Rattle.iam_context.specs.Context.{keys_of}
-use Rattle.iam_world.proofs.contexts.check_resources.Given as goal
+use Rattle.iam_world_context.proofs.contexts.check_resources.Given as goal
 
 -- the keys of the world and of the principals so far
 abbrev pub invariant-loop-part : goal.invariant-loop-part

@@ -5,25 +5,25 @@ use Rattle.std.proofs.lemmas.List.{append-nil, append_assoc}
 use Rattle.iam_context.specs.Context.{ContextValue, keys_of}
 use Rattle.iam_context.specs.ContextFault.{IsClean, IsPartFault}
 use Rattle.iam_context.specs.declared.fault.ContextFault.{ContextFault}
+use Rattle.iam_shape.specs.First.{placed}
 use Rattle.iam_shape.specs.declared.path.Name.TheVariants.{Context, Principals, Resources}
 use Rattle.iam_shape.specs.declared.path.Path.{Path}
 use Rattle.iam_shape.specs.declared.path.Path.TheVariants.{Field, Member}
-use Rattle.iam_world.specs.Code.Contexts.{AllClean, AreClean, IsFaultyAmong, IsFaultyPart}
-use Rattle.iam_world.specs.WorldFault.{Beside, IsFaulty, all_parts, parts_of, placed}
-use Rattle.iam_world.specs.declared.fault.WorldFault.{WorldFault}
-use Rattle.iam_world.proofs.Firsts.{first_here, first_later, none-append}
-use Rattle.iam_world.proofs.Walks.{drop-at}
+use Rattle.iam_world_context.specs.Code.Contexts.{AllClean, AreClean, IsFaultyAmong, IsFaultyPart}
+use Rattle.iam_world_context.specs.Contexts.{Beside, IsFaulty, all_parts, parts_of}
+use Rattle.iam_world_context.specs.declared.fault.PartFault.{PartFault}
+use Rattle.iam_world_context.proofs.Lists.{drop-at, first_here, first_later, none-append}
 
 -- a part with a fault is not clean
 pub not_clean : (others : List (List ℕ)) (part : ContextValue) (fault : ContextFault) → IsPartFault others part fault → ¬ IsClean others part
 not_clean others part fault is clean = let wrong : true ≡ false = sym is.holds ∙ clean fault in cc
 
 -- the first faulty of two lists is that of the first, or else that of the second
-pub faulty_here : (front back : List (Path × Beside)) (fault : WorldFault) → IsFaultyAmong front fault → IsFaultyAmong (front ++ back) fault
+pub faulty_here : (front back : List (Path × Beside)) (fault : PartFault) → IsFaultyAmong front fault → IsFaultyAmong (front ++ back) fault
 faulty_here front back fault (path, found, is, (beside, first, at)) =
     (path, found, is, (beside, first_here (λ (p : Path × Beside). IsFaulty p.1) front back (path, beside) first, at))
 
-pub faulty_later : (front back : List (Path × Beside)) (fault : WorldFault) → AllByRecursion (λ (p : Path × Beside). ¬ IsFaulty p.1) front → IsFaultyAmong back fault
+pub faulty_later : (front back : List (Path × Beside)) (fault : PartFault) → AllByRecursion (λ (p : Path × Beside). ¬ IsFaulty p.1) front → IsFaultyAmong back fault
     → IsFaultyAmong (front ++ back) fault
 faulty_later front back fault clean (path, found, is, (beside, first, at)) =
     (path, found, is, (beside, first_later (λ (p : Path × Beside). IsFaulty p.1) front back (path, beside) clean first, at))
@@ -34,7 +34,7 @@ abbrev pub beside : List (List ℕ) → ContextValue → Beside
 beside others part = record { others = others; part = part }
 
 -- the part at i is the first that is faulty
-pub part_here : {V : Type 0} (f : V → ContextValue) (others : List (List ℕ)) (at : ℕ → Path) (vs : List V) (i : ℕ) (v : V) (fault : WorldFault) → i < length vs → v ≡ get_or vs i v
+pub part_here : {V : Type 0} (f : V → ContextValue) (others : List (List ℕ)) (at : ℕ → Path) (vs : List V) (i : ℕ) (v : V) (fault : PartFault) → i < length vs → v ≡ get_or vs i v
     → IsFaultyPart (at i) others (f v) fault → IsFaultyAmong (placed at i (map (beside others) (map f (drop i vs)))) fault
 part_here f others at vs i v fault below is (found, fault_is, holds) =
     subst (λ parts. IsFaultyAmong (placed at i (map (beside others) parts)) fault) (sym (drop-at f vs i v below is))
@@ -42,7 +42,7 @@ part_here f others at vs i v fault below is (found, fault_is, holds) =
 
 -- the part at i is clean
 pub part_later : {V : Type 0} (f : V → ContextValue) (others : List (List ℕ)) (at : ℕ → Path) (vs : List V) (i : ℕ) (v : V) → i < length vs → v ≡ get_or vs i v
-    → IsClean others (f v) → (fault : WorldFault) → IsFaultyAmong (placed at (i + 1) (map (beside others) (map f (drop (i + 1) vs)))) fault
+    → IsClean others (f v) → (fault : PartFault) → IsFaultyAmong (placed at (i + 1) (map (beside others) (map f (drop (i + 1) vs)))) fault
     → IsFaultyAmong (placed at i (map (beside others) (map f (drop i vs)))) fault
 part_later f others at vs i v below is clean fault (path, found, fault_is, (b, first, holds)) =
     subst (λ parts. IsFaultyAmong (placed at i (map (beside others) parts)) fault) (sym (drop-at f vs i v below is))
@@ -83,17 +83,17 @@ keys_next {V} f before vs i v below is = ap (λ ks. before ++ ks) (next vs i bel
 
 -- ---- the parts of a world, in order
 
-pub in_own : (world : ContextValue) (ps rs : List ContextValue) (fault : WorldFault) → IsFaultyPart (Member Context) [] world fault
+pub in_own : (world : ContextValue) (ps rs : List ContextValue) (fault : PartFault) → IsFaultyPart (Member Context) [] world fault
     → IsFaultyAmong (all_parts world ps rs) fault
 in_own world ps rs fault (found, is, holds) = (Member Context, found, is, (beside [] world, inl (not_clean [] world found holds, refl), holds))
 
-pub in_principals : (world : ContextValue) (ps rs : List ContextValue) (fault : WorldFault) → IsClean [] world
+pub in_principals : (world : ContextValue) (ps rs : List ContextValue) (fault : PartFault) → IsClean [] world
     → IsFaultyAmong (parts_of Principals (keys_of world) ps) fault → IsFaultyAmong (all_parts world ps rs) fault
 in_principals world ps rs fault own faulty =
     faulty_later ((Member Context, beside [] world) ∷ []) (parts_of Principals (keys_of world) ps ++ parts_of Resources (keys_of world ++ flat_map keys_of ps) rs) fault
     ((λ off. off own), tt) (faulty_here (parts_of Principals (keys_of world) ps) (parts_of Resources (keys_of world ++ flat_map keys_of ps) rs) fault faulty)
 
-pub in_resources : (world : ContextValue) (ps rs : List ContextValue) (fault : WorldFault) → IsClean [] world → AreClean (keys_of world) ps
+pub in_resources : (world : ContextValue) (ps rs : List ContextValue) (fault : PartFault) → IsClean [] world → AreClean (keys_of world) ps
     → IsFaultyAmong (parts_of Resources (keys_of world ++ flat_map keys_of ps) rs) fault → IsFaultyAmong (all_parts world ps rs) fault
 in_resources world ps rs fault own clean faulty =
     faulty_later ((Member Context, beside [] world) ∷ []) (parts_of Principals (keys_of world) ps ++ parts_of Resources (keys_of world ++ flat_map keys_of ps) rs) fault
@@ -117,7 +117,7 @@ parts-are g context f h same [] = refl
 parts-are g context f h same (v ∷ vs) = ap (λ c. c ∷ map g (map context vs)) (same v) ∙ ap (λ rest. h (f v) ∷ rest) (parts-are g context f h same vs)
 
 -- the same parts have the same first faulty one
-pub faulty-same : (w x : ContextValue) (ps qs rs ss : List ContextValue) → w ≡ x → ps ≡ qs → rs ≡ ss → (fault : WorldFault) → IsFaultyAmong (all_parts w ps rs) fault
+pub faulty-same : (w x : ContextValue) (ps qs rs ss : List ContextValue) → w ≡ x → ps ≡ qs → rs ≡ ss → (fault : PartFault) → IsFaultyAmong (all_parts w ps rs) fault
     → IsFaultyAmong (all_parts x qs ss) fault
 faulty-same w x ps qs rs ss one two three fault faulty =
     subst (λ y. IsFaultyAmong (all_parts y qs ss) fault) one

@@ -1,0 +1,36 @@
+use iam_context::ContextFault;
+use iam_shape::Path;
+use iam_text::OutOfMemory;
+use std::alloc::AllocFailed;
+
+/// Why the contexts of a document are not read.
+#[derive(Clone, Copy, Debug, PartialEq, Eq)]
+pub enum PartFault {
+    /// The context at this path gives a key twice, or one that is derived. It is the first such context, and this is
+    /// its first fault.
+    At(Path, ContextFault),
+    /// The allocator refused a growth.
+    OutOfMemory,
+}
+
+impl From<OutOfMemory> for PartFault {
+    ghost use Rattle.std.specs.Prelude.{◌≡◌};
+    ghost use Rattle.iam_world_context.specs.declared.fault.PartFault.TheVariants as p;
+
+    ghost from_gives = { λ _ fault. fault ≡ p.OutOfMemory };
+
+    fn from(_: OutOfMemory) -> PartFault {
+        PartFault::OutOfMemory
+    }
+}
+
+impl<T: Drop> From<AllocFailed<T>> for PartFault {
+    ghost use Rattle.std.specs.Prelude.{◌≡◌};
+    ghost use Rattle.iam_world_context.specs.declared.fault.PartFault.TheVariants as p;
+
+    ghost from_gives = { λ _ fault. fault ≡ p.OutOfMemory };
+
+    fn from(_: AllocFailed<T>) -> PartFault {
+        PartFault::OutOfMemory
+    }
+}
