@@ -1,3 +1,4 @@
+mod Fields
 mod Plain
 mod Rendered
 mod Reports

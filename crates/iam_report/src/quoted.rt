@@ -30,21 +30,24 @@ pub struct Quoted {
     pub(crate) resources: Items<Text>,
 }
 
-/// A text as a field of CSV.
-fn csv_field(alloc: Global, text: &str) -> Result<String, OutOfMemory>
-    ensures { IfOk result (λ field. string_bytes field ≡ field_text default_writer text.now) }
+/// The bytes of a text as a field of CSV.
+fn csv_bytes(alloc: Global, text: &str) -> Result<Vec<u8>, OutOfMemory>
+    ensures { IfOk result (λ bytes. bytes.items ≡ field_text default_writer text.now) }
 {
     let mut writer = Writer::from_writer(Vec::new(alloc));
     if writer.write_field(text.as_bytes()).is_err() {
         return Err(OutOfMemory);
     }
-    let Ok(bytes) = writer.into_inner() else {
-        return Err(OutOfMemory);
-    };
-    match String::from_utf8(bytes) {
-        Ok(field) => Ok(field),
-        Err(_) => Err(OutOfMemory),
-    }
+    writer.into_inner().map_err(|_| OutOfMemory)
+}
+
+/// A text as a field of CSV.
+fn csv_field(alloc: Global, text: &str) -> Result<String, OutOfMemory>
+    ensures { IfOk result (λ field. string_bytes field ≡ field_text default_writer text.now) }
+{
+    let bytes = csv_bytes(alloc, text)?;
+    // The field of a text is UTF-8, as `proofs/Fields.antt` shows.
+    Ok(String::from_utf8(bytes).unwrap())
 }
 
 /// A text as a string of JSON.
