@@ -1,6 +1,7 @@
 -- Reading the keys of a condition.
 use Rattle.std.proofs.Common.{◌≡◌, inl, inr, ℕ, pos, negsuc, suc, zero, ◌+◌, ◌<◌, ◌/◌, ◌%◌, List, [], ◌∷◌, ◌++◌, Bool, true, false, not, ◌&&◌, ◌||◌, ◌==◌, Option, Some, None, IsTrue, IsSome, codes, length, map, take, drop, get_or, refl, sym, ap, subst, ◌∙◌, arith, if◌then◌else◌}
 use Rattle.std.specs.Fmt.{decimal, digit_glyph, digits, digits_onto}
+use Rattle.std.proofs.lemmas.List.{at_drop_more}
 use Rattle.std.specs.List.{AllByRecursion, AllZip, list_any}
 use Rattle.std.specs.Str.{IsUtf8}
 use Rattle.serde_json.specs.Data.{Data, null, boolean, number, string, array, object, unsigned, negative, float}
@@ -22,12 +23,7 @@ use Rattle.iam_condition.proofs.ValueLemmas.{IsBadGiven, given_bad}
 
 -- the values of a list from i on: that at i, and the rest
 pub drop-at : {X Y : Type 0} (f : X → Y) (xs : List X) (i : ℕ) (x : X) → i < length xs → x ≡ get_or xs i x → map f (drop i xs) ≡ f x ∷ map f (drop (i + 1) xs)
-drop-at f [] i x below is = absurd (omega arith)
-drop-at f (y ∷ xs) zero x below is = ap (λ z. f z ∷ map f xs) (sym is)
-drop-at f (y ∷ xs) (suc i) x below is =
-    let rest : i < length xs = omega arith in
-    let number : suc (i + 1) ≡ suc i + 1 = omega arith in
-    drop-at f xs i x rest is ∙ ap (λ n. f x ∷ map f (drop n (y ∷ xs))) number
+drop-at f xs i x below is = at_drop_more (map f) xs i x below ∙ ap (λ z. f z ∷ map f (drop (i + 1) xs)) (sym is)
 
 -- one more element that is read
 pub zip_more : {V D Y : Type 0} (R : D → Y → Type 0) (f : V → D) (vs : List V) (i : ℕ) (v : V) (ys : List Y) (y : Y) → i < length vs → v ≡ get_or vs i v

@@ -1,7 +1,7 @@
 -- The walk of checks along a list, and what it finds.
 use Rattle.std.proofs.Common.{◌≡◌, ℕ, suc, zero, ◌+◌, ◌<◌, List, [], ◌∷◌, ◌++◌, map, length, take, drop, get_or, Bool, true, false, cond, Some, None, refl, ap, ◌∙◌, sym, subst, arith}
 use Rattle.std.specs.List.{AllZip}
-use Rattle.std.proofs.lemmas.List.{map-append}
+use Rattle.std.proofs.lemmas.List.{at_drop_more, map-append}
 use Rattle.serde_json.specs.Data.{Data}
 use Rattle.iam_shape.specs.Shape.{Check, first_bad, each}
 use Rattle.iam_shape.specs.Code.Walk.{IsShapeFault}
@@ -35,12 +35,7 @@ first_bad_later (c ∷ cs) ds e = go c.1 (first_bad_later cs ds) e
 
 -- the values of a list from i on: that at i, and the rest
 pub drop-at : {X Y : Type 0} (f : X → Y) (xs : List X) (i : ℕ) (x : X) → i < length xs → x ≡ get_or xs i x → map f (drop i xs) ≡ f x ∷ map f (drop (i + 1) xs)
-drop-at f [] i x below is = absurd (omega arith)
-drop-at f (y ∷ xs) zero x below is = ap (λ z. f z ∷ map f xs) (sym is)
-drop-at f (y ∷ xs) (suc i) x below is =
-    let rest : i < length xs = omega arith in
-    let number : suc (i + 1) ≡ suc i + 1 = omega arith in
-    drop-at f xs i x rest is ∙ ap (λ n. f x ∷ map f (drop n (y ∷ xs))) number
+drop-at f xs i x below is = at_drop_more (map f) xs i x below ∙ ap (λ z. f z ∷ map f (drop (i + 1) xs)) (sym is)
 
 -- the checks of the values from i on: those of that at i, then the others
 pub each_here : {X : Type 0} (f : X → Data) (checks : ℕ → Data → List Check) (xs : List X) (i : ℕ) (x : X) (path : Path) → i < length xs → x ≡ get_or xs i x

@@ -1,15 +1,11 @@
 -- Lists that are read element by element.
 use Rattle.std.proofs.Common.{◌≡◌, ℕ, suc, zero, ◌+◌, ◌<◌, List, [], ◌∷◌, ◌++◌, map, length, take, drop, get_or, refl, ap, ◌∙◌, sym, subst, arith}
+use Rattle.std.proofs.lemmas.List.{at_drop_more}
 use Rattle.std.specs.List.{AllZip}
 
 -- the values of a list from i on: that at i, and the rest
 pub drop-at : {X Y : Type 0} (f : X → Y) (xs : List X) (i : ℕ) (x : X) → i < length xs → x ≡ get_or xs i x → map f (drop i xs) ≡ f x ∷ map f (drop (i + 1) xs)
-drop-at f [] i x below is = absurd (omega arith)
-drop-at f (y ∷ xs) zero x below is = ap (λ z. f z ∷ map f xs) (sym is)
-drop-at f (y ∷ xs) (suc i) x below is =
-    let rest : i < length xs = omega arith in
-    let number : suc (i + 1) ≡ suc i + 1 = omega arith in
-    drop-at f xs i x rest is ∙ ap (λ n. f x ∷ map f (drop n (y ∷ xs))) number
+drop-at f xs i x below is = at_drop_more (map f) xs i x below ∙ ap (λ z. f z ∷ map f (drop (i + 1) xs)) (sym is)
 
 -- one more element that is read
 pub zip_more : {V D Y : Type 0} (R : D → Y → Type 0) (f : V → D) (vs : List V) (i : ℕ) (v : V) (ys : List Y) (y : Y) → i < length vs → v ≡ get_or vs i v

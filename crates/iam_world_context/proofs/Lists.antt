@@ -1,16 +1,12 @@
 -- Lists that are walked element by element, and the first element of which something holds.
-use Rattle.std.proofs.Common.{◌≡◌, inl, inr, ℕ, suc, zero, ◌+◌, ◌<◌, List, [], ◌∷◌, ◌++◌, map, length, drop, get_or, ap, ◌∙◌, sym, arith}
+use Rattle.std.proofs.Common.{◌≡◌, inl, inr, ℕ, ◌+◌, ◌<◌, List, [], ◌∷◌, ◌++◌, map, length, drop, get_or, ap, ◌∙◌, sym}
+use Rattle.std.proofs.lemmas.List.{at_drop_more}
 use Rattle.std.specs.List.{AllByRecursion}
 use Rattle.iam_shape.specs.First.{IsFirst}
 
 -- the values of a list from i on: that at i, and the rest
 pub drop-at : {X Y : Type 0} (f : X → Y) (xs : List X) (i : ℕ) (x : X) → i < length xs → x ≡ get_or xs i x → map f (drop i xs) ≡ f x ∷ map f (drop (i + 1) xs)
-drop-at f [] i x below is = absurd (omega arith)
-drop-at f (y ∷ xs) zero x below is = ap (λ z. f z ∷ map f xs) (sym is)
-drop-at f (y ∷ xs) (suc i) x below is =
-    let rest : i < length xs = omega arith in
-    let number : suc (i + 1) ≡ suc i + 1 = omega arith in
-    drop-at f xs i x rest is ∙ ap (λ n. f x ∷ map f (drop n (y ∷ xs))) number
+drop-at f xs i x below is = at_drop_more (map f) xs i x below ∙ ap (λ z. f z ∷ map f (drop (i + 1) xs)) (sym is)
 
 -- the first of two lists is that of the first, or else that of the second
 pub first_here : {X : Type 0} (P : X → Type 0) (front back : List X) (x : X) → IsFirst P front x → IsFirst P (front ++ back) x
