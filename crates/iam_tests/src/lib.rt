@@ -10,6 +10,8 @@ mod lanes;
 #[cfg(test)]
 mod matching;
 #[cfg(test)]
+mod matrix;
+#[cfg(test)]
 mod policy;
 #[cfg(test)]
 mod report;

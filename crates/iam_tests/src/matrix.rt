@@ -1,0 +1,251 @@
+// Cuts, the matrix by many workers, and the gate that is told before each tile.
+ghost use Rattle.std.specs.Prelude.{◌≡◌, sum};
+ghost use Rattle.iam_world.specs.World.{world_cells};
+
+use iam_layers::{Decision, Layer, Place, Verdict, World};
+use iam_matrix::{Cut, CutFault, Gate, MatrixFault, Open, first, matrix, matrix_brief};
+use std::alloc::Global;
+use std::hint::spin_loop;
+use std::sync::atomic::{AtomicBool, Ordering};
+use std::sync::{Mutex, Wait};
+use std::test::Fail;
+use std::thread::Threads;
+
+#[test]
+fn cuts_of_given_lengths(rt: HostRuntime) -> Result<(), Fail> {
+    let alloc = rt.alloc();
+    let many = vec![in alloc; 1; 4097]?;
+    let refused: [(&[u64], u64, CutFault); 4] = [
+        (&[5, 6], 12, CutFault::WrongSum),
+        (&[0, 12], 12, CutFault::ZeroTile),
+        (&[18_446_744_073_709_551_615, 1], 0, CutFault::WrongSum),
+        (many.as_slice(), 4097, CutFault::TooMany),
+    ];
+    for (lengths, cells, fault) in refused {
+        assert_eq!(rt; Cut::new(alloc, lengths, cells).err(), Some(fault));
+    }
+    let accepted: [&[u64]; 2] = [&[12], &[5, 7]];
+    for lengths in accepted {
+        assert_eq!(rt; Cut::new(alloc, lengths, 12)?.lengths(), lengths);
+    }
+    Ok(())
+}
+
+#[test]
+fn even_cuts(rt: HostRuntime) -> Result<(), Fail> {
+    let alloc = rt.alloc();
+    for (tile, cells, fault) in [(1, 5000, CutFault::TooMany), (0, 0, CutFault::ZeroTile)] {
+        assert_eq!(rt; Cut::even(alloc, tile, cells).err(), Some(fault));
+    }
+    let accepted: [(u64, &[u64]); 2] = [(18_446_744_073_709_551_615, &[12]), (5, &[5, 5, 2])];
+    for (tile, lengths) in accepted {
+        assert_eq!(rt; Cut::even(alloc, tile, 12)?.lengths(), lengths);
+    }
+    Ok(())
+}
+
+/// Ann and bob may get what is in their own homes, and the role may do all of S3 to what is in bob's.
+const HOME: &str = r#"{"moment":0,"accounts":[{"id":"111122223333"}],"principals":[
+    {"user":"arn:aws:iam::111122223333:user/ann","identity":[{"Version":"2012-10-17","Statement":
+        {"Effect":"Allow","Action":"s3:GetObject","Resource":"arn:aws:s3:::home/${aws:username}/*"}}]},
+    {"user":"arn:aws:iam::111122223333:user/bob","identity":[{"Version":"2012-10-17","Statement":
+        {"Effect":"Allow","Action":"s3:GetObject","Resource":"arn:aws:s3:::home/${aws:username}/*"}}]},
+    {"role":"arn:aws:iam::111122223333:role/app/dev","session":"s1","identity":[{"Version":"2012-10-17","Statement":
+        [{"Effect":"Allow","Action":["s3:*"],"Resource":"arn:aws:s3:::home/bob/?"}]}]}],
+    "actions":["s3:GetObject","s3:PutObject"],"resources":[
+    {"arn":"arn:aws:s3:::home/ann/x","account":"111122223333"},
+    {"arn":"arn:aws:s3:::home/bob/x","account":"111122223333"}]}"#;
+
+/// Its allowed cells: ann gets from her home, bob from his, and the role gets from bob's and puts there.
+const ALLOWED: [usize; 4] = [0, 5, 9, 11];
+
+/// The same, but nobody has a policy.
+const DENIED: &str = r#"{"moment":0,"accounts":[{"id":"111122223333"}],"principals":[
+    {"user":"arn:aws:iam::111122223333:user/ann"},{"user":"arn:aws:iam::111122223333:user/bob"},
+    {"role":"arn:aws:iam::111122223333:role/app/dev","session":"s1"}],
+    "actions":["s3:GetObject","s3:PutObject"],"resources":[
+    {"arn":"arn:aws:s3:::home/ann/x","account":"111122223333"},
+    {"arn":"arn:aws:s3:::home/bob/x","account":"111122223333"}]}"#;
+
+/// Where the statement stands that allows a cell.
+const PLACE: Place = Place {
+    layer: Layer::Identity,
+    level: 0,
+    policy: 0,
+    statement: 0,
+};
+
+fn is_verdict(cell: usize, verdict: &Verdict) -> bool {
+    let is_allowed = ALLOWED.contains(&cell);
+    let statements = verdict.statements.as_slice();
+    let lacks = verdict.lacks.as_slice();
+    match verdict.decision {
+        Decision::Allowed => is_allowed && statements == [PLACE].as_slice() && lacks.is_empty(),
+        Decision::ExplicitDeny => false,
+        Decision::ImplicitDeny => {
+            !is_allowed && statements.is_empty() && lacks == [Layer::Identity].as_slice()
+        }
+    }
+}
+
+fn is_decision(cell: usize, decision: Decision) -> bool {
+    match decision {
+        Decision::Allowed => ALLOWED.contains(&cell),
+        Decision::ExplicitDeny => false,
+        Decision::ImplicitDeny => !ALLOWED.contains(&cell),
+    }
+}
+
+fn are_verdicts(verdicts: &[Verdict]) -> bool {
+    let mut cells = verdicts.iter().enumerate();
+    verdicts.len() == 12 && cells.all(|(cell, verdict)| is_verdict(cell, verdict))
+}
+
+fn are_decisions(decisions: &[Decision]) -> bool {
+    let mut cells = decisions.iter().enumerate();
+    decisions.len() == 12 && cells.all(|(cell, decision)| is_decision(cell, *decision))
+}
+
+/// Whether so many workers find what the policies of the twelve cells say.
+fn is_right<R: Threads + Sync>(
+    rt: &R,
+    alloc: Global,
+    world: &World,
+    cut: &Cut,
+    workers: u32,
+) -> Result<bool, MatrixFault>
+    requires { sum cut.now ≡ world_cells world.now }
+{
+    let verdicts = matrix(rt, alloc, world, cut, workers, &Open)?;
+    let decisions = matrix_brief(rt, alloc, world, cut, workers, &Open)?;
+    let cell = first(rt, alloc, world, cut, workers, &Open)?;
+    Ok(are_verdicts(&verdicts) && are_decisions(&decisions) && cell == Some(0))
+}
+
+/// Whether each call refuses so many workers.
+fn is_refused<R: Threads + Sync>(
+    rt: &R,
+    alloc: Global,
+    world: &World,
+    cut: &Cut,
+    workers: u32,
+) -> bool
+    requires { sum cut.now ≡ world_cells world.now }
+{
+    let refused = Some(MatrixFault::Workers);
+    matrix(rt, alloc, world, cut, workers, &Open).err() == refused
+        && matrix_brief(rt, alloc, world, cut, workers, &Open).err() == refused
+        && first(rt, alloc, world, cut, workers, &Open).err() == refused
+}
+
+#[test]
+fn the_matrix_by_each_cut_and_number_of_workers(rt: HostRuntime) -> Result<(), Fail> {
+    let alloc = rt.alloc();
+    let world = World::read(alloc, HOME.as_bytes())?;
+    let cells = world.cells();
+    let whole = Cut::new(alloc, &[12], cells)?;
+    let parts = Cut::new(alloc, &[5, 7], cells)?;
+    let single = Cut::even(alloc, 1, cells)?;
+    for workers in [1, 4, 64] {
+        assert!(rt; is_right(&rt, alloc, &world, &whole, workers)?);
+        assert!(rt; is_right(&rt, alloc, &world, &parts, workers)?);
+        assert!(rt; is_right(&rt, alloc, &world, &single, workers)?);
+    }
+    for workers in [0, 65] {
+        assert!(rt; is_refused(&rt, alloc, &world, &whole, workers));
+    }
+    Ok(())
+}
+
+/// A gate where tile 0 waits until tile 1 begins as well.
+#[derive(Drop)]
+struct Meeting {
+    is_next_begun: AtomicBool,
+    is_met: AtomicBool,
+}
+
+impl Meeting {
+    fn new() -> Meeting {
+        Meeting {
+            is_next_begun: AtomicBool::new(false),
+            is_met: AtomicBool::new(false),
+        }
+    }
+
+    /// Whether tile 1 begins within so many looks.
+    fn waits(&self) -> bool {
+        for _turn in 0..100_000_000u32 {
+            if self.is_next_begun.load(Ordering::SeqCst) {
+                return true;
+            }
+            spin_loop();
+        }
+        false
+    }
+
+    fn has_met(&self) -> bool {
+        self.is_met.load(Ordering::SeqCst)
+    }
+}
+
+impl Gate for Meeting {
+    fn before(&self, tile: u64) {
+        match tile {
+            0 => self.is_met.store(self.waits(), Ordering::SeqCst),
+            1 => self.is_next_begun.store(true, Ordering::SeqCst),
+            _ => {}
+        }
+    }
+}
+
+#[test]
+fn tiles_of_a_worker_that_waits_are_taken_by_the_other(rt: HostRuntime) -> Result<(), Fail> {
+    let alloc = rt.alloc();
+    let world = World::read(alloc, HOME.as_bytes())?;
+    let cut = Cut::even(alloc, 1, world.cells())?;
+    let gate = Meeting::new();
+    let verdicts = matrix(&rt, alloc, &world, &cut, 2, &gate)?;
+    assert!(rt; are_verdicts(&verdicts) && gate.has_met());
+    let gate = Meeting::new();
+    let decisions = matrix_brief(&rt, alloc, &world, &cut, 2, &gate)?;
+    assert!(rt; are_decisions(&decisions) && gate.has_met());
+    Ok(())
+}
+
+#[test]
+fn tiles_of_a_search_that_waits_are_taken_by_the_other(rt: HostRuntime) -> Result<(), Fail> {
+    let alloc = rt.alloc();
+    let world = World::read(alloc, DENIED.as_bytes())?;
+    let cut = Cut::even(alloc, 1, world.cells())?;
+    let gate = Meeting::new();
+    assert_eq!(rt; first(&rt, alloc, &world, &cut, 2, &gate)?, None);
+    assert!(rt; gate.has_met());
+    Ok(())
+}
+
+/// A gate that notes the tiles in the order in which they begin.
+#[derive(Drop)]
+struct Record<'a, R: Wait> {
+    rt: &'a R,
+    tiles: Mutex<Vec<u64>>,
+}
+
+impl<R: Wait> Gate for Record<'_, R> {
+    fn before(&self, tile: u64) {
+        let _noted = self.tiles.lock(self.rt).push(tile).is_ok();
+    }
+}
+
+#[test]
+fn a_search_skips_what_lies_behind_an_allowed_cell(rt: HostRuntime) -> Result<(), Fail> {
+    let alloc = rt.alloc();
+    let world = World::read(alloc, HOME.as_bytes())?;
+    let cut = Cut::even(alloc, 1, world.cells())?;
+    let gate = Record {
+        rt: &rt,
+        tiles: Mutex::new(Vec::new(alloc)),
+    };
+    assert_eq!(rt; first(&rt, alloc, &world, &cut, 1, &gate)?, Some(0));
+    assert_eq!(rt; gate.tiles.lock(&rt).as_slice(), [0].as_slice());
+    Ok(())
+}
