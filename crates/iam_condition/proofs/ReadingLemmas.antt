@@ -105,12 +105,6 @@ other_is_fine base d text off is fine =
     let tested = other_passes d text off is in
     record { on_grammar = λ bad. fine.value (rw is bad); draft = rw tested (both_false (has_texts base)) }
 
--- a fine text
-pub text_is_fine : (base : Base) (d : Data) (text : List ℕ) → as_str d ≡ Some text → scalar_text d ≡ Some text → IsFine base d → IsFineText base text
-text_is_fine base d text is scalar fine =
-    let draft = rw is at fine.text in
-    record { on_grammar = λ bad. fine.value (rw scalar bad); draft = draft }
-
 -- ---- all keys
 
 split : (t a b : Bool) → (t && (a || b)) ≡ false → ((t && a) ≡ false) × ((t && b) ≡ false)

@@ -5,16 +5,13 @@ use Rattle.std.proofs.lemmas.List.{length-set, get_or-set_same, get_or-set_other
 use Rattle.std.proofs.Math.Nat.{mod-eq_of_lt}
 use mathlib.Core.Option.{some}
 use lib.ListN.{get_elem?}
-use Rattle.atomic_table.specs.Table.{State, Me, keeps, Allows, Splits, Joins}
+use Rattle.atomic_table.specs.Table.{Me, keeps, Allows, Splits, Joins}
 use Rattle.iam_lanes.specs.declared.view.LaneView.{LaneView}
 use Rattle.iam_lanes.specs.LaneRule.{no_cell, times, times_taken, LaneRule, take, with_number, with_end, with_offer, with_look, joined, without_seat, one_seat, unseated}
 use Rattle.iam_lanes.specs.Words.{state_of, IsRuled, opened, FindsCount, tells_take, tells_offer, tells_look}
 use Rattle.iam_lanes.proofs.Events as event
 use Rattle.iam_lanes.proofs.Bounds as bound
 use Rattle.iam_lanes.proofs.Seating as seating
-
-abbrev Hold : List ℕ → ℕ → State (Unit {0}) LaneView → Type 0
-Hold lengths all = IsRuled lengths all
 
 module _ (lengths : List ℕ) (all : ℕ) where
   -- a take's words and views are those of the event

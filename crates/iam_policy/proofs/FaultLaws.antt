@@ -1,13 +1,13 @@
 -- The first fault of the document, or else the first of the first statement that has one, is the least of the set.
-use Rattle.std.proofs.Common.{◌≢◌, ◌≡◌, ◌↔◌, ◌⊎◌, ◌&&◌, ◌||◌, inl, inr, ℕ, suc, ◌+◌, ◌<◌, ◌≤◌, Bool, true, false, Option, Some, None, length, refl, sym, ap, subst, arith, IsTrue, cond, is_some, nat_lt}
-use Rattle.std.proofs.lemmas.Bool.{cases_order, eqb-true, ltb-false}
+use Rattle.std.proofs.Common.{◌≢◌, ◌≡◌, ◌↔◌, ◌⊎◌, ◌&&◌, ◌||◌, inl, inr, ℕ, suc, ◌+◌, ◌<◌, ◌≤◌, Bool, true, false, Option, Some, None, length, refl, sym, ap, subst, arith, IsTrue, cond, is_some}
+use Rattle.std.proofs.lemmas.Bool.{cases_order, eqb-true}
 use Rattle.std.proofs.lemmas.Option.{slice_get_within}
 use Rattle.std.specs.List.{slice_get}
 use Rattle.std.specs.Option.{option_map_or}
 use Rattle.serde_json.specs.Data.{Data}
 use Rattle.serde_json.specs.Find.{as_object}
 use Rattle.iam_policy.specs.declared.fault.Fault.{Fault}
-use Rattle.iam_policy.specs.declared.fault.Fault.TheVariants.{NotObject, BadStatement, BadValue, TooMany, OutOfMemory}
+use Rattle.iam_policy.specs.declared.fault.Fault.TheVariants.{BadStatement, BadValue, OutOfMemory}
 use Rattle.iam_policy.specs.declared.fault.Kind.{Kind}
 use Rattle.iam_policy.specs.declared.fault.Refused.{Refused}
 use Rattle.iam_policy.specs.Fault.{HasBadValueIn, document_has, statement_has, statement_line, statements_in, HasFault, IsAccepted, IsNotAfter, IsLeastFault}
@@ -160,14 +160,6 @@ accepted kind d none clean (Some i) other h =
     let found = statement-holds kind d i other h in
     let below : i < length (statements_in d) = slice_get_within (statements_in d) i found.0 found.1 in
     no_fault kind d i found.0 other found.1 (clean i found.0 below found.1) h
-
--- a document without a fault of its own has few statements
-pub few_statements : (kind : Kind) (d : Data) → document_fault kind d ≡ None → length (statements_in d) ≤ 4096
-few_statements kind d none = go (is_some (as_object d)) (document_clean kind d none NotObject) (document_clean kind d none TooMany)
-  where
-    go : (b : Bool) → cond b false true ≡ false → cond b (nat_lt 4096 (length (statements_in d))) false ≡ false → length (statements_in d) ≤ 4096
-    go true object few = ltb-false 4096 (length (statements_in d)) few
-    go false object few = cc
 
 -- one more statement without a fault
 pub faultless_more : (kind : Kind) (d : Data) (i : ℕ) (here : Data) → AreFaultless kind d i → slice_get (statements_in d) i ≡ Some here

@@ -11,9 +11,8 @@ use Rattle.iam_policy.specs.declared.fault.Fault.TheVariants.{BadEffect, ActionC
 use Rattle.iam_policy.specs.declared.fault.Kind.{Kind}
 use Rattle.iam_text.specs.Draft.{IsDraft}
 use Rattle.iam_condition.specs.Condition.{has_bad_text}
-use Rattle.iam_policy.specs.Element.{both, neither, effect_of, has_text, stands_as, texts_of}
+use Rattle.iam_policy.specs.Element.{both, neither, effect_of, stands_as, texts_of}
 use Rattle.iam_policy.specs.Fault.{has_bad_variable}
-use Rattle.iam_policy.specs.Grammar.{is_bad_variable}
 use Rattle.iam_policy.specs.Reading.{ResourceElement, ReadsResource, ReadsText, resource_name}
 use Rattle.iam_policy.specs.Code.First.{HasLeast}
 use Rattle.iam_policy.specs.Code.Readable.{IsReadable}
@@ -82,9 +81,3 @@ resource_read d s r negated value stands same texts =
     let P : Bool → Type 0 = λ n. IsSome (get (resource_name n) s) × AllZip (ReadsText d) (texts_of (get (resource_name n) s)) r.texts in
     let Q : Option Data → Type 0 = λ o. AllZip (ReadsText d) (texts_of o) r.texts in
     subst P (sym same) (ap is_some stands, subst Q (sym stands) texts)
-
--- of two elements without a bad variable, the one that stands there has none
-pub without_bad : (s : Data) (negated : Bool) (value : Data) → has_bad_variable s ≡ false → get (resource_name negated) s ≡ Some value
-    → has_text is_bad_variable (Some value) ≡ false
-without_bad s false value clean stands = ap (has_text is_bad_variable) (sym stands) ∙ (first_false _ _ clean)
-without_bad s true value clean stands = ap (has_text is_bad_variable) (sym stands) ∙ (second_false _ _ clean)

@@ -115,9 +115,6 @@ both_rows {A} {B} world row from xs ys rows others first second = record {
 
 -- ---- what a text gains
 
-pub adds_none : {A : Type 0} (world : WorldValue) (row : ℕ → CellTexts → A → List ℕ) (from : ℕ) (text : List ℕ) → AddsRows world row from [] text text
-adds_none world row from text = record { rows = []; are = no_rows world row from; there = λ i h. absurd (omega arith); text = sym (append-nil text) }
-
 adds_one : {A : Type 0} (world : WorldValue) (row : ℕ → CellTexts → A → List ℕ) (from : ℕ) (texts : CellTexts) (entry : A) (old new : List ℕ) → IsCellTexts world from texts
     → new ≡ old ++ row from texts entry → AddsRows world row from (entry ∷ []) old new
 adds_one world row from texts entry old new is e = record {
@@ -166,7 +163,3 @@ adds_next world row p a r all entry cell start old new inside at is before adds 
     let next : cell ≡ 0 + length (take cell all) = omega (arith, length-take cell all) in
     let list : take (cell + 1) all ≡ take cell all ++ entry ∷ [] = take_more all cell entry inside ∙ ap (λ x. take cell all ++ x ∷ []) (sym at) in
     subst (λ l. AddsRows world row 0 l start new) (sym list) (adds_more world row 0 cell p a r (take cell all) entry start old new next is before adds)
-
-pub adds_behind : {A : Type 0} (world : WorldValue) (row : ℕ → CellTexts → A → List ℕ) (from : ℕ) (entries : List A) (text rows : List ℕ) → AddsRows world row from entries [] rows
-    → AddsRows world row from entries text (text ++ rows)
-adds_behind world row from entries text rows h = record { rows = h.rows; are = h.are; there = h.there; text = ap (λ t. text ++ t) h.text }

@@ -1,13 +1,10 @@
 -- The faults of bytes and those of what they say.
-use Rattle.std.proofs.Common.{◌≡◌, inr, ℕ, ◌≤◌, List, length, Some, None, sym, ◌∙◌, subst, arith}
+use Rattle.std.proofs.Common.{◌≡◌, inr, ℕ, ◌≤◌, List, length, Some, None, sym, ◌∙◌, subst}
 use Rattle.serde_json.specs.Data.{Data}
-use Rattle.iam_world.specs.Code.ViewFault.{ViewHasFault, IsFirstViewFault, shape_fault}
-use Rattle.iam_shape.specs.Code.Walk.{IsShapeFault}
-use Rattle.iam_shape.specs.declared.fault.ShapeFault.{ShapeFault}
-use Rattle.iam_shape.specs.declared.fault.ShapeFault.TheVariants as shape
+use Rattle.iam_world.specs.Code.ViewFault.{ViewHasFault, IsFirstViewFault}
 use Rattle.iam_shape.specs.Shape.{first_bad, shape_checks}
 use Rattle.iam_shape.specs.View.{WorldView, IsView}
-use Rattle.iam_world.specs.WorldFault.{HasView, IsFirstWorldFault, IsJson, WorldHasFault, world_number_of}
+use Rattle.iam_world.specs.WorldFault.{HasView, IsFirstWorldFault, IsJson, WorldHasFault}
 use Rattle.iam_world.specs.declared.fault.WorldFault.{WorldFault}
 use Rattle.iam_world.specs.declared.fault.WorldFault.TheVariants.{NotJson, BadShape, BadRequester, BadAction, BadResourceArn, UnknownAccount, Context, Policy, TooLarge, OutOfMemory}
 
@@ -54,23 +51,6 @@ from_view bytes d world json says (Policy path refused) has = (d, json, (world, 
 from_view bytes d world json says TooLarge has = (d, json, (world, says, has))
 
 -- ---- the first fault
-
-some-number : (fault : WorldFault) → 1 ≤ world_number_of fault
-some-number NotJson = omega arith
-some-number fault = omega arith
-
--- bytes that are no JSON text
-pub first_no_json : (bytes : List ℕ) → length bytes ≤ 8388608 → ((d : Data) → ¬ IsJson bytes d) → IsFirstWorldFault bytes NotJson
-first_no_json bytes short none = inr (short, record { holds = none; least = λ other has. some-number other })
-
-past_json : (bytes : List ℕ) (d : Data) → IsJson bytes d → (fault : WorldFault) → WorldHasFault bytes fault → 2 ≤ world_number_of fault
-past_json bytes d json NotJson has = absurd (has d json)
-past_json bytes d json fault has = omega arith
-
--- a document of another shape
-pub first_of_shape : (bytes : List ℕ) (d : Data) → length bytes ≤ 8388608 → IsJson bytes d → (fault : ShapeFault) → IsShapeFault (shape_checks d) fault → IsFirstWorldFault bytes (shape_fault fault)
-first_of_shape bytes d short json (shape.At path) bad = inr (short, record { holds = (d, json, bad); least = past_json bytes d json })
-first_of_shape bytes d short json shape.OutOfMemory bad = absurd bad
 
 -- a document of the right shape
 pub first_of_view : (one_view : OneView) (bytes : List ℕ) (d : Data) (world : WorldView) → length bytes ≤ 8388608 → IsJson bytes d → first_bad (shape_checks d) ≡ None → IsView d world
