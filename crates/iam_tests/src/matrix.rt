@@ -138,21 +138,34 @@ fn is_refused<R: Threads + Sync>(
         && first(rt, alloc, world, cut, workers, &Open).err() == refused
 }
 
+/// Whether 1, 4 and 64 workers find it in tiles of these lengths.
+fn are_right<R: Threads + Sync>(rt: &R, alloc: Global, lengths: &[u64]) -> Result<bool, Fail> {
+    let world = World::read(alloc, HOME.as_bytes())?;
+    let cut = Cut::new(alloc, lengths, world.cells())?;
+    for workers in [1, 4, 64] {
+        if !is_right(rt, alloc, &world, &cut, workers)? {
+            return Ok(false);
+        }
+    }
+    Ok(true)
+}
+
 #[test]
 fn the_matrix_by_each_cut_and_number_of_workers(rt: HostRuntime) -> Result<(), Fail> {
+    let cuts: [&[u64]; 3] = [&[12], &[5, 7], &[1, 1, 1, 1, 1, 1, 1, 1, 1, 1, 1, 1]];
+    for lengths in cuts {
+        assert!(rt; are_right(&rt, rt.alloc(), lengths)?);
+    }
+    Ok(())
+}
+
+#[test]
+fn no_worker_and_65_workers(rt: HostRuntime) -> Result<(), Fail> {
     let alloc = rt.alloc();
     let world = World::read(alloc, HOME.as_bytes())?;
-    let cells = world.cells();
-    let whole = Cut::new(alloc, &[12], cells)?;
-    let parts = Cut::new(alloc, &[5, 7], cells)?;
-    let single = Cut::even(alloc, 1, cells)?;
-    for workers in [1, 4, 64] {
-        assert!(rt; is_right(&rt, alloc, &world, &whole, workers)?);
-        assert!(rt; is_right(&rt, alloc, &world, &parts, workers)?);
-        assert!(rt; is_right(&rt, alloc, &world, &single, workers)?);
-    }
+    let cut = Cut::even(alloc, 12, world.cells())?;
     for workers in [0, 65] {
-        assert!(rt; is_refused(&rt, alloc, &world, &whole, workers));
+        assert!(rt; is_refused(&rt, alloc, &world, &cut, workers));
     }
     Ok(())
 }
