@@ -138,7 +138,7 @@ fn is_refused<R: Threads + Sync>(
         && first(rt, alloc, world, cut, workers, &Open).err() == refused
 }
 
-/// Whether 1, 4 and 64 workers find it in tiles of these lengths.
+/// Whether 1, 4 and 64 workers do so in tiles of these lengths.
 fn are_right<R: Threads + Sync>(rt: &R, alloc: Global, lengths: &[u64]) -> Result<bool, Fail> {
     let world = World::read(alloc, HOME.as_bytes())?;
     let cut = Cut::new(alloc, lengths, world.cells())?;
