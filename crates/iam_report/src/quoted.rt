@@ -111,11 +111,4 @@ impl Quoted {
             resources: resources(alloc, world, format)?,
         })
     }
-
-    /// The format that the texts are quoted for.
-    pub fn format(&self) -> Format
-        ensures { result ≡ self.now.format }
-    {
-        self.format
-    }
 }
