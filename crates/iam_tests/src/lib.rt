@@ -12,6 +12,8 @@ mod matching;
 #[cfg(test)]
 mod matrix;
 #[cfg(test)]
+mod options;
+#[cfg(test)]
 mod policy;
 #[cfg(test)]
 mod report;

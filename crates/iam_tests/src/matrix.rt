@@ -3,7 +3,10 @@ ghost use Rattle.std.specs.Prelude.{◌≡◌, sum};
 ghost use Rattle.iam_world.specs.World.{world_cells};
 
 use iam_layers::{Decision, Layer, Place, Verdict, World};
-use iam_matrix::{Cut, CutFault, Gate, MatrixFault, Open, first, matrix, matrix_brief};
+use iam_matrix::{
+    Cut, CutFault, Gate, MatrixFault, Open, csv_brief, csv_text, first, json_brief, json_text,
+    matrix, matrix_brief,
+};
 use std::alloc::Global;
 use std::hint::spin_loop;
 use std::sync::atomic::{AtomicBool, Ordering};
@@ -58,6 +61,63 @@ const HOME: &str = r#"{"moment":0,"accounts":[{"id":"111122223333"}],"principals
 
 /// Its allowed cells: ann gets from her home, bob from his, and the role gets from bob's and puts there.
 const ALLOWED: [usize; 4] = [0, 5, 9, 11];
+
+/// Its four reports.
+const CSV: &str = "cell,principal,action,resource,decision,statements,lacks\n\
+    0,arn:aws:iam::111122223333:user/ann,s3:GetObject,arn:aws:s3:::home/ann/x,allowed,identity/0/0,\n\
+    1,arn:aws:iam::111122223333:user/ann,s3:GetObject,arn:aws:s3:::home/bob/x,implicitDeny,,identity\n\
+    2,arn:aws:iam::111122223333:user/ann,s3:PutObject,arn:aws:s3:::home/ann/x,implicitDeny,,identity\n\
+    3,arn:aws:iam::111122223333:user/ann,s3:PutObject,arn:aws:s3:::home/bob/x,implicitDeny,,identity\n\
+    4,arn:aws:iam::111122223333:user/bob,s3:GetObject,arn:aws:s3:::home/ann/x,implicitDeny,,identity\n\
+    5,arn:aws:iam::111122223333:user/bob,s3:GetObject,arn:aws:s3:::home/bob/x,allowed,identity/0/0,\n\
+    6,arn:aws:iam::111122223333:user/bob,s3:PutObject,arn:aws:s3:::home/ann/x,implicitDeny,,identity\n\
+    7,arn:aws:iam::111122223333:user/bob,s3:PutObject,arn:aws:s3:::home/bob/x,implicitDeny,,identity\n\
+    8,arn:aws:sts::111122223333:assumed-role/dev/s1,s3:GetObject,arn:aws:s3:::home/ann/x,implicitDeny,,identity\n\
+    9,arn:aws:sts::111122223333:assumed-role/dev/s1,s3:GetObject,arn:aws:s3:::home/bob/x,allowed,identity/0/0,\n\
+    10,arn:aws:sts::111122223333:assumed-role/dev/s1,s3:PutObject,arn:aws:s3:::home/ann/x,implicitDeny,,identity\n\
+    11,arn:aws:sts::111122223333:assumed-role/dev/s1,s3:PutObject,arn:aws:s3:::home/bob/x,allowed,identity/0/0,\n";
+
+const CSV_BRIEF: &str = "cell,principal,action,resource,decision\n\
+    0,arn:aws:iam::111122223333:user/ann,s3:GetObject,arn:aws:s3:::home/ann/x,allowed\n\
+    1,arn:aws:iam::111122223333:user/ann,s3:GetObject,arn:aws:s3:::home/bob/x,implicitDeny\n\
+    2,arn:aws:iam::111122223333:user/ann,s3:PutObject,arn:aws:s3:::home/ann/x,implicitDeny\n\
+    3,arn:aws:iam::111122223333:user/ann,s3:PutObject,arn:aws:s3:::home/bob/x,implicitDeny\n\
+    4,arn:aws:iam::111122223333:user/bob,s3:GetObject,arn:aws:s3:::home/ann/x,implicitDeny\n\
+    5,arn:aws:iam::111122223333:user/bob,s3:GetObject,arn:aws:s3:::home/bob/x,allowed\n\
+    6,arn:aws:iam::111122223333:user/bob,s3:PutObject,arn:aws:s3:::home/ann/x,implicitDeny\n\
+    7,arn:aws:iam::111122223333:user/bob,s3:PutObject,arn:aws:s3:::home/bob/x,implicitDeny\n\
+    8,arn:aws:sts::111122223333:assumed-role/dev/s1,s3:GetObject,arn:aws:s3:::home/ann/x,implicitDeny\n\
+    9,arn:aws:sts::111122223333:assumed-role/dev/s1,s3:GetObject,arn:aws:s3:::home/bob/x,allowed\n\
+    10,arn:aws:sts::111122223333:assumed-role/dev/s1,s3:PutObject,arn:aws:s3:::home/ann/x,implicitDeny\n\
+    11,arn:aws:sts::111122223333:assumed-role/dev/s1,s3:PutObject,arn:aws:s3:::home/bob/x,allowed\n";
+
+const JSON: &str =
+    "[{\"action\":\"s3:GetObject\",\"cell\":0,\"decision\":\"allowed\",\"lacks\":[],\"principal\":\"arn:aws:iam::111122223333:user/ann\",\"resource\":\"arn:aws:s3:::home/ann/x\",\"statements\":[\"identity/0/0\"]},\
+    {\"action\":\"s3:GetObject\",\"cell\":1,\"decision\":\"implicitDeny\",\"lacks\":[\"identity\"],\"principal\":\"arn:aws:iam::111122223333:user/ann\",\"resource\":\"arn:aws:s3:::home/bob/x\",\"statements\":[]},\
+    {\"action\":\"s3:PutObject\",\"cell\":2,\"decision\":\"implicitDeny\",\"lacks\":[\"identity\"],\"principal\":\"arn:aws:iam::111122223333:user/ann\",\"resource\":\"arn:aws:s3:::home/ann/x\",\"statements\":[]},\
+    {\"action\":\"s3:PutObject\",\"cell\":3,\"decision\":\"implicitDeny\",\"lacks\":[\"identity\"],\"principal\":\"arn:aws:iam::111122223333:user/ann\",\"resource\":\"arn:aws:s3:::home/bob/x\",\"statements\":[]},\
+    {\"action\":\"s3:GetObject\",\"cell\":4,\"decision\":\"implicitDeny\",\"lacks\":[\"identity\"],\"principal\":\"arn:aws:iam::111122223333:user/bob\",\"resource\":\"arn:aws:s3:::home/ann/x\",\"statements\":[]},\
+    {\"action\":\"s3:GetObject\",\"cell\":5,\"decision\":\"allowed\",\"lacks\":[],\"principal\":\"arn:aws:iam::111122223333:user/bob\",\"resource\":\"arn:aws:s3:::home/bob/x\",\"statements\":[\"identity/0/0\"]},\
+    {\"action\":\"s3:PutObject\",\"cell\":6,\"decision\":\"implicitDeny\",\"lacks\":[\"identity\"],\"principal\":\"arn:aws:iam::111122223333:user/bob\",\"resource\":\"arn:aws:s3:::home/ann/x\",\"statements\":[]},\
+    {\"action\":\"s3:PutObject\",\"cell\":7,\"decision\":\"implicitDeny\",\"lacks\":[\"identity\"],\"principal\":\"arn:aws:iam::111122223333:user/bob\",\"resource\":\"arn:aws:s3:::home/bob/x\",\"statements\":[]},\
+    {\"action\":\"s3:GetObject\",\"cell\":8,\"decision\":\"implicitDeny\",\"lacks\":[\"identity\"],\"principal\":\"arn:aws:sts::111122223333:assumed-role/dev/s1\",\"resource\":\"arn:aws:s3:::home/ann/x\",\"statements\":[]},\
+    {\"action\":\"s3:GetObject\",\"cell\":9,\"decision\":\"allowed\",\"lacks\":[],\"principal\":\"arn:aws:sts::111122223333:assumed-role/dev/s1\",\"resource\":\"arn:aws:s3:::home/bob/x\",\"statements\":[\"identity/0/0\"]},\
+    {\"action\":\"s3:PutObject\",\"cell\":10,\"decision\":\"implicitDeny\",\"lacks\":[\"identity\"],\"principal\":\"arn:aws:sts::111122223333:assumed-role/dev/s1\",\"resource\":\"arn:aws:s3:::home/ann/x\",\"statements\":[]},\
+    {\"action\":\"s3:PutObject\",\"cell\":11,\"decision\":\"allowed\",\"lacks\":[],\"principal\":\"arn:aws:sts::111122223333:assumed-role/dev/s1\",\"resource\":\"arn:aws:s3:::home/bob/x\",\"statements\":[\"identity/0/0\"]}]\n";
+
+const JSON_BRIEF: &str =
+    "[{\"action\":\"s3:GetObject\",\"cell\":0,\"decision\":\"allowed\",\"principal\":\"arn:aws:iam::111122223333:user/ann\",\"resource\":\"arn:aws:s3:::home/ann/x\"},\
+    {\"action\":\"s3:GetObject\",\"cell\":1,\"decision\":\"implicitDeny\",\"principal\":\"arn:aws:iam::111122223333:user/ann\",\"resource\":\"arn:aws:s3:::home/bob/x\"},\
+    {\"action\":\"s3:PutObject\",\"cell\":2,\"decision\":\"implicitDeny\",\"principal\":\"arn:aws:iam::111122223333:user/ann\",\"resource\":\"arn:aws:s3:::home/ann/x\"},\
+    {\"action\":\"s3:PutObject\",\"cell\":3,\"decision\":\"implicitDeny\",\"principal\":\"arn:aws:iam::111122223333:user/ann\",\"resource\":\"arn:aws:s3:::home/bob/x\"},\
+    {\"action\":\"s3:GetObject\",\"cell\":4,\"decision\":\"implicitDeny\",\"principal\":\"arn:aws:iam::111122223333:user/bob\",\"resource\":\"arn:aws:s3:::home/ann/x\"},\
+    {\"action\":\"s3:GetObject\",\"cell\":5,\"decision\":\"allowed\",\"principal\":\"arn:aws:iam::111122223333:user/bob\",\"resource\":\"arn:aws:s3:::home/bob/x\"},\
+    {\"action\":\"s3:PutObject\",\"cell\":6,\"decision\":\"implicitDeny\",\"principal\":\"arn:aws:iam::111122223333:user/bob\",\"resource\":\"arn:aws:s3:::home/ann/x\"},\
+    {\"action\":\"s3:PutObject\",\"cell\":7,\"decision\":\"implicitDeny\",\"principal\":\"arn:aws:iam::111122223333:user/bob\",\"resource\":\"arn:aws:s3:::home/bob/x\"},\
+    {\"action\":\"s3:GetObject\",\"cell\":8,\"decision\":\"implicitDeny\",\"principal\":\"arn:aws:sts::111122223333:assumed-role/dev/s1\",\"resource\":\"arn:aws:s3:::home/ann/x\"},\
+    {\"action\":\"s3:GetObject\",\"cell\":9,\"decision\":\"allowed\",\"principal\":\"arn:aws:sts::111122223333:assumed-role/dev/s1\",\"resource\":\"arn:aws:s3:::home/bob/x\"},\
+    {\"action\":\"s3:PutObject\",\"cell\":10,\"decision\":\"implicitDeny\",\"principal\":\"arn:aws:sts::111122223333:assumed-role/dev/s1\",\"resource\":\"arn:aws:s3:::home/ann/x\"},\
+    {\"action\":\"s3:PutObject\",\"cell\":11,\"decision\":\"allowed\",\"principal\":\"arn:aws:sts::111122223333:assumed-role/dev/s1\",\"resource\":\"arn:aws:s3:::home/bob/x\"}]\n";
 
 /// The same, but nobody has a policy.
 const DENIED: &str = r#"{"moment":0,"accounts":[{"id":"111122223333"}],"principals":[
@@ -170,6 +230,28 @@ fn no_worker_and_65_workers(rt: HostRuntime) -> Result<(), Fail> {
     Ok(())
 }
 
+#[test]
+fn the_reports_of_the_twelve_cells(rt: HostRuntime) -> Result<(), Fail> {
+    let alloc = rt.alloc();
+    let world = World::read(alloc, HOME.as_bytes())?;
+    let cut = Cut::even(alloc, 5, world.cells())?;
+    let verdicts = matrix(&rt, alloc, &world, &cut, 2, &Open)?;
+    assert!(rt; csv_text(alloc, &world, &verdicts)?.as_slice() == CSV.as_bytes());
+    assert!(rt; json_text(alloc, &world, &verdicts)?.as_slice() == JSON.as_bytes());
+    Ok(())
+}
+
+#[test]
+fn the_brief_reports_of_the_twelve_cells(rt: HostRuntime) -> Result<(), Fail> {
+    let alloc = rt.alloc();
+    let world = World::read(alloc, HOME.as_bytes())?;
+    let cut = Cut::even(alloc, 5, world.cells())?;
+    let decisions = matrix_brief(&rt, alloc, &world, &cut, 2, &Open)?;
+    assert!(rt; csv_brief(alloc, &world, &decisions)?.as_slice() == CSV_BRIEF.as_bytes());
+    assert!(rt; json_brief(alloc, &world, &decisions)?.as_slice() == JSON_BRIEF.as_bytes());
+    Ok(())
+}
+
 /// A gate where tile 0 waits until tile 1 begins as well.
 #[derive(Drop)]
 struct Meeting {
@@ -260,5 +342,22 @@ fn a_search_skips_what_lies_behind_an_allowed_cell(rt: HostRuntime) -> Result<()
     };
     assert_eq!(rt; first(&rt, alloc, &world, &cut, 1, &gate)?, Some(0));
     assert_eq!(rt; gate.tiles.lock(&rt).as_slice(), [0].as_slice());
+    Ok(())
+}
+
+#[test]
+fn the_gate_is_told_of_each_tile_once(rt: HostRuntime) -> Result<(), Fail> {
+    let alloc = rt.alloc();
+    let world = World::read(alloc, HOME.as_bytes())?;
+    let cut = Cut::even(alloc, 3, world.cells())?;
+    let gate = Record {
+        rt: &rt,
+        tiles: Mutex::new(Vec::new(alloc)),
+    };
+    let _verdicts = matrix(&rt, alloc, &world, &cut, 4, &gate)?;
+    let _decisions = matrix_brief(&rt, alloc, &world, &cut, 4, &gate)?;
+    let mut tiles = gate.tiles.lock(&rt);
+    tiles.sort_unstable();
+    assert_eq!(rt; tiles.as_slice(), [0, 0, 1, 1, 2, 2, 3, 3].as_slice());
     Ok(())
 }
