@@ -114,9 +114,10 @@ fn input_fault(fault: InputFault) -> RunFault
 
 /// Reads a world, and writes the report that the options ask for: the whole report is made before its first byte is
 /// written. At most 8,388,609 bytes are read. The first fault in this order ends the run: `Read`, `World`, `NoSuchCell`,
-/// `Cut`, `Matrix`, `Write`; that there is no memory can come at any point before the writing: as `Cut` or `Matrix`
-/// where a cut or the workers find none, as `OutOfMemory` elsewhere. After every fault except `Write` nothing was
-/// written; after `Write` a beginning of the report. `Matrix` and `First` start threads, and wait for their end.
+/// `Cut`, `Matrix`, `Write`; that there is no memory can come at any point before the writing: as `World` while the world is
+/// read, as `Cut` while the cells are cut, as `Matrix` while the matrix or the first allowed cell and its text are made,
+/// as `OutOfMemory` elsewhere. After every fault except `Write` nothing was written; after `Write` a beginning of the
+/// report. `Matrix` and `First` start threads, and wait for their end.
 pub fn run<T: Threads + Sync, R: Read, W: Write>(
     rt: &T,
     alloc: Global,
