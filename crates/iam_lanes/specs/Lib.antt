@@ -1,5 +1,3 @@
 pub mod LaneRule
-pub mod Words
 pub mod Lanes
-pub mod Fields
-pub mod Closing
+pub mod Code

@@ -2,7 +2,7 @@
 ghost use Rattle.std.specs.Prelude.{◌≡◌, ℕ, ◌+◌, ◌<◌, ◌≤◌, [], length, vec_len, All, IfSome, IfNone, unwrap_or};
 ghost use Rattle.std.specs.Mem.Slots.{slots_items, slots_len, IsFull};
 ghost use Rattle.iam_lanes.specs.LaneRule.{no_cell};
-ghost use Rattle.iam_lanes.specs.Closing.{Gathers, passed_below};
+ghost use Rattle.iam_lanes.specs.Code.Closing.{Gathers, passed_below};
 
 use crate::rule::{LanePass, LaneTable, Seats};
 use crate::seat::LaneSeat;

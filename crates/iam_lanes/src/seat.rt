@@ -1,6 +1,6 @@
 // A seat of the lanes, as a caller holds it.
 ghost use Rattle.std.specs.Prelude.{◌≡◌, []};
-ghost use Rattle.iam_lanes.specs.Fields.{seat_view};
+ghost use Rattle.iam_lanes.specs.Code.Fields.{seat_view};
 
 use crate::rule::LanePass;
 use crate::view::LaneView;
@@ -20,7 +20,7 @@ pub struct LaneSeat {
 impl Model for LaneSeat {
     ghost use Rattle.std.specs.Prelude.{ℕ};
     ghost use Rattle.iam_lanes.specs.Lanes.{SeatView};
-    ghost use Rattle.iam_lanes.specs.Fields.{seat_view, IsSeatOf};
+    ghost use Rattle.iam_lanes.specs.Code.Fields.{seat_view, IsSeatOf};
 
     ghost Value = { SeatView };
 

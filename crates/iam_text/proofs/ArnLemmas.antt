@@ -6,7 +6,7 @@ use Rattle.std.specs.declared.option.Option.{Option}
 use Rattle.std.specs.Prelude.{Some, None}
 use Rattle.std.specs.List.{AllByRecursion, join_with_byte}
 use Rattle.iam_text.specs.Arn.{colons, colon, HasNoColon, IsArn}
-use Rattle.iam_text.specs.Cut.{IsCutFirst}
+use Rattle.iam_text.specs.Code.Cut.{IsCutFirst}
 
 -- the colons, counted from the front
 abbrev count : List ℕ → ℕ

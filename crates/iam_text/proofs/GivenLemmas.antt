@@ -2,7 +2,7 @@
 use Rattle.std.proofs.Common.{◌≡◌, ℕ, List, [], ◌∷◌, map, refl}
 use Rattle.std.proofs.lemmas.List.Elements.{All-nil, All-head, All-tail, All-cons}
 use Rattle.iam_text.specs.Glob.{Equals, sign_by}
-use Rattle.iam_text.specs.Walk.{AreGiven, IsGiven, Walks}
+use Rattle.iam_text.specs.Code.Walk.{AreGiven, IsGiven, Walks}
 use Rattle.iam_text.specs.declared.sign.Sign.{Sign}
 use Rattle.iam_text.specs.declared.sign.Sign.TheVariants.{Given, One, Any}
 

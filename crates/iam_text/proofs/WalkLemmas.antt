@@ -7,7 +7,7 @@ use Rattle.std.proofs.lemmas.Str.{encodes-chars, chars-nil}
 use Rattle.std.specs.List.{AllZip, concat}
 use Rattle.std.specs.Str.{chars, IsUtf8, encode_utf8_all}
 use Rattle.iam_text.specs.Glob.{Fits, Matches, MatchesFold, folded, sign_by}
-use Rattle.iam_text.specs.Walk.{Covers, Stops, Later, Walks, Reaches, IsFront, Settles, signs_left}
+use Rattle.iam_text.specs.Code.Walk.{Covers, Stops, Later, Walks, Reaches, IsFront, Settles, signs_left}
 use Rattle.iam_text.specs.declared.walk.Front.{Front}
 use Rattle.iam_text.specs.declared.walk.Front.TheVariants.{Whole, Star, Off}
 use Rattle.iam_text.specs.declared.sign.Sign.{Sign}

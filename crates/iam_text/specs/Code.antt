@@ -1,2 +1,4 @@
+pub mod Cut
 pub mod Forms
 pub mod Templates
+pub mod Walk

@@ -2,10 +2,8 @@ pub mod Action
 pub mod Arn
 pub mod Characters
 pub mod Code
-pub mod Cut
 pub mod Draft
 pub mod Glob
 pub mod Parts
 pub mod Template
 pub mod Variables
-pub mod Walk

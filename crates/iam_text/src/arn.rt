@@ -1,6 +1,6 @@
 ghost use Rattle.std.specs.Prelude.{◌≡◌, MatchOption};
 ghost use Rattle.iam_text.specs.Arn.{colons};
-ghost use Rattle.iam_text.specs.Cut.{IsCutFirst};
+ghost use Rattle.iam_text.specs.Code.Cut.{IsCutFirst};
 
 /// An ARN, cut into its six parts: `arn:partition:service:region:account:resource`.
 ///

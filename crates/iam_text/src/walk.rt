@@ -1,7 +1,7 @@
 ghost use Rattle.std.specs.Prelude.{◌≡◌, ◌↔◌, ◌≤◌, IsTrue, IfSome, IfNone, length, map};
 ghost use Rattle.std.specs.Str.{chars};
 ghost use Rattle.iam_text.specs.Glob.{Equals, sign_by};
-ghost use Rattle.iam_text.specs.Walk.{AreGiven, char_in, Covers, GoesOn, Stops, Walks, IsFront, Settles, Later, signs_left};
+ghost use Rattle.iam_text.specs.Code.Walk.{AreGiven, char_in, Covers, GoesOn, Stops, Walks, IsFront, Settles, Later, signs_left};
 
 use crate::sign::Sign;
 

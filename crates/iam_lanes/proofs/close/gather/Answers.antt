@@ -1,7 +1,7 @@
 use Rattle.std.proofs.Common.{◌≡◌, Some, ap, sym, subst, ◌∙◌}
 use Rattle.std.proofs.lemmas.List.Elements.{All-pop}
 use Rattle.iam_lanes.specs.Lanes.{SeatView}
-use Rattle.iam_lanes.specs.Closing.{Gathers}
+use Rattle.iam_lanes.specs.Code.Closing.{Gathers}
 use Rattle.iam_lanes.proofs.Steps.{joins}
 use Rattle.iam_lanes.proofs.Closing.{gather_more}
 use Rattle.iam_lanes.proofs.close.gather.Goals as goal

@@ -1,5 +1,5 @@
 use Rattle.std.proofs.Common.{◌≡◌, vec_len, All}
-use Rattle.iam_lanes.specs.Closing.{Gathers}
+use Rattle.iam_lanes.specs.Code.Closing.{Gathers}
 use Rattle.iam_lanes.proofs.close.gather.Given as goal
 
 abbrev pub invariant-loop-seat : goal.invariant-loop-seat

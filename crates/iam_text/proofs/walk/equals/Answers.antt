@@ -1,6 +1,6 @@
 use Rattle.std.proofs.Common.{map}
 use Rattle.std.specs.Str.{chars}
-use Rattle.iam_text.specs.Walk.{char_in}
+use Rattle.iam_text.specs.Code.Walk.{char_in}
 use Rattle.iam_text.proofs.GivenLemmas.{equal_given, equal_walks, given_walks}
 use Rattle.iam_text.proofs.walk.equals.Goals as goal
 

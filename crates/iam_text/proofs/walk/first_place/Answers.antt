@@ -1,5 +1,5 @@
 use Rattle.std.specs.Str.{chars}
-use Rattle.iam_text.specs.Walk.{char_in, Walks, Later}
+use Rattle.iam_text.specs.Code.Walk.{char_in, Walks, Later}
 use Rattle.iam_text.proofs.WalkLemmas.{settles_found, front_fewer, later_none}
 use Rattle.iam_text.proofs.walk.first_place.Goals as goal
 

@@ -2,7 +2,7 @@ use Rattle.std.proofs.Common.{◌↔◌, length}
 use denote.Text.{Utf8}
 use denote.Shadow.{shadow}
 use Rattle.std.specs.Str.{chars}
-use Rattle.iam_text.specs.Walk.{char_in, Walks, Later}
+use Rattle.iam_text.specs.Code.Walk.{char_in, Walks, Later}
 use Rattle.iam_text.proofs.walk.first_place.Given as goal
 
 abbrev pub invariant-loop-found : goal.invariant-loop-found

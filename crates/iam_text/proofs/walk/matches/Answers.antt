@@ -1,5 +1,5 @@
 use Rattle.std.specs.Str.{chars}
-use Rattle.iam_text.specs.Walk.{char_in}
+use Rattle.iam_text.specs.Code.Walk.{char_in}
 use Rattle.iam_text.proofs.WalkLemmas.{settles_front}
 use Rattle.iam_text.proofs.walk.matches.Goals as goal
 

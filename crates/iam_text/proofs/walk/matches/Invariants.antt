@@ -1,5 +1,5 @@
 use Rattle.std.specs.Str.{chars}
-use Rattle.iam_text.specs.Walk.{char_in, Walks, Settles, signs_left}
+use Rattle.iam_text.specs.Code.Walk.{char_in, Walks, Settles, signs_left}
 use Rattle.iam_text.proofs.walk.matches.Given as goal
 
 abbrev pub invariant-loop-place : goal.invariant-loop-place

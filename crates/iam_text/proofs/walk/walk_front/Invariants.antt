@@ -2,7 +2,7 @@ use Rattle.std.proofs.Common.{drop}
 use denote.Shadow.{shadow}
 use denote.Text.{Utf8}
 use Rattle.std.specs.Str.{chars}
-use Rattle.iam_text.specs.Walk.{char_in}
+use Rattle.iam_text.specs.Code.Walk.{char_in}
 use Rattle.iam_text.proofs.WalkLemmas.{Along}
 use Rattle.iam_text.proofs.walk.walk_front.Given as goal
 

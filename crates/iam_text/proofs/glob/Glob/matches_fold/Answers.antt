@@ -1,7 +1,7 @@
 use Rattle.std.proofs.Common.{◌↔◌, List, IsTrue, subst, ◌∙◌}
 use Rattle.std.specs.Str.{chars}
 use Rattle.iam_text.specs.declared.sign.Sign.{Sign}
-use Rattle.iam_text.specs.Walk.{Walks}
+use Rattle.iam_text.specs.Code.Walk.{Walks}
 use Rattle.iam_text.specs.Glob.{folded}
 use Rattle.iam_text.proofs.WalkLemmas.{folded_matches}
 use Rattle.iam_text.proofs.glob.Glob.matches_fold.Goals as goal
