@@ -1,5 +1,5 @@
 ghost use Rattle.std.specs.Prelude.{OnOk, OnErr, string_bytes};
-ghost use Rattle.std.specs.Io.KnownBytes.{Appends};
+ghost use Rattle.std.specs.Io.KnownBytes.{Appends, Keeps};
 ghost use Rattle.std.specs.List.{flat_map};
 ghost use Rattle.iam_app.specs.Code.Pieces.{report_text};
 ghost use Rattle.iam_app.specs.Streams.{AppendsBeginning};
@@ -19,8 +19,8 @@ pub enum Report {
 #[derive(Clone, Copy, Debug, PartialEq, Eq)]
 pub struct OutputFault;
 
-/// Writes the whole text, and then flushes. After a fault the writer gained a beginning of the text.
-pub fn write_output<W: Write>(writer: &mut W, text: &[u8]) -> Result<(), OutputFault>
+/// Writes the whole text. After a fault the writer gained a beginning of it.
+fn write_text<W: Write>(writer: &mut W, text: &[u8]) -> Result<(), OutputFault>
     ensures ok { OnOk result (Appends (W.contents writer.old) (W.contents writer.new) text.now) }
     ensures err { OnErr result (AppendsBeginning (W.contents writer.old) (W.contents writer.new) text.now) }
 {
@@ -34,10 +34,7 @@ pub fn write_output<W: Write>(writer: &mut W, text: &[u8]) -> Result<(), OutputF
         }
         done += count;
     }
-    match writer.flush() {
-        Ok(()) => Ok(()),
-        Err(_) => Err(OutputFault),
-    }
+    Ok(())
 }
 
 /// Writes pieces one behind the other.
@@ -46,18 +43,36 @@ fn write_pieces<W: Write>(writer: &mut W, pieces: &[String]) -> Result<(), Outpu
     ensures err { OnErr result (AppendsBeginning (W.contents writer.old) (W.contents writer.new) (flat_map string_bytes pieces.now)) }
 {
     for piece in pieces {
-        write_output(writer, piece.as_bytes())?;
+        write_text(writer, piece.as_bytes())?;
     }
     Ok(())
 }
 
-/// Writes the whole report. After a fault the writer gained a beginning of its text.
-pub fn write_report<W: Write>(writer: &mut W, report: &Report) -> Result<(), OutputFault>
+/// Writes the whole report, without a flush.
+fn write_unflushed<W: Write>(writer: &mut W, report: &Report) -> Result<(), OutputFault>
     ensures ok { OnOk result (Appends (W.contents writer.old) (W.contents writer.new) (report_text report.now)) }
     ensures err { OnErr result (AppendsBeginning (W.contents writer.old) (W.contents writer.new) (report_text report.now)) }
 {
     match report {
-        Report::Whole(text) => write_output(writer, text.as_slice()),
+        Report::Whole(text) => write_text(writer, text.as_slice()),
         Report::Pieces(pieces) => write_pieces(writer, pieces.as_slice()),
     }
+}
+
+fn flush<W: Write>(writer: &mut W) -> Result<(), OutputFault>
+    ensures { Keeps (W.contents writer.old) (W.contents writer.new) }
+{
+    match writer.flush() {
+        Ok(()) => Ok(()),
+        Err(_) => Err(OutputFault),
+    }
+}
+
+/// Writes the whole report, and flushes behind its last byte. After a fault the writer gained a beginning of its text.
+pub fn write_report<W: Write>(writer: &mut W, report: &Report) -> Result<(), OutputFault>
+    ensures ok { OnOk result (Appends (W.contents writer.old) (W.contents writer.new) (report_text report.now)) }
+    ensures err { OnErr result (AppendsBeginning (W.contents writer.old) (W.contents writer.new) (report_text report.now)) }
+{
+    write_unflushed(writer, report)?;
+    flush(writer)
 }

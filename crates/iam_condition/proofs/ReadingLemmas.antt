@@ -1,5 +1,5 @@
 -- Reading the keys of a condition.
-use Rattle.std.proofs.Common.{◌≡◌, inl, inr, ℕ, pos, negsuc, suc, zero, ◌+◌, ◌<◌, ◌/◌, ◌%◌, List, [], ◌∷◌, ◌++◌, Bool, true, false, not, ◌&&◌, ◌||◌, ◌==◌, Option, Some, None, IsTrue, IsSome, codes, length, map, take, drop, get_or, refl, sym, ap, subst, ◌∙◌, arith, if◌then◌else◌}
+use Rattle.std.proofs.Common.{◌≡◌, inl, inr, ℕ, pos, negsuc, suc, zero, ◌+◌, ◌<◌, ◌/◌, ◌%◌, List, [], ◌∷◌, ◌++◌, Bool, true, false, not, ◌&&◌, ◌||◌, ◌==◌, Option, Some, None, IsTrue, IsSome, is_some, MatchOption, codes, length, map, take, drop, get_or, refl, sym, ap, subst, ◌∙◌, arith, if◌then◌else◌}
 use Rattle.std.specs.Fmt.{decimal, digit_glyph, digits, digits_onto}
 use Rattle.std.proofs.lemmas.List.{at_drop_more}
 use Rattle.std.specs.List.{AllByRecursion, AllZip, list_any}
@@ -8,17 +8,18 @@ use Rattle.serde_json.specs.Data.{Data, null, boolean, number, string, array, ob
 use Rattle.serde_json.specs.Find.{as_str}
 use Rattle.iam_json.specs.Scalar.{scalar_text}
 use Rattle.iam_text.specs.declared.draft.Piece.{Piece}
-use Rattle.iam_text.specs.Draft.{IsDraft}
-use Rattle.iam_text.specs.Variables.{is_draft, is_draft_from, outside}
+use Rattle.iam_text.specs.declared.version.Version.{Version}
+use Rattle.iam_text.specs.declared.version.Version.TheVariants.{V2012, V2008}
+use Rattle.iam_text.specs.Draft.{IsDraftIn}
+use Rattle.iam_text.specs.Variables.{is_draft, is_draft_in, is_draft_from, outside}
 use Rattle.iam_value.specs.Reading.{IsReading}
 use Rattle.iam_condition.specs.declared.operand.Operand.{Operand}
 use Rattle.iam_condition.specs.declared.operand.Operand.TheVariants as operand
 use Rattle.iam_condition.specs.declared.operator.Base.{Base}
-use Rattle.iam_condition.specs.declared.operator.Base.TheVariants.{Text, Arn, Number, Date, Truth, Binary, Address, Null}
 use Rattle.iam_condition.specs.Code.Reading.{IsFine, IsFineGiven, IsFineText}
 use Rattle.iam_condition.specs.Code.Values.{AnyOf}
 use Rattle.iam_condition.specs.Condition.{Given, HasBadValue, IsBadValue, given_in, has_bad_text, is_bad_text, values_under}
-use Rattle.iam_condition.specs.Operand.{IsOperand, has_texts, is_wild}
+use Rattle.iam_condition.specs.Operand.{IsOperand, IsTextOperand, IsValueOperand, has_texts, text_form}
 use Rattle.iam_condition.proofs.ValueLemmas.{IsBadGiven, given_bad}
 
 -- the values of a list from i on: that at i, and the rest
@@ -44,22 +45,22 @@ passes true is = refl
 passes false is = cc
 
 -- a text that is on its grammars is read
-pub text_is_read : (base : Base) (text : List ℕ) (found : Option Operand) → IsUtf8 text
-    → ((wild : Bool) (t : List ℕ) → IsUtf8 t → (IsTrue (is_draft t) → (pieces : List Piece) × IsDraft wild t pieces) × (((pieces : List Piece) × IsDraft wild t pieces) → IsTrue (is_draft t)))
-    → IsFineText base text → IsReading found (IsOperand base text) → IsSome found
-text_is_read base text (Some value) utf8 tested fine reads = refl
-text_is_read (Text test) text None utf8 tested fine reads =
-    let draft = (tested (is_wild test) text utf8).0 (passes (is_draft text) fine.draft) in
-    absurd (reads (operand.Text draft.0) (draft.0, refl, draft.1))
-text_is_read Arn text None utf8 tested fine reads =
-    let draft = (tested true text utf8).0 (passes (is_draft text) fine.draft) in
-    absurd (reads (operand.Text draft.0) (draft.0, refl, draft.1))
-text_is_read (Number order) text None utf8 tested fine reads = absurd (fine.on_grammar (refl, reads))
-text_is_read (Date order) text None utf8 tested fine reads = absurd (fine.on_grammar (refl, reads))
-text_is_read Truth text None utf8 tested fine reads = absurd (fine.on_grammar (refl, reads))
-text_is_read Binary text None utf8 tested fine reads = absurd (fine.on_grammar (refl, reads))
-text_is_read Address text None utf8 tested fine reads = absurd (fine.on_grammar (refl, reads))
-text_is_read Null text None utf8 tested fine reads = absurd (fine.on_grammar (refl, reads))
+pub text_is_read : (version : Version) (base : Base) (text : List ℕ) (found : Option Operand) → IsUtf8 text
+    → ((version : Version) (wild : Bool) (t : List ℕ) → IsUtf8 t
+    → (IsTrue (is_draft_in version t) → (pieces : List Piece) × IsDraftIn version wild t pieces) × (((pieces : List Piece) × IsDraftIn version wild t pieces) → IsTrue (is_draft_in version t)))
+    → IsFineText version base text → IsReading found (IsOperand version base text) → IsSome found
+text_is_read version base text (Some value) utf8 tested fine reads = refl
+text_is_read version base text None utf8 tested fine reads = absurd (go (text_form base) reads fine.draft fine.on_grammar)
+  where
+    Is : Option Bool → Operand → Type 0
+    Is form value = MatchOption form (IsValueOperand base text value) (λ wild. IsTextOperand version wild text value)
+
+    go : (form : Option Bool) → ((value : Operand) → ¬ Is form value) → (is_some form && not (is_draft_in version text)) ≡ false
+        → ¬ ((is_some form ≡ false) × ((value : Operand) → ¬ IsValueOperand base text value)) → ⊥
+    go None reads draft on_grammar = on_grammar (refl, reads)
+    go (Some wild) reads draft on_grammar =
+        let found = (tested version wild text utf8).0 (passes (is_draft_in version text) draft) in
+        reads (operand.Text found.0) (found.0, refl, found.1)
 
 -- a digit is no `$`
 glyph_apart : (d : ℕ) → (digit_glyph false d == 36) ≡ false
@@ -99,10 +100,15 @@ both_false : (b : Bool) → (b && false) ≡ false
 both_false true = refl
 both_false false = refl
 
+-- what passes in version 2012-10-17 passes in each
+passes_in : (version : Version) (text : List ℕ) → is_draft text ≡ true → is_draft_in version text ≡ true
+passes_in V2012 text holds = holds
+passes_in V2008 text holds = refl
+
 -- a fine value is no text, and has a fine text
-pub other_is_fine : (base : Base) (d : Data) (text : List ℕ) → as_str d ≡ None → scalar_text d ≡ Some text → IsFine base d → IsFineText base text
-other_is_fine base d text off is fine =
-    let tested = other_passes d text off is in
+pub other_is_fine : (version : Version) (base : Base) (d : Data) (text : List ℕ) → as_str d ≡ None → scalar_text d ≡ Some text → IsFine version base d → IsFineText version base text
+other_is_fine version base d text off is fine =
+    let tested = passes_in version text (other_passes d text off is) in
     record { on_grammar = λ bad. fine.value (rw is bad); draft = rw tested (both_false (has_texts base)) }
 
 -- ---- all keys
@@ -116,18 +122,19 @@ apart : (a b : Bool) → (a || b) ≡ false → (a ≡ false) × (b ≡ false)
 apart true b is = cc
 apart false b is = (refl, is)
 
-fine_values : (base : Base) (ds : List Data) → (has_texts base && list_any is_bad_text ds) ≡ false → ¬ AnyOf (IsBadValue base) ds → AllByRecursion (IsFine base) ds
-fine_values base [] texts values = tt
-fine_values base (d ∷ ds) texts values =
-    let parts = split (has_texts base) (is_bad_text d) (list_any is_bad_text ds) texts in
-    (record { value = λ bad. values (inl bad); text = parts.0 }, fine_values base ds parts.1 (λ bad. values (inr bad)))
+fine_values : (version : Version) (base : Base) (ds : List Data) → (has_texts base && list_any (is_bad_text version) ds) ≡ false → ¬ AnyOf (IsBadValue base) ds
+    → AllByRecursion (IsFine version base) ds
+fine_values version base [] texts values = tt
+fine_values version base (d ∷ ds) texts values =
+    let parts = split (has_texts base) (is_bad_text version d) (list_any (is_bad_text version) ds) texts in
+    (record { value = λ bad. values (inl bad); text = parts.0 }, fine_values version base ds parts.1 (λ bad. values (inr bad)))
 
-fine_keys : (gs : List Given) → list_any (λ g. has_texts g.operator.base && list_any is_bad_text (values_under g.value)) gs ≡ false → ¬ AnyOf IsBadGiven gs
-    → AllByRecursion IsFineGiven gs
-fine_keys [] texts values = tt
-fine_keys (g ∷ gs) texts values =
-    let parts = apart (has_texts g.operator.base && list_any is_bad_text (values_under g.value)) _ texts in
-    (fine_values g.operator.base (values_under g.value) parts.0 (λ bad. values (inl bad)), fine_keys gs parts.1 (λ bad. values (inr bad)))
+fine_keys : (version : Version) (gs : List Given) → list_any (λ g. has_texts g.operator.base && list_any (is_bad_text version) (values_under g.value)) gs ≡ false
+    → ¬ AnyOf IsBadGiven gs → AllByRecursion (IsFineGiven version) gs
+fine_keys version [] texts values = tt
+fine_keys version (g ∷ gs) texts values =
+    let parts = apart (has_texts g.operator.base && list_any (is_bad_text version) (values_under g.value)) _ texts in
+    (fine_values version g.operator.base (values_under g.value) parts.0 (λ bad. values (inl bad)), fine_keys version gs parts.1 (λ bad. values (inr bad)))
 
-pub all_fine : (d : Data) → has_bad_text d ≡ false → ¬ HasBadValue d → AllByRecursion IsFineGiven (given_in d)
-all_fine d texts values = fine_keys (given_in d) texts (λ bad. values (given_bad d bad))
+pub all_fine : (version : Version) (d : Data) → has_bad_text version d ≡ false → ¬ HasBadValue d → AllByRecursion (IsFineGiven version) (given_in d)
+all_fine version d texts values = fine_keys version (given_in d) texts (λ bad. values (given_bad d bad))

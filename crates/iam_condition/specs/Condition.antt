@@ -7,7 +7,8 @@ use Rattle.serde_json.specs.Data.{Data, null, boolean, number, string, array, ob
 use Rattle.serde_json.specs.Find.{as_object, as_str}
 use Rattle.iam_json.specs.Look.{values}
 use Rattle.iam_json.specs.Scalar.{scalar_text}
-use Rattle.iam_text.specs.Variables.{is_draft}
+use Rattle.iam_text.specs.declared.version.Version.{Version}
+use Rattle.iam_text.specs.Variables.{is_draft_in}
 use Rattle.iam_condition.specs.declared.operator.Base.{Base}
 use Rattle.iam_condition.specs.declared.operator.Operator.{Operator}
 use Rattle.iam_condition.specs.declared.operand.Operand.{Operand}
@@ -44,14 +45,14 @@ given_in condition = flat_map given_under (members_of condition)
 abbrev pub values_under : Data → List Data
 values_under d = unwrap_or (values d) (d ∷ [])
 
--- a text off the variable grammar
-abbrev pub is_bad_text : Data → Bool
-is_bad_text d = option_map_or (λ text. not (is_draft text)) (as_str d) false
+-- a text off the variable grammar of the version
+abbrev pub is_bad_text : Version → Data → Bool
+is_bad_text version d = option_map_or (λ text. not (is_draft_in version text)) (as_str d) false
 
--- a text under a string or an ARN operator is off the variable grammar
-abbrev pub has_bad_text : Data → Bool
-has_bad_text condition =
-    list_any (λ g. has_texts g.operator.base && list_any is_bad_text (values_under g.value)) (given_in condition)
+-- a text under a string or an ARN operator is off the variable grammar of the version
+abbrev pub has_bad_text : Version → Data → Bool
+has_bad_text version condition =
+    list_any (λ g. has_texts g.operator.base && list_any (is_bad_text version) (values_under g.value)) (given_in condition)
 
 -- a member is no operator
 abbrev pub has_unknown_operator : Data → Bool
@@ -89,15 +90,15 @@ abbrev pub has_many_values : Data → Bool
 has_many_values condition = list_any (λ g. nat_lt 4096 (length (values_under g.value))) (given_in condition)
 
 -- a value is read by its text
-abbrev pub ReadsValue : Base → Data → Operand → Type 0
-ReadsValue base d value = (text : List ℕ) × (scalar_text d ≡ Some text) × IsOperand base text value
+abbrev pub ReadsValue : Version → Base → Data → Operand → Type 0
+ReadsValue version base d value = (text : List ℕ) × (scalar_text d ≡ Some text) × IsOperand version base text value
 
 -- a key is read with its operator and its values
-pub record ReadsEntry (given : Given) (entry : EntryValue) : Type 0 where
+pub record ReadsEntry (version : Version) (given : Given) (entry : EntryValue) : Type 0 where
   pub operator : entry.operator ≡ given.operator
   pub key : entry.key ≡ given.key
-  pub values : AllZip (ReadsValue given.operator.base) (values_under given.value) entry.values
+  pub values : AllZip (ReadsValue version given.operator.base) (values_under given.value) entry.values
 
--- a condition is read key by key
-abbrev pub ReadsCondition : Data → List EntryValue → Type 0
-ReadsCondition condition entries = AllZip ReadsEntry (given_in condition) entries
+-- a condition of a document of the version is read key by key
+abbrev pub ReadsCondition : Version → Data → List EntryValue → Type 0
+ReadsCondition version condition entries = AllZip (ReadsEntry version) (given_in condition) entries

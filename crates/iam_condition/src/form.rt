@@ -4,13 +4,12 @@ ghost use Rattle.std.specs.List.{list_any};
 ghost use Rattle.serde_json.specs.View.{members_view, view};
 ghost use Rattle.iam_condition.specs.Code.Walks.{given_has, is_bad_key, is_bad_member, key_has, member_has};
 ghost use Rattle.iam_condition.specs.Condition.{given_in, has_bad_text, has_many_values, has_unknown_operator, is_bad_form, is_bad_keys, is_bad_text, is_no_value, member_list, members_of, values_under};
-ghost use Rattle.iam_condition.specs.Operand.{has_texts};
 ghost use Rattle.iam_condition.specs.Operator.{operator_of};
 
 use crate::names::operator_of;
 use crate::operator::Base;
 use iam_json::values;
-use iam_text::has_draft;
+use iam_text::{Version, has_draft};
 use serde_json::{Map, Value};
 use std::slice;
 
@@ -20,7 +19,7 @@ const MOST: usize = 4096;
 /// What may be wrong with the values of a key.
 #[derive(Clone, Copy)]
 enum KeyFault {
-    BadText,
+    BadText(Version),
     ManyValues,
 }
 
@@ -31,18 +30,6 @@ pub fn values_under(value: &Value) -> &[Value]
     match values(value) {
         Some(list) => list,
         None => slice::from_ref(value),
-    }
-}
-
-impl Base {
-    ghost use Rattle.std.specs.Prelude.{◌≡◌};
-    ghost use Rattle.iam_condition.specs.Operand.{has_texts};
-
-    /// Whether the values are texts that may hold variables.
-    pub(crate) fn has_texts(self) -> bool
-        ensures { result ≡ has_texts self }
-    {
-        matches!(self, Base::Text(_) | Base::Arn)
     }
 }
 
@@ -129,20 +116,20 @@ pub fn is_bad_form(condition: &Value) -> bool
     }
 }
 
-/// Whether it is a text off the variable grammar.
-fn is_bad_text(value: &Value) -> bool
-    ensures { result ≡ is_bad_text (view value.now) }
+/// Whether it is a text off the variable grammar of the version.
+fn is_bad_text(value: &Value, version: Version) -> bool
+    ensures { result ≡ is_bad_text version (view value.now) }
 {
     match value.as_str() {
-        Some(text) => !has_draft(text),
+        Some(text) => !has_draft(text, version),
         None => false,
     }
 }
 
-fn is_some_text_bad(values: &[Value]) -> bool
-    ensures { result ≡ list_any (λ v. is_bad_text (view v)) values.now }
+fn is_some_text_bad(values: &[Value], version: Version) -> bool
+    ensures { result ≡ list_any (λ v. is_bad_text version (view v)) values.now }
 {
-    values.iter().any(|value| is_bad_text(value))
+    values.iter().any(|value| is_bad_text(value, version))
 }
 
 /// Whether a key of an operator has the fault.
@@ -151,7 +138,7 @@ fn key_has(fault: KeyFault, base: Base, value: &Value) -> bool
 {
     let values = values_under(value);
     match fault {
-        KeyFault::BadText => base.has_texts() && is_some_text_bad(values),
+        KeyFault::BadText(version) => base.has_texts() && is_some_text_bad(values, version),
         KeyFault::ManyValues => values.len() > MOST,
     }
 }
@@ -207,11 +194,11 @@ fn has(fault: KeyFault, condition: &Value) -> bool
     }
 }
 
-/// Whether a value of a string or an ARN operator is a text off the variable grammar.
-pub fn has_bad_text(condition: &Value) -> bool
-    ensures { result ≡ has_bad_text (view condition.now) }
+/// Whether a value of a string or an ARN operator is a text off the variable grammar of the version.
+pub fn has_bad_text(condition: &Value, version: Version) -> bool
+    ensures { result ≡ has_bad_text version (view condition.now) }
 {
-    has(KeyFault::BadText, condition)
+    has(KeyFault::BadText(version), condition)
 }
 
 /// Whether a key has over 4,096 values.

@@ -1,9 +1,10 @@
 ghost use Rattle.std.specs.Prelude.{◌≡◌, IfOk};
 ghost use Rattle.iam_value.specs.Reading.{IsReading};
-ghost use Rattle.iam_condition.specs.Code.Operands.{IsAddressOperand, IsBytesOperand, IsDateOperand, IsNumberOperand, IsTextOperand, IsTruthOperand};
+ghost use Rattle.iam_condition.specs.Code.Operands.{IsAddressOperand, IsBytesOperand, IsDateOperand, IsNumberOperand, IsTruthOperand};
+ghost use Rattle.iam_condition.specs.Operand.{IsTextOperand};
 
 use crate::operator::{Base, TextTest};
-use iam_text::{Items, OutOfMemory, Template};
+use iam_text::{Items, OutOfMemory, Template, Version};
 use iam_value::{Range, bytes, moment, truth, whole};
 use std::alloc::Global;
 
@@ -27,25 +28,67 @@ pub enum Operand {
 impl Operand {
     ghost use Rattle.std.specs.Prelude.{IfOk};
     ghost use Rattle.iam_value.specs.Reading.{IsReading};
-    ghost use Rattle.iam_condition.specs.Operand.{IsOperand};
+    ghost use Rattle.iam_condition.specs.Operand.{IsOperand, IsValueOperand};
 
-    /// The value of a text under an operator; `None` where the text has none.
+    /// The value of a text under an operator, in a document of the version; `None` where the text has none.
     pub(crate) fn read(
         alloc: Global,
         base: Base,
         text: &str,
+        version: Version,
     ) -> Result<Option<Operand>, OutOfMemory>
-        ensures { IfOk result (λ found. IsReading found (IsOperand base text.now)) }
+        ensures { IfOk result (λ found. IsReading found (IsOperand version base text.now)) }
+    {
+        match base.text_form() {
+            Some(wild) => read_text(alloc, text, wild, version),
+            None => Operand::read_value(alloc, base, text),
+        }
+    }
+
+    /// The value of a text under an operator whose values are no texts; `None` where the text has none.
+    pub(crate) fn read_value(
+        alloc: Global,
+        base: Base,
+        text: &str,
+    ) -> Result<Option<Operand>, OutOfMemory>
+        ensures { IfOk result (λ found. IsReading found (IsValueOperand base text.now)) }
     {
         match base {
-            Base::Text(test) => read_text(alloc, text, test.is_wild()),
-            Base::Arn => read_text(alloc, text, true),
+            Base::Text(_) | Base::Arn => Ok(None),
             Base::Number(_) => Ok(read_number(text)),
             Base::Date(_) => Ok(read_date(text)),
             Base::Truth | Base::Null => Ok(read_truth(text)),
             Base::Binary => read_bytes(alloc, text),
             Base::Address => Ok(read_range(text)),
         }
+    }
+}
+
+impl Base {
+    ghost use Rattle.std.specs.Prelude.{◌≡◌};
+    ghost use Rattle.iam_condition.specs.Operand.{has_texts, text_form};
+
+    /// Where the values are texts that may hold variables: whether `*` and `?` are wildcards there.
+    fn text_form(self) -> Option<bool>
+        ensures { result ≡ text_form self }
+    {
+        match self {
+            Base::Text(test) => Some(test.is_wild()),
+            Base::Arn => Some(true),
+            Base::Number(_)
+            | Base::Date(_)
+            | Base::Truth
+            | Base::Binary
+            | Base::Address
+            | Base::Null => None,
+        }
+    }
+
+    /// Whether the values are texts that may hold variables.
+    pub(crate) fn has_texts(self) -> bool
+        ensures { result ≡ has_texts self }
+    {
+        self.text_form().is_some()
     }
 }
 
@@ -62,10 +105,15 @@ impl TextTest {
 }
 
 /// A text, in which `*` and `?` are wildcards where `wild` says so.
-fn read_text(alloc: Global, text: &str, wild: bool) -> Result<Option<Operand>, OutOfMemory>
-    ensures { IfOk result (λ found. IsReading found (IsTextOperand wild text.now)) }
+fn read_text(
+    alloc: Global,
+    text: &str,
+    wild: bool,
+    version: Version,
+) -> Result<Option<Operand>, OutOfMemory>
+    ensures { IfOk result (λ found. IsReading found (IsTextOperand version wild text.now)) }
 {
-    match Template::read(alloc, text, wild)? {
+    match Template::read(alloc, text, wild, version)? {
         Some(template) => Ok(Some(Operand::Text(template))),
         None => Ok(None),
     }

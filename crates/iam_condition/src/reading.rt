@@ -13,7 +13,7 @@ use crate::names::operator_of;
 use crate::operand::Operand;
 use crate::operator::{Base, Operator};
 use iam_json::scalar_text;
-use iam_text::{OutOfMemory, drafts_are_tested};
+use iam_text::{OutOfMemory, Version, drafts_are_tested};
 use serde_json::{Map, Value};
 use std::alloc::Global;
 
@@ -91,62 +91,81 @@ fn keys_in(alloc: Global, condition: &Value) -> Result<Vec<Key<'_>>, OutOfMemory
 }
 
 /// The value of a text that has one.
-fn read_text(alloc: Global, base: Base, text: &str) -> Result<Operand, OutOfMemory>
-    requires { IsFineText base text.now }
-    ensures { IfOk result (IsOperand base text.now) }
+fn read_text(
+    alloc: Global,
+    base: Base,
+    text: &str,
+    version: Version,
+) -> Result<Operand, OutOfMemory>
+    requires { IsFineText version base text.now }
+    ensures { IfOk result (IsOperand version base text.now) }
 {
     drafts_are_tested();
-    Ok(Operand::read(alloc, base, text)?.unwrap())
+    Ok(Operand::read(alloc, base, text, version)?.unwrap())
 }
 
-fn read_value(alloc: Global, base: Base, value: &Value) -> Result<Operand, OutOfMemory>
-    requires { IsFine base (view value.now) }
-    ensures { IfOk result (ReadsValue base (view value.now)) }
+fn read_value(
+    alloc: Global,
+    base: Base,
+    value: &Value,
+    version: Version,
+) -> Result<Operand, OutOfMemory>
+    requires { IsFine version base (view value.now) }
+    ensures { IfOk result (ReadsValue version base (view value.now)) }
 {
     if let Some(text) = value.as_str() {
-        return read_text(alloc, base, text);
+        return read_text(alloc, base, text, version);
     }
     let text = scalar_text(alloc, value)?.unwrap();
-    read_text(alloc, base, text.as_str())
+    read_text(alloc, base, text.as_str(), version)
 }
 
-fn read_values(alloc: Global, base: Base, values: &[Value]) -> Result<Vec<Operand>, OutOfMemory>
-    requires { AllByRecursion (IsFine base) (map view values.now) }
-    ensures { IfOk result (λ read. AllZip (ReadsValue base) (map view values.now) read.items) }
+fn read_values(
+    alloc: Global,
+    base: Base,
+    values: &[Value],
+    version: Version,
+) -> Result<Vec<Operand>, OutOfMemory>
+    requires { AllByRecursion (IsFine version base) (map view values.now) }
+    ensures { IfOk result (λ read. AllZip (ReadsValue version base) (map view values.now) read.items) }
 {
     let mut read = Vec::new(alloc);
     for value in values {
-        read.push(read_value(alloc, base, value)?)?;
+        read.push(read_value(alloc, base, value, version)?)?;
     }
     Ok(read)
 }
 
-fn read_key(alloc: Global, key: &Key<'_>) -> Result<Entry, OutOfMemory>
-    requires { IsFineGiven (given_of key.now) }
-    ensures { IfOk result (ReadsEntry (given_of key.now)) }
+fn read_key(alloc: Global, key: &Key<'_>, version: Version) -> Result<Entry, OutOfMemory>
+    requires { IsFineGiven version (given_of key.now) }
+    ensures { IfOk result (ReadsEntry version (given_of key.now)) }
 {
-    let values = read_values(alloc, key.operator.base, values_under(key.value))?;
+    let values = read_values(alloc, key.operator.base, values_under(key.value), version)?;
     Entry::new(alloc, key.operator, key.name, values)
 }
 
-fn read_keys(alloc: Global, keys: &[Key<'_>]) -> Result<Vec<Entry>, OutOfMemory>
-    requires { AllByRecursion IsFineGiven (map given_of keys.now) }
-    ensures { IfOk result (λ entries. AllZip ReadsEntry (map given_of keys.now) entries.items) }
+fn read_keys(alloc: Global, keys: &[Key<'_>], version: Version) -> Result<Vec<Entry>, OutOfMemory>
+    requires { AllByRecursion (IsFineGiven version) (map given_of keys.now) }
+    ensures { IfOk result (λ entries. AllZip (ReadsEntry version) (map given_of keys.now) entries.items) }
 {
     let mut entries = Vec::new(alloc);
     for key in keys {
-        entries.push(read_key(alloc, key)?)?;
+        entries.push(read_key(alloc, key, version)?)?;
     }
     Ok(entries)
 }
 
 /// The entries of a `Condition` whose texts and values are on their grammars, in the order of their operators' and keys'
 /// bytes. A member that is no operator has none.
-pub fn read_entries(alloc: Global, condition: &Value) -> Result<Vec<Entry>, OutOfMemory>
-    requires texts { has_bad_text (view condition.now) ≡ false }
+pub fn read_entries(
+    alloc: Global,
+    condition: &Value,
+    version: Version,
+) -> Result<Vec<Entry>, OutOfMemory>
+    requires texts { has_bad_text version (view condition.now) ≡ false }
     requires values { ¬ HasBadValue (view condition.now) }
-    ensures { IfOk result (λ entries. ReadsCondition (view condition.now) entries.items) }
+    ensures { IfOk result (λ entries. ReadsCondition version (view condition.now) entries.items) }
 {
     let keys = keys_in(alloc, condition)?;
-    read_keys(alloc, keys.as_slice())
+    read_keys(alloc, keys.as_slice(), version)
 }

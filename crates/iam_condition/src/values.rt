@@ -21,7 +21,7 @@ fn is_off_grammar(alloc: Global, base: Base, text: &str) -> Result<bool, OutOfMe
     if base.has_texts() {
         return Ok(false);
     }
-    Ok(Operand::read(alloc, base, text)?.is_none())
+    Ok(Operand::read_value(alloc, base, text)?.is_none())
 }
 
 /// Whether a value is not a text, a Boolean or a whole number, or its text is off the grammar. A text is not copied.

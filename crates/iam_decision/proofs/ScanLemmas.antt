@@ -2,9 +2,11 @@
 use Rattle.std.proofs.Common.{◌≡◌, inl, inr, ℕ, suc, zero, ◌+◌, ◌<◌, List, [], ◌∷◌, ◌++◌, map, take, length, get_or, refl, sym, ap, ◌∙◌, subst, arith, append_assoc}
 use Rattle.std.proofs.lemmas.List.{take_more, map-append, append-nil, get_or-map}
 use Rattle.std.specs.List.{AllByRecursion, enumerate_from, flat_map}
-use Rattle.iam_match.specs.Statement.{RequestValue}
-use Rattle.iam_decision.specs.Matched.{Placed, IsMatched, Selects}
-use Rattle.iam_decision.specs.Code.Scan.{Adds, item_of}
+use Rattle.iam_match.specs.Statement.{AccessValue}
+use Rattle.iam_decision.specs.Code.Scan.{Acts, Adds, AreActing}
+use Rattle.iam_decision.specs.Living.{Lives, LivingValue, living_of}
+use Rattle.iam_decision.specs.Matched.{Placed, Selects}
+use Rattle.iam_decision.specs.declared.living.Matched.{Matched}
 
 -- what is chosen of two lists is chosen of the one after the other
 pub selects-append : {X : Type 0} (P : X → Type 0) (xs ys a b : List X) → Selects P xs a → Selects P ys b → Selects P (xs ++ ys) (a ++ b)
@@ -15,15 +17,15 @@ selects-append P (x ∷ xs) ys a b (inl h) k =
 selects-append P (x ∷ xs) ys a b (inr h) k = inr (h.0, selects-append P xs ys a b h.1 k)
 
 -- nothing was added yet
-pub adds_none : (q : RequestValue) (old : List _) → Adds q [] old old
+pub adds_none : (q : AccessValue) (old : List _) → Adds q [] old old
 adds_none q old = ([], refl, sym (append-nil old))
 
 -- what is added of two lists, one after the other
-pub adds_more : (q : RequestValue) (xs ys : List Placed) (old mid new : List _) → Adds q xs old mid → Adds q ys mid new → Adds q (xs ++ ys) old new
+pub adds_more : (q : AccessValue) (xs ys : List Placed) (old mid new : List _) → Adds q xs old mid → Adds q ys mid new → Adds q (xs ++ ys) old new
 adds_more q xs ys old mid new h k = (
   h.0 ++ k.0,
-  selects-append (IsMatched q) xs ys h.0 k.0 h.1 k.1,
-  (k.2 ∙ ap (λ m. m ++ map (item_of q) k.0) h.2 ∙ append_assoc old (map (item_of q) h.0) (map (item_of q) k.0) ∙ ap (λ z. old ++ z) (sym (map-append (item_of q) h.0 k.0))),
+  selects-append (Lives q) xs ys h.0 k.0 h.1 k.1,
+  (k.2 ∙ ap (λ m. m ++ map (living_of q.requester) k.0) h.2 ∙ append_assoc old (map (living_of q.requester) h.0) (map (living_of q.requester) k.0) ∙ ap (λ z. old ++ z) (sym (map-append (living_of q.requester) h.0 k.0))),
 )
 
 numbered-suc : {X Y : Type 0} (f : ℕ × X → List Y) (n : ℕ) (xs : List X) (i : ℕ) (x : X) → i < length xs → x ≡ get_or xs i x
@@ -48,7 +50,7 @@ numbered_more f xs i x below is =
     ∙ ap (λ k. flat_map f (enumerate_from 0 (take i xs)) ++ f (k, x)) number
 
 -- the scan of numbered elements goes on by one
-pub scan_more : {X : Type 0} (q : RequestValue) (f : ℕ × X → List Placed) (xs : List X) (i : ℕ) (x : X) (old mid new : List _) → i < length xs
+pub scan_more : {X : Type 0} (q : AccessValue) (f : ℕ × X → List Placed) (xs : List X) (i : ℕ) (x : X) (old mid new : List _) → i < length xs
     → x ≡ get_or xs i x → Adds q (flat_map f (enumerate_from 0 (take i xs))) old mid → Adds q (f (i, x)) mid new
     → Adds q (flat_map f (enumerate_from 0 (take (i + 1) xs))) old new
 scan_more q f xs i x old mid new below is h k =
@@ -56,10 +58,10 @@ scan_more q f xs i x old mid new below is h k =
     subst P (sym (numbered_more f xs i x below is)) (adds_more q (flat_map f (enumerate_from 0 (take i xs))) (f (i, x)) old mid new h k)
 
 -- one statement that matches, or does not
-pub adds_matched : (q : RequestValue) (s : Placed) (old new : List _) → IsMatched q s → new ≡ old ++ (item_of q s ∷ []) → Adds q (s ∷ []) old new
+pub adds_matched : (q : AccessValue) (s : Placed) (old new : List _) → Lives q s → new ≡ old ++ (living_of q.requester s ∷ []) → Adds q (s ∷ []) old new
 adds_matched q s old new matched is = (s ∷ [], inl (matched, ([], refl, refl)), is)
 
-pub adds_unmatched : (q : RequestValue) (s : Placed) (old : List _) → ¬ IsMatched q s → Adds q (s ∷ []) old old
+pub adds_unmatched : (q : AccessValue) (s : Placed) (old : List _) → ¬ Lives q s → Adds q (s ∷ []) old old
 adds_unmatched q s old unmatched = ([], inr (unmatched, refl), sym (append-nil old))
 
 -- what holds of each holds of the one at i
@@ -85,3 +87,19 @@ select_skip {X} P xs i d chosen below h p =
     let Q : List X → Type 0 = λ z. Selects P z chosen in
     let R : List X → Type 0 = λ z. Selects P (take i xs ++ (get_or xs i d ∷ [])) z in
     subst Q (sym (take_more xs i d below)) (subst R (append-nil chosen) (selects-append P (take i xs) (get_or xs i d ∷ []) chosen [] h (inr (p, refl))))
+
+-- one more living statement, whose action element matches or does not
+pub acting_more : (action : List ℕ) (xs : List LivingValue) (i : ℕ) (x : LivingValue) (found : List Matched) → i < length xs → x ≡ get_or xs i x
+    → AreActing action (take i xs) found → Acts action x → AreActing action (take (i + 1) xs) (found ++ (x.matched ∷ []))
+acting_more action xs i x found below is (kept, selected, found_is) acts =
+    let more = select_more (Acts action) xs i x kept below selected (subst (Acts action) is acts) in
+    let Q : LivingValue → Type 0 = λ z. Selects (Acts action) (take (i + 1) xs) (kept ++ (z ∷ [])) in (
+      kept ++ (x ∷ []),
+      subst Q (sym is) more,
+      ap (λ z. z ++ (x.matched ∷ [])) found_is ∙ sym (map-append (λ (l : LivingValue). l.matched) kept (x ∷ [])),
+    )
+
+pub acting_skip : (action : List ℕ) (xs : List LivingValue) (i : ℕ) (x : LivingValue) (found : List Matched) → i < length xs → x ≡ get_or xs i x
+    → AreActing action (take i xs) found → ¬ Acts action x → AreActing action (take (i + 1) xs) found
+acting_skip action xs i x found below is (kept, selected, found_is) idle =
+    (kept, select_skip (Acts action) xs i x kept below selected (λ acts. idle (subst (Acts action) (sym is) acts)), found_is)

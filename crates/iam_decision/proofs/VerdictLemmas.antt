@@ -1,20 +1,23 @@
 -- What holds of the statements that were found holds of the matched statements of the applicable policies.
 use Rattle.std.proofs.Common.{◌≡◌, ◌⊎◌, inl, inr, ◌↔◌, ℕ, suc, zero, ◌<◌, ◌≤◌, List, [], ◌∷◌, map, length, refl, sym, ap, ◌∙◌, subst, arith}
 use Rattle.std.specs.List.{Any}
+use Rattle.iam_policy.specs.Reading.{PolicyValue}
 use Rattle.iam_policy.specs.declared.effect.Effect.TheVariants.{Allow, Deny}
 use Rattle.iam_match.specs.Principal.{grant_of, rank}
 use Rattle.iam_match.specs.declared.principal.Grant.{Grant}
 use Rattle.iam_match.specs.declared.principal.Grant.TheVariants.{Account, Role, Direct}
-use Rattle.iam_match.specs.Statement.{RequestValue}
+use Rattle.iam_match.specs.Requester.{RequesterValue}
+use Rattle.iam_match.specs.Statement.{AccessValue, RequestValue, request_for}
 use Rattle.iam_decision.specs.Applicable.{ApplicableValue}
 use Rattle.iam_decision.specs.Matched.{Placed, IsMatched, Selects, placed}
-use Rattle.iam_decision.specs.Code.Scan.{Adds, item_of}
+use Rattle.iam_decision.specs.Code.Scan.{Acts, AreActing}
+use Rattle.iam_decision.specs.Living.{AreFound, AreLiving, Lives, LivingValue, item_of, living_of}
 use Rattle.iam_decision.specs.Code.Found.{DeniesIn, AllowsIn, GrantsIn, ArePlaces}
-use Rattle.iam_decision.specs.Decision.{Says, Denies, Allows, Grants, OrgHolds, BoundaryHolds, SessionHolds, AllHold, GrantSuffices, IsAllowed, IsDecided, Fails, AreLacking, AreDeciding, deciding_effect, layers_in_order}
+use Rattle.iam_decision.specs.Decision.{Says, Denies, Allows, Grants, LevelsHold, BoundaryHolds, SessionHolds, AllHold, GrantSuffices, IsAllowed, IsDecided, Fails, AreLacking, AreDeciding, deciding_effect, layers_in_order}
 use Rattle.iam_decision.specs.declared.place.Layer.{Layer}
-use Rattle.iam_decision.specs.declared.place.Layer.TheVariants.{Org, Resource, Identity, Boundary, Session}
+use Rattle.iam_decision.specs.declared.place.Layer.TheVariants.{Org, Control, Resource, Identity, Boundary, Session}
 use Rattle.iam_decision.specs.declared.place.Place.{Place}
-use Rattle.iam_decision.specs.declared.scan.Matched.{Matched}
+use Rattle.iam_decision.specs.declared.living.Matched.{Matched}
 use Rattle.iam_decision.specs.declared.verdict.Decision.{Decision}
 use Rattle.iam_decision.specs.declared.verdict.Decision.TheVariants.{Allowed, ExplicitDeny, ImplicitDeny}
 
@@ -86,13 +89,30 @@ select-same P Q same [] chosen h = h
 select-same P Q same (x ∷ xs) chosen (inl (p, (rest, is, h))) = inl ((same x).0 p, (rest, is, select-same P Q same xs rest h))
 select-same P Q same (x ∷ xs) chosen (inr (skipped, h)) = inr ((λ q. skipped ((same x).1 q)), select-same P Q same xs chosen h)
 
+items-map : (requester : RequesterValue) (xs : List Placed) → map (λ (l : LivingValue). l.matched) (map (living_of requester) xs) ≡ map (item_of requester) xs
+items-map requester [] = refl
+items-map requester (x ∷ xs) = ap (λ z. item_of requester x ∷ z) (items-map requester xs)
+
+-- of the living statements those match a request whose action elements match its action
+pub acting-found : (access : AccessValue) (action : List ℕ) (statements : List Placed) (living : List LivingValue) (found : List Matched)
+    → AreLiving access statements living → AreActing action living found → AreFound (request_for access action) statements found
+acting-found access action statements living found (chosen, selected, is) (kept, acting, found_is) =
+    let P : List LivingValue → Type 0 = λ z. Selects (Acts action) z kept in
+    let both = select-twice (Lives access) (Acts action) (living_of access.requester) statements chosen kept selected (subst P is acting) in
+    let same : (x : Placed) → (Lives access x × Acts action (living_of access.requester x)) ↔ IsMatched (request_for access action) x =
+    λ x. ((λ h. record { action = h.1; rest = h.0 }), (λ m. (m.rest, m.action))) in (
+      both.0,
+      select-same (λ x. Lives access x × Acts action (living_of access.requester x)) (IsMatched (request_for access action)) same statements both.0 both.1,
+      found_is ∙ ap (map (λ (l : LivingValue). l.matched)) both.2 ∙ items-map access.requester both.0,
+    )
+
 -- the statements that were found are the matched ones
-module _ (a : ApplicableValue) (q : RequestValue) (found : List Matched) (scanned : Adds q (placed a) [] found) where
+module _ (a : ApplicableValue) (q : RequestValue) (found : List Matched) (scanned : AreFound q (placed a) found) where
   denies-same : Denies a q ↔ DeniesIn found
   denies-same =
       let P : List Matched → Type 0 = λ z. Denies a q ↔ DeniesIn z in
       subst P (sym scanned.2)
-      (any-chosen (IsMatched q) (Says q Deny) (λ (m : Matched). m.effect ≡ Deny) (item_of q) (λ x r. r) (λ x p s. (p, s)) (placed a) scanned.0 scanned.1)
+      (any-chosen (IsMatched q) (Says q Deny) (λ (m : Matched). m.effect ≡ Deny) (item_of q.requester) (λ x r. r) (λ x p s. (p, s)) (placed a) scanned.0 scanned.1)
 
   allows-same : (layer : Layer) (level : ℕ) → Allows a q layer level ↔ AllowsIn found layer level
   allows-same layer level =
@@ -100,7 +120,7 @@ module _ (a : ApplicableValue) (q : RequestValue) (found : List Matched) (scanne
       subst P (sym scanned.2)
       (
       any-chosen (IsMatched q) (λ s. Says q Allow s × (s.place.layer ≡ layer) × (s.place.level ≡ level))
-      (λ (m : Matched). (m.effect ≡ Allow) × (m.place.layer ≡ layer) × (m.place.level ≡ level)) (item_of q)
+      (λ (m : Matched). (m.effect ≡ Allow) × (m.place.layer ≡ layer) × (m.place.level ≡ level)) (item_of q.requester)
       (λ x r. (r.0.0, (r.0.1, r.1, r.2))) (λ x p s. ((p, s.0), s.1, s.2)) (placed a) scanned.0 scanned.1
       )
 
@@ -110,12 +130,12 @@ module _ (a : ApplicableValue) (q : RequestValue) (found : List Matched) (scanne
       subst P (sym scanned.2)
       (
       any-chosen (IsMatched q) (λ s. Says q Allow s × (s.place.layer ≡ Resource) × (rank least ≤ rank (grant_of s.statement.principal q.requester)))
-      (λ (m : Matched). (m.effect ≡ Allow) × (m.place.layer ≡ Resource) × (rank least ≤ rank m.grant)) (item_of q)
+      (λ (m : Matched). (m.effect ≡ Allow) × (m.place.layer ≡ Resource) × (rank least ≤ rank m.grant)) (item_of q.requester)
       (λ x r. (r.0.0, (r.0.1, r.1, r.2))) (λ x p s. ((p, s.0), s.1, s.2)) (placed a) scanned.0 scanned.1
       )
 
-  org-same : OrgHolds (AllowsIn found) a ↔ OrgHolds (Allows a q) a
-  org-same = (λ h level below. (allows-same Org level).1 (h level below), λ h level below. (allows-same Org level).0 (h level below))
+  levels-same : (layer : Layer) (levels : List (List PolicyValue)) → LevelsHold (AllowsIn found) layer levels ↔ LevelsHold (Allows a q) layer levels
+  levels-same layer levels = (λ h level below. (allows-same layer level).1 (h level below), λ h level below. (allows-same layer level).0 (h level below))
 
   boundary-same : BoundaryHolds (AllowsIn found) a ↔ BoundaryHolds (Allows a q) a
   boundary-same = (
@@ -143,8 +163,8 @@ module _ (a : ApplicableValue) (q : RequestValue) (found : List Matched) (scanne
 
   allowed-same : IsAllowed (AllowsIn found) (GrantsIn found) a ↔ IsAllowed (Allows a q) (Grants a q) a
   allowed-same = (
-    λ h. (org-same.0 h.0, elim h.1 [ inl g ↦ inl (grant-same.0 g) | inr all ↦ inr (all-same.0 all) ]),
-    λ h. (org-same.1 h.0, elim h.1 [ inl g ↦ inl (grant-same.1 g) | inr all ↦ inr (all-same.1 all) ]),
+    λ h. ((levels-same Org a.org).0 h.0, (levels-same Control a.control).0 h.1, elim h.2 [ inl g ↦ inl (grant-same.0 g) | inr all ↦ inr (all-same.0 all) ]),
+    λ h. ((levels-same Org a.org).1 h.0, (levels-same Control a.control).1 h.1, elim h.2 [ inl g ↦ inl (grant-same.1 g) | inr all ↦ inr (all-same.1 all) ]),
   )
 
   pub decided-same : (d : Decision) → IsDecided (DeniesIn found) (AllowsIn found) (GrantsIn found) a d → IsDecided (Denies a q) (Allows a q) (Grants a q) a d
@@ -153,7 +173,8 @@ module _ (a : ApplicableValue) (q : RequestValue) (found : List Matched) (scanne
   decided-same ImplicitDeny h = ((λ denies. h.0 (denies-same.0 denies)), (λ allowed. h.1 (allowed-same.1 allowed)))
 
   fails-same : (layer : Layer) → Fails (AllowsIn found) (GrantsIn found) a layer ↔ Fails (Allows a q) (Grants a q) a layer
-  fails-same Org = ((λ h org. h (org-same.1 org)), (λ h org. h (org-same.0 org)))
+  fails-same Org = ((λ h holds. h ((levels-same Org a.org).1 holds)), (λ h holds. h ((levels-same Org a.org).0 holds)))
+  fails-same Control = ((λ h holds. h ((levels-same Control a.control).1 holds)), (λ h holds. h ((levels-same Control a.control).0 holds)))
   fails-same Resource = ((λ h. (h.0, (λ g. h.1 ((grants-same Account).0 g)))), (λ h. (h.0, (λ g. h.1 ((grants-same Account).1 g)))))
   fails-same Identity = ((λ h allows. h ((allows-same Identity 0).0 allows)), (λ h allows. h ((allows-same Identity 0).1 allows)))
   fails-same Boundary = ((λ h holds. h (boundary-same.1 holds)), (λ h holds. h (boundary-same.0 holds)))
@@ -168,10 +189,10 @@ module _ (a : ApplicableValue) (q : RequestValue) (found : List Matched) (scanne
   deciding-same d places (kept, selected, is) =
       let P : List Matched → Type 0 = λ z. Selects (λ m. m.effect ≡ deciding_effect d) z kept in
       let both =
-      select-twice (IsMatched q) (λ (m : Matched). m.effect ≡ deciding_effect d) (item_of q) (placed a) scanned.0 kept scanned.1
+      select-twice (IsMatched q) (λ (m : Matched). m.effect ≡ deciding_effect d) (item_of q.requester) (placed a) scanned.0 kept scanned.1
       (subst P scanned.2 selected) in
       (both.0, both.1, is ∙ ap (map (λ (m : Matched). m.place)) both.2 ∙ places-map both.0)
     where
-      places-map : (xs : List Placed) → map (λ (m : Matched). m.place) (map (item_of q) xs) ≡ map (λ s. s.place) xs
+      places-map : (xs : List Placed) → map (λ (m : Matched). m.place) (map (item_of q.requester) xs) ≡ map (λ s. s.place) xs
       places-map [] = refl
       places-map (x ∷ xs) = ap (λ z. x.place ∷ z) (places-map xs)

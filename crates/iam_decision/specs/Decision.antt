@@ -2,6 +2,7 @@
 -- account, the deciding statements and the lacks are our choices.
 use Rattle.std.specs.Prelude.{◌≡◌, ◌⊎◌, ◌<◌, ◌≤◌, ℕ, List, [], ◌∷◌, true, false, None, map, length}
 use Rattle.std.specs.List.{Any}
+use Rattle.iam_policy.specs.Reading.{PolicyValue}
 use Rattle.iam_policy.specs.declared.effect.Effect.{Effect}
 use Rattle.iam_policy.specs.declared.effect.Effect.TheVariants.{Allow, Deny}
 use Rattle.iam_match.specs.Principal.{grant_of, rank}
@@ -11,7 +12,7 @@ use Rattle.iam_match.specs.Statement.{RequestValue}
 use Rattle.iam_decision.specs.Applicable.{ApplicableValue}
 use Rattle.iam_decision.specs.Matched.{Placed, placed, IsMatched, Selects}
 use Rattle.iam_decision.specs.declared.place.Layer.{Layer}
-use Rattle.iam_decision.specs.declared.place.Layer.TheVariants.{Org, Resource, Identity, Boundary, Session}
+use Rattle.iam_decision.specs.declared.place.Layer.TheVariants.{Org, Control, Resource, Identity, Boundary, Session}
 use Rattle.iam_decision.specs.declared.place.Place.{Place}
 use Rattle.iam_decision.specs.declared.verdict.Decision.{Decision}
 use Rattle.iam_decision.specs.declared.verdict.Verdict.{Verdict}
@@ -43,9 +44,9 @@ Allowing = Layer → ℕ → Type 0
 abbrev pub Granting : Type 1
 Granting = Grant → Type 0
 
--- organisation: every level has a matched allow
-abbrev pub OrgHolds : Allowing → ApplicableValue → Type 0
-OrgHolds allows a = (level : ℕ) → level < length a.org → allows Org level
+-- a layer of levels: every level has a matched allow
+abbrev pub LevelsHold : Allowing → Layer → List (List PolicyValue) → Type 0
+LevelsHold allows layer levels = (level : ℕ) → level < length levels → allows layer level
 
 -- boundary: there is none, or it has a matched allow
 abbrev pub BoundaryHolds : Allowing → ApplicableValue → Type 0
@@ -67,9 +68,10 @@ AllHold allows grants a = allows Identity 0 × BoundaryHolds allows a × Session
 abbrev pub GrantSuffices : Allowing → Granting → ApplicableValue → Type 0
 GrantSuffices allows grants a = (a.same_account ≡ true) × (grants Direct ⊎ (grants Role × BoundaryHolds allows a × SessionHolds allows a))
 
--- what has to allow does
+-- what has to allow does: the levels of the organisation and those of the resource, however the rest is allowed
 abbrev pub IsAllowed : Allowing → Granting → ApplicableValue → Type 0
-IsAllowed allows grants a = OrgHolds allows a × (GrantSuffices allows grants a ⊎ AllHold allows grants a)
+IsAllowed allows grants a =
+    LevelsHold allows Org a.org × LevelsHold allows Control a.control × (GrantSuffices allows grants a ⊎ AllHold allows grants a)
 
 -- the decision, from what denies, allows and grants
 abbrev pub IsDecided : Type 0 → Allowing → Granting → ApplicableValue → Decision → Type 0
@@ -77,9 +79,14 @@ IsDecided denies allows grants a ExplicitDeny = denies
 IsDecided denies allows grants a Allowed = ¬ denies × IsAllowed allows grants a
 IsDecided denies allows grants a ImplicitDeny = ¬ denies × ¬ IsAllowed allows grants a
 
+-- the decision on a request
+abbrev pub IsDecision : ApplicableValue → RequestValue → Decision → Type 0
+IsDecision a q decision = IsDecided (Denies a q) (Allows a q) (Grants a q) a decision
+
 -- the check of the layer fails
 abbrev pub Fails : Allowing → Granting → ApplicableValue → Layer → Type 0
-Fails allows grants a Org = ¬ OrgHolds allows a
+Fails allows grants a Org = ¬ LevelsHold allows Org a.org
+Fails allows grants a Control = ¬ LevelsHold allows Control a.control
 Fails allows grants a Resource = MustGrant a × ¬ grants Account
 Fails allows grants a Identity = ¬ allows Identity 0
 Fails allows grants a Boundary = ¬ BoundaryHolds allows a
@@ -87,7 +94,7 @@ Fails allows grants a Session = ¬ SessionHolds allows a
 
 -- the layers in the order of places
 abbrev pub layers_in_order : List Layer
-layers_in_order = Org ∷ (Resource ∷ (Identity ∷ (Boundary ∷ (Session ∷ []))))
+layers_in_order = Org ∷ (Control ∷ (Resource ∷ (Identity ∷ (Boundary ∷ (Session ∷ [])))))
 
 -- an implicit deny lacks the layers whose checks fail, in this order; the others lack nothing
 abbrev pub AreLacking : Allowing → Granting → ApplicableValue → Decision → List Layer → Type 0
@@ -109,6 +116,6 @@ AreDeciding a q decision places =
 
 -- the verdict on a request: decision, deciding statements and lacks
 pub record IsVerdict (a : ApplicableValue) (q : RequestValue) (verdict : Verdict) : Type 0 where
-  pub decided : IsDecided (Denies a q) (Allows a q) (Grants a q) a verdict.decision
+  pub decided : IsDecision a q verdict.decision
   pub deciding : AreDeciding a q verdict.decision verdict.statements
   pub lacking : AreLacking (Allows a q) (Grants a q) a verdict.decision verdict.lacks

@@ -1,4 +1,5 @@
 pub mod Applicable
 pub mod Code
 pub mod Decision
+pub mod Living
 pub mod Matched

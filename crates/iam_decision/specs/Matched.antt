@@ -5,7 +5,7 @@ use Rattle.iam_policy.specs.Reading.{PolicyValue, StatementValue}
 use Rattle.iam_match.specs.Statement.{RequestValue, StatementMatches}
 use Rattle.iam_decision.specs.Applicable.{ApplicableValue}
 use Rattle.iam_decision.specs.declared.place.Layer.{Layer}
-use Rattle.iam_decision.specs.declared.place.Layer.TheVariants.{Org, Resource, Identity, Boundary, Session}
+use Rattle.iam_decision.specs.declared.place.Layer.TheVariants.{Org, Control, Resource, Identity, Boundary, Session}
 use Rattle.iam_decision.specs.declared.place.Place.{Place}
 
 -- a statement and the place where it stands
@@ -32,13 +32,14 @@ abbrev pub as_list : Option PolicyValue → List PolicyValue
 as_list None = []
 as_list (Some policy) = policy ∷ []
 
--- all statements of the applicable policies, in place order; all but those of the organisation stand at level 0
+-- all statements of the applicable policies, in place order; those of layers without levels stand at level 0
 abbrev pub placed : ApplicableValue → List Placed
 placed a =
     in_layer Org a.org
+    ++ (in_layer Control a.control
     ++ (in_level Resource 0 (as_list a.resource)
     ++ (in_level Identity 0 a.identity
-    ++ (in_level Boundary 0 (as_list a.boundary) ++ in_level Session 0 a.session)))
+    ++ (in_level Boundary 0 (as_list a.boundary) ++ in_level Session 0 a.session))))
 
 -- those of a list that have the property, in the order of the list
 abbrev pub Selects : {X : Type 0} → (X → Type 0) → List X → List X → Type 0

@@ -1,9 +1,7 @@
-use crate::decide::{deciding_effect, decision_of, lacking, places_of};
 use crate::scan::scan;
-use crate::verdict::Verdict;
-use iam_match::{OutOfMemory, Request};
+use crate::shared::Shared;
+use iam_match::{Access, OutOfMemory};
 use iam_policy::Policy;
-use iam_text::Items;
 use std::alloc::Global;
 
 /// The policies that apply to a request, by layer, and what the decision asks of the accounts and the resource.
@@ -13,6 +11,8 @@ use std::alloc::Global;
 pub struct Applicable<'a> {
     /// The organisation policies of the requester's account by level from the root; none for a management account.
     pub org: &'a [Vec<Policy>],
+    /// The resource control policies of the resource by level from the root; none in a management account.
+    pub control: &'a [Vec<Policy>],
     /// The policy of the resource.
     pub resource: Option<&'a Policy>,
     /// The policies attached to the requester.
@@ -29,29 +29,25 @@ pub struct Applicable<'a> {
 
 impl<'a> Applicable<'a> {
     ghost use Rattle.std.specs.Prelude.{IfOk};
-    ghost use Rattle.iam_match.specs.Request.{request_of};
-    ghost use Rattle.iam_decision.specs.Decision.{IsVerdict};
-    ghost use Rattle.iam_decision.specs.Code.Scan.{IsNumbered, value_of};
+    ghost use Rattle.iam_match.specs.Request.{access_of};
+    ghost use Rattle.iam_decision.specs.Applicable.{IsNumbered, value_of};
+    ghost use Rattle.iam_decision.specs.Living.{IsShared};
 
-    /// The verdict of these policies on the request, by a scan of all their statements.
+    /// What requests for this access share, whatever their actions: found by a scan of all statements of these policies.
     ///
-    /// The list of levels and each list of policies have to have fewer than 2^32 members. `OutOfMemory` comes where
-    /// the found statements or the answer find no memory.
+    /// The lists of levels and each list of policies have to have fewer than 2^32 members.
     ///
-    /// AWS IAM User Guide, "Policy evaluation logic"; the deciding statements and the lacks are our choices.
-    pub fn decide(&self, alloc: Global, request: &Request<'_, 'a>) -> Result<Verdict, OutOfMemory>
+    /// AWS IAM User Guide, "Policy evaluation logic".
+    pub fn shared<'c>(
+        &self,
+        alloc: Global,
+        access: Access<'_, 'c>,
+    ) -> Result<Shared<'a>, OutOfMemory>
+    where
+        'a: 'c,
         requires { IsNumbered (value_of self.now) }
-        ensures { IfOk result (IsVerdict (value_of self.now) (request_of request.now)) }
+        ensures { IfOk result (IsShared (value_of self.now) (access_of access.entry)) }
     {
-        let found = scan(alloc, self, request)?;
-        let found = found.as_slice();
-        let decision = decision_of(found, self);
-        let statements = places_of(alloc, found, deciding_effect(decision))?;
-        let lacks = lacking(alloc, decision, found, self)?;
-        Ok(Verdict {
-            decision,
-            statements: Items::from_vec(statements),
-            lacks: Items::from_vec(lacks),
-        })
+        Ok(Shared::new(*self, scan(alloc, self, access)?))
     }
 }

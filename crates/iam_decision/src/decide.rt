@@ -1,20 +1,24 @@
-ghost use Rattle.std.specs.Prelude.{◌≡◌, ◌↔◌, ◌<◌, ◌≤◌, [], IsTrue, IfOk, length};
+ghost use Rattle.std.specs.Prelude.{◌≡◌, ◌↔◌, ◌≤◌, IsTrue, IfOk, map};
 ghost use Rattle.iam_match.specs.Principal.{rank};
-ghost use Rattle.iam_decision.specs.Matched.{Selects};
-ghost use Rattle.iam_decision.specs.Code.Scan.{IsCountable, value_of};
+ghost use Rattle.iam_match.specs.Statement.{RequestValue};
+ghost use Rattle.iam_decision.specs.Applicable.{IsCountable, IsNumbered, value_of};
+ghost use Rattle.iam_decision.specs.Living.{AreFound};
+ghost use Rattle.iam_decision.specs.Matched.{Selects, placed};
 ghost use Rattle.iam_decision.specs.Code.Found.{AllowsIn, ArePlaces, DeniesIn, GrantsIn};
-ghost use Rattle.iam_decision.specs.Decision.{AllHold, AreLacking, deciding_effect, BoundaryHolds, Fails, GrantSuffices, IsAllowed, IsDecided, MustGrant, OrgHolds, SessionHolds, layers_in_order};
+ghost use Rattle.iam_decision.specs.Decision.{AllHold, AreLacking, deciding_effect, BoundaryHolds, Fails, GrantSuffices, IsAllowed, IsDecided, IsVerdict, LevelsHold, MustGrant, SessionHolds, layers_in_order};
 
 use crate::applicable::Applicable;
+use crate::living::Matched;
 use crate::place::{Layer, Place};
-use crate::scan::Matched;
-use crate::verdict::Decision;
+use crate::verdict::{Decision, Verdict};
 use iam_match::{Grant, OutOfMemory};
-use iam_policy::Effect;
+use iam_policy::{Effect, Policy};
+use iam_text::Items;
 use std::alloc::Global;
 
-const LAYERS: [Layer; 5] = [
+const LAYERS: [Layer; 6] = [
     Layer::Org,
+    Layer::Control,
     Layer::Resource,
     Layer::Identity,
     Layer::Boundary,
@@ -35,12 +39,13 @@ fn allows(found: &[Matched], layer: Layer, level: u32) -> bool
         && m.place.level == level)
 }
 
-fn org_holds(found: &[Matched], applicable: &Applicable<'_>) -> bool
-    requires { IsCountable (value_of applicable.now).org }
-    ensures { IsTrue result ↔ OrgHolds (AllowsIn found.now) (value_of applicable.now) }
+/// Whether each level of the layer allows.
+fn levels_hold(found: &[Matched], layer: Layer, levels: &[Vec<Policy>]) -> bool
+    requires { IsCountable (map (λ level. level.items) levels.now) }
+    ensures { IsTrue result ↔ LevelsHold (AllowsIn found.now) layer (map (λ level. level.items) levels.now) }
 {
-    for level in 0..applicable.org.len() {
-        if !allows(found, Layer::Org, level as u32) {
+    for level in 0..levels.len() {
+        if !allows(found, layer, level as u32) {
             return false;
         }
     }
@@ -82,11 +87,12 @@ fn must_grant(applicable: &Applicable<'_>) -> bool
 
 /// Whether the check of the layer fails.
 fn fails(found: &[Matched], applicable: &Applicable<'_>, layer: Layer) -> bool
-    requires { IsCountable (value_of applicable.now).org }
+    requires { IsNumbered (value_of applicable.now) }
     ensures { IsTrue result ↔ Fails (AllowsIn found.now) (GrantsIn found.now) (value_of applicable.now) layer }
 {
     match layer {
-        Layer::Org => !org_holds(found, applicable),
+        Layer::Org => !levels_hold(found, Layer::Org, applicable.org),
+        Layer::Control => !levels_hold(found, Layer::Control, applicable.control),
         Layer::Resource => must_grant(applicable) && !grants(found, Grant::Account),
         Layer::Identity => !allows(found, Layer::Identity, 0),
         Layer::Boundary => !boundary_holds(found, applicable),
@@ -114,16 +120,17 @@ fn grant_suffices(found: &[Matched], applicable: &Applicable<'_>) -> bool
 }
 
 fn is_allowed(found: &[Matched], applicable: &Applicable<'_>) -> bool
-    requires { IsCountable (value_of applicable.now).org }
+    requires { IsNumbered (value_of applicable.now) }
     ensures { IsTrue result ↔ IsAllowed (AllowsIn found.now) (GrantsIn found.now) (value_of applicable.now) }
 {
-    org_holds(found, applicable)
+    levels_hold(found, Layer::Org, applicable.org)
+        && levels_hold(found, Layer::Control, applicable.control)
         && (grant_suffices(found, applicable) || all_hold(found, applicable))
 }
 
 /// The decision on what was found.
 pub fn decision_of(found: &[Matched], applicable: &Applicable<'_>) -> Decision
-    requires { IsCountable (value_of applicable.now).org }
+    requires { IsNumbered (value_of applicable.now) }
     ensures { IsDecided (DeniesIn found.now) (AllowsIn found.now) (GrantsIn found.now) (value_of applicable.now) result }
 {
     if denies(found) {
@@ -135,14 +142,33 @@ pub fn decision_of(found: &[Matched], applicable: &Applicable<'_>) -> Decision
     }
 }
 
+/// The verdict on a request, where these are the statements of the applicable policies that match it.
+pub fn verdict_of(
+    alloc: Global,
+    found: &[Matched],
+    applicable: &Applicable<'_>,
+) -> Result<Verdict, OutOfMemory>
+    requires { IsNumbered (value_of applicable.now) }
+    ensures { (q : RequestValue) → AreFound q (placed (value_of applicable.now)) found.now → IfOk result (IsVerdict (value_of applicable.now) q) }
+{
+    let decision = decision_of(found, applicable);
+    let statements = places_of(alloc, found, deciding_effect(decision))?;
+    let lacks = lacking(alloc, decision, found, applicable)?;
+    Ok(Verdict {
+        decision,
+        statements: Items::from_vec(statements),
+        lacks: Items::from_vec(lacks),
+    })
+}
+
 /// What an implicit deny lacks; the other decisions lack nothing.
-pub fn lacking(
+fn lacking(
     alloc: Global,
     decision: Decision,
     found: &[Matched],
     applicable: &Applicable<'_>,
 ) -> Result<Vec<Layer>, OutOfMemory>
-    requires { IsCountable (value_of applicable.now).org }
+    requires { IsNumbered (value_of applicable.now) }
     ensures { IfOk result (λ lacks. AreLacking (AllowsIn found.now) (GrantsIn found.now) (value_of applicable.now) decision lacks.items) }
 {
     match decision {
@@ -153,7 +179,7 @@ pub fn lacking(
 }
 
 /// The effect of the statements that decide.
-pub fn deciding_effect(decision: Decision) -> Effect
+fn deciding_effect(decision: Decision) -> Effect
     ensures { result ≡ deciding_effect decision }
 {
     match decision {
@@ -169,7 +195,7 @@ fn failing(
     applicable: &Applicable<'_>,
     layers: &[Layer],
 ) -> Result<Vec<Layer>, OutOfMemory>
-    requires { IsCountable (value_of applicable.now).org }
+    requires { IsNumbered (value_of applicable.now) }
     ensures { IfOk result (λ failing. Selects (Fails (AllowsIn found.now) (GrantsIn found.now) (value_of applicable.now)) layers.now
         failing.items) }
 {
@@ -189,11 +215,7 @@ fn has_effect(matched: Matched, effect: Effect) -> bool
 }
 
 /// The places of those with the effect, in order.
-pub fn places_of(
-    alloc: Global,
-    found: &[Matched],
-    effect: Effect,
-) -> Result<Vec<Place>, OutOfMemory>
+fn places_of(alloc: Global, found: &[Matched], effect: Effect) -> Result<Vec<Place>, OutOfMemory>
     ensures { IfOk result (λ places. ArePlaces effect found.now places.items) }
 {
     let mut places = Vec::new(alloc);

@@ -3,10 +3,14 @@
 
 mod applicable;
 mod decide;
+mod living;
 mod place;
 mod scan;
+mod shared;
 mod verdict;
 
 pub use applicable::Applicable;
+pub use living::Matched;
 pub use place::{Layer, Place};
+pub use shared::Shared;
 pub use verdict::{Decision, Verdict};

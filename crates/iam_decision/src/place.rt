@@ -3,6 +3,8 @@
 pub enum Layer {
     /// The organisation policies of the requester's account.
     Org,
+    /// The resource control policies of the resource.
+    Control,
     /// The policy of the resource.
     Resource,
     /// The identity policies of the requester.
@@ -18,7 +20,7 @@ pub enum Layer {
 pub struct Place {
     /// The layer of its policy.
     pub layer: Layer,
-    /// The level of an organisation policy, from the root.
+    /// The level of an organisation policy or a resource control policy, from the root.
     pub level: u32,
     /// The number of its policy in the level.
     pub policy: u32,

@@ -1,62 +1,77 @@
-ghost use Rattle.std.specs.Prelude.{[], OnOk, IfOk, map, option_map};
-ghost use Rattle.std.specs.List.{AllByRecursion};
-ghost use Rattle.iam_match.specs.Request.{request_of};
+ghost use Rattle.std.specs.Prelude.{[], ◌∷◌, OnOk, IfOk, map, option_map};
+ghost use Rattle.iam_match.specs.Request.{access_of};
 ghost use Rattle.iam_decision.specs.Matched.{as_list, in_layer, in_level, in_policy, placed};
-ghost use Rattle.iam_decision.specs.Code.Scan.{Adds, IsCountable, IsNumbered, value_of};
+ghost use Rattle.iam_decision.specs.Applicable.{HasCountableLevels, IsCountable, IsNumbered, value_of};
+ghost use Rattle.iam_decision.specs.Code.Scan.{Adds};
+ghost use Rattle.iam_decision.specs.Living.{living_value};
 
 use crate::applicable::Applicable;
+use crate::living::{Living, Matched};
 use crate::place::{Layer, Place};
-use iam_match::{Grant, OutOfMemory, Request, grant_kind, statement_matches};
-use iam_policy::{Effect, Policy};
+use iam_match::{Access, OutOfMemory, grant_kind, rest_matches};
+use iam_policy::{Policy, Statement};
 use std::alloc::Global;
 use std::slice;
 
-/// A statement that matches the request: where it stands, its effect, and what its principals grant the requester.
-#[derive(Clone, Copy)]
-pub struct Matched {
-    pub place: Place,
-    pub effect: Effect,
-    pub grant: Grant,
+/// Adds the statement, which stands at this place, if it lives.
+fn scan_statement<'a: 'c, 'c>(
+    alloc: Global,
+    found: &mut Vec<Living<'a>>,
+    statement: &'a Statement,
+    place: Place,
+    access: Access<'_, 'c>,
+) -> Result<(), OutOfMemory>
+    ensures { OnOk result (Adds (access_of access.entry) (record { place = place; statement = statement.entry.now } ∷ [])
+        (map living_value found.old.items) (map living_value found.new.items)) }
+{
+    if !rest_matches(alloc, statement, access)? {
+        return Ok(());
+    }
+    let matched = Matched {
+        place,
+        effect: statement.effect(),
+        grant: grant_kind(statement, access.requester),
+    };
+    found.push(Living {
+        matched,
+        action: statement.action(),
+    })?;
+    Ok(())
 }
 
-/// Adds the statements of a policy that match the request.
-fn scan_policy<'c>(
+/// Adds the statements of a policy that live.
+fn scan_policy<'a: 'c, 'c>(
     alloc: Global,
-    found: &mut Vec<Matched>,
-    policy: &'c Policy,
+    found: &mut Vec<Living<'a>>,
+    policy: &'a Policy,
     origin: Place,
-    request: &Request<'_, 'c>,
+    access: Access<'_, 'c>,
 ) -> Result<(), OutOfMemory>
-    ensures { OnOk result (Adds (request_of request.now) (in_policy origin.layer origin.level origin.policy policy.now)
-        found.old.items found.new.items) }
+    ensures { OnOk result (Adds (access_of access.entry) (in_policy origin.layer origin.level origin.policy policy.entry.now)
+        (map living_value found.old.items) (map living_value found.new.items)) }
 {
     for (number, statement) in policy.statements().iter().enumerate() {
-        if statement_matches(alloc, statement, request)? {
-            let place = Place {
-                statement: number as u32,
-                ..origin
-            };
-            found.push(Matched {
-                place,
-                effect: statement.effect(),
-                grant: grant_kind(statement, request.requester),
-            })?;
-        }
+        let place = Place {
+            statement: number as u32,
+            ..origin
+        };
+        scan_statement(alloc, found, statement, place, access)?;
     }
     Ok(())
 }
 
-/// Adds the statements of the policies of a level that match the request.
-fn scan_level<'c>(
+/// Adds the statements of the policies of a level that live.
+fn scan_level<'a: 'c, 'c>(
     alloc: Global,
-    found: &mut Vec<Matched>,
-    policies: &'c [Policy],
+    found: &mut Vec<Living<'a>>,
+    policies: &'a [Policy],
     layer: Layer,
     level: u32,
-    request: &Request<'_, 'c>,
+    access: Access<'_, 'c>,
 ) -> Result<(), OutOfMemory>
     requires { IsCountable policies.now }
-    ensures { OnOk result (Adds (request_of request.now) (in_level layer level policies.now) found.old.items found.new.items) }
+    ensures { OnOk result (Adds (access_of access.entry) (in_level layer level policies.entry.now)
+        (map living_value found.old.items) (map living_value found.new.items)) }
 {
     for (number, policy) in policies.iter().enumerate() {
         let origin = Place {
@@ -65,70 +80,77 @@ fn scan_level<'c>(
             policy: number as u32,
             statement: 0,
         };
-        scan_policy(alloc, found, policy, origin, request)?;
+        scan_policy(alloc, found, policy, origin, access)?;
     }
     Ok(())
 }
 
-/// Adds the statements of a policy that match the request, if there is a policy.
-fn scan_one<'c>(
+/// Adds the statements of a policy that live, if there is a policy.
+fn scan_one<'a: 'c, 'c>(
     alloc: Global,
-    found: &mut Vec<Matched>,
-    policy: Option<&'c Policy>,
+    found: &mut Vec<Living<'a>>,
+    policy: Option<&'a Policy>,
     layer: Layer,
-    request: &Request<'_, 'c>,
+    access: Access<'_, 'c>,
 ) -> Result<(), OutOfMemory>
-    ensures { OnOk result (Adds (request_of request.now) (in_level layer 0 (as_list (option_map (λ p. p.now) policy.entry)))
-        found.old.items found.new.items) }
+    ensures { OnOk result (Adds (access_of access.entry) (in_level layer 0 (as_list (option_map (λ p. p.now) policy.entry)))
+        (map living_value found.old.items) (map living_value found.new.items)) }
 {
     match policy {
-        Some(policy) => scan_level(alloc, found, slice::from_ref(policy), layer, 0, request),
+        Some(policy) => scan_level(alloc, found, slice::from_ref(policy), layer, 0, access),
         None => Ok(()),
     }
 }
 
-/// Adds the statements of organisation policies that match the request.
-fn scan_org<'c>(
+/// Adds the statements of the policies of a layer that live, level by level.
+fn scan_layer<'a: 'c, 'c>(
     alloc: Global,
-    found: &mut Vec<Matched>,
-    levels: &'c [Vec<Policy>],
-    request: &Request<'_, 'c>,
+    found: &mut Vec<Living<'a>>,
+    levels: &'a [Vec<Policy>],
+    layer: Layer,
+    access: Access<'_, 'c>,
 ) -> Result<(), OutOfMemory>
-    requires levels { IsCountable levels.now }
-    requires policies { AllByRecursion IsCountable (map (λ level. level.items) levels.now) }
-    ensures { OnOk result (Adds (request_of request.now) (in_layer Layer.Org (map (λ level. level.items) levels.now))
-        found.old.items found.new.items) }
+    requires { HasCountableLevels (map (λ level. level.items) levels.now) }
+    ensures { OnOk result (Adds (access_of access.entry) (in_layer layer (map (λ level. level.items) levels.entry.now))
+        (map living_value found.old.items) (map living_value found.new.items)) }
 {
     for (number, policies) in levels.iter().enumerate() {
         scan_level(
             alloc,
             found,
             policies.as_slice(),
-            Layer::Org,
+            layer,
             number as u32,
-            request,
+            access,
         )?;
     }
     Ok(())
 }
 
-/// The statements of the applicable policies that match the request, in place order.
-pub fn scan<'c>(
+/// The statements of the applicable policies that live, in place order.
+pub fn scan<'a: 'c, 'c>(
     alloc: Global,
-    applicable: &Applicable<'c>,
-    request: &Request<'_, 'c>,
-) -> Result<Vec<Matched>, OutOfMemory>
+    applicable: &Applicable<'a>,
+    access: Access<'_, 'c>,
+) -> Result<Vec<Living<'a>>, OutOfMemory>
     requires { IsNumbered (value_of applicable.now) }
-    ensures { IfOk result (λ found. Adds (request_of request.now) (placed (value_of applicable.now)) [] found.items) }
+    ensures { IfOk result (λ found. Adds (access_of access.entry) (placed (value_of applicable.now)) [] (map living_value found.items)) }
 {
     let mut found = Vec::new(alloc);
-    scan_org(alloc, &mut found, applicable.org, request)?;
+    scan_layer(alloc, &mut found, applicable.org, Layer::Org, access)?;
+    scan_layer(
+        alloc,
+        &mut found,
+        applicable.control,
+        Layer::Control,
+        access,
+    )?;
     scan_one(
         alloc,
         &mut found,
         applicable.resource,
         Layer::Resource,
-        request,
+        access,
     )?;
     scan_level(
         alloc,
@@ -136,14 +158,14 @@ pub fn scan<'c>(
         applicable.identity,
         Layer::Identity,
         0,
-        request,
+        access,
     )?;
     scan_one(
         alloc,
         &mut found,
         applicable.boundary,
         Layer::Boundary,
-        request,
+        access,
     )?;
     scan_level(
         alloc,
@@ -151,7 +173,7 @@ pub fn scan<'c>(
         applicable.session,
         Layer::Session,
         0,
-        request,
+        access,
     )?;
     Ok(found)
 }

@@ -2,7 +2,11 @@
 use Rattle.std.specs.Prelude.{◌≡◌, ℕ, ◌+◌, ◌*◌, ◌<◌, List, Some, length}
 use Rattle.std.specs.List.{slice_get}
 use Rattle.iam_match.specs.Requester.{requester_name}
-use Rattle.iam_decision.specs.Decision.{IsVerdict}
+use Rattle.iam_match.specs.Statement.{AccessValue, RequestValue, request_for}
+use Rattle.iam_decision.specs.Applicable.{ApplicableValue}
+use Rattle.iam_decision.specs.Decision.{IsDecision, IsVerdict}
+use Rattle.iam_decision.specs.Living.{IsShared, SharedValue}
+use Rattle.iam_decision.specs.declared.verdict.Decision.{Decision}
 use Rattle.iam_decision.specs.declared.verdict.Verdict.{Verdict}
 use Rattle.iam_world.specs.World.{WorldValue, PrincipalValue, ResourceValue}
 use Rattle.iam_context.specs.Context.{ContextValue}
@@ -42,18 +46,49 @@ abbrev pub IsContextAt : WorldValue → ℕ → ℕ → ContextValue → Context
 IsContextAt world p r derived context =
     IsPrincipal world p (λ principal. IsResource world r (λ resource. context ≡ context_of world principal resource derived))
 
--- the verdict of the policies that apply where principal p asks for action a on resource r, in the context of that request
+-- the policies that apply where principal p asks for resource r, and who asks for what in which context
+pub record IsAccessAt (world : WorldValue) (p r : ℕ) (applicable : ApplicableValue) (access : AccessValue) : Type 0 where
+  pub principal : PrincipalValue
+  pub resource : ResourceValue
+  pub derived : ContextValue
+  pub principal_is : slice_get world.principals p ≡ Some principal
+  pub resource_is : slice_get world.resources r ≡ Some resource
+  pub derived_is : IsDerived world principal resource derived
+  pub applicable_is : applicable ≡ applicable_of world principal resource
+  pub access_is :
+      access
+      ≡ record {
+        requester = principal.requester;
+        resource = resource.arn;
+        context = context_of world principal resource derived;
+      }
+
+-- what the requests of principal p for resource r share
+abbrev pub IsSharedAt : WorldValue → ℕ → ℕ → SharedValue → Type 0
+IsSharedAt world p r shared =
+    (access : AccessValue) × IsAccessAt world p r shared.applicable access × IsShared shared.applicable access shared
+
+-- the request of principal p for action a on resource r, in its context, and the policies that apply to it
+abbrev pub IsRequestAt : WorldValue → ℕ → ℕ → ℕ → ApplicableValue → RequestValue → Type 0
+IsRequestAt world p a r applicable request =
+    (access : AccessValue) × (action : List ℕ) × IsAccessAt world p r applicable access × IsAction world a action
+    × (request ≡ request_for access action)
+
+-- the verdict on that request
 abbrev pub IsVerdictAt : WorldValue → ℕ → ℕ → ℕ → Verdict → Type 0
 IsVerdictAt world p a r verdict =
-    (principal : PrincipalValue) × (action : List ℕ) × (resource : ResourceValue) × (derived : ContextValue)
-    × (slice_get world.principals p ≡ Some principal)
-    × (slice_get world.actions a ≡ Some action)
-    × (slice_get world.resources r ≡ Some resource)
-    × IsDerived world principal resource derived
-    × IsVerdict (applicable_of world principal resource)
-    (record {
-      requester = principal.requester;
-      action = action;
-      resource = resource.arn;
-      context = context_of world principal resource derived;
-    }) verdict
+    (applicable : ApplicableValue) × (request : RequestValue) × IsRequestAt world p a r applicable request
+    × IsVerdict applicable request verdict
+
+-- the decision on that request
+abbrev pub IsDecisionAt : WorldValue → ℕ → ℕ → ℕ → Decision → Type 0
+IsDecisionAt world p a r decision =
+    (applicable : ApplicableValue) × (request : RequestValue) × IsRequestAt world p a r applicable request
+    × IsDecision applicable request decision
+
+-- the verdict of the written logic on the request of this cell, and the decision
+abbrev pub IsVerdictOf : WorldValue → ℕ → Verdict → Type 0
+IsVerdictOf world cell verdict = (p : ℕ) × (a : ℕ) × (r : ℕ) × IsCell world cell p a r × IsVerdictAt world p a r verdict
+
+abbrev pub IsDecisionOf : WorldValue → ℕ → Decision → Type 0
+IsDecisionOf world cell decision = (p : ℕ) × (a : ℕ) × (r : ℕ) × IsCell world cell p a r × IsDecisionAt world p a r decision

@@ -4,9 +4,10 @@
 //! verdict on one request by a scan of all statements that apply.
 #![tactic(auto)]
 
+mod applicable;
 mod derived;
 mod world;
 
-pub use iam_decision::{Applicable, Decision, Layer, Place, Verdict};
+pub use iam_decision::{Applicable, Decision, Layer, Matched, Place, Shared, Verdict};
 pub use iam_world::{Name, Path, WorldFault};
 pub use world::World;

@@ -1,9 +1,10 @@
 ghost use Rattle.std.specs.Prelude.{◌≡◌, ◌+◌, ◌*◌, ◌≤◌, ◌<◌};
 
+use crate::applicable::{control_of, org_of};
 use crate::derived::derived_keys;
 use iam_context::{Context, ContextFault, Derived, clean_beside_fewer, clean_parts_join};
-use iam_decision::{Applicable, Verdict};
-use iam_match::{OutOfMemory, Request, Requester};
+use iam_decision::{Applicable, Shared, Verdict};
+use iam_match::{Access, OutOfMemory, Requester};
 use iam_world::{Principal, Resource, WorldFault, WorldParts};
 use std::alloc::Global;
 use std::marker::Model;
@@ -42,14 +43,15 @@ fn memory_fault(fault: ContextFault) -> OutOfMemory
 impl World {
     ghost use Rattle.std.specs.Prelude.{◌≡◌, ◌≢◌, ℕ, ◌<◌, ◌≤◌, IfOk, IfErr, Some, length};
     ghost use Rattle.std.specs.List.{slice_get};
-    ghost use Rattle.iam_decision.specs.Code.Scan.{IsNumbered, value_of};
+    ghost use Rattle.iam_decision.specs.Applicable.{IsNumbered, value_of};
+    ghost use Rattle.iam_shape.specs.Few.{HasFewLevels};
     ghost use Rattle.iam_world.specs.Reads.{IsWorld};
     ghost use Rattle.iam_world.specs.WorldFault.{IsFirstWorldFault};
     ghost use Rattle.iam_world.specs.World.{world_cells, world_statements};
     ghost use Rattle.iam_world.specs.Code.Invariants.{HasFewPolicies};
     ghost use Rattle.iam_world.specs.declared.fault.WorldFault.TheVariants as w;
     ghost use Rattle.iam_layers.specs.Applicable.{applicable_of};
-    ghost use Rattle.iam_layers.specs.Cell.{IsAction, IsCell, IsContextAt, IsDerivedAt, IsPrincipal, IsResource, IsVerdictAt, principal_text};
+    ghost use Rattle.iam_layers.specs.Cell.{IsAction, IsCell, IsContextAt, IsDerivedAt, IsPrincipal, IsResource, IsSharedAt, IsVerdictAt, principal_text};
 
     /// The world of a JSON document, or the first fault of its bytes: `TooLarge` for over 8,388,608 of them, then 1
     /// to 8 by number, each at its first place, then `TooLarge` for over 16,777,216 cells or 4,096 statements.
@@ -216,7 +218,8 @@ impl World {
         let resource = self.resource(r);
         let account = principal.requester().account();
         Applicable {
-            org: self.parts.org(account),
+            org: org_of(self.parts.account(account)),
+            control: control_of(self.parts.account(resource.account()), resource),
             resource: resource.policy(),
             identity: principal.identity(),
             boundary: principal.boundary(),
@@ -236,34 +239,43 @@ impl World {
 
     fn resource(&self, r: u64) -> &Resource
         requires { r < length self.now.resources }
-        ensures { slice_get self.now.resources r ≡ Some result.now }
+        ensures is { slice_get self.now.resources r ≡ Some result.now }
+        ensures few { HasFewLevels result.now.control }
     {
         &self.parts.resources()[r as usize]
     }
 
-    /// The verdict in the context that these derived keys complete.
-    fn decide_in<'c>(
-        &'c self,
+    /// What the requests of principal p for resource r share, where these derived keys complete their context.
+    fn shared_in<'a: 'c, 'c>(
+        &'a self,
         alloc: Global,
         p: u64,
-        a: u64,
         r: u64,
         derived: &'c Derived,
-    ) -> Result<Verdict, OutOfMemory>
+    ) -> Result<Shared<'a>, OutOfMemory>
         requires principal { p < length self.now.principals }
-        requires action { a < length self.now.actions }
         requires resource { r < length self.now.resources }
         requires derived { IsDerivedAt self.now p r derived.now.items }
-        ensures { IfOk result (IsVerdictAt self.entry.now p a r) }
+        ensures { IfOk result (IsSharedAt self.entry.now p r) }
     {
         let context = self.context(alloc, p, r, derived)?;
-        let request = Request {
+        let access = Access {
             requester: self.requester(p),
-            action: self.action_text(a),
             resource: self.resource_text(r),
             context: &context,
         };
-        self.applicable(p, r).decide(alloc, &request)
+        self.applicable(p, r).shared(alloc, access)
+    }
+
+    /// What the requests of principal p for resource r share, whatever their actions, each below the number of its kind:
+    /// found by a scan of all statements that apply.
+    pub fn shared(&self, alloc: Global, p: u64, r: u64) -> Result<Shared<'_>, OutOfMemory>
+        requires principal { p < length self.now.principals }
+        requires resource { r < length self.now.resources }
+        ensures { IfOk result (IsSharedAt self.entry.now p r) }
+    {
+        let derived = self.derived(alloc, p, r)?;
+        self.shared_in(alloc, p, r, &derived)
     }
 
     /// The verdict on principal p's request for action a on resource r, each below the number of its kind, by a scan of
@@ -282,7 +294,7 @@ impl World {
         requires resource { r < length self.now.resources }
         ensures { IfOk result (IsVerdictAt self.now p a r) }
     {
-        let derived = self.derived(alloc, p, r)?;
-        self.decide_in(alloc, p, a, r, &derived)
+        let shared = self.shared(alloc, p, r)?;
+        shared.verdict(alloc, &mut Vec::new(alloc), self.action_text(a))
     }
 }

@@ -8,7 +8,7 @@ use Rattle.iam_text.specs.declared.draft.Piece.{Piece}
 use Rattle.iam_text.specs.Draft.{plain_draft}
 use Rattle.iam_context.specs.Context.{ContextValue}
 use Rattle.iam_context.specs.Resolve.{resolved}
-use Rattle.iam_policy.specs.Reading.{ResourceElement}
+use Rattle.iam_element.specs.Reading.{ResourceElement}
 use Rattle.iam_match.specs.Statement.{ResourceMatches, TextMatches}
 use Rattle.iam_match.specs.Code.Texts.{TextDiffers}
 

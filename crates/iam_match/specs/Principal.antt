@@ -4,9 +4,9 @@ use Rattle.std.specs.Prelude.{◌≢◌, ℕ, List, [], ◌∷◌, Bool, true, f
 use Rattle.std.specs.List.{list_all, list_any}
 use Rattle.std.specs.Option.{option_map_or}
 use Rattle.std.specs.Str.{bytes_eq}
-use Rattle.iam_policy.specs.declared.principals.PrincipalKind.{PrincipalKind}
-use Rattle.iam_policy.specs.declared.principals.PrincipalKind.TheVariants.{Aws, Service, Federated, CanonicalUser}
-use Rattle.iam_policy.specs.Reading.{PrincipalElement, PrincipalText}
+use Rattle.iam_element.specs.declared.principals.PrincipalKind.{PrincipalKind}
+use Rattle.iam_element.specs.declared.principals.PrincipalKind.TheVariants.{Aws, Service, Federated, CanonicalUser}
+use Rattle.iam_element.specs.Reading.{PrincipalElement, PrincipalText}
 use Rattle.iam_match.specs.declared.principal.Grant.{Grant}
 use Rattle.iam_match.specs.declared.principal.Grant.TheVariants.{None, Account, Role, Direct}
 use Rattle.iam_match.specs.Requester.{RequesterValue, role_arn, root_arn, session_arn, user_arn}

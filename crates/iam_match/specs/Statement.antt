@@ -5,7 +5,8 @@ use Rattle.std.specs.Str.{chars}
 use Rattle.iam_text.specs.declared.sign.Sign.{Sign}
 use Rattle.iam_text.specs.Glob.{Matches, MatchesFold}
 use Rattle.iam_text.specs.declared.draft.Piece.{Piece}
-use Rattle.iam_policy.specs.Reading.{ActionElement, ResourceElement, StatementValue}
+use Rattle.iam_element.specs.Reading.{ActionElement, ResourceElement}
+use Rattle.iam_policy.specs.Reading.{StatementValue}
 use Rattle.iam_context.specs.Context.{ContextValue}
 use Rattle.iam_context.specs.Resolve.{resolved}
 use Rattle.iam_match.specs.Entry.{EntryHolds}
@@ -37,9 +38,31 @@ ResourceMatches (Some element) resource context =
     let some_matches = Any (TextMatches context resource) element.texts in
     MatchBool element.negated (All (λ text. IsSome (resolved context text)) element.texts × ¬ some_matches) some_matches
 
--- a statement matches a request where each of its elements does. Its action element alone sees the action
+-- who asks for which resource, in which context: a request without its action
+pub record AccessValue : Type 0 where
+  pub requester : RequesterValue
+  pub resource : List ℕ
+  pub context : ContextValue
+
+abbrev pub access_in : RequestValue → AccessValue
+access_in request = record { requester = request.requester; resource = request.resource; context = request.context }
+
+-- the request for this action
+abbrev pub request_for : AccessValue → List ℕ → RequestValue
+request_for access action = record {
+  requester = access.requester;
+  action = action;
+  resource = access.resource;
+  context = access.context;
+}
+
+-- all elements of a statement but its action element match: none of them sees the action
+pub record RestMatches (s : StatementValue) (access : AccessValue) : Type 0 where
+  pub principal : PrincipalMatches s.principal access.requester
+  pub resource : ResourceMatches s.resource access.resource access.context
+  pub conditions : All (EntryHolds access.context) s.conditions
+
+-- a statement matches a request where each of its elements does
 pub record StatementMatches (s : StatementValue) (request : RequestValue) : Type 0 where
-  pub principal : PrincipalMatches s.principal request.requester
   pub action : ActionMatches s.action request.action
-  pub resource : ResourceMatches s.resource request.resource request.context
-  pub conditions : All (EntryHolds request.context) s.conditions
+  pub rest : RestMatches s (access_in request)

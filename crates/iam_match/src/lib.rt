@@ -19,6 +19,6 @@ pub use iam_context::Context;
 pub use iam_text::OutOfMemory;
 pub use laws::one_requester;
 pub use principal::{Grant, grant_kind};
-pub use request::Request;
+pub use request::{Access, Request};
 pub use requester::Requester;
-pub use statement::statement_matches;
+pub use statement::{action_matches, rest_matches, statement_matches};

@@ -1,18 +1,17 @@
 ghost use Rattle.std.specs.Prelude.{◌↔◌, All, Any, IsTrue, IfOk};
 ghost use Rattle.std.specs.Str.{chars};
 ghost use Rattle.iam_text.specs.Glob.{MatchesFold};
-ghost use Rattle.iam_match.specs.Request.{request_of};
+ghost use Rattle.iam_match.specs.Request.{access_of, request_of};
 ghost use Rattle.iam_match.specs.Entry.{EntryHolds};
-ghost use Rattle.iam_match.specs.Statement.{ActionMatches, StatementMatches};
-ghost use Rattle.iam_match.specs.Code.Rest.{RestMatches};
+ghost use Rattle.iam_match.specs.Statement.{ActionMatches, RestMatches, StatementMatches};
 
 use crate::entry::holds;
 use crate::principal::principal_matches;
-use crate::request::Request;
+use crate::request::{Access, Request};
 use crate::resource::resource_matches;
 use iam_condition::Entry;
 use iam_context::Context;
-use iam_policy::Statement;
+use iam_policy::{Actions, Statement};
 use iam_text::{Glob, OutOfMemory};
 use std::alloc::Global;
 
@@ -27,35 +26,37 @@ pub fn statement_matches<'c>(
 ) -> Result<bool, OutOfMemory>
     ensures { IfOk result (λ matched. IsTrue matched ↔ StatementMatches statement.now (request_of request.now)) }
 {
-    if action_matches(statement, request.action) {
-        rest_matches(alloc, statement, request)
+    if action_matches(statement.action(), request.action) {
+        rest_matches(alloc, statement, request.access())
     } else {
         Ok(false)
     }
 }
 
-/// Whether the statement matches the request but for the action. What needs no memory is tested first.
-fn rest_matches<'c>(
+/// Whether the statement matches requests for this access, whose action its action element matches. What needs no memory
+/// is tested first.
+pub fn rest_matches<'c>(
     alloc: Global,
     statement: &'c Statement,
-    request: &Request<'_, 'c>,
+    access: Access<'_, 'c>,
 ) -> Result<bool, OutOfMemory>
-    ensures { IfOk result (λ matched. IsTrue matched ↔ RestMatches statement.now (request_of request.now)) }
+    ensures { IfOk result (λ matched. IsTrue matched ↔ RestMatches statement.now (access_of access.entry)) }
 {
-    if !principal_matches(statement, request.requester) {
+    if !principal_matches(statement, access.requester) {
         return Ok(false);
     }
-    if !resource_matches(alloc, statement, request.resource, request.context)? {
+    if !resource_matches(alloc, statement, access.resource, access.context)? {
         return Ok(false);
     }
-    conditions_hold(alloc, statement.conditions(), request.context)
+    conditions_hold(alloc, statement.conditions(), access.context)
 }
 
-/// Whether the action element matches the action.
-fn action_matches(statement: &Statement, action: &str) -> bool
-    ensures { IsTrue result ↔ ActionMatches statement.now.action action.now }
+/// Whether the action element matches the action. It takes no memory.
+///
+/// AWS IAM User Guide, "IAM JSON policy elements: Action" and "NotAction".
+pub fn action_matches(element: &Actions, action: &str) -> bool
+    ensures { IsTrue result ↔ ActionMatches element.now action.now }
 {
-    let element = statement.action();
     element.is_negated() != any_matches_fold(element.patterns(), action)
 }
 

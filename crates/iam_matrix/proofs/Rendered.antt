@@ -1,7 +1,6 @@
 -- The rows of tiles that follow one another, put together by the laws of reports, which the caller hands in.
-use Rattle.std.proofs.Common.{◌≡◌, ℕ, ◌+◌, Bool, true, false, List, [], ◌∷◌, ◌++◌, length, map, sum, refl, sym, ap, ◌∙◌, subst, arith}
+use Rattle.std.proofs.Common.{◌≡◌, ℕ, ◌+◌, Bool, true, false, List, [], ◌∷◌, ◌++◌, length, sum, sym, ap, ◌∙◌, subst, arith}
 use Rattle.std.specs.List.{flat_map}
-use Rattle.std.proofs.lemmas.List.{length-map, map-append}
 use Rattle.std.proofs.lemmas.List.Concat.{flat_map-cons}
 use Rattle.std.proofs.lemmas.List.Sums.{sum_by-cons}
 use Rattle.iam_decision.specs.declared.verdict.Decision.{Decision}
@@ -9,10 +8,11 @@ use Rattle.iam_decision.specs.declared.verdict.Verdict.{Verdict}
 use Rattle.iam_report.specs.Piece.{AddsRows, IsBriefReport, IsReport, brief_row, closing_text, full_row, opening_text}
 use Rattle.iam_report.specs.declared.quoted.Format.{Format}
 use Rattle.iam_report.specs.Report.{CellTexts}
+use Rattle.iam_layers.specs.Cell.{IsDecisionOf, IsVerdictOf}
 use Rattle.iam_world.specs.World.{WorldValue, world_cells}
 use Rattle.iam_matrix.specs.Report.{IsMatrixReport}
-use Rattle.iam_matrix.specs.Code.Tiles.{AreDecisions, AreRowsOf, AreVerdicts, Chain}
-use Rattle.iam_matrix.proofs.Tiles.{join-verdicts, no-verdicts, whole}
+use Rattle.iam_matrix.specs.Code.Tiles.{AreEntries, AreRows, AreRowsOf, Chain}
+use Rattle.iam_matrix.proofs.Tiles.{join-entries, no-entries, whole, whole-brief}
 
 -- no rows add nothing
 abbrev pub None : {A : Type 0} → WorldValue → (ℕ → CellTexts → A → List ℕ) → Type 0
@@ -36,46 +36,22 @@ join-rows world row both behind from n xs ys text rest count a b =
     let P : ℕ → Type 0 = λ k. AddsRows world row (from + k) ys text (text ++ rest) in
     both from xs ys [] text (text ++ rest) a (subst P (sym count) (behind (from + n) ys text rest b))
 
-pub chain-full : {O : Type 0} (bytes : O → List ℕ) (world : WorldValue) (row : ℕ → CellTexts → Verdict → List ℕ) → None world row → Both world row → Behind world row
-    → (from : ℕ) (lengths : List ℕ) (outputs : List O)
-    → Chain (λ f n output. (verdicts : List Verdict) × AreVerdicts world f n verdicts × AddsRows world row f verdicts [] (bytes output)) from lengths outputs
-    → (verdicts : List Verdict) × AreVerdicts world from (sum lengths) verdicts × AddsRows world row from verdicts [] (flat_map bytes outputs)
-chain-full bytes world row none both behind from [] [] c = ([], no-verdicts world from, none from [])
-chain-full bytes world row none both behind from [] (output ∷ outputs) c = absurd c
-chain-full bytes world row none both behind from (n ∷ lengths) [] c = absurd c
-chain-full bytes world row none both behind from (n ∷ lengths) (output ∷ outputs) ((xs, a, adds), c) =
-    let rest = chain-full bytes world row none both behind (from + n) lengths outputs c in
-    let all = join-verdicts world from n (sum lengths) xs rest.0 a rest.1 in
+chain-rows : {O X : Type 0} (Is : ℕ → X → Type 0) (bytes : O → List ℕ) (world : WorldValue) (row : ℕ → CellTexts → X → List ℕ)
+    → None world row → Both world row → Behind world row → (from : ℕ) (lengths : List ℕ) (outputs : List O)
+    → Chain (λ f n output. AreRows Is row world f n (bytes output)) from lengths outputs
+    → AreRows Is row world from (sum lengths) (flat_map bytes outputs)
+chain-rows Is bytes world row none both behind from [] [] c = ([], no-entries Is from, none from [])
+chain-rows Is bytes world row none both behind from [] (output ∷ outputs) c = absurd c
+chain-rows Is bytes world row none both behind from (n ∷ lengths) [] c = absurd c
+chain-rows Is bytes world row none both behind from (n ∷ lengths) (output ∷ outputs) ((xs, a, adds), c) =
+    let rest = chain-rows Is bytes world row none both behind (from + n) lengths outputs c in
+    let all = join-entries Is from n (sum lengths) xs rest.0 a rest.1 in
     let sums : n + sum lengths ≡ sum (n ∷ lengths) = omega (arith, sum_by-cons (λ (x : ℕ). x) n lengths) in
-    let P : ℕ → Type 0 = λ k. AreVerdicts world from k (xs ++ rest.0) in
+    let P : ℕ → Type 0 = λ k. AreEntries Is from k (xs ++ rest.0) in
     let Q : List ℕ → Type 0 = λ text. AddsRows world row from (xs ++ rest.0) [] text in (
       xs ++ rest.0,
       subst P sums all,
       subst Q (sym (flat_map-cons bytes output outputs)) (join-rows world row both behind from n xs rest.0 (bytes output) (flat_map bytes outputs) a.count_is adds rest.2),
-    )
-
-pub chain-brief : {O : Type 0} (bytes : O → List ℕ) (world : WorldValue) (row : ℕ → CellTexts → Decision → List ℕ) → None world row → Both world row → Behind world row
-    → (from : ℕ) (lengths : List ℕ) (outputs : List O)
-    → Chain (λ f n output. (decisions : List Decision) × AreDecisions world f n decisions × AddsRows world row f decisions [] (bytes output)) from lengths outputs
-    → (decisions : List Decision) × AreDecisions world from (sum lengths) decisions × AddsRows world row from decisions [] (flat_map bytes outputs)
-chain-brief bytes world row none both behind from [] [] c = ([], ([], no-verdicts world from, refl), none from [])
-chain-brief bytes world row none both behind from [] (output ∷ outputs) c = absurd c
-chain-brief bytes world row none both behind from (n ∷ lengths) [] c = absurd c
-chain-brief bytes world row none both behind from (n ∷ lengths) (output ∷ outputs) ((ds, (xs, a, is), adds), c) =
-    let rest = chain-brief bytes world row none both behind (from + n) lengths outputs c in
-    let later = rest.1 in
-    let all = join-verdicts world from n (sum lengths) xs later.0 a later.1 in
-    let sums : n + sum lengths ≡ sum (n ∷ lengths) = omega (arith, sum_by-cons (λ (x : ℕ). x) n lengths) in
-    let count : length ds ≡ n = ap (λ (es : List Decision). length es) is ∙ length-map xs (λ (v : Verdict). v.decision) ∙ a.count_is in
-    let P : ℕ → Type 0 = λ k. AreVerdicts world from k (xs ++ later.0) in
-    let Q : List ℕ → Type 0 = λ text. AddsRows world row from (ds ++ rest.0) [] text in (
-      ds ++ rest.0,
-      (
-        xs ++ later.0,
-        subst P sums all,
-        ap (λ es. es ++ rest.0) is ∙ ap (λ es. map (λ (v : Verdict). v.decision) xs ++ es) later.2 ∙ sym (map-append (λ (v : Verdict). v.decision) xs later.0),
-      ),
-      subst Q (sym (flat_map-cons bytes output outputs)) (join-rows world row both behind from n ds rest.0 (bytes output) (flat_map bytes outputs) count adds rest.2),
     )
 
 -- the report of all tiles between an opening and a closing
@@ -89,9 +65,8 @@ pub report : {O : Type 0} (bytes : O → List ℕ) (format : Format) (brief : Bo
     → sum lengths ≡ world_cells world → Chain (λ f n output. AreRowsOf format brief world f n (bytes output)) 0 lengths outputs
     → IsMatrixReport format brief world ((opening_text format brief ++ flat_map bytes outputs) ++ closing_text format)
 report bytes format false world lengths outputs n b h bn bb bh full brief e c =
-    let all = chain-full bytes world (full_row format) n b h 0 lengths outputs c in
+    let all = chain-rows (IsVerdictOf world) bytes world (full_row format) n b h 0 lengths outputs c in
     (all.0, whole world lengths all.0 e all.1, full all.0 (opening_text format false ++ flat_map bytes outputs) (h 0 all.0 (opening_text format false) (flat_map bytes outputs) all.2))
 report bytes format true world lengths outputs n b h bn bb bh full brief e c =
-    let all = chain-brief bytes world (brief_row format) bn bb bh 0 lengths outputs c in
-    let made = all.1 in
-    (all.0, (made.0, whole world lengths made.0 e made.1, made.2), brief all.0 (opening_text format true ++ flat_map bytes outputs) (bh 0 all.0 (opening_text format true) (flat_map bytes outputs) all.2))
+    let all = chain-rows (IsDecisionOf world) bytes world (brief_row format) bn bb bh 0 lengths outputs c in
+    (all.0, whole-brief world lengths all.0 e all.1, brief all.0 (opening_text format true ++ flat_map bytes outputs) (bh 0 all.0 (opening_text format true) (flat_map bytes outputs) all.2))

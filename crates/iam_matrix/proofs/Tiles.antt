@@ -1,15 +1,15 @@
 -- What is made of tiles that follow one another, put together.
-use Rattle.std.proofs.Common.{◌≡◌, ◌≤◌, ℕ, zero, suc, ◌+◌, ◌-◌, List, [], ◌∷◌, ◌++◌, Some, length, map, take, get_or, sum, refl, sym, ap, ◌∙◌, subst, arith}
+use Rattle.std.proofs.Common.{◌≡◌, ◌≤◌, ℕ, zero, suc, ◌+◌, ◌-◌, List, [], ◌∷◌, ◌++◌, Some, length, take, get_or, sum, refl, sym, ap, ◌∙◌, subst, arith}
 use Rattle.std.specs.List.{flat_map, slice_get}
-use Rattle.std.proofs.lemmas.List.{length-append, map-append}
+use Rattle.std.proofs.lemmas.List.{length-append}
 use Rattle.std.proofs.lemmas.List.Concat.{flat_map-cons}
 use Rattle.std.proofs.lemmas.List.Sums.{sum_by-cons}
 use Rattle.iam_decision.specs.declared.verdict.Decision.{Decision}
 use Rattle.iam_decision.specs.declared.verdict.Verdict.{Verdict}
 use Rattle.iam_world.specs.World.{WorldValue, world_cells}
 use Rattle.iam_matrix.specs.Cut.{start_of}
-use Rattle.iam_matrix.specs.Matrix.{IsMatrix, IsVerdictOf}
-use Rattle.iam_matrix.specs.Code.Tiles.{AreDecisions, AreVerdicts, Chain}
+use Rattle.iam_matrix.specs.Matrix.{IsBriefMatrix, IsMatrix}
+use Rattle.iam_matrix.specs.Code.Tiles.{AreDecisions, AreEntries, AreVerdicts, Chain}
 
 -- facts of items that follow one another from a number on
 abbrev Along : {X : Type 0} → (ℕ → X → Type 0) → ℕ → List X → Type 0
@@ -30,32 +30,31 @@ along-one : {X : Type 0} (P : ℕ → X → Type 0) (from : ℕ) (x : X) → P f
 along-one P from x h zero y at = let same : x ≡ y = cc in let here : from ≡ from + 0 = omega arith in subst (λ k. P k y) here (subst (P from) same h)
 along-one P from x h (suc i) y at = absurd (let wrong : ⊥ = cc in wrong)
 
--- verdicts of cells, and of those behind them
-pub join-verdicts : (world : WorldValue) (from n m : ℕ) (xs ys : List Verdict) → AreVerdicts world from n xs → AreVerdicts world (from + n) m ys
-    → AreVerdicts world from (n + m) (xs ++ ys)
-join-verdicts world from n m xs ys a b = record {
+-- entries of cells, and of those behind them
+pub join-entries : {X : Type 0} (Is : ℕ → X → Type 0) (from n m : ℕ) (xs ys : List X) → AreEntries Is from n xs → AreEntries Is (from + n) m ys
+    → AreEntries Is from (n + m) (xs ++ ys)
+join-entries Is from n m xs ys a b = record {
   count_is = length-append xs ys ∙ ap (λ k. k + length ys) a.count_is ∙ ap (λ k. n + k) b.count_is;
-  each = along-append (IsVerdictOf world) from xs ys a.each
-      (let P : ℕ → Type 0 = λ k. Along (IsVerdictOf world) (from + k) ys in subst P (sym a.count_is) b.each);
+  each = along-append Is from xs ys a.each (let P : ℕ → Type 0 = λ k. Along Is (from + k) ys in subst P (sym a.count_is) b.each);
 }
 
-pub no-verdicts : (world : WorldValue) (from : ℕ) → AreVerdicts world from 0 []
-no-verdicts world from = record {
+pub no-entries : {X : Type 0} (Is : ℕ → X → Type 0) (from : ℕ) → AreEntries Is from 0 []
+no-entries Is from = record {
   count_is = refl;
-  each = λ i verdict at. absurd (let wrong : ⊥ = cc in wrong);
+  each = λ i entry at. absurd (let wrong : ⊥ = cc in wrong);
 }
 
--- the verdict of the next cell
-pub more-verdicts : (world : WorldValue) (from cell : ℕ) (xs : List Verdict) (x : Verdict) → from ≤ cell → AreVerdicts world from (cell - from) xs
-    → IsVerdictOf world cell x → AreVerdicts world from (cell + 1 - from) (xs ++ x ∷ [])
-more-verdicts world from cell xs x least a v =
+-- the entry of the next cell
+pub more-entries : {X : Type 0} (Is : ℕ → X → Type 0) (from cell : ℕ) (xs : List X) (x : X) → from ≤ cell → AreEntries Is from (cell - from) xs → Is cell x
+    → AreEntries Is from (cell + 1 - from) (xs ++ x ∷ [])
+more-entries Is from cell xs x least a v =
     let here : cell ≡ from + (cell - from) = omega arith in
     let count : cell - from + 1 ≡ cell + 1 - from = omega arith in
-    let one : AreVerdicts world (from + (cell - from)) 1 (x ∷ []) = record {
+    let one : AreEntries Is (from + (cell - from)) 1 (x ∷ []) = record {
       count_is = refl;
-      each = along-one (IsVerdictOf world) (from + (cell - from)) x (subst (λ k. IsVerdictOf world k x) here v);
+      each = along-one Is (from + (cell - from)) x (subst (λ k. Is k x) here v);
     } in
-    subst (λ n. AreVerdicts world from n (xs ++ x ∷ [])) count (join-verdicts world from (cell - from) 1 xs (x ∷ []) a one)
+    subst (λ n. AreEntries Is from n (xs ++ x ∷ [])) count (join-entries Is from (cell - from) 1 xs (x ∷ []) a one)
 
 -- what is made of each tile by its number is made of tiles that follow one another
 pub chain : {O : Type 0} (Makes : ℕ → ℕ → O → Type 0) (from : ℕ) (lengths : List ℕ) (outputs : List O) → length outputs ≡ length lengths
@@ -72,39 +71,27 @@ chain Makes from (n ∷ lengths) (output ∷ outputs) e given = (
       subst (λ k. Makes k (get_or lengths tile 0) o) same (given (suc tile) o at)),
 )
 
-pub chain-verdicts : {O : Type 0} (items : O → List Verdict) (world : WorldValue) (from : ℕ) (lengths : List ℕ) (outputs : List O)
-    → Chain (λ f n output. AreVerdicts world f n (items output)) from lengths outputs → AreVerdicts world from (sum lengths) (flat_map items outputs)
-chain-verdicts items world from [] [] c = no-verdicts world from
-chain-verdicts items world from [] (output ∷ outputs) c = absurd c
-chain-verdicts items world from (n ∷ lengths) [] c = absurd c
-chain-verdicts items world from (n ∷ lengths) (output ∷ outputs) c =
-    let rest = chain-verdicts items world (from + n) lengths outputs c.1 in
-    let all = join-verdicts world from n (sum lengths) (items output) (flat_map items outputs) c.0 rest in
+pub chain-entries : {O X : Type 0} (Is : ℕ → X → Type 0) (items : O → List X) (from : ℕ) (lengths : List ℕ) (outputs : List O)
+    → Chain (λ f n output. AreEntries Is f n (items output)) from lengths outputs → AreEntries Is from (sum lengths) (flat_map items outputs)
+chain-entries Is items from [] [] c = no-entries Is from
+chain-entries Is items from [] (output ∷ outputs) c = absurd c
+chain-entries Is items from (n ∷ lengths) [] c = absurd c
+chain-entries {O} {X} Is items from (n ∷ lengths) (output ∷ outputs) c =
+    let rest = chain-entries Is items (from + n) lengths outputs c.1 in
+    let all = join-entries Is from n (sum lengths) (items output) (flat_map items outputs) c.0 rest in
     let sums : n + sum lengths ≡ sum (n ∷ lengths) = omega (arith, sum_by-cons (λ (x : ℕ). x) n lengths) in
-    let P : ℕ → Type 0 = λ k. AreVerdicts world from k (items output ++ flat_map items outputs) in
-    let Q : List Verdict → Type 0 = λ vs. AreVerdicts world from (sum (n ∷ lengths)) vs in
+    let P : ℕ → Type 0 = λ k. AreEntries Is from k (items output ++ flat_map items outputs) in
+    let Q : List X → Type 0 = λ xs. AreEntries Is from (sum (n ∷ lengths)) xs in
     subst Q (sym (flat_map-cons items output outputs)) (subst P sums all)
 
-pub chain-decisions : {O : Type 0} (items : O → List Decision) (world : WorldValue) (from : ℕ) (lengths : List ℕ) (outputs : List O)
-    → Chain (λ f n output. AreDecisions world f n (items output)) from lengths outputs → AreDecisions world from (sum lengths) (flat_map items outputs)
-chain-decisions items world from [] [] c = ([], no-verdicts world from, refl)
-chain-decisions items world from [] (output ∷ outputs) c = absurd c
-chain-decisions items world from (n ∷ lengths) [] c = absurd c
-chain-decisions items world from (n ∷ lengths) (output ∷ outputs) ((xs, a, is), c) =
-    let rest = chain-decisions items world (from + n) lengths outputs c in
-    let all = join-verdicts world from n (sum lengths) xs rest.0 a rest.1 in
-    let sums : n + sum lengths ≡ sum (n ∷ lengths) = omega (arith, sum_by-cons (λ (x : ℕ). x) n lengths) in
-    let P : ℕ → Type 0 = λ k. AreVerdicts world from k (xs ++ rest.0) in (
-      xs ++ rest.0,
-      subst P sums all,
-      flat_map-cons items output outputs ∙ ap (λ ds. ds ++ flat_map items outputs) is ∙ ap (λ ds. map (λ (v : Verdict). v.decision) xs ++ ds) rest.2
-          ∙ sym (map-append (λ (v : Verdict). v.decision) xs rest.0),
-    )
-
--- the verdicts of all cells
+-- the entries of all cells
 pub whole : (world : WorldValue) (lengths : List ℕ) (verdicts : List Verdict) → sum lengths ≡ world_cells world → AreVerdicts world 0 (sum lengths) verdicts
     → IsMatrix world verdicts
 whole world lengths verdicts e a = record { count = a.count_is ∙ e; each = a.each }
+
+pub whole-brief : (world : WorldValue) (lengths : List ℕ) (decisions : List Decision) → sum lengths ≡ world_cells world
+    → AreDecisions world 0 (sum lengths) decisions → IsBriefMatrix world decisions
+whole-brief world lengths decisions e a = record { count = a.count_is ∙ e; each = a.each }
 
 -- the same from the first cell on
 pub chain-all : {O : Type 0} (Makes : ℕ → ℕ → O → Type 0) (lengths : List ℕ) (outputs : List O) → length outputs ≡ length lengths

@@ -1,34 +1,25 @@
 -- The matrix of a world: the verdict of each cell, in the order of the cells' numbers. It names no cut and no worker.
-use Rattle.std.specs.Prelude.{◌≡◌, ◌≢◌, ℕ, ◌+◌, ◌<◌, List, Option, Some, None, length, map}
+use Rattle.std.specs.Prelude.{◌≡◌, ◌≢◌, ℕ, ◌+◌, ◌<◌, List, Option, Some, None, length}
 use Rattle.std.specs.List.{slice_get}
 use Rattle.iam_decision.specs.declared.verdict.Decision.{Decision}
 use Rattle.iam_decision.specs.declared.verdict.Decision.TheVariants.{Allowed}
 use Rattle.iam_decision.specs.declared.verdict.Verdict.{Verdict}
-use Rattle.iam_layers.specs.Cell.{IsCell, IsVerdictAt}
+use Rattle.iam_layers.specs.Cell.{IsDecisionOf, IsVerdictOf}
 use Rattle.iam_world.specs.World.{WorldValue, world_cells}
 
--- the verdict of the written logic on the request of this cell
-abbrev pub IsVerdictOf : WorldValue → ℕ → Verdict → Type 0
-IsVerdictOf world cell verdict = (p : ℕ) × (a : ℕ) × (r : ℕ) × IsCell world cell p a r × IsVerdictAt world p a r verdict
-
--- the verdicts of cells that follow one another from this one
-abbrev pub AreVerdictsFrom : WorldValue → ℕ → List Verdict → Type 0
-AreVerdictsFrom world from verdicts =
-    (i : ℕ) (verdict : Verdict) → slice_get verdicts i ≡ Some verdict → IsVerdictOf world (from + i) verdict
+-- entries of cells that follow one another from this one, each as it has to be
+abbrev pub AreEntriesFrom : {X : Type 0} → (ℕ → X → Type 0) → ℕ → List X → Type 0
+AreEntriesFrom {X} Is from entries = (i : ℕ) (entry : X) → slice_get entries i ≡ Some entry → Is (from + i) entry
 
 -- one verdict for each cell, in order
 pub record IsMatrix (world : WorldValue) (verdicts : List Verdict) : Type 0 where
   pub count : length verdicts ≡ world_cells world
-  pub each : AreVerdictsFrom world 0 verdicts
+  pub each : AreEntriesFrom (IsVerdictOf world) 0 verdicts
 
--- the decisions of the matrix
-abbrev pub IsBriefMatrix : WorldValue → List Decision → Type 0
-IsBriefMatrix world decisions =
-    (verdicts : List Verdict) × IsMatrix world verdicts × (decisions ≡ map (λ verdict. verdict.decision) verdicts)
-
--- the decision of a cell
-abbrev pub IsDecisionOf : WorldValue → ℕ → Decision → Type 0
-IsDecisionOf world cell decision = (verdict : Verdict) × IsVerdictOf world cell verdict × (verdict.decision ≡ decision)
+-- one decision for each cell, in order
+pub record IsBriefMatrix (world : WorldValue) (decisions : List Decision) : Type 0 where
+  pub count : length decisions ≡ world_cells world
+  pub each : AreEntriesFrom (IsDecisionOf world) 0 decisions
 
 -- the cell is not allowed
 pub record IsDenied (world : WorldValue) (cell : ℕ) : Type 0 where

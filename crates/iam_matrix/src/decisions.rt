@@ -7,8 +7,9 @@ ghost use Rattle.iam_matrix.specs.Code.Tiles.{AreDecisions};
 
 use crate::cut::Cut;
 use crate::fault::{MatrixFault, is_unlawful};
-use crate::verdicts::{end_of, verdict_of};
+use crate::verdicts::end_of;
 use iam_crew::{Crew, Gate, gather};
+use iam_engine::Engine;
 use iam_lanes::{LaneSeat, Lanes};
 use iam_layers::{Decision, World};
 use iam_text::OutOfMemory;
@@ -20,6 +21,7 @@ use std::thread::Threads;
 struct Decisions<'a> {
     world: &'a World,
     cut: &'a Cut,
+    workers: u32,
 }
 
 impl<'a> Crew for Decisions<'a> {
@@ -29,9 +31,9 @@ impl<'a> Crew for Decisions<'a> {
 
     type Output = Vec<Decision>;
 
-    type Tools = ();
+    type Tools = Engine<'a>;
 
-    ghost fits = { λ _ _. Unit {0} };
+    ghost fits = { λ crew engine. engine ≡ crew.world.now };
 
     ghost takes = { λ crew tile. IsTileOf crew.world.now crew.cut.now tile };
 
@@ -39,14 +41,14 @@ impl<'a> Crew for Decisions<'a> {
 
     ghost gives = { λ crew tile output _. AreDecisions crew.world.now (start_of crew.cut.now tile) (slice_index crew.cut.now tile) output.items };
 
-    fn tools(&self, _alloc: Global) -> Result<(), OutOfMemory> {
-        Ok(())
+    fn tools(&self, alloc: Global) -> Result<Engine<'a>, OutOfMemory> {
+        Engine::new(alloc, self.world, self.workers)
     }
 
     fn work<G: Gate>(
         &self,
         alloc: Global,
-        _tools: &mut (),
+        engine: &mut Engine<'a>,
         _lanes: &Lanes,
         gate: &G,
         _seat: &mut LaneSeat,
@@ -54,7 +56,7 @@ impl<'a> Crew for Decisions<'a> {
     ) -> Result<Vec<Decision>, OutOfMemory> {
         gate.before(tile);
         let (from, count) = self.cut.cells_of(tile);
-        decisions_of(alloc, self.world, from, count)
+        decisions_of(alloc, engine, from, count)
     }
 
     ghost lasts = { λ _ _ _ _ _ _ given. given };
@@ -63,16 +65,18 @@ impl<'a> Crew for Decisions<'a> {
 /// The decisions of so many cells from this one on.
 fn decisions_of(
     alloc: Global,
-    world: &World,
+    engine: &mut Engine<'_>,
     from: u64,
     count: u64,
 ) -> Result<Vec<Decision>, OutOfMemory>
-    requires { from + count ≤ world_cells world.now }
-    ensures { IfOk result (λ decisions. AreDecisions world.now from count decisions.items) }
+    requires { from + count ≤ world_cells engine.old }
+    ensures decisions { IfOk result (λ decisions. AreDecisions engine.old from count decisions.items) }
+    ensures same { engine.new ≡ engine.old }
 {
+    let world = engine.world();
     let mut decisions = Vec::new(alloc);
     for cell in from..end_of(world, from, count) {
-        decisions.push(verdict_of(alloc, world, cell)?.decision)?;
+        decisions.push(engine.decide_brief(alloc, cell)?)?;
     }
     Ok(decisions)
 }
@@ -105,7 +109,11 @@ pub fn matrix_brief<R: Threads + Sync, G: Gate + Sync>(
         return Err(MatrixFault::Workers);
     }
     let tiles = cut.lengths().len() as u64;
-    let crew = Decisions { world, cut };
+    let crew = Decisions {
+        world,
+        cut,
+        workers,
+    };
     let gathered = gather(rt, alloc, &crew, tiles, workers, gate)?;
     Ok(joined(alloc, gathered.outputs)?)
 }

@@ -46,6 +46,7 @@ pub fn matrix_report<R: Threads + Sync, G: Gate + Sync>(
     let crew = Rows {
         world,
         cut,
+        workers,
         quoted: &quoted,
         brief,
     };

@@ -6,6 +6,7 @@ ghost use Rattle.iam_matrix.specs.Code.Tiles.{AreBriefRows, AreFullRows, AreRows
 use crate::cut::Cut;
 use crate::verdicts::end_of;
 use iam_crew::{Crew, Gate};
+use iam_engine::Engine;
 use iam_lanes::{LaneSeat, Lanes};
 use iam_layers::World;
 use iam_report::{Quoted, add_brief_row, add_row, brief_rows, full_rows};
@@ -17,6 +18,7 @@ use std::alloc::Global;
 pub struct Rows<'a> {
     pub world: &'a World,
     pub cut: &'a Cut,
+    pub workers: u32,
     pub quoted: &'a Quoted,
     pub brief: bool,
 }
@@ -29,9 +31,9 @@ impl<'a> Crew for Rows<'a> {
 
     type Output = String;
 
-    type Tools = ();
+    type Tools = Engine<'a>;
 
-    ghost fits = { λ _ _. Unit {0} };
+    ghost fits = { λ crew engine. engine ≡ crew.world.now };
 
     ghost takes = { λ crew tile. IsTileOf crew.world.now crew.cut.now tile × IsQuotedOf crew.world.now crew.quoted.now };
 
@@ -39,14 +41,14 @@ impl<'a> Crew for Rows<'a> {
 
     ghost gives = { λ crew tile output _. AreRowsOf crew.quoted.now.format crew.brief crew.world.now (start_of crew.cut.now tile) (slice_index crew.cut.now tile) (string_bytes output) };
 
-    fn tools(&self, _alloc: Global) -> Result<(), OutOfMemory> {
-        Ok(())
+    fn tools(&self, alloc: Global) -> Result<Engine<'a>, OutOfMemory> {
+        Engine::new(alloc, self.world, self.workers)
     }
 
     fn work<G: Gate>(
         &self,
         alloc: Global,
-        _tools: &mut (),
+        engine: &mut Engine<'a>,
         _lanes: &Lanes,
         gate: &G,
         _seat: &mut LaneSeat,
@@ -54,7 +56,7 @@ impl<'a> Crew for Rows<'a> {
     ) -> Result<String, OutOfMemory> {
         gate.before(tile);
         let (from, count) = self.cut.cells_of(tile);
-        rows_of(alloc, self.world, self.quoted, self.brief, from, count)
+        rows_of(alloc, engine, self.quoted, self.brief, from, count)
     }
 
     ghost lasts = { λ _ _ _ _ _ _ given. given };
@@ -63,39 +65,42 @@ impl<'a> Crew for Rows<'a> {
 /// The rows of so many cells from this one on.
 fn rows_of(
     alloc: Global,
-    world: &World,
+    engine: &mut Engine<'_>,
     quoted: &Quoted,
     brief: bool,
     from: u64,
     count: u64,
 ) -> Result<String, OutOfMemory>
-    requires cells { from + count ≤ world_cells world.now }
-    requires quoted { IsQuotedOf world.now quoted.now }
-    ensures { IfOk result (λ text. AreRowsOf quoted.now.format brief world.now from count (string_bytes text)) }
+    requires cells { from + count ≤ world_cells engine.old }
+    requires quoted { IsQuotedOf engine.old quoted.now }
+    ensures rows { IfOk result (λ text. AreRowsOf quoted.now.format brief engine.old from count (string_bytes text)) }
+    ensures same { engine.new ≡ engine.old }
 {
     if brief {
-        brief_rows_of(alloc, world, quoted, from, count)
+        brief_rows_of(alloc, engine, quoted, from, count)
     } else {
-        full_rows_of(alloc, world, quoted, from, count)
+        full_rows_of(alloc, engine, quoted, from, count)
     }
 }
 
 fn full_rows_of(
     alloc: Global,
-    world: &World,
+    engine: &mut Engine<'_>,
     quoted: &Quoted,
     from: u64,
     count: u64,
 ) -> Result<String, OutOfMemory>
-    requires cells { from + count ≤ world_cells world.now }
-    requires quoted { IsQuotedOf world.now quoted.now }
-    ensures { IfOk result (λ text. AreFullRows quoted.now.format world.now from count (string_bytes text)) }
+    requires cells { from + count ≤ world_cells engine.old }
+    requires quoted { IsQuotedOf engine.old quoted.now }
+    ensures rows { IfOk result (λ text. AreFullRows quoted.now.format engine.old from count (string_bytes text)) }
+    ensures same { engine.new ≡ engine.old }
 {
     full_rows();
+    let world = engine.world();
     let mut text = String::new(alloc);
     for cell in from..end_of(world, from, count) {
         let (p, a, r) = world.triple(cell);
-        let verdict = world.decide_plain(alloc, p, a, r)?;
+        let verdict = engine.verdict(alloc, p, a, r)?;
         add_row(quoted, &mut text, cell, p, a, r, &verdict)?;
     }
     Ok(text)
@@ -103,21 +108,23 @@ fn full_rows_of(
 
 fn brief_rows_of(
     alloc: Global,
-    world: &World,
+    engine: &mut Engine<'_>,
     quoted: &Quoted,
     from: u64,
     count: u64,
 ) -> Result<String, OutOfMemory>
-    requires cells { from + count ≤ world_cells world.now }
-    requires quoted { IsQuotedOf world.now quoted.now }
-    ensures { IfOk result (λ text. AreBriefRows quoted.now.format world.now from count (string_bytes text)) }
+    requires cells { from + count ≤ world_cells engine.old }
+    requires quoted { IsQuotedOf engine.old quoted.now }
+    ensures rows { IfOk result (λ text. AreBriefRows quoted.now.format engine.old from count (string_bytes text)) }
+    ensures same { engine.new ≡ engine.old }
 {
     brief_rows();
+    let world = engine.world();
     let mut text = String::new(alloc);
     for cell in from..end_of(world, from, count) {
         let (p, a, r) = world.triple(cell);
-        let verdict = world.decide_plain(alloc, p, a, r)?;
-        add_brief_row(quoted, &mut text, cell, p, a, r, verdict.decision)?;
+        let decision = engine.decision(alloc, p, a, r)?;
+        add_brief_row(quoted, &mut text, cell, p, a, r, decision)?;
     }
     Ok(text)
 }

@@ -7,8 +7,9 @@ ghost use Rattle.iam_matrix.specs.Code.Tiles.{IsAllowedCell, IsFirstIn};
 
 use crate::cut::Cut;
 use crate::fault::{MatrixFault, is_unlawful};
-use crate::verdicts::{end_of, verdict_of};
+use crate::verdicts::end_of;
 use iam_crew::{Crew, Gate, gather, look, offer};
+use iam_engine::Engine;
 use iam_lanes::{LaneSeat, Lanes};
 use iam_layers::{Decision, World};
 use iam_text::OutOfMemory;
@@ -20,6 +21,7 @@ use std::thread::Threads;
 struct Search<'a> {
     world: &'a World,
     cut: &'a Cut,
+    workers: u32,
 }
 
 impl<'a> Crew for Search<'a> {
@@ -30,9 +32,9 @@ impl<'a> Crew for Search<'a> {
 
     type Output = ();
 
-    type Tools = ();
+    type Tools = Engine<'a>;
 
-    ghost fits = { λ _ _. Unit {0} };
+    ghost fits = { λ crew engine. engine ≡ crew.world.now };
 
     ghost takes = { λ crew tile. IsTileOf crew.world.now crew.cut.now tile };
 
@@ -40,14 +42,14 @@ impl<'a> Crew for Search<'a> {
 
     ghost gives = { λ crew tile _ bound. AreDeniedBelow crew.world.now (start_of crew.cut.now tile) (slice_index crew.cut.now tile) bound };
 
-    fn tools(&self, _alloc: Global) -> Result<(), OutOfMemory> {
-        Ok(())
+    fn tools(&self, alloc: Global) -> Result<Engine<'a>, OutOfMemory> {
+        Engine::new(alloc, self.world, self.workers)
     }
 
     fn work<G: Gate>(
         &self,
         alloc: Global,
-        _tools: &mut (),
+        engine: &mut Engine<'a>,
         lanes: &Lanes,
         gate: &G,
         seat: &mut LaneSeat,
@@ -58,7 +60,7 @@ impl<'a> Crew for Search<'a> {
             return Ok(());
         }
         gate.before(tile);
-        let Some(cell) = first_in(alloc, self.world, from, count)? else {
+        let Some(cell) = first_in(alloc, engine, from, count)? else {
             return Ok(());
         };
         offer(lanes, seat, cell);
@@ -85,12 +87,19 @@ fn is_allowed(decision: Decision) -> bool
 }
 
 /// The first allowed cell of so many from this one on.
-fn first_in(alloc: Global, world: &World, from: u64, count: u64) -> Result<Option<u64>, OutOfMemory>
-    requires { from + count ≤ world_cells world.now }
-    ensures { IfOk result (IsFirstIn world.now from count) }
+fn first_in(
+    alloc: Global,
+    engine: &mut Engine<'_>,
+    from: u64,
+    count: u64,
+) -> Result<Option<u64>, OutOfMemory>
+    requires { from + count ≤ world_cells engine.old }
+    ensures first { IfOk result (IsFirstIn engine.old from count) }
+    ensures same { engine.new ≡ engine.old }
 {
+    let world = engine.world();
     for cell in from..end_of(world, from, count) {
-        if is_allowed(verdict_of(alloc, world, cell)?.decision) {
+        if is_allowed(engine.decide_brief(alloc, cell)?) {
             return Ok(Some(cell));
         }
     }
@@ -118,7 +127,11 @@ pub fn first<R: Threads + Sync, G: Gate + Sync>(
     // A world has at most 16,777,216 cells, so each is below the bound that stands for none.
     let _cells = world.cells();
     let tiles = cut.lengths().len() as u64;
-    let crew = Search { world, cut };
+    let crew = Search {
+        world,
+        cut,
+        workers,
+    };
     let gathered = gather(rt, alloc, &crew, tiles, workers, gate)?;
     Ok(gathered.low)
 }

@@ -2,12 +2,13 @@ ghost use Rattle.std.specs.Prelude.{◌≡◌, ◌+◌, ◌<◌, ◌≤◌, ◌�
 ghost use Rattle.std.specs.List.{flat_map};
 ghost use Rattle.iam_world.specs.World.{world_cells};
 ghost use Rattle.iam_matrix.specs.Fault.{IsUnlawful};
-ghost use Rattle.iam_matrix.specs.Matrix.{IsMatrix, IsVerdictOf};
+ghost use Rattle.iam_matrix.specs.Matrix.{IsMatrix};
 ghost use Rattle.iam_matrix.specs.Code.Tiles.{AreVerdicts};
 
 use crate::cut::Cut;
 use crate::fault::{MatrixFault, is_unlawful};
 use iam_crew::{Crew, Gate, gather};
+use iam_engine::Engine;
 use iam_lanes::{LaneSeat, Lanes};
 use iam_layers::{Verdict, World};
 use iam_text::OutOfMemory;
@@ -19,6 +20,7 @@ use std::thread::Threads;
 struct Verdicts<'a> {
     world: &'a World,
     cut: &'a Cut,
+    workers: u32,
 }
 
 impl<'a> Crew for Verdicts<'a> {
@@ -28,9 +30,9 @@ impl<'a> Crew for Verdicts<'a> {
 
     type Output = Vec<Verdict>;
 
-    type Tools = ();
+    type Tools = Engine<'a>;
 
-    ghost fits = { λ _ _. Unit {0} };
+    ghost fits = { λ crew engine. engine ≡ crew.world.now };
 
     ghost takes = { λ crew tile. IsTileOf crew.world.now crew.cut.now tile };
 
@@ -38,14 +40,14 @@ impl<'a> Crew for Verdicts<'a> {
 
     ghost gives = { λ crew tile output _. AreVerdicts crew.world.now (start_of crew.cut.now tile) (slice_index crew.cut.now tile) output.items };
 
-    fn tools(&self, _alloc: Global) -> Result<(), OutOfMemory> {
-        Ok(())
+    fn tools(&self, alloc: Global) -> Result<Engine<'a>, OutOfMemory> {
+        Engine::new(alloc, self.world, self.workers)
     }
 
     fn work<G: Gate>(
         &self,
         alloc: Global,
-        _tools: &mut (),
+        engine: &mut Engine<'a>,
         _lanes: &Lanes,
         gate: &G,
         _seat: &mut LaneSeat,
@@ -53,19 +55,10 @@ impl<'a> Crew for Verdicts<'a> {
     ) -> Result<Vec<Verdict>, OutOfMemory> {
         gate.before(tile);
         let (from, count) = self.cut.cells_of(tile);
-        verdicts_of(alloc, self.world, from, count)
+        verdicts_of(alloc, engine, from, count)
     }
 
     ghost lasts = { λ _ _ _ _ _ _ given. given };
-}
-
-/// The verdict of a cell.
-pub fn verdict_of(alloc: Global, world: &World, cell: u64) -> Result<Verdict, OutOfMemory>
-    requires { cell < world_cells world.now }
-    ensures { IfOk result (IsVerdictOf world.now cell) }
-{
-    let (p, a, r) = world.triple(cell);
-    world.decide_plain(alloc, p, a, r)
 }
 
 /// The cell behind so many from this one on. A world has at most 16,777,216 cells, so its number fits.
@@ -81,16 +74,18 @@ pub fn end_of(world: &World, from: u64, count: u64) -> u64
 /// The verdicts of so many cells from this one on.
 fn verdicts_of(
     alloc: Global,
-    world: &World,
+    engine: &mut Engine<'_>,
     from: u64,
     count: u64,
 ) -> Result<Vec<Verdict>, OutOfMemory>
-    requires { from + count ≤ world_cells world.now }
-    ensures { IfOk result (λ verdicts. AreVerdicts world.now from count verdicts.items) }
+    requires { from + count ≤ world_cells engine.old }
+    ensures verdicts { IfOk result (λ verdicts. AreVerdicts engine.old from count verdicts.items) }
+    ensures same { engine.new ≡ engine.old }
 {
+    let world = engine.world();
     let mut verdicts = Vec::new(alloc);
     for cell in from..end_of(world, from, count) {
-        verdicts.push(verdict_of(alloc, world, cell)?)?;
+        verdicts.push(engine.decide(alloc, cell)?)?;
     }
     Ok(verdicts)
 }
@@ -127,7 +122,11 @@ pub fn matrix<R: Threads + Sync, G: Gate + Sync>(
         return Err(MatrixFault::Workers);
     }
     let tiles = cut.lengths().len() as u64;
-    let crew = Verdicts { world, cut };
+    let crew = Verdicts {
+        world,
+        cut,
+        workers,
+    };
     let gathered = gather(rt, alloc, &crew, tiles, workers, gate)?;
     Ok(joined(alloc, gathered.outputs)?)
 }

@@ -1,18 +1,21 @@
 -- The first fault of the document, or else the first of the first statement that has one, is the least of the set.
-use Rattle.std.proofs.Common.{◌≢◌, ◌≡◌, ◌↔◌, ◌⊎◌, ◌&&◌, ◌||◌, inl, inr, ℕ, suc, ◌+◌, ◌<◌, ◌≤◌, Bool, true, false, Option, Some, None, length, refl, sym, ap, subst, arith, IsTrue, cond, is_some}
+use Rattle.std.proofs.Common.{◌≢◌, ◌≡◌, ◌↔◌, ◌⊎◌, ◌&&◌, ◌||◌, inl, inr, ℕ, suc, ◌+◌, ◌<◌, ◌≤◌, Bool, true, false, Option, Some, None, length, refl, sym, ap, subst, arith, IsTrue, cond, codes, is_some, is_none, unwrap_or}
 use Rattle.std.proofs.lemmas.Bool.{cases_order, eqb-true}
 use Rattle.std.proofs.lemmas.Option.{slice_get_within}
 use Rattle.std.specs.List.{slice_get}
 use Rattle.std.specs.Option.{option_map_or}
 use Rattle.serde_json.specs.Data.{Data}
-use Rattle.serde_json.specs.Find.{as_object}
+use Rattle.serde_json.specs.Find.{as_object, get}
+use Rattle.iam_text.specs.declared.version.Version.{Version}
+use Rattle.iam_text.specs.declared.version.Version.TheVariants.{V2012}
 use Rattle.iam_policy.specs.declared.fault.Fault.{Fault}
-use Rattle.iam_policy.specs.declared.fault.Fault.TheVariants.{BadStatement, BadValue, OutOfMemory}
+use Rattle.iam_policy.specs.declared.fault.Fault.TheVariants.{BadStatement, BadValue, BadVersion, NotObject, OutOfMemory}
 use Rattle.iam_policy.specs.declared.fault.Kind.{Kind}
 use Rattle.iam_policy.specs.declared.fault.Refused.{Refused}
 use Rattle.iam_policy.specs.Fault.{HasBadValueIn, document_has, statement_has, statement_line, statements_in, HasFault, IsAccepted, IsNotAfter, IsLeastFault}
 use Rattle.iam_policy.specs.Code.First.{AreFaultless, HasLeast, IsFirstFault, IsFirstRefused, document_fault, fault_of, line_has}
 use Rattle.iam_policy.specs.Table.{number_of, fault_is}
+use Rattle.iam_policy.specs.Version.{version_named, version_of}
 use Rattle.iam_policy.proofs.ElementLemmas.{first_false}
 use Rattle.iam_policy.proofs.TableLaws.{found_not_memory, none_passes, least_passes, found_passes, same_number}
 
@@ -214,3 +217,12 @@ accepted_line kind d i s fault none at = line_clean kind d i s fault (clean BadS
 -- want of memory is no fault of a statement
 pub fault_not_memory : (kind : Kind) (d : Data) (i : ℕ) (s : Data) (bad : Bool) (fault : Fault) → fault_of kind d i s bad ≡ Some fault → fault ≢ OutOfMemory
 fault_not_memory kind d i s bad = found_not_memory (line_has kind d i s bad) (line-memory kind d i s bad)
+
+-- an accepted document names the version that it is read in
+pub version_is : (kind : Kind) (d : Data) → IsAccepted kind d → version_named (get (codes "Version") d) ≡ Some (version_of d)
+version_is kind d none = go (is_some (as_object d)) (version_named (get (codes "Version") d)) (none None BadVersion) (none None NotObject)
+  where
+    go : (b : Bool) (named : Option Version) → ¬ IsTrue (cond b (is_none named) false) → ¬ IsTrue (cond b false true) → named ≡ Some (unwrap_or named V2012)
+    go true (Some version) bad other = refl
+    go true None bad other = absurd (bad refl)
+    go false named bad other = absurd (other refl)

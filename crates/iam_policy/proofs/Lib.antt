@@ -1,6 +1,5 @@
 pub mod FaultLaws
 pub mod ElementLemmas
-pub mod GrammarLemmas
 pub mod OneReading
 pub mod ReadingLemmas
 pub mod SidLemmas

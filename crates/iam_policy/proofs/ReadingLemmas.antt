@@ -1,22 +1,19 @@
 -- Statements that are read one after the other.
-use Rattle.std.proofs.Common.{◌≡◌, ℕ, suc, ◌+◌, ◌<◌, List, [], ◌∷◌, ◌++◌, Bool, true, false, Option, Some, None, is_some, is_none, IsSome, take, length, get_or, refl, sym, ap, ◌∙◌, subst, codes, drop, add-one, append_assoc}
-use Rattle.std.proofs.Math.Seq.{drop-cons}
-use Rattle.std.proofs.lemmas.List.{append-nil}
-use Rattle.std.specs.List.{AllZip, filter_map, flat_map, slice_get}
-use Rattle.std.specs.Option.{option_to_list}
+use Rattle.std.proofs.Common.{◌≡◌, ℕ, ◌+◌, List, [], ◌∷◌, ◌++◌, false, Option, Some, None, is_none, IsSome, take, refl, sym, subst, codes}
+use Rattle.std.specs.List.{AllZip, slice_get}
 use Rattle.serde_json.specs.Data.{Data}
 use Rattle.serde_json.specs.Find.{get}
 use Rattle.iam_policy.specs.declared.effect.Effect.{Effect}
 use Rattle.iam_policy.specs.declared.fault.Fault.TheVariants.{BadEffect, ActionCount, BadVariable}
 use Rattle.iam_policy.specs.declared.fault.Kind.{Kind}
-use Rattle.iam_text.specs.Draft.{IsDraft}
 use Rattle.iam_condition.specs.Condition.{has_bad_text}
-use Rattle.iam_policy.specs.Element.{both, neither, effect_of, stands_as, texts_of}
-use Rattle.iam_policy.specs.Fault.{has_bad_variable}
-use Rattle.iam_policy.specs.Reading.{ResourceElement, ReadsResource, ReadsText, resource_name}
+use Rattle.iam_element.specs.Element.{both, neither, stands_as}
+use Rattle.iam_policy.specs.Statement.{effect_of}
+use Rattle.iam_element.specs.Resource.{has_bad_variable}
+use Rattle.iam_policy.specs.Version.{version_of}
 use Rattle.iam_policy.specs.Code.First.{HasLeast}
 use Rattle.iam_policy.specs.Code.Readable.{IsReadable}
-use Rattle.iam_policy.proofs.ElementLemmas.{filter_map-next, first_false, second_false, take_next}
+use Rattle.iam_policy.proofs.ElementLemmas.{first_false, second_false, take_next}
 use Rattle.iam_policy.proofs.FaultLaws.{no_bad_value, no_line}
 
 zip_push : {A B : Type 0} (R : A → B → Type 0) (xs : List A) (ys : List B) (x : A) (y : B) → AllZip R xs ys → R x y → AllZip R (xs ++ (x ∷ [])) (ys ++ (y ∷ []))
@@ -32,52 +29,18 @@ zip_more {A} {B} R xs i x ys y at zip here =
     let P : List A → Type 0 = λ front. AllZip R front (ys ++ (y ∷ [])) in
     subst P (sym (take_next xs i x at)) (zip_push R (take i xs) ys x y zip here)
 
--- one more element: it has something to read, or not
-pub zip_some : {D A B : Type 0} (R : A → B → Type 0) (h : D → Option A) (xs : List D) (i : ℕ) (x : D) (ys : List B) (a : A) (y : B) → slice_get xs i ≡ Some x
-    → h x ≡ Some a → AllZip R (filter_map h (take i xs)) ys → R a y → AllZip R (filter_map h (take (i + 1) xs)) (ys ++ (y ∷ []))
-zip_some {D} {A} {B} R h xs i x ys a y at is zip here =
-    let P : List A → Type 0 = λ front. AllZip R front (ys ++ (y ∷ [])) in
-    subst P (sym (filter_map-next h xs i x at ∙ ap (λ o. filter_map h (take i xs) ++ option_to_list o) is)) (zip_push R (filter_map h (take i xs)) ys a y zip here)
-
-pub zip_none : {D A B : Type 0} (R : A → B → Type 0) (h : D → Option A) (xs : List D) (i : ℕ) (x : D) (ys : List B) → slice_get xs i ≡ Some x
-    → h x ≡ None → AllZip R (filter_map h (take i xs)) ys → AllZip R (filter_map h (take (i + 1) xs)) ys
-zip_none {D} {A} {B} R h xs i x ys at is zip =
-    let P : List A → Type 0 = λ front. AllZip R front ys in
-    subst P (sym (filter_map-next h xs i x at ∙ ap (λ o. filter_map h (take i xs) ++ option_to_list o) is ∙ append-nil (filter_map h (take i xs)))) zip
-
 -- a statement that has no fault has an effect, one of the two action elements, no bad variable and no bad value
-pub readable : (kind : Kind) (d : Data) (i : ℕ) (s : Data) → HasLeast kind d i s None → IsReadable s
+pub readable : (kind : Kind) (d : Data) (i : ℕ) (s : Data) → HasLeast kind d i s None → IsReadable (version_of d) s
 readable kind d i s none = record {
   effect = effect (effect_of s) (no_line kind d i s none.bad BadEffect none.least);
   action =
       second_false (both (get (codes "Action") s) (get (codes "NotAction") s)) (neither (get (codes "Action") s) (get (codes "NotAction") s))
       (no_line kind d i s none.bad ActionCount none.least);
   variables = first_false _ _ (no_line kind d i s none.bad BadVariable none.least);
-  texts = second_false (has_bad_variable s) (stands_as has_bad_text (get (codes "Condition") s)) (no_line kind d i s none.bad BadVariable none.least);
+  texts = second_false (has_bad_variable (version_of d) s) (stands_as (has_bad_text (version_of d)) (get (codes "Condition") s)) (no_line kind d i s none.bad BadVariable none.least);
   values = no_bad_value kind d i s none;
 }
   where
     effect : (o : Option Effect) → is_none o ≡ false → IsSome o
     effect None e = cc
     effect (Some word) e = refl
-
--- the items of one more element of a list
-pub flat_map_next : {K N : Type 0} (f : K → List N) (ks : List K) (i : ℕ) (d : K) (whole done next here : List N) → i < length ks
-    → whole ≡ done ++ flat_map f (drop i ks) → next ≡ done ++ here → here ≡ f (get_or ks i d) → whole ≡ next ++ flat_map f (drop (i + 1) ks)
-flat_map_next {K} {N} f ks i d whole done next here below all more is =
-    let step : drop i ks ≡ get_or ks i d ∷ drop (suc i) ks = drop-cons ks i d below in
-    let one : i + 1 ≡ suc i = add-one i in
-    let rest : flat_map f (drop i ks) ≡ f (get_or ks i d) ++ flat_map f (drop (i + 1) ks) =
-    ap (flat_map f) step ∙ ap (λ n. f (get_or ks i d) ++ flat_map f (drop n ks)) (sym one) in
-    let apart : (done ++ f (get_or ks i d)) ++ flat_map f (drop (i + 1) ks) ≡ done ++ (f (get_or ks i d) ++ flat_map f (drop (i + 1) ks)) =
-    append_assoc done (f (get_or ks i d)) (flat_map f (drop (i + 1) ks)) in
-    let now : next ≡ done ++ f (get_or ks i d) = more ∙ ap (λ xs. done ++ xs) is in
-    all ∙ ap (λ xs. done ++ xs) rest ∙ sym apart ∙ ap (λ xs. xs ++ flat_map f (drop (i + 1) ks)) (sym now)
-
--- the resource element that stands in a statement
-pub resource_read : (d s : Data) (r : ResourceElement) (negated : Bool) (value : Data) → get (resource_name negated) s ≡ Some value → r.negated ≡ negated
-    → AllZip (IsDraft true) (texts_of (Some value)) r.texts → ReadsResource d s (Some r)
-resource_read d s r negated value stands same texts =
-    let P : Bool → Type 0 = λ n. IsSome (get (resource_name n) s) × AllZip (ReadsText d) (texts_of (get (resource_name n) s)) r.texts in
-    let Q : Option Data → Type 0 = λ o. AllZip (ReadsText d) (texts_of o) r.texts in
-    subst P (sym same) (ap is_some stands, subst Q (sym stands) texts)

@@ -14,7 +14,7 @@ use Rattle.std.specs.Str.{bytes_eq}
 use Rattle.serde_json.specs.Data.{Data}
 use Rattle.iam_json.specs.Look.{is_one_of}
 use Rattle.iam_policy.specs.Code.Sids.{contains_str, HasSids}
-use Rattle.iam_policy.specs.Element.{sid_of}
+use Rattle.iam_policy.specs.Statement.{sid_of}
 use Rattle.iam_policy.specs.Fault.{repeats_sid}
 
 same-way : (a b : List ℕ) → bytes_eq a b ≡ bytes_eq b a

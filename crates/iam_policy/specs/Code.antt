@@ -1,4 +1,3 @@
 pub mod First
-pub mod Form
 pub mod Readable
 pub mod Sids

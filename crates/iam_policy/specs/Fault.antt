@@ -11,12 +11,17 @@ use Rattle.iam_condition.specs.Condition.{HasBadValue, has_bad_text, has_many_va
 use Rattle.iam_policy.specs.declared.fault.Fault.{Fault}
 use Rattle.iam_policy.specs.declared.fault.Fault.TheVariants.{NotObject, UnknownElement, BadVersion, NoStatement, BadStatement, BadSid, DuplicateSid, BadEffect, ActionCount, BadAction, PrincipalMisplaced, PrincipalMissing, BadPrincipal, NotPrincipalAllow, ResourceCount, BadResource, BadVariable, UnknownOperator, BadCondition, BadValue, TooMany}
 use Rattle.iam_policy.specs.declared.fault.Kind.{Kind}
-use Rattle.iam_policy.specs.declared.fault.Kind.TheVariants.{Identity, Resource, Org}
-use Rattle.iam_policy.specs.Element.{both, neither, stands_as, is_no_text, is_this, is_bad_list, has_text, is_too_long, sid_of, effect_of}
+use Rattle.iam_policy.specs.declared.fault.Kind.TheVariants.{Identity, Resource, Org, Control}
+use Rattle.iam_policy.specs.declared.fault.PrincipalRule.{PrincipalRule}
+use Rattle.iam_policy.specs.declared.fault.PrincipalRule.TheVariants.{Nobody, Somebody, Everyone}
+use Rattle.iam_element.specs.Element.{both, neither, stands_as, is_no_text, is_this, is_bad_list, is_too_long}
+use Rattle.iam_policy.specs.Statement.{sid_of, effect_of}
 use Rattle.iam_text.specs.Action.{is_action}
-use Rattle.iam_policy.specs.Grammar.{is_resource, is_bad_variable}
-use Rattle.iam_policy.specs.Principal.{is_principal, has_long_kind}
+use Rattle.iam_element.specs.Grammar.{is_resource}
+use Rattle.iam_element.specs.Resource.{has_bad_variable}
+use Rattle.iam_element.specs.Principal.{is_everyone, is_principal, has_long_kind}
 use Rattle.iam_policy.specs.Table.{number_of, fault_is}
+use Rattle.iam_policy.specs.Version.{version_named, version_of}
 
 -- the members of a document
 abbrev pub document_names : List (List ℕ)
@@ -33,24 +38,21 @@ abbrev pub wants_resource : Kind → Bool
 wants_resource Identity = true
 wants_resource Resource = false
 wants_resource Org = true
+wants_resource Control = true
 
--- whether a statement of this kind may have `Principal` or `NotPrincipal`
-abbrev pub may_have_principal : Kind → Bool
-may_have_principal Identity = false
-may_have_principal Resource = true
-may_have_principal Org = false
-
--- whether each statement of this kind must have `Principal` or `NotPrincipal`
-abbrev pub wants_principal : Kind → Bool
-wants_principal Identity = false
-wants_principal Resource = true
-wants_principal Org = false
+-- whom each statement of this kind names
+abbrev pub principal_rule : Kind → PrincipalRule
+principal_rule Identity = Nobody
+principal_rule Resource = Somebody
+principal_rule Org = Nobody
+principal_rule Control = Everyone
 
 -- whether no two statements of this kind may have the same `Sid`
 abbrev pub wants_distinct_sids : Kind → Bool
 wants_distinct_sids Identity = true
 wants_distinct_sids Resource = false
 wants_distinct_sids Org = true
+wants_distinct_sids Control = false
 
 -- one object stands for a list of one statement
 abbrev pub statements_of : Option Data → List Data
@@ -80,15 +82,38 @@ has_long_list s =
     || is_too_long (get (codes "Resource") s) || is_too_long (get (codes "NotResource") s)
     || stands_as has_long_kind (get (codes "Principal") s) || stands_as has_long_kind (get (codes "NotPrincipal") s)
 
--- a text of `Resource` or `NotResource` is off the variable grammar, or has a `${` before its fifth colon
-abbrev pub has_bad_variable : Data → Bool
-has_bad_variable s =
-    has_text is_bad_variable (get (codes "Resource") s) || has_text is_bad_variable (get (codes "NotResource") s)
+-- `Principal` or `NotPrincipal` stands there
+abbrev pub has_principal : Data → Bool
+has_principal s = is_some (get (codes "Principal") s) || is_some (get (codes "NotPrincipal") s)
+
+-- both stand there, or one that is off the principal grammar
+abbrev pub has_bad_principal : Data → Bool
+has_bad_principal s =
+    both (get (codes "Principal") s) (get (codes "NotPrincipal") s)
+    || stands_as (λ p. not (is_principal p)) (get (codes "Principal") s)
+    || stands_as (λ p. not (is_principal p)) (get (codes "NotPrincipal") s)
+
+-- `NotPrincipal` stands there in a statement that allows
+abbrev pub allows_by_not_principal : Data → Bool
+allows_by_not_principal s = is_some (get (codes "NotPrincipal") s) && is_this (codes "Allow") (get (codes "Effect") s)
+
+-- `Principal` stands there and is `*`, and `NotPrincipal` does not
+abbrev pub names_everyone : Data → Bool
+names_everyone s = stands_as is_everyone (get (codes "Principal") s) && is_none (get (codes "NotPrincipal") s)
+
+-- the lines of the table for the principal elements, by whom a statement is to name
+abbrev pub principal_line : PrincipalRule → Data → Fault → Bool
+principal_line Nobody s PrincipalMisplaced = has_principal s
+principal_line Somebody s PrincipalMissing = not (has_principal s)
+principal_line Somebody s BadPrincipal = has_bad_principal s
+principal_line Somebody s NotPrincipalAllow = allows_by_not_principal s
+principal_line Everyone s BadPrincipal = not (names_everyone s)
+principal_line _ s _ = false
 
 -- the lines of the table for a document that is an object
 abbrev pub document_line : Kind → Data → Fault → Bool
 document_line kind d UnknownElement = has_unknown document_names d || is_no_text (get (codes "Id") d)
-document_line kind d BadVersion = not (is_this (codes "2012-10-17") (get (codes "Version") d))
+document_line kind d BadVersion = is_none (version_named (get (codes "Version") d))
 document_line kind d NoStatement = is_none (get (codes "Statement") d)
 document_line kind d BadStatement = stands_as is_bad_statement (get (codes "Statement") d)
 document_line kind d TooMany = nat_lt 4096 (length (statements_in d))
@@ -105,24 +130,17 @@ statement_line kind d i s ActionCount =
     || neither (get (codes "Action") s) (get (codes "NotAction") s)
 statement_line kind d i s BadAction =
     is_bad_list is_action (get (codes "Action") s) || is_bad_list is_action (get (codes "NotAction") s)
-statement_line kind d i s PrincipalMisplaced =
-    not (may_have_principal kind) && (is_some (get (codes "Principal") s) || is_some (get (codes "NotPrincipal") s))
-statement_line kind d i s PrincipalMissing =
-    wants_principal kind && not (is_some (get (codes "Principal") s) || is_some (get (codes "NotPrincipal") s))
-statement_line kind d i s BadPrincipal =
-    may_have_principal kind
-    && (both (get (codes "Principal") s) (get (codes "NotPrincipal") s)
-    || stands_as (λ p. not (is_principal p)) (get (codes "Principal") s)
-    || stands_as (λ p. not (is_principal p)) (get (codes "NotPrincipal") s))
-statement_line kind d i s NotPrincipalAllow =
-    may_have_principal kind
-    && (is_some (get (codes "NotPrincipal") s) && is_this (codes "Allow") (get (codes "Effect") s))
+statement_line kind d i s PrincipalMisplaced = principal_line (principal_rule kind) s PrincipalMisplaced
+statement_line kind d i s PrincipalMissing = principal_line (principal_rule kind) s PrincipalMissing
+statement_line kind d i s BadPrincipal = principal_line (principal_rule kind) s BadPrincipal
+statement_line kind d i s NotPrincipalAllow = principal_line (principal_rule kind) s NotPrincipalAllow
 statement_line kind d i s ResourceCount =
     both (get (codes "Resource") s) (get (codes "NotResource") s)
     || (wants_resource kind && neither (get (codes "Resource") s) (get (codes "NotResource") s))
 statement_line kind d i s BadResource =
     is_bad_list is_resource (get (codes "Resource") s) || is_bad_list is_resource (get (codes "NotResource") s)
-statement_line kind d i s BadVariable = has_bad_variable s || stands_as has_bad_text (get (codes "Condition") s)
+statement_line kind d i s BadVariable =
+    has_bad_variable (version_of d) s || stands_as (has_bad_text (version_of d)) (get (codes "Condition") s)
 statement_line kind d i s UnknownOperator = stands_as has_unknown_operator (get (codes "Condition") s)
 statement_line kind d i s BadCondition = stands_as is_bad_form (get (codes "Condition") s)
 statement_line kind d i s TooMany = has_long_list s || stands_as has_many_values (get (codes "Condition") s)

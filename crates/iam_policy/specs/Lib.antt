@@ -1,7 +1,6 @@
 pub mod Code
-pub mod Element
 pub mod Fault
-pub mod Grammar
-pub mod Principal
 pub mod Reading
+pub mod Statement
 pub mod Table
+pub mod Version

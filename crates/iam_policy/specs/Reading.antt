@@ -1,43 +1,18 @@
 -- What a policy is, and how an accepted document is read: AWS IAM User Guide, "IAM JSON policy elements
 -- reference".
-use Rattle.std.specs.Prelude.{◌≡◌, ℕ, List, [], ◌∷◌, Bool, true, false, Option, Some, None, IsSome, map, codes, option_map, if◌then◌else◌}
-use Rattle.std.specs.List.{AllZip, flat_map}
-use Rattle.std.specs.Str.{chars}
-use Rattle.serde_json.specs.Data.{Data, null, boolean, number, string, array, object}
+use Rattle.std.specs.Prelude.{◌≡◌, ℕ, List, [], Option, Some, None, codes}
+use Rattle.std.specs.List.{AllZip}
+use Rattle.serde_json.specs.Data.{Data}
 use Rattle.serde_json.specs.Find.{get}
-use Rattle.iam_text.specs.declared.sign.Sign.{Sign}
-use Rattle.iam_text.specs.Glob.{wild_sign}
-use Rattle.iam_text.specs.declared.draft.Piece.{Piece}
-use Rattle.iam_text.specs.Draft.{IsDraft}
+use Rattle.iam_text.specs.declared.version.Version.{Version}
 use Rattle.iam_condition.specs.Condition.{ReadsCondition}
 use Rattle.iam_condition.specs.Entry.{EntryValue}
+use Rattle.iam_element.specs.Reading.{ActionElement, ResourceElement, PrincipalElement, ReadsAction, ReadsResource, ReadsPrincipal}
 use Rattle.iam_policy.specs.declared.effect.Effect.{Effect}
-use Rattle.iam_policy.specs.declared.principals.PrincipalKind.{PrincipalKind}
-use Rattle.iam_policy.specs.declared.principals.PrincipalKind.TheVariants.{Aws}
 use Rattle.iam_policy.specs.declared.fault.Kind.{Kind}
-use Rattle.iam_policy.specs.Element.{texts_of, effect_of, sid_of}
-use Rattle.iam_policy.specs.Principal.{kind_word, principal_kinds}
 use Rattle.iam_policy.specs.Fault.{IsAccepted, statements_in}
-
--- `Action`, or `NotAction` where negated, with its patterns
-pub record ActionElement : Type 0 where
-  pub negated : Bool
-  pub patterns : List (List Sign)
-
--- `Resource`, or `NotResource` where negated, with its texts
-pub record ResourceElement : Type 0 where
-  pub negated : Bool
-  pub texts : List (List Piece)
-
--- a text of a principal element, and the type that it stands under
-pub record PrincipalText : Type 0 where
-  pub kind : PrincipalKind
-  pub text : List ℕ
-
--- `Principal`, or `NotPrincipal` where negated, with its texts
-pub record PrincipalElement : Type 0 where
-  pub negated : Bool
-  pub names : List PrincipalText
+use Rattle.iam_policy.specs.Statement.{effect_of, sid_of}
+use Rattle.iam_policy.specs.Version.{version_named}
 
 -- a statement, element by element
 pub record StatementValue : Type 0 where
@@ -48,78 +23,27 @@ pub record StatementValue : Type 0 where
   pub principal : Option PrincipalElement
   pub conditions : List EntryValue
 
--- a policy: its statements, in order
+-- a policy: the version of its document, and its statements, in order
 pub record PolicyValue : Type 0 where
+  pub version : Version
   pub statements : List StatementValue
 
--- the name of an element, by whether it is the negated one of the two
-abbrev pub action_name : Bool → List ℕ
-action_name negated = if negated then codes "NotAction" else codes "Action"
-
-abbrev pub resource_name : Bool → List ℕ
-resource_name negated = if negated then codes "NotResource" else codes "Resource"
-
-abbrev pub principal_name : Bool → List ℕ
-principal_name negated = if negated then codes "NotPrincipal" else codes "Principal"
-
--- the pattern of a text in which `*` and `?` are wildcards
-abbrev pub pattern_of : List ℕ → List Sign
-pattern_of text = map wild_sign (chars text)
-
--- the element stands there, and each of its texts is a pattern
-pub record ReadsAction (s : Data) (r : ActionElement) : Type 0 where
-  pub stands : IsSome (get (action_name r.negated) s)
-  pub patterns : r.patterns ≡ map pattern_of (texts_of (get (action_name r.negated) s))
-
--- a text of a resource element is its draft, in which `*` and `?` are wildcards
-abbrev pub ReadsText : Data → List ℕ → List Piece → Type 0
-ReadsText d text pieces = IsDraft true text pieces
-
--- neither element stands there, or the one does and each of its texts is read
-abbrev pub ReadsResource : Data → Data → Option ResourceElement → Type 0
-ReadsResource d s None = (get (resource_name false) s ≡ None) × (get (resource_name true) s ≡ None)
-ReadsResource d s (Some r) =
-    IsSome (get (resource_name r.negated) s)
-    × AllZip (ReadsText d) (texts_of (get (resource_name r.negated) s)) r.texts
-
--- texts under one type of principals
-abbrev pub typed : PrincipalKind → List (List ℕ) → List PrincipalText
-typed kind texts = map (λ t. record { kind = kind; text = t }) texts
-
--- the texts that an element has under a type
-abbrev pub names_under : Data → PrincipalKind → List PrincipalText
-names_under element kind = typed kind (texts_of (get (kind_word kind) element))
-
--- the names of a principal element; a text alone stands under `AWS`
-abbrev pub names_of : Data → List PrincipalText
-names_of null = []
-names_of (boolean b) = []
-names_of (number n) = []
-names_of (string text) = record { kind = Aws; text = text } ∷ []
-names_of (array ds) = []
-names_of (object ms) = flat_map (names_under (object ms)) principal_kinds
-
--- neither element stands there, or the one does with these names
-abbrev pub ReadsPrincipal : Data → Option PrincipalElement → Type 0
-ReadsPrincipal s None = (get (principal_name false) s ≡ None) × (get (principal_name true) s ≡ None)
-ReadsPrincipal s (Some r) = option_map names_of (get (principal_name r.negated) s) ≡ Some r.names
-
 -- an absent condition has no entries
-abbrev pub ReadsConditions : Option Data → List EntryValue → Type 0
-ReadsConditions None entries = entries ≡ []
-ReadsConditions (Some condition) entries = ReadsCondition condition entries
+abbrev pub ReadsConditions : Version → Option Data → List EntryValue → Type 0
+ReadsConditions version None entries = entries ≡ []
+ReadsConditions version (Some condition) entries = ReadsCondition version condition entries
 
--- a statement is read element by element
-pub record ReadsStatement (d s : Data) (r : StatementValue) : Type 0 where
+-- a statement of a document of the version is read element by element
+pub record ReadsStatement (version : Version) (s : Data) (r : StatementValue) : Type 0 where
   pub sid : r.sid ≡ sid_of s
   pub effect : effect_of s ≡ Some r.effect
   pub action : ReadsAction s r.action
-  pub resource : ReadsResource d s r.resource
+  pub resource : ReadsResource version s r.resource
   pub principal : ReadsPrincipal s r.principal
-  pub conditions : ReadsConditions (get (codes "Condition") s) r.conditions
+  pub conditions : ReadsConditions version (get (codes "Condition") s) r.conditions
 
--- the document is accepted, and read statement by statement
-abbrev pub Reads : Kind → Data → PolicyValue → Type 0
-Reads kind d policy =
-    IsAccepted kind d
-    × AllZip (ReadsStatement d) (statements_in d) policy.statements
+-- the document is accepted, and read in its version, statement by statement
+pub record Reads (kind : Kind) (d : Data) (policy : PolicyValue) : Type 0 where
+  pub accepted : IsAccepted kind d
+  pub version : version_named (get (codes "Version") d) ≡ Some policy.version
+  pub statements : AllZip (ReadsStatement policy.version) (statements_in d) policy.statements

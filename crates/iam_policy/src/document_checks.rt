@@ -2,7 +2,7 @@ ghost use Rattle.std.specs.Prelude.{◌≡◌, map, codes, Some};
 ghost use Rattle.serde_json.specs.Find.{get};
 ghost use Rattle.serde_json.specs.View.{view};
 ghost use Rattle.iam_json.specs.Look.{has_unknown};
-ghost use Rattle.iam_policy.specs.Element.{stands_as};
+ghost use Rattle.iam_element.specs.Element.{stands_as};
 ghost use Rattle.iam_policy.specs.Fault.{document_names, is_bad_statement, statements_of, statements_in};
 
 use iam_json::{has_unknown, values};

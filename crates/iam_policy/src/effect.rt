@@ -1,6 +1,29 @@
+ghost use Rattle.std.specs.Prelude.{◌≡◌};
+ghost use Rattle.serde_json.specs.View.{view};
+ghost use Rattle.iam_policy.specs.Statement.{effect_named, effect_of};
+
+use serde_json::Value;
+
 /// What a statement says of the requests that it matches.
 #[derive(Clone, Copy, Debug, PartialEq, Eq)]
 pub enum Effect {
     Allow,
     Deny,
+}
+
+/// The effect of a statement, where it has one.
+pub fn effect_of(statement: &Value) -> Option<Effect>
+    ensures { result ≡ effect_of (view statement.now) }
+{
+    effect_named(statement.get("Effect")?.as_str()?)
+}
+
+fn effect_named(word: &str) -> Option<Effect>
+    ensures { result ≡ effect_named word.now }
+{
+    match word {
+        "Allow" => Some(Effect::Allow),
+        "Deny" => Some(Effect::Deny),
+        _ => None,
+    }
 }

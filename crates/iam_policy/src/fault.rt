@@ -5,7 +5,7 @@ pub enum Fault {
     NotObject,
     /// A member that the document or the statement does not know.
     UnknownElement,
-    /// `Version` is absent or not `2012-10-17`.
+    /// `Version` is neither absent, which means `2008-10-17`, nor `2008-10-17` or `2012-10-17`.
     BadVersion,
     /// `Statement` is absent.
     NoStatement,
@@ -25,7 +25,8 @@ pub enum Fault {
     PrincipalMisplaced,
     /// Neither `Principal` nor `NotPrincipal` in a document that wants one.
     PrincipalMissing,
-    /// Both of `Principal` and `NotPrincipal`, or one off the principal grammar.
+    /// Both of `Principal` and `NotPrincipal`, or one off the principal grammar; in a document that names everyone,
+    /// anything but a `Principal` that is `*`.
     BadPrincipal,
     /// `NotPrincipal` with the effect `Allow`.
     NotPrincipalAllow,
@@ -98,31 +99,41 @@ pub enum Kind {
     Resource,
     /// An organisation policy.
     Org,
+    /// A resource control policy.
+    Control,
+}
+
+/// Whom each statement of a document names by `Principal` or `NotPrincipal`.
+#[derive(Clone, Copy)]
+pub enum PrincipalRule {
+    /// It has neither element.
+    Nobody,
+    /// It has one of them.
+    Somebody,
+    /// It has `Principal`, which is `*`.
+    Everyone,
 }
 
 impl Kind {
     ghost use Rattle.std.specs.Prelude.{◌≡◌};
-    ghost use Rattle.iam_policy.specs.Fault.{may_have_principal, wants_resource, wants_principal, wants_distinct_sids};
+    ghost use Rattle.iam_policy.specs.Fault.{principal_rule, wants_resource, wants_distinct_sids};
 
     /// Whether each statement must have `Resource` or `NotResource`.
     pub(crate) fn wants_resource(self) -> bool
         ensures { result ≡ wants_resource self }
     {
-        matches!(self, Kind::Identity | Kind::Org)
+        matches!(self, Kind::Identity | Kind::Org | Kind::Control)
     }
 
-    /// Whether a statement may have `Principal` or `NotPrincipal`.
-    pub(crate) fn may_have_principal(self) -> bool
-        ensures { result ≡ may_have_principal self }
+    /// Whom each statement names.
+    pub(crate) fn principal_rule(self) -> PrincipalRule
+        ensures { result ≡ principal_rule self }
     {
-        matches!(self, Kind::Resource)
-    }
-
-    /// Whether each statement must have `Principal` or `NotPrincipal`.
-    pub(crate) fn wants_principal(self) -> bool
-        ensures { result ≡ wants_principal self }
-    {
-        matches!(self, Kind::Resource)
+        match self {
+            Kind::Identity | Kind::Org => PrincipalRule::Nobody,
+            Kind::Resource => PrincipalRule::Somebody,
+            Kind::Control => PrincipalRule::Everyone,
+        }
     }
 
     /// Whether no two statements may have the same `Sid`.

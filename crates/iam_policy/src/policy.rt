@@ -5,6 +5,7 @@ ghost use Rattle.iam_policy.specs.Code.First.{AreFaultless, IsFirstRefused};
 ghost use Rattle.iam_policy.specs.Code.Readable.{IsReadable, AddsStatement};
 ghost use Rattle.iam_policy.specs.Fault.{statements_in};
 ghost use Rattle.iam_policy.specs.Reading.{ReadsStatement};
+ghost use Rattle.iam_policy.specs.Version.{version_of};
 
 use crate::OutOfMemory;
 use crate::document_checks::statements_in;
@@ -12,7 +13,9 @@ use crate::fault::{Fault, Kind, Refused};
 use crate::sids::note_sid;
 use crate::statement::Statement;
 use crate::statement_checks::has_bad_value;
-use crate::table::{document_fault, statement_fault};
+use crate::table::{Place, document_fault, statement_fault};
+use crate::version::version_of;
+use iam_text::Version;
 use serde_json::Value;
 use std::alloc::Global;
 use std::collections::BTreeSet;
@@ -21,6 +24,7 @@ use std::marker::Model;
 /// A policy document that was read.
 #[derive(Debug, Drop)]
 pub struct Policy {
+    version: Version,
     statements: Vec<Statement>,
 }
 
@@ -30,7 +34,7 @@ impl Model for Policy {
 
     ghost Value = { PolicyValue };
 
-    ghost view = { λ p. record { statements = p.statements.items } };
+    ghost view = { λ p. record { version = p.version; statements = p.statements.items } };
 
     ghost invariant = { λ p. vec_len p.statements ≤ 4096 };
 }
@@ -57,7 +61,17 @@ impl Policy {
             });
         }
         let statements = read_statements(alloc, value, kind)?;
-        Ok(Policy { statements })
+        Ok(Policy {
+            version: version_of(value),
+            statements,
+        })
+    }
+
+    /// The version of the policy language that the document is written in.
+    pub fn version(&self) -> Version
+        ensures { result ≡ self.now.version }
+    {
+        self.version
     }
 
     /// The statements, in order, at most 4,096.
@@ -87,34 +101,45 @@ impl From<OutOfMemory> for Refused {
 fn read_statements(alloc: Global, document: &Value, kind: Kind) -> Result<Vec<Statement>, Refused>
     requires { length (statements_in (view document.now)) ≤ 4096 }
     ensures clean { IfOk result (λ read. AreFaultless kind (view document.now) (length (statements_in (view document.now)))) }
-    ensures read { IfOk result (λ read. AllZip (ReadsStatement (view document.now)) (statements_in (view document.now)) read.items) }
+    ensures read { IfOk result (λ read. AllZip (ReadsStatement (version_of (view document.now))) (statements_in (view document.now)) read.items) }
     ensures len { IfOk result (λ read. vec_len read ≤ 4096) }
     ensures first { IfErr result (λ refused. refused.fault ≢ Fault.OutOfMemory
         → IsFirstRefused kind (view document.now) refused) }
     ensures memory { IfErr result (λ refused. refused.fault ≡ Fault.OutOfMemory → refused.statement ≡ None) }
 {
+    let version = version_of(document);
     let mut sids = BTreeSet::new(alloc);
     let mut read = Vec::new(alloc);
     for (number, statement) in statements_in(document).iter().enumerate() {
         let repeats = note_sid(&mut sids, statement)?;
         let bad_value = has_bad_value(alloc, statement)?;
-        if let Some(fault) = statement_fault(statement, kind, repeats, bad_value) {
+        let place = Place {
+            kind,
+            version,
+            repeats,
+        };
+        if let Some(fault) = statement_fault(statement, place, bad_value) {
             return Err(Refused {
                 statement: Some(number as u32),
                 fault,
             });
         }
-        add(alloc, &mut read, statement)?;
+        add(alloc, &mut read, statement, version)?;
     }
     Ok(read)
 }
 
 /// Reads a statement that has no fault.
-fn add(alloc: Global, read: &mut Vec<Statement>, statement: &Value) -> Result<(), OutOfMemory>
-    requires { IsReadable (view statement.now) }
-    ensures items { OnOk result (AddsStatement (view statement.now) read.old.items read.new.items) }
+fn add(
+    alloc: Global,
+    read: &mut Vec<Statement>,
+    statement: &Value,
+    version: Version,
+) -> Result<(), OutOfMemory>
+    requires { IsReadable version (view statement.now) }
+    ensures items { OnOk result (AddsStatement version (view statement.now) read.old.items read.new.items) }
     ensures len { OnOk result (vec_len read.new ≡ vec_len read.old + 1) }
 {
-    read.push(Statement::read(alloc, statement)?)?;
+    read.push(Statement::read(alloc, statement, version)?)?;
     Ok(())
 }

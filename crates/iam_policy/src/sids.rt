@@ -1,14 +1,20 @@
-ghost use Rattle.std.specs.Prelude.{◌≡◌, ℕ, List, ◌++◌, IfOk};
+ghost use Rattle.std.specs.Prelude.{◌≡◌, ℕ, List, ◌++◌, IfOk, option_map};
 ghost use Rattle.std.specs.Option.{option_to_list};
 ghost use Rattle.serde_json.specs.View.{view};
 ghost use Rattle.iam_policy.specs.Code.Sids.{HasSids};
-ghost use Rattle.iam_policy.specs.Element.{sid_of};
+ghost use Rattle.iam_policy.specs.Statement.{sid_of};
 ghost use Rattle.iam_policy.specs.Fault.{repeats_sid};
 
 use crate::OutOfMemory;
-use crate::element::sid_of;
 use serde_json::Value;
 use std::collections::BTreeSet;
+
+/// The `Sid` of a statement, where it is a text.
+pub fn sid_of(statement: &Value) -> Option<&str>
+    ensures { option_map (λ t. t.now) result ≡ sid_of (view statement.entry.now) }
+{
+    statement.get("Sid")?.as_str()
+}
 
 /// Adds the `Sid` of a statement; whether it is not empty and was there.
 pub fn note_sid<'v>(sids: &mut BTreeSet<&'v str>, statement: &'v Value) -> Result<bool, OutOfMemory>

@@ -1,19 +1,17 @@
 ghost use Rattle.std.specs.Prelude.{◌≡◌, IfOk, codes, false, option_map, string_bytes};
-ghost use Rattle.serde_json.specs.Data.{Data};
 ghost use Rattle.serde_json.specs.Find.{get};
 ghost use Rattle.serde_json.specs.View.{view};
 ghost use Rattle.iam_condition.specs.Condition.{has_bad_text};
-ghost use Rattle.iam_policy.specs.Element.{neither, sid_of, stands_as};
-ghost use Rattle.iam_policy.specs.Fault.{HasBadValueIn, has_bad_variable};
-ghost use Rattle.iam_policy.specs.Reading.{ReadsAction, ReadsConditions, ReadsResource, ReadsPrincipal};
+ghost use Rattle.iam_element.specs.Element.{stands_as};
+ghost use Rattle.iam_policy.specs.Fault.{HasBadValueIn};
+ghost use Rattle.iam_policy.specs.Reading.{ReadsConditions};
+ghost use Rattle.iam_policy.specs.Statement.{sid_of};
 
-use crate::OutOfMemory;
-use crate::actions::Actions;
-use crate::effect::Effect;
-use crate::element::{effect_of, either, sid_of};
-use crate::principals::Principals;
-use crate::resources::Resources;
+use crate::effect::{Effect, effect_of};
+use crate::sids::sid_of;
 use iam_condition::{Entry, read_entries};
+use iam_element::{Actions, Principals, Resources, read_action, read_principal, read_resource};
+use iam_text::{OutOfMemory, Version};
 use serde_json::Value;
 use std::alloc::Global;
 use std::marker::Model;
@@ -48,7 +46,6 @@ impl Model for Statement {
 impl Statement {
     ghost use Rattle.std.specs.Prelude.{◌≡◌, IfOk};
     ghost use Rattle.std.specs.Option.{option_copied};
-    ghost use Rattle.serde_json.specs.Data.{Data};
     ghost use Rattle.serde_json.specs.View.{view};
     ghost use Rattle.iam_policy.specs.Code.Readable.{IsReadable};
     ghost use Rattle.iam_policy.specs.Reading.{ReadsStatement};
@@ -81,7 +78,7 @@ impl Statement {
         self.resource.as_ref()
     }
 
-    /// `Principal` or `NotPrincipal`; a statement of a resource's policy alone has one.
+    /// `Principal` or `NotPrincipal`; a statement of a resource's policy or of a resource control policy alone has one.
     pub fn principal(&self) -> Option<&Principals>
         ensures { option_copied result ≡ self.now.principal }
     {
@@ -95,18 +92,22 @@ impl Statement {
         self.conditions.as_slice()
     }
 
-    /// Reads a statement that has an effect and an action element.
-    pub(crate) fn read(alloc: Global, statement: &Value) -> Result<Statement, OutOfMemory>
-        requires { IsReadable (view statement.now) }
-        ensures { IfOk result (λ r. (d : Data) → ReadsStatement d (view statement.now) r) }
+    /// Reads a statement that has an effect and an action element, in a document of the version.
+    pub(crate) fn read(
+        alloc: Global,
+        statement: &Value,
+        version: Version,
+    ) -> Result<Statement, OutOfMemory>
+        requires { IsReadable version (view statement.now) }
+        ensures { IfOk result (λ r. ReadsStatement version (view statement.now) r) }
     {
         Ok(Statement {
             sid: read_sid(alloc, statement)?,
             effect: effect_of(statement).unwrap(),
             action: read_action(alloc, statement)?,
-            resource: read_resource(alloc, statement)?,
+            resource: read_resource(alloc, statement, version)?,
             principal: read_principal(alloc, statement)?,
-            conditions: read_conditions(alloc, statement)?,
+            conditions: read_conditions(alloc, statement, version)?,
         })
     }
 }
@@ -120,39 +121,17 @@ fn read_sid(alloc: Global, statement: &Value) -> Result<Option<String>, OutOfMem
     }
 }
 
-fn read_action(alloc: Global, statement: &Value) -> Result<Actions, OutOfMemory>
-    requires { neither (get (codes "Action") (view statement.now)) (get (codes "NotAction") (view statement.now)) ≡ false }
-    ensures { IfOk result (λ r. ReadsAction (view statement.now) r) }
-{
-    Actions::read(alloc, either(statement, "Action", "NotAction").unwrap())
-}
-
-fn read_resource(alloc: Global, statement: &Value) -> Result<Option<Resources>, OutOfMemory>
-    requires { has_bad_variable (view statement.now) ≡ false }
-    ensures { IfOk result (λ r. (d : Data) → ReadsResource d (view statement.now) r) }
-{
-    match either(statement, "Resource", "NotResource") {
-        Some(element) => Ok(Some(Resources::read(alloc, element)?)),
-        None => Ok(None),
-    }
-}
-
-fn read_principal(alloc: Global, statement: &Value) -> Result<Option<Principals>, OutOfMemory>
-    ensures { IfOk result (λ r. ReadsPrincipal (view statement.now) r) }
-{
-    match either(statement, "Principal", "NotPrincipal") {
-        Some(element) => Ok(Some(Principals::read(alloc, element)?)),
-        None => Ok(None),
-    }
-}
-
-fn read_conditions(alloc: Global, statement: &Value) -> Result<Vec<Entry>, OutOfMemory>
-    requires texts { stands_as has_bad_text (get (codes "Condition") (view statement.now)) ≡ false }
+fn read_conditions(
+    alloc: Global,
+    statement: &Value,
+    version: Version,
+) -> Result<Vec<Entry>, OutOfMemory>
+    requires texts { stands_as (has_bad_text version) (get (codes "Condition") (view statement.now)) ≡ false }
     requires values { ¬ HasBadValueIn (view statement.now) }
-    ensures { IfOk result (λ entries. ReadsConditions (get (codes "Condition") (view statement.now)) entries.items) }
+    ensures { IfOk result (λ entries. ReadsConditions version (get (codes "Condition") (view statement.now)) entries.items) }
 {
     match statement.get("Condition") {
-        Some(condition) => read_entries(alloc, condition),
+        Some(condition) => read_entries(alloc, condition, version),
         None => Ok(Vec::new(alloc)),
     }
 }

@@ -1,20 +1,21 @@
-ghost use Rattle.std.specs.Prelude.{◌≡◌, ◌↔◌, ◌||◌, ◌&&◌, codes, is_some, not, IfOk, IsTrue};
+ghost use Rattle.std.specs.Prelude.{◌≡◌, ◌↔◌, ◌||◌, codes, IfOk, IsTrue};
 ghost use Rattle.serde_json.specs.Find.{get};
 ghost use Rattle.serde_json.specs.View.{view};
 ghost use Rattle.iam_json.specs.Look.{has_unknown};
 ghost use Rattle.iam_policy.specs.Code.First.{condition_line};
-ghost use Rattle.iam_policy.specs.Code.Form.{form_of};
-ghost use Rattle.iam_policy.specs.Element.{both, neither, stands_as, is_bad_list, is_this};
-ghost use Rattle.iam_policy.specs.Fault.{HasBadValueIn, statement_names, has_bad_variable, has_long_list};
-ghost use Rattle.iam_policy.specs.Principal.{is_principal};
+ghost use Rattle.iam_element.specs.Code.Form.{form_of};
+ghost use Rattle.iam_element.specs.Element.{both, neither, stands_as, is_bad_list};
+ghost use Rattle.iam_policy.specs.Fault.{HasBadValueIn, statement_names, allows_by_not_principal, has_bad_principal, has_long_list, has_principal, names_everyone};
 
 use crate::OutOfMemory;
-use crate::element::{has_both, has_neither, has_text, is_bad_list, is_this, is_too_long};
 use crate::fault::Fault;
-use crate::grammar::Form;
-use crate::principal_grammar::{has_long_kind, is_bad_principal};
 use iam_condition::{has_bad_text, has_many_values, has_unknown_operator, is_bad_form};
+use iam_element::{
+    Form, has_both, has_long_kind, has_neither, is_bad_list, is_bad_principal, is_everyone,
+    is_this, is_too_long,
+};
 use iam_json::has_unknown;
+use iam_text::Version;
 use serde_json::Value;
 use std::alloc::Global;
 
@@ -38,12 +39,12 @@ pub fn has_unknown_member(statement: &Value) -> bool
     )
 }
 
-/// One line of the table for a `Condition`.
-fn condition_line(condition: &Value, fault: Fault) -> bool
-    ensures { result ≡ condition_line fault (view condition.now) }
+/// One line of the table for a `Condition` in a document of the version.
+fn condition_line(condition: &Value, version: Version, fault: Fault) -> bool
+    ensures { result ≡ condition_line version fault (view condition.now) }
 {
     match fault {
-        Fault::BadVariable => has_bad_text(condition),
+        Fault::BadVariable => has_bad_text(condition, version),
         Fault::UnknownOperator => has_unknown_operator(condition),
         Fault::BadCondition => is_bad_form(condition),
         Fault::TooMany => has_many_values(condition),
@@ -52,12 +53,12 @@ fn condition_line(condition: &Value, fault: Fault) -> bool
 }
 
 /// Whether `Condition` stands there, and that line of the table holds of it.
-pub fn condition_has(statement: &Value, fault: Fault) -> bool
-    ensures { result ≡ stands_as (condition_line fault) (get (codes "Condition") (view statement.now)) }
+pub fn condition_has(statement: &Value, version: Version, fault: Fault) -> bool
+    ensures { result ≡ stands_as (condition_line version fault) (get (codes "Condition") (view statement.now)) }
 {
     statement
         .get("Condition")
-        .is_some_and(|condition| condition_line(condition, fault))
+        .is_some_and(|condition| condition_line(condition, version, fault))
 }
 
 /// Whether a value of `Condition` is off the grammar of its operator.
@@ -88,17 +89,14 @@ pub fn has_bad_list(statement: &Value, name: &str, other: &str, form: Form) -> b
 
 /// Whether one of the principal elements stands there.
 pub fn has_principal(statement: &Value) -> bool
-    ensures { result ≡ (is_some (get (codes "Principal") (view statement.now))
-        || is_some (get (codes "NotPrincipal") (view statement.now))) }
+    ensures { result ≡ has_principal (view statement.now) }
 {
     statement.get("Principal").is_some() || statement.get("NotPrincipal").is_some()
 }
 
 /// Whether both of the principal elements stand there, or one that is off the principal grammar.
 pub fn has_bad_principal(statement: &Value) -> bool
-    ensures { result ≡ (both (get (codes "Principal") (view statement.now)) (get (codes "NotPrincipal") (view statement.now))
-        || stands_as (λ p. not (is_principal p)) (get (codes "Principal") (view statement.now))
-        || stands_as (λ p. not (is_principal p)) (get (codes "NotPrincipal") (view statement.now))) }
+    ensures { result ≡ has_bad_principal (view statement.now) }
 {
     has_both(statement, "Principal", "NotPrincipal")
         || is_bad_principal(statement, "Principal")
@@ -107,18 +105,16 @@ pub fn has_bad_principal(statement: &Value) -> bool
 
 /// Whether `NotPrincipal` stands there in a statement that allows.
 pub fn allows_by_not_principal(statement: &Value) -> bool
-    ensures { result ≡ (is_some (get (codes "NotPrincipal") (view statement.now))
-        && is_this (codes "Allow") (get (codes "Effect") (view statement.now))) }
+    ensures { result ≡ allows_by_not_principal (view statement.now) }
 {
     statement.get("NotPrincipal").is_some() && is_this(statement, "Effect", "Allow")
 }
 
-/// Whether a text of `Resource` or `NotResource` has a variable off the grammar, or one that stands too early.
-pub fn has_bad_variable(statement: &Value) -> bool
-    ensures { result ≡ has_bad_variable (view statement.now) }
+/// Whether `Principal` is `*`, and `NotPrincipal` does not stand there.
+pub fn names_everyone(statement: &Value) -> bool
+    ensures { result ≡ names_everyone (view statement.now) }
 {
-    has_text(statement, "Resource", Form::BadVariable)
-        || has_text(statement, "NotResource", Form::BadVariable)
+    is_everyone(statement, "Principal") && statement.get("NotPrincipal").is_none()
 }
 
 /// Whether a list of the statement has more members than it may have.

@@ -1,17 +1,19 @@
 ghost use Rattle.std.specs.Prelude.{◌≡◌, ℕ};
 ghost use Rattle.serde_json.specs.Data.{Data};
 ghost use Rattle.serde_json.specs.View.{view};
-ghost use Rattle.iam_policy.specs.Code.First.{document_fault, fault_of, line_has};
-ghost use Rattle.iam_policy.specs.Fault.{sids_before, repeats_sid, document_line, statement_line, document_has, statement_has};
+ghost use Rattle.iam_policy.specs.Code.First.{IsPlaceOf, document_fault, fault_of, line_has};
+ghost use Rattle.iam_policy.specs.Fault.{document_line, principal_line, statement_line, document_has, statement_has};
 
 use crate::document_checks::{has_unknown_element, is_bad_statement, statements_in};
-use crate::element::{MOST, effect_of, has_both, has_neither, is_no_text, is_this};
-use crate::fault::{Fault, Kind};
-use crate::grammar::Form;
+use crate::effect::effect_of;
+use crate::fault::{Fault, Kind, PrincipalRule};
 use crate::statement_checks::{
-    allows_by_not_principal, condition_has, has_bad_list, has_bad_principal, has_bad_variable,
-    has_no_single_action, has_principal, has_too_many, has_unknown_member,
+    allows_by_not_principal, condition_has, has_bad_list, has_bad_principal, has_no_single_action,
+    has_principal, has_too_many, has_unknown_member, names_everyone,
 };
+use crate::version::version_named;
+use iam_element::{Form, MOST, has_bad_variable, has_both, has_neither, is_no_text};
+use iam_text::Version;
 use serde_json::Value;
 
 /// All faults but want of memory, in the order of their numbers.
@@ -39,13 +41,22 @@ const TABLE: [Fault; 21] = [
     Fault::TooMany,
 ];
 
+/// What the lines of the table ask of a statement's document.
+#[derive(Clone, Copy)]
+pub struct Place {
+    pub kind: Kind,
+    pub version: Version,
+    /// Whether an earlier statement has the same `Sid`.
+    pub repeats: bool,
+}
+
 /// One line of the table for a document that is an object.
 fn document_line(document: &Value, kind: Kind, fault: Fault) -> bool
     ensures { result ≡ document_line kind (view document.now) fault }
 {
     match fault {
         Fault::UnknownElement => has_unknown_element(document) || is_no_text(document, "Id"),
-        Fault::BadVersion => !is_this(document, "Version", "2012-10-17"),
+        Fault::BadVersion => version_named(document).is_none(),
         Fault::NoStatement => document.get("Statement").is_none(),
         Fault::BadStatement => is_bad_statement(document),
         Fault::TooMany => statements_in(document).len() > MOST,
@@ -53,30 +64,51 @@ fn document_line(document: &Value, kind: Kind, fault: Fault) -> bool
     }
 }
 
-/// One line of the table for a statement that is an object. `repeats` is whether an earlier statement has its `Sid`.
-fn statement_line(statement: &Value, kind: Kind, repeats: bool, fault: Fault) -> bool
-    ensures { (d : Data) (i : ℕ) → repeats ≡ repeats_sid (sids_before d i) (view statement.now)
-        → result ≡ statement_line kind d i (view statement.now) fault }
+/// One line of the table for the principal elements of a statement.
+fn principal_line(statement: &Value, rule: PrincipalRule, fault: Fault) -> bool
+    ensures { result ≡ principal_line rule (view statement.now) fault }
+{
+    match (rule, fault) {
+        (PrincipalRule::Nobody, Fault::PrincipalMisplaced) => has_principal(statement),
+        (PrincipalRule::Somebody, Fault::PrincipalMissing) => !has_principal(statement),
+        (PrincipalRule::Somebody, Fault::BadPrincipal) => has_bad_principal(statement),
+        (PrincipalRule::Somebody, Fault::NotPrincipalAllow) => allows_by_not_principal(statement),
+        (PrincipalRule::Everyone, Fault::BadPrincipal) => !names_everyone(statement),
+        _ => false,
+    }
+}
+
+/// One line of the table for a statement that is an object.
+fn statement_line(statement: &Value, place: Place, fault: Fault) -> bool
+    ensures { (d : Data) (i : ℕ) → IsPlaceOf d i (view statement.now) place
+        → result ≡ statement_line place.kind d i (view statement.now) fault }
 {
     match fault {
         Fault::UnknownElement => has_unknown_member(statement),
         Fault::BadSid => is_no_text(statement, "Sid"),
-        Fault::DuplicateSid => kind.wants_distinct_sids() && repeats,
+        Fault::DuplicateSid => place.kind.wants_distinct_sids() && place.repeats,
         Fault::BadEffect => effect_of(statement).is_none(),
         Fault::ActionCount => has_no_single_action(statement),
         Fault::BadAction => has_bad_list(statement, "Action", "NotAction", Form::Action),
-        Fault::PrincipalMisplaced => !kind.may_have_principal() && has_principal(statement),
-        Fault::PrincipalMissing => kind.wants_principal() && !has_principal(statement),
-        Fault::BadPrincipal => kind.may_have_principal() && has_bad_principal(statement),
-        Fault::NotPrincipalAllow => kind.may_have_principal() && allows_by_not_principal(statement),
+        Fault::PrincipalMisplaced
+        | Fault::PrincipalMissing
+        | Fault::BadPrincipal
+        | Fault::NotPrincipalAllow => principal_line(statement, place.kind.principal_rule(), fault),
         Fault::ResourceCount => {
             has_both(statement, "Resource", "NotResource")
-                || kind.wants_resource() && has_neither(statement, "Resource", "NotResource")
+                || place.kind.wants_resource() && has_neither(statement, "Resource", "NotResource")
         }
         Fault::BadResource => has_bad_list(statement, "Resource", "NotResource", Form::Resource),
-        Fault::BadVariable => has_bad_variable(statement) || condition_has(statement, fault),
-        Fault::UnknownOperator | Fault::BadCondition => condition_has(statement, fault),
-        Fault::TooMany => has_too_many(statement) || condition_has(statement, fault),
+        Fault::BadVariable => {
+            has_bad_variable(statement, place.version)
+                || condition_has(statement, place.version, fault)
+        }
+        Fault::UnknownOperator | Fault::BadCondition => {
+            condition_has(statement, place.version, fault)
+        }
+        Fault::TooMany => {
+            has_too_many(statement) || condition_has(statement, place.version, fault)
+        }
         _ => false,
     }
 }
@@ -91,12 +123,12 @@ fn document_has(document: &Value, kind: Kind, fault: Fault) -> bool
     }
 }
 
-fn statement_has(statement: &Value, kind: Kind, repeats: bool, fault: Fault) -> bool
-    ensures { (d : Data) (i : ℕ) → repeats ≡ repeats_sid (sids_before d i) (view statement.now)
-        → result ≡ statement_has kind d i (view statement.now) fault }
+fn statement_has(statement: &Value, place: Place, fault: Fault) -> bool
+    ensures { (d : Data) (i : ℕ) → IsPlaceOf d i (view statement.now) place
+        → result ≡ statement_has place.kind d i (view statement.now) fault }
 {
     if statement.is_object() {
-        statement_line(statement, kind, repeats, fault)
+        statement_line(statement, place, fault)
     } else {
         fault == Fault::BadStatement
     }
@@ -113,25 +145,20 @@ pub fn document_fault(document: &Value, kind: Kind) -> Option<Fault>
 }
 
 /// One line of the table for a statement. `bad_value` is whether a value of its condition is off its grammar.
-fn line_has(statement: &Value, kind: Kind, repeats: bool, bad_value: bool, fault: Fault) -> bool
-    ensures { (d : Data) (i : ℕ) → repeats ≡ repeats_sid (sids_before d i) (view statement.now)
-        → result ≡ line_has kind d i (view statement.now) bad_value fault }
+fn line_has(statement: &Value, place: Place, bad_value: bool, fault: Fault) -> bool
+    ensures { (d : Data) (i : ℕ) → IsPlaceOf d i (view statement.now) place
+        → result ≡ line_has place.kind d i (view statement.now) bad_value fault }
 {
-    statement_has(statement, kind, repeats, fault) || fault == Fault::BadValue && bad_value
+    statement_has(statement, place, fault) || fault == Fault::BadValue && bad_value
 }
 
 /// The first fault of a statement.
-pub fn statement_fault(
-    statement: &Value,
-    kind: Kind,
-    repeats: bool,
-    bad_value: bool,
-) -> Option<Fault>
-    ensures { (d : Data) (i : ℕ) → repeats ≡ repeats_sid (sids_before d i) (view statement.now)
-        → result ≡ fault_of kind d i (view statement.now) bad_value }
+pub fn statement_fault(statement: &Value, place: Place, bad_value: bool) -> Option<Fault>
+    ensures { (d : Data) (i : ℕ) → IsPlaceOf d i (view statement.now) place
+        → result ≡ fault_of place.kind d i (view statement.now) bad_value }
 {
     for fault in TABLE {
-        if line_has(statement, kind, repeats, bad_value, fault) {
+        if line_has(statement, place, bad_value, fault) {
             return Some(fault);
         }
     }

@@ -8,7 +8,7 @@ use Rattle.std.proofs.lemmas.Bool.Decides.{nat_tests}
 use Rattle.csv.specs.Writing.{default_writer, field_text, needs_byte, needs_quotes, quoted}
 use Rattle.json.specs.Print.{escape, escape_byte}
 use Rattle.iam_decision.specs.declared.place.Layer.{Layer}
-use Rattle.iam_decision.specs.declared.place.Layer.TheVariants.{Org, Resource, Identity, Boundary, Session}
+use Rattle.iam_decision.specs.declared.place.Layer.TheVariants.{Org, Control, Resource, Identity, Boundary, Session}
 use Rattle.iam_decision.specs.declared.place.Place.{Place}
 use Rattle.iam_decision.specs.declared.verdict.Decision.{Decision}
 use Rattle.iam_decision.specs.declared.verdict.Decision.TheVariants.{Allowed, ExplicitDeny, ImplicitDeny}
@@ -47,6 +47,7 @@ plain_both s t h k = list_all-append is_plain s t ∙ ap (λ b. b && are_plain t
 
 pub plain_layer : (layer : Layer) → are_plain (layer_word layer) ≡ true
 plain_layer Org = refl
+plain_layer Control = refl
 plain_layer Resource = refl
 plain_layer Identity = refl
 plain_layer Boundary = refl
@@ -61,9 +62,13 @@ plain_decision ImplicitDeny = refl
 plain_two : (n : ℕ) (s : List ℕ) → are_plain s ≡ true → are_plain (decimal n ++ (codes "/" ++ s)) ≡ true
 plain_two n s h = plain_both (decimal n) (codes "/" ++ s) (plain_decimal n) h
 
-plain_numbers : (layer : Layer) (level policy statement : ℕ) → are_plain (numbers_text layer level policy statement) ≡ true
-plain_numbers Org level policy statement =
+plain_three : (level policy statement : ℕ) → are_plain (decimal level ++ (codes "/" ++ (decimal policy ++ (codes "/" ++ decimal statement)))) ≡ true
+plain_three level policy statement =
     plain_two level (decimal policy ++ (codes "/" ++ decimal statement)) (plain_two policy (decimal statement) (plain_decimal statement))
+
+plain_numbers : (layer : Layer) (level policy statement : ℕ) → are_plain (numbers_text layer level policy statement) ≡ true
+plain_numbers Org level policy statement = plain_three level policy statement
+plain_numbers Control level policy statement = plain_three level policy statement
 plain_numbers Resource level policy statement = plain_decimal statement
 plain_numbers Identity level policy statement = plain_two policy (decimal statement) (plain_decimal statement)
 plain_numbers Boundary level policy statement = plain_decimal statement

@@ -1,13 +1,14 @@
 -- The words of reports.
 use Rattle.std.specs.Prelude.{ℕ, List, ◌++◌, codes, decimal}
 use Rattle.iam_decision.specs.declared.place.Layer.{Layer}
-use Rattle.iam_decision.specs.declared.place.Layer.TheVariants.{Org, Resource, Identity, Boundary, Session}
+use Rattle.iam_decision.specs.declared.place.Layer.TheVariants.{Org, Control, Resource, Identity, Boundary, Session}
 use Rattle.iam_decision.specs.declared.place.Place.{Place}
 use Rattle.iam_decision.specs.declared.verdict.Decision.{Decision}
 use Rattle.iam_decision.specs.declared.verdict.Decision.TheVariants.{Allowed, ExplicitDeny, ImplicitDeny}
 
 abbrev pub layer_word : Layer → List ℕ
 layer_word Org = codes "org"
+layer_word Control = codes "control"
 layer_word Resource = codes "resource"
 layer_word Identity = codes "identity"
 layer_word Boundary = codes "boundary"
@@ -21,6 +22,8 @@ decision_word ImplicitDeny = codes "implicitDeny"
 -- the numbers that stand in a place of this layer, joined by `/`; a resource and a boundary have one policy, number 0
 abbrev pub numbers_text : Layer → ℕ → ℕ → ℕ → List ℕ
 numbers_text Org level policy statement =
+    decimal level ++ (codes "/" ++ (decimal policy ++ (codes "/" ++ decimal statement)))
+numbers_text Control level policy statement =
     decimal level ++ (codes "/" ++ (decimal policy ++ (codes "/" ++ decimal statement)))
 numbers_text Resource level policy statement = codes "0/" ++ decimal statement
 numbers_text Identity level policy statement = decimal policy ++ (codes "/" ++ decimal statement)

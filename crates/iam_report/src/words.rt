@@ -11,6 +11,7 @@ pub fn layer_word(layer: Layer) -> &'static str
 {
     match layer {
         Layer::Org => "org",
+        Layer::Control => "control",
         Layer::Resource => "resource",
         Layer::Identity => "identity",
         Layer::Boundary => "boundary",
@@ -29,7 +30,7 @@ pub fn decision_word(decision: Decision) -> &'static str
     }
 }
 
-/// A place as it is written, joined by `/`: its layer, the level of an organisation policy, the number of the policy,
+/// A place as it is written, joined by `/`: its layer, the level in a layer that has levels, the number of the policy,
 /// and that of the statement, as `org/1/0/2` or `identity/0/2`.
 #[derive(Clone, Copy)]
 pub struct PlaceText(pub Place);
@@ -49,7 +50,7 @@ impl Display for PlaceText {
         } = self.0;
         let word = layer_word(layer);
         match layer {
-            Layer::Org => write!(f, "{word}/{level}/{policy}/{statement}"),
+            Layer::Org | Layer::Control => write!(f, "{word}/{level}/{policy}/{statement}"),
             Layer::Resource | Layer::Boundary => write!(f, "{word}/0/{statement}"),
             Layer::Identity | Layer::Session => write!(f, "{word}/{policy}/{statement}"),
         }

@@ -16,7 +16,7 @@ use std::thread::Threads;
 const WORLDS: &str = "worlds.json";
 
 /// The files of rows, by theme.
-const ROWS: [&str; 9] = [
+const ROWS: [&str; 10] = [
     "commands.json",
     "conditions.json",
     "contexts.json",
@@ -26,6 +26,7 @@ const ROWS: [&str; 9] = [
     "limits.json",
     "matrix.json",
     "shape.json",
+    "versions.json",
 ];
 
 fn main(rt: HostRuntime) -> ExitCode {

@@ -1,5 +1,5 @@
 pub mod AccountIds
-pub mod AccountWalk
+pub mod LevelLists
 pub mod Members
 pub mod OneView
 pub mod SmallViews

@@ -4,9 +4,9 @@ use Rattle.std.specs.List.{AllZip}
 use Rattle.serde_json.specs.Data.{Data}
 use Rattle.serde_json.specs.Find.{as_str}
 use Rattle.iam_json.specs.Look.{values}
-use Rattle.iam_shape.specs.View.{AccountView, PrincipalView, ResourceView, WorldView, HasListOf, HasListOfOrNone, HasListOrNone, IsAccountView, IsGivenBy, IsPrincipalView, IsResourceView, IsView}
+use Rattle.iam_shape.specs.View.{AccountView, PrincipalView, ResourceView, WorldView, HasLevels, HasListOf, HasListOrNone, IsAccountView, IsGivenBy, IsLevel, IsPrincipalView, IsResourceView, IsView}
 use Rattle.iam_shape.specs.declared.path.Name.{Name}
-use Rattle.iam_shape.specs.declared.path.Name.TheVariants.{Accounts, Principals, Actions, Resources, Org, Identity, SessionPolicies}
+use Rattle.iam_shape.specs.declared.path.Name.TheVariants.{Accounts, Principals, Actions, Resources, Org, Identity, SessionPolicies, Control}
 
 -- where each element has one reading, so has a list
 zip_unique : {X Y : Type 0} (R : X → Y → Type 0) → ((x : X) (y z : Y) → R x y → R x z → y ≡ z) → (xs : List X) (ys zs : List Y) → AllZip R xs ys → AllZip R xs zs → ys ≡ zs
@@ -30,12 +30,11 @@ one_list_of : {A : Type 0} (Says : Data → A → Type 0) → ((d : Data) (x y :
 one_list_of Says step name d xs ys (ds, at, one) (es, at', two) =
     zip_unique Says step ds xs ys one (subst (λ fs. AllZip Says fs ys) (one_some _ es ds at' at) two)
 
-one_list_of_or_none : {A : Type 0} (Says : Data → A → Type 0) → ((d : Data) (x y : A) → Says d x → Says d y → x ≡ y) → (name : Name) (d : Data) (xs ys : List A)
-    → HasListOfOrNone Says name d xs → HasListOfOrNone Says name d ys → xs ≡ ys
-one_list_of_or_none Says step name d xs ys (inl one) (inl two) = one_list_of Says step name d xs ys one two
-one_list_of_or_none Says step name d xs ys (inl one) (inr two) = absurd (not_none values _ one.0 one.1 two.0)
-one_list_of_or_none Says step name d xs ys (inr one) (inl two) = absurd (not_none values _ two.0 two.1 one.0)
-one_list_of_or_none Says step name d xs ys (inr one) (inr two) = one.1 ∙ sym two.1
+one_levels : (name : Name) (d : Data) (xs ys : List (List Data)) → HasLevels name d xs → HasLevels name d ys → xs ≡ ys
+one_levels name d xs ys (inl one) (inl two) = one_list_of IsLevel (λ level x y. one_some (values level) x y) name d xs ys one two
+one_levels name d xs ys (inl one) (inr two) = absurd (not_none values _ one.0 one.1 two.0)
+one_levels name d xs ys (inr one) (inl two) = absurd (not_none values _ two.0 two.1 one.0)
+one_levels name d xs ys (inr one) (inr two) = one.1 ∙ sym two.1
 
 one_list_or_none : (name : Name) (d : Data) (xs ys : List Data) → HasListOrNone name d xs → HasListOrNone name d ys → xs ≡ ys
 one_list_or_none name d xs ys (inl one) (inl two) = one_some _ xs ys one two
@@ -47,7 +46,7 @@ one_account : (d : Data) (a b : AccountView) → IsAccountView d a → IsAccount
 one_account d a b one two =
     let id : a.id ≡ b.id = one_some _ a.id b.id one.id two.id in
     let management : a.management ≡ b.management = one.management ∙ sym two.management in
-    let org : a.org ≡ b.org = one_list_of_or_none (λ level ds. values level ≡ Some ds) (λ level x y. one_some (values level) x y) Org d a.org b.org one.org two.org in
+    let org : a.org ≡ b.org = one_levels Org d a.org b.org one.org two.org in
     λ i. record { id = id i; management = management i; org = org i }
 
 -- a principal is given in one way
@@ -88,7 +87,15 @@ one_resource d r s one two =
     let policy : r.policy ≡ s.policy = one.policy ∙ sym two.policy in
     let sealed : r.sealed ≡ s.sealed = one.sealed ∙ sym two.sealed in
     let context : r.context ≡ s.context = one.context ∙ sym two.context in
-    λ i. record { arn = arn i; account = account i; policy = policy i; sealed = sealed i; context = context i }
+    let control : r.control ≡ s.control = one_levels Control d r.control s.control one.control two.control in
+    λ i. record {
+      arn = arn i;
+      account = account i;
+      policy = policy i;
+      sealed = sealed i;
+      context = context i;
+      control = control i;
+    }
 
 pub one_view : (d : Data) (v w : WorldView) → IsView d v → IsView d w → v ≡ w
 one_view d v w one two =

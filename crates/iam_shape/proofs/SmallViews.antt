@@ -9,9 +9,9 @@ use Rattle.iam_json.specs.Size.{size}
 use Rattle.iam_shape.specs.Few.{HasFewDocuments, HasFewLevels, HasFewLists}
 use Rattle.iam_shape.specs.Path.{name_text}
 use Rattle.iam_shape.specs.Shape.{list_at, member}
-use Rattle.iam_shape.specs.View.{AccountView, PrincipalView, WorldView, IsAccountView, IsPrincipalView, IsView, HasListOf, HasListOfOrNone, HasListOrNone}
+use Rattle.iam_shape.specs.View.{PrincipalView, WorldView, IsAccountView, IsLevel, IsPrincipalView, IsResourceView, IsView, HasLevels, HasListOf, HasListOrNone}
 use Rattle.iam_shape.specs.declared.path.Name.{Name}
-use Rattle.iam_shape.specs.declared.path.Name.TheVariants.{Accounts, Principals, Org, Identity, SessionPolicies}
+use Rattle.iam_shape.specs.declared.path.Name.TheVariants.{Accounts, Principals, Resources, Org, Identity, SessionPolicies, Control}
 
 module _
     (of_read : (bytes : List ℕ) (d : Data) → read bytes ≡ Some d → size d ≤ length bytes)
@@ -67,19 +67,16 @@ module _
     same_length Says (d ∷ ds) [] zip = absurd zip
     same_length Says (d ∷ ds) (x ∷ xs) zip = let rest : length xs ≡ length ds = same_length Says ds xs zip.1 in omega arith
 
-    few_levels : (n : ℕ) → n < 2 ^ 32 → (d : Data) (a : AccountView) → size d ≤ n → IsAccountView d a → HasFewLevels a.org
-    few_levels n small d a within says = go a.org says.org
-      where
-        go : (org : List (List Data)) → HasListOfOrNone (λ level ds. values level ≡ Some ds) Org d org → HasFewLevels org
-        go org (inl (ds, at, zip)) =
-            let long : length ds ≤ size d = short_list Org d ds at in
-            let same : length org ≡ length ds = same_length (λ level ds. values level ≡ Some ds) ds org zip in
-            record {
-              levels_few = omega arith;
-              policies_few = list_few (λ level ds. values level ≡ Some ds) (λ level. length level < 2 ^ 32) n (few_policies n small) Org d within org (ds, at, zip);
-            }
-        go [] (inr none) = record { levels_few = omega arith; policies_few = tt }
-        go (level ∷ levels) (inr none) = let wrong : level ∷ levels ≡ [] = none.1 in cc
+    few_levels : (n : ℕ) → n < 2 ^ 32 → (name : Name) (d : Data) (levels : List (List Data)) → size d ≤ n → HasLevels name d levels → HasFewLevels levels
+    few_levels n small name d levels within (inl (ds, at, zip)) =
+        let long : length ds ≤ size d = short_list name d ds at in
+        let same : length levels ≡ length ds = same_length IsLevel ds levels zip in
+        record {
+          levels_few = omega arith;
+          policies_few = list_few IsLevel (λ level. length level < 2 ^ 32) n (few_policies n small) name d within levels (ds, at, zip);
+        }
+    few_levels n small name d [] within (inr none) = record { levels_few = omega arith; policies_few = tt }
+    few_levels n small name d (level ∷ levels) within (inr none) = let wrong : level ∷ levels ≡ [] = none.1 in cc
 
     pub few : (bytes : List ℕ) (d : Data) (world : WorldView) → length bytes ≤ 8388608 → read bytes ≡ Some d → IsView d world → HasFewLists world
     few bytes d world short is says =
@@ -88,5 +85,10 @@ module _
         let same : size d ≤ size d = omega arith in
         record {
           principals = list_few IsPrincipalView HasFewDocuments (size d) (few_documents (size d) small) Principals d same world.principals says.principals;
-          accounts = list_few IsAccountView (λ account. HasFewLevels account.org) (size d) (few_levels (size d) small) Accounts d same world.accounts says.accounts;
+          accounts =
+              list_few IsAccountView (λ account. HasFewLevels account.org) (size d) (λ e account within is. few_levels (size d) small Org e account.org within is.org) Accounts d same
+              world.accounts says.accounts;
+          resources =
+              list_few IsResourceView (λ resource. HasFewLevels resource.control) (size d)
+              (λ e resource within is. few_levels (size d) small Control e resource.control within is.control) Resources d same world.resources says.resources;
         }

@@ -33,6 +33,15 @@ first_bad_later (c ∷ cs) ds e = go c.1 (first_bad_later cs ds) e
     go true later e = later e
     go false later e = cc
 
+-- the same of three lists of checks: the first that fails is in the second, or in the third
+pub first_bad_among : (front among back : List Check) → first_bad front ≡ None → (path : Path) → first_bad among ≡ Some path
+    → first_bad (front ++ (among ++ back)) ≡ Some path
+first_bad_among front among back clear path bad = first_bad_later front (among ++ back) clear ∙ first_bad_here among back path bad
+
+pub first_bad_behind : (front among back : List Check) → first_bad front ≡ None → first_bad among ≡ None
+    → first_bad (front ++ (among ++ back)) ≡ first_bad back
+first_bad_behind front among back clear also = first_bad_later front (among ++ back) clear ∙ first_bad_later among back also
+
 -- the values of a list from i on: that at i, and the rest
 pub drop-at : {X Y : Type 0} (f : X → Y) (xs : List X) (i : ℕ) (x : X) → i < length xs → x ≡ get_or xs i x → map f (drop i xs) ≡ f x ∷ map f (drop (i + 1) xs)
 drop-at f xs i x below is = at_drop_more (map f) xs i x below ∙ ap (λ z. f z ∷ map f (drop (i + 1) xs)) (sym is)

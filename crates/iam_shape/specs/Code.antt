@@ -1,4 +1,2 @@
-pub mod Lent
-pub mod LentWorld
 pub mod Texts
 pub mod Walk

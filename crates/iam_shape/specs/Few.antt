@@ -8,7 +8,7 @@ pub record HasFewDocuments (principal : PrincipalView) : Type 0 where
   pub identity : length principal.identity < 2 ^ 32
   pub session : length principal.session_policies < 2 ^ 32
 
--- the levels of an organisation, and the policies of each
+-- the levels of policies, and the policies of each
 pub record HasFewLevels {A : Type 0} (levels : List (List A)) : Type 0 where
   pub levels_few : length levels < 2 ^ 32
   pub policies_few : AllByRecursion (λ level. length level < 2 ^ 32) levels
@@ -16,3 +16,4 @@ pub record HasFewLevels {A : Type 0} (levels : List (List A)) : Type 0 where
 pub record HasFewLists (world : WorldView) : Type 0 where
   pub principals : AllByRecursion HasFewDocuments world.principals
   pub accounts : AllByRecursion (λ account. HasFewLevels account.org) world.accounts
+  pub resources : AllByRecursion (λ resource. HasFewLevels resource.control) world.resources

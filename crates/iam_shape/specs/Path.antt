@@ -3,7 +3,7 @@
 use Rattle.std.specs.Prelude.{ℕ, List, ◌++◌, codes}
 use Rattle.std.specs.Prelude.{decimal}
 use Rattle.iam_shape.specs.declared.path.Name.{Name}
-use Rattle.iam_shape.specs.declared.path.Name.TheVariants.{Moment, Accounts, Principals, Actions, Resources, Context, Id, Management, Org, User, Role, Session, Identity, Boundary, SessionPolicies, Arn, Account, Policy, Sealed}
+use Rattle.iam_shape.specs.declared.path.Name.TheVariants.{Moment, Accounts, Principals, Actions, Resources, Context, Id, Management, Org, User, Role, Session, Identity, Boundary, SessionPolicies, Arn, Account, Policy, Sealed, Control}
 use Rattle.iam_shape.specs.declared.path.Path.{Path}
 use Rattle.iam_shape.specs.declared.path.Path.TheVariants.{Root, Member, Item, Field, Entry, Leaf}
 
@@ -27,6 +27,7 @@ name_text Arn = codes "arn"
 name_text Account = codes "account"
 name_text Policy = codes "policy"
 name_text Sealed = codes "sealed"
+name_text Control = codes "control"
 
 abbrev pub path_text : Path → List ℕ
 path_text Root = codes "."

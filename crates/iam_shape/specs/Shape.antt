@@ -10,7 +10,7 @@ use Rattle.iam_json.specs.Scalar.{is_scalar, all_members}
 use Rattle.iam_text.specs.Characters.{is_account}
 use Rattle.iam_shape.specs.Path.{name_text}
 use Rattle.iam_shape.specs.declared.path.Name.{Name}
-use Rattle.iam_shape.specs.declared.path.Name.TheVariants.{Moment, Accounts, Principals, Actions, Resources, Context, Id, Management, Org, User, Role, Session, Identity, Boundary, SessionPolicies, Arn, Account, Policy, Sealed}
+use Rattle.iam_shape.specs.declared.path.Name.TheVariants.{Moment, Accounts, Principals, Actions, Resources, Context, Id, Management, Org, User, Role, Session, Identity, Boundary, SessionPolicies, Arn, Account, Policy, Sealed, Control}
 use Rattle.iam_shape.specs.declared.path.Path.{Path}
 use Rattle.iam_shape.specs.declared.path.Path.TheVariants.{Root, Member, Item, Field, Entry}
 
@@ -91,16 +91,18 @@ abbrev pub list_checks : Path → (List Data → List Check) → Option (List Da
 list_checks path checks None = (path, false) ∷ []
 list_checks path checks (Some ds) = checks ds
 
+-- ---- levels of policies
+
+-- level j of those that stand under a name of member i of a list is a list
+abbrev pub level_checks : Name → ℕ → Name → ℕ → Data → List Check
+level_checks list i name j level = (Entry list i name j, is_list level) ∷ []
+
+-- the levels that stand there, if any do
+abbrev pub levels_checks : Name → ℕ → Name → Option Data → List Check
+levels_checks list i name None = []
+levels_checks list i name (Some levels) = list_checks (Field list i name) (each (level_checks list i name) 0) (values levels)
+
 -- ---- accounts
-
--- the levels of the organisation policies of account i: each is a list
-abbrev pub level_checks : ℕ → ℕ → Data → List Check
-level_checks i j level = (Entry Accounts i Org j, is_list level) ∷ []
-
--- the organisation policies of account i, where it has any
-abbrev pub org_checks : ℕ → Option Data → List Check
-org_checks i None = []
-org_checks i (Some org) = list_checks (Field Accounts i Org) (each (level_checks i) 0) (values org)
 
 -- an account, behind accounts of these ids
 abbrev pub account_checks : List (List ℕ) → ℕ → Data → List Check
@@ -108,7 +110,7 @@ account_checks ids i account =
     (Item Accounts i, is_object account)
     ∷ ((Field Accounts i Id, option_map_or (is_new_id ids) (text_at Id account) false)
     ∷ ((Field Accounts i Management, is_absent_or is_bool Management account)
-    ∷ (org_checks i (member Org account)
+    ∷ (levels_checks Accounts i Org (member Org account)
     ++ ((Item Accounts i, has_only (Id ∷ (Management ∷ (Org ∷ []))) account)
     ∷ []))))
 
@@ -164,8 +166,9 @@ resource_checks i resource =
     ∷ ((Field Resources i Account, is_some (text_at Account resource))
     ∷ ((Field Resources i Sealed, is_absent_or is_bool Sealed resource)
     ∷ ((Field Resources i Context, is_absent_or is_context Context resource)
-    ∷ ((Item Resources i, has_only (Arn ∷ (Account ∷ (Policy ∷ (Sealed ∷ (Context ∷ []))))) resource)
-    ∷ [])))))
+    ∷ (levels_checks Resources i Control (member Control resource)
+    ++ ((Item Resources i, has_only (Arn ∷ (Account ∷ (Policy ∷ (Sealed ∷ (Context ∷ (Control ∷ [])))))) resource)
+    ∷ []))))))
 
 -- ---- the document
 

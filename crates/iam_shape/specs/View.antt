@@ -6,7 +6,7 @@ use Rattle.serde_json.specs.Data.{Data}
 use Rattle.serde_json.specs.Find.{as_bool, as_str}
 use Rattle.iam_json.specs.Look.{values}
 use Rattle.iam_shape.specs.declared.path.Name.{Name}
-use Rattle.iam_shape.specs.declared.path.Name.TheVariants.{Moment, Accounts, Principals, Actions, Resources, Context, Id, Management, Org, User, Role, Session, Identity, Boundary, SessionPolicies, Arn, Account, Policy, Sealed}
+use Rattle.iam_shape.specs.declared.path.Name.TheVariants.{Moment, Accounts, Principals, Actions, Resources, Context, Id, Management, Org, User, Role, Session, Identity, Boundary, SessionPolicies, Arn, Account, Policy, Sealed, Control}
 use Rattle.iam_shape.specs.Shape.{member, list_at, number_at, text_at}
 
 -- ---- what it says
@@ -26,13 +26,15 @@ pub record PrincipalView : Type 0 where
   pub session_policies : List Data
   pub context : Option Data
 
--- a resource: its ARN, its account, its policy, whether that one must grant, and its context
+-- a resource: its ARN, its account, its policy, whether that one must grant, its context, and the resource control
+-- policies by level from the root
 pub record ResourceView : Type 0 where
   pub arn : List ℕ
   pub account : List ℕ
   pub policy : Option Data
   pub sealed : Bool
   pub context : Option Data
+  pub control : List (List Data)
 
 pub record WorldView : Type 0 where
   pub moment : ℕ
@@ -60,9 +62,13 @@ HasList name d ds = list_at name d ≡ Some ds
 abbrev pub HasListOf : {A : Type 0} → (Data → A → Type 0) → Name → Data → List A → Type 0
 HasListOf Says name d xs = (ds : List Data) × HasList name d ds × AllZip Says ds xs
 
--- a list of values that say these things stands under this name, or nothing does and there are none
-abbrev pub HasListOfOrNone : {A : Type 0} → (Data → A → Type 0) → Name → Data → List A → Type 0
-HasListOfOrNone Says name d xs = HasListOf Says name d xs ⊎ ((member name d ≡ None) × (xs ≡ []))
+-- a level is a list of these values
+abbrev pub IsLevel : Data → List Data → Type 0
+IsLevel level ds = values level ≡ Some ds
+
+-- a list of levels stands under this name, each a list of these values, or nothing does and there are none
+abbrev pub HasLevels : Name → Data → List (List Data) → Type 0
+HasLevels name d levels = HasListOf IsLevel name d levels ⊎ ((member name d ≡ None) × (levels ≡ []))
 
 -- a list of these values stands under this name, or nothing does and there are none
 abbrev pub HasListOrNone : Name → Data → List Data → Type 0
@@ -77,7 +83,7 @@ IsGivenBy principal arn session =
 pub record IsAccountView (d : Data) (account : AccountView) : Type 0 where
   pub id : HasText Id d account.id
   pub management : account.management ≡ is_true_at Management d
-  pub org : HasListOfOrNone (λ level ds. values level ≡ Some ds) Org d account.org
+  pub org : HasLevels Org d account.org
 
 pub record IsPrincipalView (d : Data) (principal : PrincipalView) : Type 0 where
   pub requester : IsGivenBy d principal.arn principal.session
@@ -92,6 +98,7 @@ pub record IsResourceView (d : Data) (resource : ResourceView) : Type 0 where
   pub policy : resource.policy ≡ member Policy d
   pub sealed : resource.sealed ≡ is_true_at Sealed d
   pub context : resource.context ≡ member Context d
+  pub control : HasLevels Control d resource.control
 
 -- the document says this
 pub record IsView (d : Data) (world : WorldView) : Type 0 where

@@ -1,19 +1,19 @@
-ghost use Rattle.std.specs.Prelude.{◌≡◌, ◌≢◌, ℕ, List, [], ◌∷◌, ◌++◌, None, Some, map, IfOk, IfErr, OnOk};
+ghost use Rattle.std.specs.Prelude.{◌≡◌, ◌≢◌, ℕ, List, [], ◌∷◌, ◌++◌, None, map, IfOk, IfErr, OnOk};
 ghost use Rattle.std.specs.List.{AllZip};
 ghost use Rattle.serde_json.specs.View.{view};
-ghost use Rattle.iam_json.specs.Look.{values};
 ghost use Rattle.iam_shape.specs.Code.Texts.{HasTexts};
-ghost use Rattle.iam_shape.specs.Code.Lent.{account_of};
-ghost use Rattle.iam_shape.specs.Code.Walk.{IsShapeFault, Walks, id_checks};
-ghost use Rattle.iam_shape.specs.Shape.{account_checks, all_account_checks, each, first_bad, has_only, is_new_id, level_checks, member, org_checks};
-ghost use Rattle.iam_shape.specs.View.{HasListOfOrNone, HasText, IsAccountView};
+ghost use Rattle.iam_shape.specs.Lent.{account_of};
+ghost use Rattle.iam_shape.specs.Code.Walk.{IsShapeFault, Walks, account_front};
+ghost use Rattle.iam_shape.specs.Shape.{account_checks, all_account_checks, first_bad, has_only, is_new_id};
+ghost use Rattle.iam_shape.specs.View.{HasText, IsAccountView, is_true_at};
 ghost use Rattle.iam_shape.specs.declared.fault.ShapeFault.TheVariants as s;
 
 use crate::fault::ShapeFault;
-use crate::look::{member, text_at, truth_at};
+use crate::levels::walk_levels_at;
+use crate::look::{text_at, truth_at};
 use crate::path::{Name, Path};
 use crate::view::{AccountView, Accounts};
-use iam_json::{has_unknown, values};
+use iam_json::has_unknown;
 use iam_text::{OutOfMemory, is_account};
 use serde_json::Value;
 use std::alloc::Global;
@@ -35,65 +35,28 @@ fn is_new_id(ids: &BTreeSet<String>, text: &str) -> bool
     is_account(text) && !ids.contains(text)
 }
 
-/// The id of an account behind those that have these ids.
-fn walk_id<'v>(ids: &BTreeSet<String>, i: usize, account: &'v Value) -> Result<&'v str, Path>
+/// The id of an account behind those that have these ids, and whether it manages its organisation.
+fn walk_front<'v>(
+    ids: &BTreeSet<String>,
+    i: usize,
+    account: &'v Value,
+) -> Result<(&'v str, bool), Path>
     ensures { (earlier : List (List ℕ)) → HasTexts ids.now earlier
-        → Walks (id_checks earlier i (view account.entry.now))
-        (λ id. HasText Name.Id (view account.entry.now) id.now) result }
+        → Walks (account_front earlier i (view account.entry.now))
+        (λ found. HasText Name.Id (view account.entry.now) found.0.now
+        × (found.1 ≡ is_true_at Name.Management (view account.entry.now))) result }
 {
     let list = Name::Accounts;
     if !account.is_object() {
         return Err(Path::Item(list, i));
     }
-    match text_at(account, Name::Id) {
-        Some(id) if is_new_id(ids, id) => Ok(id),
-        _ => Err(Path::Field(list, i, Name::Id)),
-    }
-}
-
-/// The policies of level j of account i.
-fn walk_level(i: usize, j: usize, level: &Value) -> Result<&[Value], Path>
-    ensures { Walks (level_checks i j (view level.entry.now))
-        (λ list. values (view level.entry.now) ≡ Some (map view list.now)) result }
-{
-    match values(level) {
-        Some(list) => Ok(list),
-        None => Err(Path::Entry(Name::Accounts, i, Name::Org, j)),
-    }
-}
-
-/// Walks the levels of account i.
-fn walk_levels(alloc: Global, i: usize, levels: &[Value]) -> Result<Vec<&[Value]>, ShapeFault>
-    ensures ok { IfOk result (λ found. (first_bad (each (level_checks i) 0 (map view levels.entry.now)) ≡ None)
-        × AllZip (λ level ds. values level ≡ Some ds) (map view levels.entry.now)
-        (map (λ list. map view list.now) found.items)) }
-    ensures path { IfErr result (λ fault. fault ≢ s.OutOfMemory
-        → IsShapeFault (each (level_checks i) 0 (map view levels.entry.now)) fault) }
-{
-    let mut found = Vec::new(alloc);
-    for (j, level) in levels.iter().enumerate() {
-        match walk_level(i, j, level) {
-            Ok(list) => found.push(list)?,
-            Err(path) => return Err(ShapeFault::At(path)),
-        }
-    }
-    Ok(found)
-}
-
-/// Walks the organisation policies of account i, if it has any.
-fn walk_org(alloc: Global, i: usize, account: &Value) -> Result<Vec<&[Value]>, ShapeFault>
-    ensures ok { IfOk result (λ found. (first_bad (org_checks i (member Name.Org (view account.entry.now))) ≡ None)
-        × HasListOfOrNone (λ level ds. values level ≡ Some ds) Name.Org (view account.entry.now)
-        (map (λ list. map view list.now) found.items)) }
-    ensures path { IfErr result (λ fault. fault ≢ s.OutOfMemory
-        → IsShapeFault (org_checks i (member Name.Org (view account.entry.now))) fault) }
-{
-    let Some(org) = member(account, Name::Org) else {
-        return Ok(Vec::new(alloc));
+    let id = match text_at(account, Name::Id) {
+        Some(id) if is_new_id(ids, id) => id,
+        _ => return Err(Path::Field(list, i, Name::Id)),
     };
-    match values(org) {
-        Some(levels) => walk_levels(alloc, i, levels),
-        None => Err(ShapeFault::At(Path::Field(Name::Accounts, i, Name::Org))),
+    match truth_at(account, Name::Management) {
+        Some(management) => Ok((id, management)),
+        None => Err(Path::Field(list, i, Name::Management)),
     }
 }
 
@@ -111,25 +74,18 @@ fn has_only_members(account: &Value) -> bool
 
 /// Walks an account behind those that have these ids.
 fn walk_account<'v>(
-    alloc: Global,
     ids: &BTreeSet<String>,
     i: usize,
     account: &'v Value,
-) -> Result<AccountView<'v>, ShapeFault>
-    ensures ok { IfOk result (λ found. (earlier : List (List ℕ)) → HasTexts ids.now earlier
-        → (first_bad (account_checks earlier i (view account.entry.now)) ≡ None)
-        × IsAccountView (view account.entry.now) (account_of found)) }
-    ensures path { IfErr result (λ fault. fault ≢ s.OutOfMemory → (earlier : List (List ℕ))
-        → HasTexts ids.now earlier → IsShapeFault (account_checks earlier i (view account.entry.now)) fault) }
+) -> Result<AccountView<'v>, Path>
+    ensures { (earlier : List (List ℕ)) → HasTexts ids.now earlier
+        → Walks (account_checks earlier i (view account.entry.now))
+        (λ found. IsAccountView (view account.entry.now) (account_of found)) result }
 {
-    let list = Name::Accounts;
-    let id = walk_id(ids, i, account)?;
-    let Some(management) = truth_at(account, Name::Management) else {
-        return Err(ShapeFault::At(Path::Field(list, i, Name::Management)));
-    };
-    let org = walk_org(alloc, i, account)?;
+    let (id, management) = walk_front(ids, i, account)?;
+    let org = walk_levels_at(account, Name::Accounts, i, Name::Org)?;
     if !has_only_members(account) {
-        return Err(ShapeFault::At(Path::Item(list, i)));
+        return Err(Path::Item(Name::Accounts, i));
     }
     Ok(AccountView {
         id,
@@ -148,7 +104,7 @@ pub fn walk_accounts(alloc: Global, accounts: &[Value]) -> Result<Accounts<'_>, 
     let mut views = Vec::new(alloc);
     let mut ids = BTreeSet::new(alloc);
     for (i, account) in accounts.iter().enumerate() {
-        let view = walk_account(alloc, &ids, i, account)?;
+        let view = walk_account(&ids, i, account)?;
         keep(alloc, &mut ids, view.id)?;
         views.push(view)?;
     }

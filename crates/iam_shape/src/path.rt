@@ -22,6 +22,7 @@ pub enum Name {
     Account,
     Policy,
     Sealed,
+    Control,
 }
 
 impl Name {
@@ -52,6 +53,7 @@ impl Name {
             Name::Account => "account",
             Name::Policy => "policy",
             Name::Sealed => "sealed",
+            Name::Control => "control",
         }
     }
 }

@@ -1,6 +1,6 @@
 ghost use Rattle.std.specs.Prelude.{◌≡◌, [], ◌∷◌, None, Some, IsTrue};
 ghost use Rattle.serde_json.specs.View.{view};
-ghost use Rattle.iam_shape.specs.Code.Lent.{principal_of};
+ghost use Rattle.iam_shape.specs.Lent.{principal_of};
 ghost use Rattle.iam_shape.specs.Code.Walk.{Walks, session_checks, user_checks};
 ghost use Rattle.iam_shape.specs.Shape.{has_only, member, principal_checks};
 ghost use Rattle.iam_shape.specs.View.{IsPrincipalView};

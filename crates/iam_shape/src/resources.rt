@@ -1,11 +1,12 @@
 ghost use Rattle.std.specs.Prelude.{◌≡◌, [], ◌∷◌};
 ghost use Rattle.serde_json.specs.View.{view};
-ghost use Rattle.iam_shape.specs.Code.Lent.{resource_of};
+ghost use Rattle.iam_shape.specs.Lent.{resource_of};
 ghost use Rattle.iam_shape.specs.Code.Walk.{Walks};
 ghost use Rattle.iam_shape.specs.Shape.{has_only, resource_checks};
 ghost use Rattle.iam_shape.specs.View.{IsResourceView};
 
 use crate::context::is_context_or_none;
+use crate::levels::walk_levels_at;
 use crate::look::{member, text_at, truth_at};
 use crate::path::{Name, Path};
 use crate::view::ResourceView;
@@ -14,7 +15,7 @@ use serde_json::Value;
 
 /// Whether a resource has no member of another name.
 fn has_only_members(resource: &Value) -> bool
-    ensures { result ≡ has_only (Name.Arn ∷ (Name.Account ∷ (Name.Policy ∷ (Name.Sealed ∷ (Name.Context ∷ [])))))
+    ensures { result ≡ has_only (Name.Arn ∷ (Name.Account ∷ (Name.Policy ∷ (Name.Sealed ∷ (Name.Context ∷ (Name.Control ∷ []))))))
         (view resource.now) }
 {
     let names = [
@@ -23,6 +24,7 @@ fn has_only_members(resource: &Value) -> bool
         Name::Policy.as_str(),
         Name::Sealed.as_str(),
         Name::Context.as_str(),
+        Name::Control.as_str(),
     ];
     !has_unknown(resource, &names)
 }
@@ -49,6 +51,7 @@ pub fn walk_resource(i: usize, resource: &Value) -> Result<ResourceView<'_>, Pat
     if !is_context_or_none(context) {
         return Err(Path::Field(list, i, Name::Context));
     }
+    let control = walk_levels_at(resource, list, i, Name::Control)?;
     if !has_only_members(resource) {
         return Err(Path::Item(list, i));
     }
@@ -58,5 +61,6 @@ pub fn walk_resource(i: usize, resource: &Value) -> Result<ResourceView<'_>, Pat
         policy: member(resource, Name::Policy),
         sealed,
         context,
+        control,
     })
 }

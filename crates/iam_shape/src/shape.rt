@@ -3,8 +3,8 @@ ghost use Rattle.std.specs.List.{AllZip};
 ghost use Rattle.serde_json.specs.Data.{Data};
 ghost use Rattle.serde_json.specs.View.{view};
 ghost use Rattle.iam_shape.specs.Code.Walk.{IsShapeFault, Walks};
-ghost use Rattle.iam_shape.specs.Code.Lent.{account_of};
-ghost use Rattle.iam_shape.specs.Code.LentWorld.{world_of};
+ghost use Rattle.iam_shape.specs.Lent.{account_of};
+ghost use Rattle.iam_shape.specs.LentWorld.{world_of};
 ghost use Rattle.iam_shape.specs.Shape.{Check, all_account_checks, each, first_bad, has_only, head_checks, list_at, list_checks, member, number_at, shape_checks, tail_checks};
 ghost use Rattle.iam_shape.specs.View.{HasListOf, IsAccountView, IsView};
 ghost use Rattle.iam_shape.specs.declared.fault.ShapeFault.TheVariants as s;
@@ -36,7 +36,7 @@ trait Part<'v>: Sized + Drop {
 }
 
 impl<'v> Part<'v> for PrincipalView<'v> {
-    ghost use Rattle.iam_shape.specs.Code.Lent.{principal_of};
+    ghost use Rattle.iam_shape.specs.Lent.{principal_of};
     ghost use Rattle.iam_shape.specs.Shape.{principal_checks};
     ghost use Rattle.iam_shape.specs.View.{IsPrincipalView};
 
@@ -67,7 +67,7 @@ impl<'v> Part<'v> for &'v str {
 }
 
 impl<'v> Part<'v> for ResourceView<'v> {
-    ghost use Rattle.iam_shape.specs.Code.Lent.{resource_of};
+    ghost use Rattle.iam_shape.specs.Lent.{resource_of};
     ghost use Rattle.iam_shape.specs.Shape.{resource_checks};
     ghost use Rattle.iam_shape.specs.View.{IsResourceView};
 

@@ -1,19 +1,20 @@
 ghost use Rattle.std.specs.Prelude.{map};
 ghost use Rattle.iam_shape.specs.Code.Texts.{HasTexts};
-ghost use Rattle.iam_shape.specs.Code.Lent.{account_of};
+ghost use Rattle.iam_shape.specs.Lent.{account_of};
 
+use crate::levels::Levels;
 use serde_json::Value;
 use std::collections::BTreeSet;
 
 /// What an account of a document says.
-#[derive(Drop)]
+#[derive(Clone, Copy)]
 pub struct AccountView<'v> {
     /// Twelve digits.
     pub id: &'v str,
     /// Whether it manages its organisation.
     pub management: bool,
-    /// The policies of each level of its organisation, from the root.
-    pub org: Vec<&'v [Value]>,
+    /// The policies of its organisation.
+    pub org: Levels<'v>,
 }
 
 /// What a principal of a document says.
@@ -45,6 +46,8 @@ pub struct ResourceView<'v> {
     pub sealed: bool,
     /// Its part of the request's context.
     pub context: Option<&'v Value>,
+    /// Its resource control policies.
+    pub control: Levels<'v>,
 }
 
 /// What the accounts of a document say, with the set of their ids.

@@ -1,5 +1,5 @@
 // Texts that may hold variables.
-use iam_text::{Draft, Piece, Sign, Template, TemplateForm, has_draft};
+use iam_text::{Draft, Piece, Sign, Template, TemplateForm, Version, has_draft};
 use std::alloc::{AllocError, Global};
 use std::fmt::Write;
 use std::test::Fail;
@@ -41,8 +41,23 @@ fn drafts_have_their_pieces(rt: HostRuntime) -> Result<(), Fail> {
         ("${a,'${'}", true, "[variable a or ${]"),
     ];
     for (text, wild, pieces) in rows {
-        assert!(rt; has_draft(text), "{text}");
+        assert!(rt; has_draft(text, Version::V2012), "{text}");
         let draft = Draft::read(alloc, text, wild)?.ok_or("no draft")?;
+        assert_eq!(rt; shown(alloc, &draft)?.as_str(), pieces, "{text}");
+    }
+    Ok(())
+}
+
+#[test]
+fn literal_drafts_have_a_piece_a_character(rt: HostRuntime) -> Result<(), Fail> {
+    let alloc = rt.alloc();
+    let rows = [
+        ("${*}", true, "[$][{][any][}]"),
+        ("${*}", false, "[$][{][*][}]"),
+        ("${é?", true, "[$][{][é][one]"),
+    ];
+    for (text, wild, pieces) in rows {
+        let draft = Draft::literal(alloc, text, wild)?;
         assert_eq!(rt; shown(alloc, &draft)?.as_str(), pieces, "{text}");
     }
     Ok(())
@@ -52,7 +67,10 @@ fn drafts_have_their_pieces(rt: HostRuntime) -> Result<(), Fail> {
 fn texts_off_the_variable_grammar(rt: HostRuntime) -> Result<(), Fail> {
     let alloc = rt.alloc();
     for text in ["${", "${}", "${a", "${a,b}", "${a?}"] {
-        assert!(rt; !has_draft(text), "{text}");
+        assert!(rt;
+            !has_draft(text, Version::V2012) && has_draft(text, Version::V2008),
+            "{text}"
+        );
         assert!(rt; Draft::read(alloc, text, true)?.is_none(), "{text}");
     }
     Ok(())
@@ -61,20 +79,20 @@ fn texts_off_the_variable_grammar(rt: HostRuntime) -> Result<(), Fail> {
 #[test]
 fn templates_without_variables_are_patterns(rt: HostRuntime) -> Result<(), Fail> {
     let alloc = rt.alloc();
-    let fixed = Template::read(alloc, "a*", true)?.ok_or("no template")?;
+    let fixed = Template::read(alloc, "a*", true, Version::V2012)?.ok_or("no template")?;
     match fixed.form() {
         TemplateForm::Fixed(pattern) => {
             assert!(rt; pattern.matches("ab"));
         }
         TemplateForm::Open(_) => return Err(Fail::new("no pattern")),
     }
-    let open = Template::read(alloc, "${a}", true)?.ok_or("no template")?;
+    let open = Template::read(alloc, "${a}", true, Version::V2012)?.ok_or("no template")?;
     match open.form() {
         TemplateForm::Fixed(_) => return Err(Fail::new("no draft")),
         TemplateForm::Open(draft) => {
             assert_eq!(rt; shown(alloc, draft)?.as_str(), "[variable a]");
         }
     }
-    assert!(rt; Template::read(alloc, "${", true)?.is_none());
+    assert!(rt; Template::read(alloc, "${", true, Version::V2012)?.is_none());
     Ok(())
 }

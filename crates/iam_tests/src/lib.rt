@@ -6,6 +6,8 @@ mod contexts;
 #[cfg(test)]
 mod drafts;
 #[cfg(test)]
+mod engine;
+#[cfg(test)]
 mod lanes;
 #[cfg(test)]
 mod matching;

@@ -48,7 +48,7 @@ fn even_cuts(rt: HostRuntime) -> Result<(), Fail> {
 }
 
 /// Ann and bob may get what is in their own homes, and the role may do all of S3 to what is in bob's.
-const HOME: &str = r#"{"moment":0,"accounts":[{"id":"111122223333"}],"principals":[
+pub const HOME: &str = r#"{"moment":0,"accounts":[{"id":"111122223333"}],"principals":[
     {"user":"arn:aws:iam::111122223333:user/ann","identity":[{"Version":"2012-10-17","Statement":
         {"Effect":"Allow","Action":"s3:GetObject","Resource":"arn:aws:s3:::home/${aws:username}/*"}}]},
     {"user":"arn:aws:iam::111122223333:user/bob","identity":[{"Version":"2012-10-17","Statement":
@@ -135,7 +135,8 @@ const PLACE: Place = Place {
     statement: 0,
 };
 
-fn is_verdict(cell: usize, verdict: &Verdict) -> bool {
+/// Whether it is what the policies say of the cell.
+pub fn is_verdict(cell: usize, verdict: &Verdict) -> bool {
     let is_allowed = ALLOWED.contains(&cell);
     let statements = verdict.statements.as_slice();
     let lacks = verdict.lacks.as_slice();
@@ -148,7 +149,7 @@ fn is_verdict(cell: usize, verdict: &Verdict) -> bool {
     }
 }
 
-fn is_decision(cell: usize, decision: Decision) -> bool {
+pub fn is_decision(cell: usize, decision: Decision) -> bool {
     match decision {
         Decision::Allowed => ALLOWED.contains(&cell),
         Decision::ExplicitDeny => false,

@@ -1,5 +1,5 @@
 // What the readers of a policy lend, element by element.
-use iam_policy::{Effect, Kind, Policy, PrincipalKind, TemplateForm};
+use iam_policy::{Effect, Kind, Policy, PrincipalKind, TemplateForm, Version};
 use serde_json::Value;
 use std::test::Fail;
 
@@ -14,6 +14,7 @@ fn reads_every_element(rt: HostRuntime) -> Result<(), Fail> {
         {"Effect":"Allow","Principal":"*","Action":"*"}]}"#,
     )?;
     let policy = Policy::read(alloc, &document, Kind::Resource)?;
+    assert_eq!(rt; policy.version(), Version::V2012);
     let [deny, allow] = policy.statements() else {
         return Err(Fail::new("not two statements"));
     };
@@ -54,6 +55,21 @@ fn reads_every_element(rt: HostRuntime) -> Result<(), Fail> {
         (star, PrincipalKind::Aws, "*"),
     ] {
         assert_eq!(rt; (name.kind(), name.text()), (kind, text));
+    }
+    Ok(())
+}
+
+#[test]
+fn versions_of_documents(rt: HostRuntime) -> Result<(), Fail> {
+    let alloc = rt.alloc();
+    for (text, version) in [
+        (r#"{"Statement":[]}"#, Version::V2008),
+        (r#"{"Version":"2008-10-17","Statement":[]}"#, Version::V2008),
+        (r#"{"Version":"2012-10-17","Statement":[]}"#, Version::V2012),
+    ] {
+        let document = Value::from_str(alloc, text)?;
+        let policy = Policy::read(alloc, &document, Kind::Control)?;
+        assert_eq!(rt; policy.version(), version, "{text}");
     }
     Ok(())
 }

@@ -25,6 +25,7 @@ fn places_and_lacks_of_each_layer(rt: HostRuntime) -> Result<(), Fail> {
     }
     let places = [
         place(Layer::Org, 1, 2, 3),
+        place(Layer::Control, 4, 0, 6),
         place(Layer::Resource, 0, 0, 12),
         place(Layer::Identity, 0, 4294967295, 0),
         place(Layer::Boundary, 0, 0, 3),
@@ -32,6 +33,7 @@ fn places_and_lacks_of_each_layer(rt: HostRuntime) -> Result<(), Fail> {
     ];
     let lacks = [
         Layer::Org,
+        Layer::Control,
         Layer::Resource,
         Layer::Identity,
         Layer::Boundary,
@@ -45,8 +47,8 @@ fn places_and_lacks_of_each_layer(rt: HostRuntime) -> Result<(), Fail> {
     let text = csv_row(alloc, &world, 0, &verdict)?;
     let want = "cell,principal,action,resource,decision,statements,lacks\n\
         0,arn:aws:iam::111122223333:user/ann,S3:getobject,arn:aws:s3:::b/k,implicitDeny,\
-        org/1/2/3 resource/0/12 identity/4294967295/0 boundary/0/3 session/4/5,\
-        org resource identity boundary session\n";
+        org/1/2/3 control/4/0/6 resource/0/12 identity/4294967295/0 boundary/0/3 session/4/5,\
+        org control resource identity boundary session\n";
     assert_eq!(rt; text.as_slice(), want.as_bytes());
     Ok(())
 }

@@ -182,6 +182,40 @@ fn a_flush_that_fails(rt: HostRuntime) -> Result<(), Fail> {
     fills(&rt, REPORT.len(), Full::Fails, false, "fault 4 Write")
 }
 
+/// What a run of the task writes where the flush works or fails.
+fn written(
+    rt: &(impl Abort + AllocGlobal + Threads + Sync),
+    task: Task,
+    flushes: bool,
+) -> Result<Vec<u8>, Fail> {
+    let mut reader = WORLD.as_bytes();
+    let mut writer = Narrow {
+        taken: Vec::new(rt.alloc()),
+        room: 4096,
+        full: Full::Fails,
+        flushes,
+    };
+    let options = Options { task, ..FIRST };
+    let outcome = run(rt, rt.alloc(), &options, &mut reader, &mut writer);
+    ends_by(rt, &outcome, if flushes { "" } else { "fault 4 Write" })?;
+    Ok(writer.taken)
+}
+
+#[test]
+fn each_report_is_whole_before_the_flush(rt: HostRuntime) -> Result<(), Fail> {
+    for task in [
+        Task::Check,
+        Task::Decide(0, 0, 0),
+        Task::Matrix,
+        Task::First,
+    ] {
+        let whole = written(&rt, task, true)?;
+        assert!(rt; !whole.is_empty());
+        assert_eq!(rt; written(&rt, task, false)?.as_slice(), whole.as_slice());
+    }
+    Ok(())
+}
+
 #[test]
 fn lines_of_faults_without_a_place(rt: HostRuntime) -> Result<(), Fail> {
     for (fault, line) in [

@@ -117,7 +117,7 @@ run-piece wild text piece rest b = go (piece-cases wild piece b.part b.written)
         ap is_draft starts ∙ run-form piece (inside ++ rest) rest (form-from_begins wild piece text (inside ++ rest) rest starts b)
 
 -- a text that has a draft passes the test
-drafted : (wild : Bool) (text : List ℕ) (pieces : List Piece) → IsDraft wild text pieces → is_draft text ≡ true
+pub drafted : (wild : Bool) (text : List ℕ) (pieces : List Piece) → IsDraft wild text pieces → is_draft text ≡ true
 drafted wild text [] none = ap is_draft none
 drafted wild text (piece ∷ pieces) (rest, begins, more) = run-piece wild text piece rest begins ∙ drafted wild rest pieces more
 
@@ -289,12 +289,6 @@ pieces-of (suc n) wild (c ∷ text) short utf8 holds =
 -- the test tells whether there is a draft
 pub draft_tested : (wild : Bool) (text : List ℕ) → IsUtf8 text → IsTrue (is_draft text) ↔ ((pieces : List Piece) × IsDraft wild text pieces)
 draft_tested wild text utf8 = (λ holds. pieces-of (length text) wild text (omega arith) utf8 holds, λ d. drafted wild text d.0 d.1)
-
--- a test of the text that agrees with it tells so too
-pub draft-told : (told : Bool) (text : List ℕ) → IsUtf8 text → told ≡ is_draft text → (wild : Bool) → IsTrue told ↔ ((pieces : List Piece) × IsDraft wild text pieces)
-draft-told told text utf8 is wild =
-    let tested = draft_tested wild text utf8 in
-    (λ holds. tested.0 (sym is ∙ holds), λ d. is ∙ tested.1 d)
 
 -- where no piece begins what is left, the text does not pass
 pub no-piece : (text rest : List ℕ) → is_draft text ≡ is_draft rest → rest ≢ [] → IsUtf8 rest

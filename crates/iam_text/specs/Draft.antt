@@ -2,9 +2,12 @@
 -- its bytes, and so are a key and a default; an escaped piece is a character.
 use Rattle.std.specs.Prelude.{◌≡◌, ◌≢◌, ℕ, List, [], ◌∷◌, ◌++◌, Bool, ◌||◌, not, ◌==◌, Some, None, IsTrue, codes, encode_utf8, map, replicate, if◌then◌else◌}
 use Rattle.std.specs.List.{list_all}
+use Rattle.std.specs.Str.{chars}
 use Rattle.iam_text.specs.declared.draft.Piece.{Piece}
 use Rattle.iam_text.specs.declared.draft.Piece.TheVariants.{Plain, Escaped, Variable}
 use Rattle.iam_text.specs.declared.sign.Sign.{Sign}
+use Rattle.iam_text.specs.declared.version.Version.{Version}
+use Rattle.iam_text.specs.declared.version.Version.TheVariants.{V2012, V2008}
 use Rattle.iam_text.specs.Characters.{is_run}
 use Rattle.iam_text.specs.Glob.{plain_sign, wild_sign}
 
@@ -49,3 +52,9 @@ pub record BeginsWith (wild : Bool) (text : List ℕ) (piece : Piece) (rest : Li
 abbrev pub IsDraft : Bool → List ℕ → List Piece → Type 0
 IsDraft wild text [] = text ≡ []
 IsDraft wild text (piece ∷ pieces) = (rest : List ℕ) × BeginsWith wild text piece rest × IsDraft wild rest pieces
+
+-- the draft of a text in a document of a version: in version 2008-10-17 each character is a piece, and `${` begins no
+-- variable
+abbrev pub IsDraftIn : Version → Bool → List ℕ → List Piece → Type 0
+IsDraftIn V2012 wild text pieces = IsDraft wild text pieces
+IsDraftIn V2008 wild text pieces = pieces ≡ plain_draft (map (sign_of wild) (chars text))

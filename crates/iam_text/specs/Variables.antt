@@ -2,6 +2,8 @@
 -- once, byte by byte; what it tells is whether the text has a draft (`Draft`).
 use Rattle.std.specs.Prelude.{ℕ, List, [], ◌∷◌, Bool, true, false, ◌||◌, ◌==◌, Option, Some, None, if◌then◌else◌}
 use Rattle.std.specs.Option.{option_map_or}
+use Rattle.iam_text.specs.declared.version.Version.{Version}
+use Rattle.iam_text.specs.declared.version.Version.TheVariants.{V2012, V2008}
 use Rattle.iam_text.specs.Draft.{is_key_character}
 
 -- how far a text that may hold variables is read
@@ -40,3 +42,8 @@ is_draft_from state (c ∷ text) = option_map_or (λ next. is_draft_from next te
 -- each `${` begins one of `${*}`, `${?}`, `${$}`, `${key}` and `${key, 'default'}`
 abbrev pub is_draft : List ℕ → Bool
 is_draft text = is_draft_from outside text
+
+-- the same in a document of a version: in version 2008-10-17 each text passes
+abbrev pub is_draft_in : Version → List ℕ → Bool
+is_draft_in V2012 text = is_draft text
+is_draft_in V2008 text = true

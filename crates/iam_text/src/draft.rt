@@ -1,13 +1,15 @@
-ghost use Rattle.std.specs.Prelude.{◌≡◌, ◌↔◌, List, Bool, IsTrue, IfOk};
+ghost use Rattle.std.specs.Prelude.{◌≡◌, ◌↔◌, List, Bool, false, IsTrue, IfOk, map};
+ghost use Rattle.std.specs.Str.{chars};
 ghost use Rattle.iam_text.specs.declared.draft.Piece.{Piece};
-ghost use Rattle.iam_text.specs.Draft.{IsDraft, sign_of};
+ghost use Rattle.iam_text.specs.Draft.{IsDraftIn, plain_draft, sign_of};
 ghost use Rattle.iam_text.specs.Code.Forms.{piece_of};
-ghost use Rattle.iam_text.specs.Variables.{is_draft};
+ghost use Rattle.iam_text.specs.Variables.{is_draft, is_draft_in};
 
 use crate::OutOfMemory;
 use crate::form::{Form, first_form};
 use crate::sign::Sign;
 use crate::text::Text;
+use crate::version::Version;
 use std::alloc::Global;
 use std::marker::Model;
 
@@ -40,12 +42,13 @@ impl Model for Draft {
 }
 
 impl Draft {
-    ghost use Rattle.std.specs.Prelude.{◌≡◌, List, MatchOption, IfOk};
+    ghost use Rattle.std.specs.Prelude.{◌≡◌, List, MatchOption, IfOk, map};
+    ghost use Rattle.std.specs.Str.{chars};
     ghost use Rattle.iam_text.specs.declared.draft.Piece.{Piece};
-    ghost use Rattle.iam_text.specs.Draft.{IsDraft};
+    ghost use Rattle.iam_text.specs.Draft.{IsDraft, plain_draft, sign_of};
 
-    /// The one draft of the text, in which `*` and `?` are wildcards where `wild` says so; `None` where some `${`
-    /// begins none of `${*}`, `${?}`, `${$}`, `${key}` and `${key, 'default'}`.
+    /// The one draft of a text of version 2012-10-17, in which `*` and `?` are wildcards where `wild` says so; `None`
+    /// where some `${` begins none of `${*}`, `${?}`, `${$}`, `${key}` and `${key, 'default'}`.
     pub fn read(alloc: Global, text: &str, wild: bool) -> Result<Option<Draft>, OutOfMemory>
         ensures { IfOk result (λ found. MatchOption found ((pieces : List Piece) → ¬ IsDraft wild text.now pieces) (IsDraft wild text.now)) }
     {
@@ -63,6 +66,15 @@ impl Draft {
         Ok(Some(Draft { pieces }))
     }
 
+    /// The draft of a text of version 2008-10-17: its characters one by one, where `${` begins no variable.
+    pub fn literal(alloc: Global, text: &str, wild: bool) -> Result<Draft, OutOfMemory>
+        ensures { IfOk result (λ draft. draft ≡ plain_draft (map (sign_of wild) (chars text.now))) }
+    {
+        Ok(Draft {
+            pieces: characters(alloc, text, wild)?,
+        })
+    }
+
     /// The pieces, in order.
     pub fn pieces(&self) -> &[Piece]
         ensures { result.now ≡ self.now }
@@ -71,10 +83,29 @@ impl Draft {
     }
 }
 
-/// Whether the text has a draft: each `${` begins one of `${*}`, `${?}`, `${$}`, `${key}` and `${key, 'default'}`.
-pub fn has_draft(text: &str) -> bool
-    ensures value { result ≡ is_draft text.now }
-    ensures drafts { (wild : Bool) → IsTrue result ↔ ((pieces : List Piece) × IsDraft wild text.now pieces) }
+/// Whether the text has a draft in a document of the version: in version 2012-10-17 each `${` begins one of `${*}`,
+/// `${?}`, `${$}`, `${key}` and `${key, 'default'}`.
+pub fn has_draft(text: &str, version: Version) -> bool
+    ensures value { result ≡ is_draft_in version text.now }
+    ensures drafts { (wild : Bool) → IsTrue result ↔ ((pieces : List Piece) × IsDraftIn version wild text.now pieces) }
+{
+    is_plain(text, version) || has_forms(text)
+}
+
+/// Whether no variable begins in the text: it has a draft, whose pieces are its characters.
+pub fn is_plain(text: &str, version: Version) -> bool
+    ensures plain { IsTrue result → (wild : Bool) → IsDraftIn version wild text.now (plain_draft (map (sign_of wild) (chars text.now))) }
+    ensures other { result ≡ false → version ≡ Version.V2012 }
+{
+    match version {
+        Version::V2012 => !text.contains("${"),
+        Version::V2008 => true,
+    }
+}
+
+/// Whether each `${` of the text begins a form.
+fn has_forms(text: &str) -> bool
+    ensures { result ≡ is_draft text.now }
 {
     let mut rest = text;
     while !rest.is_empty() {
@@ -84,6 +115,15 @@ pub fn has_draft(text: &str) -> bool
         }
     }
     true
+}
+
+/// The characters of the text, each a piece.
+fn characters(alloc: Global, text: &str, wild: bool) -> Result<Vec<Piece>, OutOfMemory>
+    ensures { IfOk result (λ pieces. pieces.items ≡ map (λ c. Piece.Plain (sign_of wild c)) (chars text.now)) }
+{
+    text.chars()
+        .map(|character| Piece::Plain(sign(character, wild)))
+        .collect(alloc)
 }
 
 /// The piece of a form.

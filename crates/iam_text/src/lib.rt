@@ -12,6 +12,7 @@ mod laws;
 mod sign;
 mod template;
 mod text;
+mod version;
 mod walk;
 
 pub use action::{is_action, is_wildcard};
@@ -24,5 +25,6 @@ pub use laws::{drafts_are_tested, one_arn, one_draft};
 pub use sign::Sign;
 pub use template::{Template, TemplateForm};
 pub use text::Text;
+pub use version::Version;
 /// The error of an allocator that refused a growth.
 pub use std::alloc::AllocError as OutOfMemory;

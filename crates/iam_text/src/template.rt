@@ -3,8 +3,9 @@ ghost use Rattle.std.specs.Str.{chars};
 ghost use Rattle.iam_text.specs.Draft.{sign_of};
 
 use crate::OutOfMemory;
-use crate::draft::Draft;
+use crate::draft::{Draft, is_plain};
 use crate::glob::Glob;
+use crate::version::Version;
 use std::alloc::Global;
 use std::marker::Model;
 
@@ -25,9 +26,9 @@ enum Kind {
 /// How a template is kept.
 #[derive(Clone, Copy)]
 pub enum TemplateForm<'a> {
-    /// The pattern of a text without `${`.
+    /// A pattern, each of whose signs is a piece.
     Fixed(&'a Glob),
-    /// The pieces of a text with `${`.
+    /// The pieces themselves.
     Open(&'a Draft),
 }
 
@@ -44,15 +45,20 @@ impl Model for Template {
 impl Template {
     ghost use Rattle.std.specs.Prelude.{◌≡◌, List, MatchOption, IfOk};
     ghost use Rattle.iam_text.specs.declared.draft.Piece.{Piece};
-    ghost use Rattle.iam_text.specs.Draft.{IsDraft};
+    ghost use Rattle.iam_text.specs.Draft.{IsDraftIn};
     ghost use Rattle.iam_text.specs.Template.{IsFormOf};
 
-    /// The one draft of the text, in which `*` and `?` are wildcards where `wild` says so; `None` where it has none, as
-    /// [`Draft::read`] says.
-    pub fn read(alloc: Global, text: &str, wild: bool) -> Result<Option<Template>, OutOfMemory>
-        ensures { IfOk result (λ found. MatchOption found ((pieces : List Piece) → ¬ IsDraft wild text.now pieces) (IsDraft wild text.now)) }
+    /// The one draft of the text in a document of the version, in which `*` and `?` are wildcards where `wild` says so;
+    /// `None` where it has none, as [`Draft::read`] says of version 2012-10-17.
+    pub fn read(
+        alloc: Global,
+        text: &str,
+        wild: bool,
+        version: Version,
+    ) -> Result<Option<Template>, OutOfMemory>
+        ensures { IfOk result (λ found. MatchOption found ((pieces : List Piece) → ¬ IsDraftIn version wild text.now pieces) (IsDraftIn version wild text.now)) }
     {
-        if !text.contains("${") {
+        if is_plain(text, version) {
             let glob = pattern(alloc, text, wild)?;
             return Ok(Some(Template {
                 kind: Kind::Fixed(glob),
@@ -66,7 +72,7 @@ impl Template {
         }
     }
 
-    /// How it is kept: a text without `${` as its pattern, and another as its draft.
+    /// How it is kept: as the pattern of a text in which no variable stands, or as its draft.
     pub fn form(&self) -> TemplateForm<'_>
         ensures { IsFormOf result self.now }
     {

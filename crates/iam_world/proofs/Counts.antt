@@ -9,7 +9,8 @@ use Rattle.iam_policy.specs.declared.fault.Kind.{Kind}
 use Rattle.iam_policy.specs.declared.fault.Kind.TheVariants as kind
 use Rattle.iam_policy.specs.Reading.{Reads, PolicyValue}
 use Rattle.iam_shape.specs.View.{WorldView}
-use Rattle.iam_shape.specs.declared.path.Name.TheVariants.{Accounts, Principals, Resources, Org, Identity, Boundary, SessionPolicies}
+use Rattle.iam_shape.specs.declared.path.Name.{Name}
+use Rattle.iam_shape.specs.declared.path.Name.TheVariants.{Accounts, Principals, Resources, Org, Identity, Boundary, SessionPolicies, Control}
 use Rattle.iam_shape.specs.declared.path.Name.TheVariants as name
 use Rattle.iam_shape.specs.declared.path.Path.{Path}
 use Rattle.iam_shape.specs.declared.path.Path.TheVariants.{Field, Entry, Leaf}
@@ -17,7 +18,7 @@ use Rattle.iam_world.specs.Code.Documents.{statements_of}
 use Rattle.iam_world.specs.Code.Invariants.{statements_in}
 use Rattle.iam_world.specs.Reads.{ReadsAccount, ReadsOptional, ReadsPrincipal, ReadsResource, ReadsWorld}
 use Rattle.iam_world.specs.World.{AccountValue, PrincipalValue, ResourceValue, WorldValue, world_statements}
-use Rattle.iam_world.specs.WorldFault.{Document, boundary_documents, identity_documents, numbered, of_each, org_documents, resource_documents, session_documents, statement_count}
+use Rattle.iam_world.specs.WorldFault.{Document, boundary_documents, control_documents, identity_documents, level_documents, numbered, of_each, org_documents, resource_documents, session_documents, statement_count}
 use Rattle.iam_world.proofs.Walks.{zip-length}
 
 abbrev document_statements : Document → ℕ
@@ -39,7 +40,7 @@ of_list kind at i (d ∷ ds) [] zip = absurd zip
 of_list kind at i (d ∷ ds) (p ∷ ps) zip =
     let rest : List Document = numbered kind at (i + 1) ds in
     sum_by-cons document_statements (record { path = at i; kind = kind; value = d }) rest
-    ∙ ap (λ n. n + statements_of rest) (zip-length _ _ p.statements zip.0.1)
+    ∙ ap (λ n. n + statements_of rest) (zip-length _ _ p.statements zip.0.statements)
     ∙ ap (λ n. length p.statements + n) (of_list kind at (i + 1) ds ps zip.1)
     ∙ sym (sum_by-cons policy_statements p ps)
 
@@ -60,16 +61,24 @@ of_members docs policies R step i (x ∷ xs) [] zip = absurd zip
 of_members docs policies R step i (x ∷ xs) (y ∷ ys) zip =
     of_two (docs i x) (of_each docs (i + 1) xs) (policies y) (flat_map policies ys) (step i x y zip.0) (of_members docs policies R step (i + 1) xs ys zip.1)
 
+-- of levels
+of_levels : (kind : Kind) (list : Name) (i : ℕ) (name : Name) (levels : List (List Data)) (policies : List (List PolicyValue)) → AllZip (AllZip (Reads kind)) levels policies
+    → statements_of (level_documents kind list i name levels) ≡ statements_in (flat_map (λ (level : List PolicyValue). level) policies)
+of_levels kind list i name levels policies zip =
+    of_members (λ j ds. numbered kind (Leaf list i name j) 0 ds) (λ (level : List PolicyValue). level) (AllZip (Reads kind))
+    (λ j ds ps reads. of_list kind (Leaf list i name j) 0 ds ps reads) 0 levels policies zip
+
 pub statements-are : (view : WorldView) (world : WorldValue) → ReadsWorld view world → statement_count view ≡ world_statements world
 statements-are view world reads =
     let orgs = λ (a : AccountValue). flat_map (λ (level : List PolicyValue). level) a.org in
+    let controls = λ (x : ResourceValue). flat_map (λ (level : List PolicyValue). level) x.control in
     let attached = λ (x : ResourceValue). option_to_list x.policy in
     let own = λ (p : PrincipalValue). p.identity in
     let boundary = λ (p : PrincipalValue). option_to_list p.boundary in
     let session = λ (p : PrincipalValue). p.session in
-    let one = of_members org_documents orgs ReadsAccount
-    (λ i v a r. of_members (λ j ds. numbered kind.Org (Leaf Accounts i Org j) 0 ds) (λ (level : List PolicyValue). level) (AllZip (Reads kind.Org))
-    (λ j ds ps zip. of_list kind.Org (Leaf Accounts i Org j) 0 ds ps zip) 0 v.org a.org r.org) 0 view.accounts world.accounts reads.accounts in
+    let one = of_members org_documents orgs ReadsAccount (λ i v a r. of_levels kind.Org Accounts i Org v.org a.org r.org) 0 view.accounts world.accounts reads.accounts in
+    let control = of_members control_documents controls ReadsResource (λ i v x r. of_levels kind.Control Resources i Control v.control x.control r.control) 0 view.resources
+    world.resources reads.resources in
     let two = of_members resource_documents attached ReadsResource
     (λ i v x r. of_optional kind.Resource (λ j. Field Resources i name.Policy) v.policy x.policy r.policy) 0 view.resources world.resources reads.resources in
     let three = of_members identity_documents own ReadsPrincipal
@@ -85,7 +94,10 @@ statements-are view world reads =
     let boundaries_of = flat_map boundary world.principals in
     let last = of_two boundaries sessions boundaries_of sessions_of four five in
     let principals = of_two identities (boundaries ++ sessions) (flat_map own world.principals) (boundaries_of ++ sessions_of) three last in
-    let behind_accounts = of_two (of_each resource_documents 0 view.resources) (identities ++ (boundaries ++ sessions)) (flat_map attached world.resources)
+    let behind_control = of_two (of_each resource_documents 0 view.resources) (identities ++ (boundaries ++ sessions)) (flat_map attached world.resources)
     (flat_map own world.principals ++ (boundaries_of ++ sessions_of)) two principals in
-    of_two (of_each org_documents 0 view.accounts) (of_each resource_documents 0 view.resources ++ (identities ++ (boundaries ++ sessions))) (flat_map orgs world.accounts)
-    (flat_map attached world.resources ++ (flat_map own world.principals ++ (boundaries_of ++ sessions_of))) one behind_accounts
+    let behind_accounts = of_two (of_each control_documents 0 view.resources) (of_each resource_documents 0 view.resources ++ (identities ++ (boundaries ++ sessions)))
+    (flat_map controls world.resources) (flat_map attached world.resources ++ (flat_map own world.principals ++ (boundaries_of ++ sessions_of))) control behind_control in
+    of_two (of_each org_documents 0 view.accounts)
+    (of_each control_documents 0 view.resources ++ (of_each resource_documents 0 view.resources ++ (identities ++ (boundaries ++ sessions)))) (flat_map orgs world.accounts)
+    (flat_map controls world.resources ++ (flat_map attached world.resources ++ (flat_map own world.principals ++ (boundaries_of ++ sessions_of)))) one behind_accounts

@@ -37,6 +37,9 @@ module _
     one_list : (kind : Kind) (ds : List Data) (ps qs : List PolicyValue) → AllZip (Reads kind) ds ps → AllZip (Reads kind) ds qs → ps ≡ qs
     one_list kind ds ps qs one two = zip_unique (Reads kind) (policy kind) ds ps qs one two
 
+    one_levels : (kind : Kind) (levels : List (List Data)) (ps qs : List (List PolicyValue)) → AllZip (AllZip (Reads kind)) levels ps → AllZip (AllZip (Reads kind)) levels qs → ps ≡ qs
+    one_levels kind levels ps qs one two = zip_unique (AllZip (Reads kind)) (one_list kind) levels ps qs one two
+
     one_optional : (kind : Kind) (d : Option Data) (p q : Option PolicyValue) → ReadsOptional kind d p → ReadsOptional kind d q → p ≡ q
     one_optional kind None None None one two = refl
     one_optional kind None None (Some q) one two = absurd two
@@ -49,7 +52,7 @@ module _
     one_account v a b one two =
         let id : a.id ≡ b.id = one.id ∙ sym two.id in
         let management : a.management ≡ b.management = one.management ∙ sym two.management in
-        let org : a.org ≡ b.org = zip_unique (AllZip (Reads kind.Org)) (one_list kind.Org) v.org a.org b.org one.org two.org in
+        let org : a.org ≡ b.org = one_levels kind.Org v.org a.org b.org one.org two.org in
         λ i. record { id = id i; management = management i; org = org i }
 
     one_resource : (v : ResourceView) (a b : ResourceValue) → ReadsResource v a → ReadsResource v b → a ≡ b
@@ -59,7 +62,15 @@ module _
         let attached : a.policy ≡ b.policy = one_optional kind.Resource v.policy a.policy b.policy one.policy two.policy in
         let sealed : a.sealed ≡ b.sealed = one.sealed ∙ sym two.sealed in
         let context : a.context ≡ b.context = one.context ∙ sym two.context in
-        λ i. record { arn = arn i; account = account i; policy = attached i; sealed = sealed i; context = context i }
+        let control : a.control ≡ b.control = one_levels kind.Control v.control a.control b.control one.control two.control in
+        λ i. record {
+          arn = arn i;
+          account = account i;
+          policy = attached i;
+          sealed = sealed i;
+          context = context i;
+          control = control i;
+        }
 
     one_principal : (v : PrincipalView) (p q : PrincipalValue) → ReadsPrincipal v p → ReadsPrincipal v q → p ≡ q
     one_principal v p q one two =

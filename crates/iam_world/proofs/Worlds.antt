@@ -1,10 +1,11 @@
 -- What a world keeps of the document that it is read from.
-use Rattle.std.proofs.Common.{◌≡◌, inl, inr, ℕ, ◌*◌, ◌<◌, ◌≤◌, ◌^◌, List, [], ◌∷◌, ◌++◌, map, length, Bool, true, false, cond, Option, Some, refl, sym, ap, ◌∙◌, subst, arith}
+use Rattle.std.proofs.Common.{◌≡◌, inl, inr, ℕ, ◌*◌, ◌<◌, ◌≤◌, ◌^◌, List, [], ◌∷◌, ◌++◌, map, length, Bool, true, false, cond, Option, Some, None, option_map, IfSome, refl, sym, ap, ◌∙◌, subst, arith}
 use Rattle.std.specs.List.{AllByRecursion, AllZip, find, flat_map, zip}
 use Rattle.serde_json.specs.Data.{Data}
 use Rattle.iam_context.specs.Context.{ContextValue, keys_of}
 use Rattle.iam_context.specs.ContextFault.{IsClean}
 use Rattle.iam_match.specs.Requester.{RequesterValue}
+use Rattle.iam_policy.specs.declared.fault.Kind.{Kind}
 use Rattle.iam_policy.specs.declared.fault.Kind.TheVariants as kind
 use Rattle.iam_policy.specs.Reading.{Reads, PolicyValue}
 use Rattle.iam_shape.specs.Few.{HasFewDocuments, HasFewLevels, HasFewLists}
@@ -14,7 +15,7 @@ use Rattle.iam_world.specs.Code.Invariants.{CanJoin, HasFewPolicies, IsSized}
 use Rattle.iam_world.specs.Code.Made.{bare_account, bare_resource, made_account, made_principal, made_resource}
 use Rattle.iam_world_context.specs.Part.{part_of}
 use Rattle.iam_world.specs.Reads.{ReadsAccount, ReadsOptional, ReadsPrincipal, ReadsResource, ReadsWorld}
-use Rattle.iam_world.specs.World.{AccountValue, PrincipalValue, ResourceValue, WorldValue, org_of, world_cells}
+use Rattle.iam_world.specs.World.{PrincipalValue, ResourceValue, WorldValue, world_cells}
 use Rattle.iam_world_context.specs.Contexts.{principal_parts, resource_parts}
 use Rattle.iam_world.specs.WorldFault.{IsOverLimits, IsRequesterAt, cell_count, statement_count}
 use Rattle.iam_world.proofs.Counts.{statements-are}
@@ -29,17 +30,20 @@ reads_accounts g [] (o ∷ org) zip = absurd zip
 reads_accounts g (v ∷ vs) [] zip = absurd zip
 reads_accounts g (v ∷ vs) (o ∷ org) zip = (record { id = refl; management = refl; org = zip.0 }, reads_accounts g vs org zip.1)
 
-pub reads_resources : {Y : Type 0} (g : Y → ContextValue) (vs : List ResourceView) (ps : List (Option PolicyValue)) (cs : List Y)
-    → AllZip (λ v p. ReadsOptional kind.Resource v.policy p) vs ps → map g cs ≡ map (λ v. part_of v.context) vs
-    → AllZip ReadsResource vs (map (λ p. made_resource (p.0, g p.1)) (zip (zip (map bare_resource vs) ps) cs))
-reads_resources g [] [] cs zip same = tt
-reads_resources g [] (p ∷ ps) cs zip same = absurd zip
-reads_resources g (v ∷ vs) [] cs zip same = absurd zip
-reads_resources g (v ∷ vs) (p ∷ ps) [] zip same = cc
-reads_resources g (v ∷ vs) (p ∷ ps) (c ∷ cs) zip same =
+pub reads_resources : {X Y : Type 0} (f : X → List (List PolicyValue)) (g : Y → ContextValue) (vs : List ResourceView) (ps : List (Option PolicyValue)) (ls : List X) (cs : List Y)
+    → AllZip (λ v p. ReadsOptional kind.Resource v.policy p) vs ps → AllZip (λ v l. AllZip (AllZip (Reads kind.Control)) v.control (f l)) vs ls
+    → map g cs ≡ map (λ v. part_of v.context) vs
+    → AllZip ReadsResource vs (map (λ p. made_resource ((p.0.0, f p.0.1), g p.1)) (zip (zip (zip (map bare_resource vs) ps) ls) cs))
+reads_resources f g [] [] [] cs p l same = tt
+reads_resources f g [] (x ∷ ps) ls cs p l same = absurd p
+reads_resources f g [] [] (x ∷ ls) cs p l same = absurd l
+reads_resources f g (v ∷ vs) [] ls cs p l same = absurd p
+reads_resources f g (v ∷ vs) (x ∷ ps) [] cs p l same = absurd l
+reads_resources f g (v ∷ vs) (x ∷ ps) (y ∷ ls) [] p l same = cc
+reads_resources f g (v ∷ vs) (x ∷ ps) (y ∷ ls) (c ∷ cs) p l same =
     let here : g c ≡ part_of v.context = cc in
     let rest : map g cs ≡ map (λ v. part_of v.context) vs = cc in
-    (record { arn = refl; account = refl; policy = zip.0; sealed = refl; context = here }, reads_resources g vs ps cs zip.1 rest)
+    (record { arn = refl; account = refl; policy = p.0; sealed = refl; context = here; control = l.0 }, reads_resources f g vs ps ls cs p.1 l.1 rest)
 
 pub reads_principals : {Y : Type 0} (g : Y → ContextValue) (vs : List PrincipalView) (rs : List RequesterValue) (identity : List (List PolicyValue))
     (boundary : List (Option PolicyValue)) (session : List (List PolicyValue)) (cs : List Y)
@@ -79,35 +83,46 @@ few (v ∷ vs) (p ∷ rest) small zip =
     let session : length v.session_policies ≡ length p.session = zip-length (Reads kind.Identity) v.session_policies p.session zip.0.session in
     (record { identity = omega (arith, small.0.identity, identity); session = omega (arith, small.0.session, session) }, few vs rest small.1 zip.1)
 
-few_in : (levels : List (List Data)) (org : List (List PolicyValue)) → AllByRecursion (λ level. length level < 2 ^ 32) levels → AllZip (AllZip (Reads kind.Org)) levels org
-    → AllByRecursion (λ level. length level < 2 ^ 32) org
-few_in [] [] small zip = tt
-few_in [] (o ∷ org) small zip = absurd zip
-few_in (l ∷ levels) [] small zip = absurd zip
-few_in (l ∷ levels) (o ∷ org) small zip =
-    let same : length l ≡ length o = zip-length (Reads kind.Org) l o zip.0 in (omega (arith, small.0, same), few_in levels org small.1 zip.1)
+few_in : (kind : Kind) (levels : List (List Data)) (policies : List (List PolicyValue)) → AllByRecursion (λ level. length level < 2 ^ 32) levels
+    → AllZip (AllZip (Reads kind)) levels policies → AllByRecursion (λ level. length level < 2 ^ 32) policies
+few_in kind [] [] small zip = tt
+few_in kind [] (p ∷ policies) small zip = absurd zip
+few_in kind (l ∷ levels) [] small zip = absurd zip
+few_in kind (l ∷ levels) (p ∷ policies) small zip =
+    let same : length l ≡ length p = zip-length (Reads kind) l p zip.0 in (omega (arith, small.0, same), few_in kind levels policies small.1 zip.1)
 
-few_levels : (views : List AccountView) (accounts : List AccountValue) → AllByRecursion (λ view. HasFewLevels view.org) views → AllZip ReadsAccount views accounts
-    → AllByRecursion (λ account. HasFewLevels account.org) accounts
-few_levels [] [] small zip = tt
-few_levels [] (a ∷ rest) small zip = absurd zip
-few_levels (v ∷ views) [] small zip = absurd zip
-few_levels (v ∷ views) (a ∷ rest) small zip =
-    let same : length v.org ≡ length a.org = zip-length (AllZip (Reads kind.Org)) v.org a.org zip.0.org in
-    (record { levels_few = omega (arith, small.0.levels_few, same); policies_few = few_in v.org a.org small.0.policies_few zip.0.org }, few_levels views rest small.1 zip.1)
+-- what is read of few levels is few
+few_levels : {V X : Type 0} (kind : Kind) (f : V → List (List Data)) (g : X → List (List PolicyValue)) (R : V → X → Type 0)
+    → ((v : V) (x : X) → R v x → AllZip (AllZip (Reads kind)) (f v) (g x)) → (vs : List V) (xs : List X) → AllByRecursion (λ v. HasFewLevels (f v)) vs → AllZip R vs xs
+    → AllByRecursion (λ x. HasFewLevels (g x)) xs
+few_levels kind f g R step [] [] small zip = tt
+few_levels kind f g R step [] (x ∷ xs) small zip = absurd zip
+few_levels kind f g R step (v ∷ vs) [] small zip = absurd zip
+few_levels kind f g R step (v ∷ vs) (x ∷ xs) small zip =
+    let read = step v x zip.0 in
+    let same : length (f v) ≡ length (g x) = zip-length (AllZip (Reads kind)) (f v) (g x) read in (
+      record { levels_few = omega (arith, small.0.levels_few, same); policies_few = few_in kind (f v) (g x) small.0.policies_few read },
+      few_levels kind f g R step vs xs small.1 zip.1,
+    )
 
--- the levels that apply are few
-pub few_apply : (p : AccountValue → Bool) (accounts : List AccountValue) → AllByRecursion (λ account. HasFewLevels account.org) accounts → HasFewLevels (org_of (find p accounts))
-few_apply p [] few = record { levels_few = omega arith; policies_few = tt }
-few_apply p (a ∷ rest) few = go (p a) (few_apply p rest few.1)
+-- what holds of each element holds of one that is found
+holds_found : {X : Type 0} (P : X → Type 0) (p : X → Bool) (xs : List X) → AllByRecursion P xs → IfSome (find p xs) P
+holds_found P p [] all = tt
+holds_found P p (x ∷ xs) all = go (p x) all.0 (holds_found P p xs all.1)
   where
-    one : (b : Bool) → HasFewLevels (cond b [] a.org)
-    one true = record { levels_few = omega arith; policies_few = tt }
-    one false = few.0
+    go : (b : Bool) → P x → IfSome (find p xs) P → IfSome (cond b (Some x) (find p xs)) P
+    go true here later = here
+    go false here later = later
 
-    go : (b : Bool) → HasFewLevels (org_of (find p rest)) → HasFewLevels (org_of (cond b (Some a) (find p rest)))
-    go true later = one a.management
-    go false later = later
+some_of_map : {V X : Type 0} (P : X → Type 0) (f : V → X) (found : Option V) → IfSome (option_map f found) P → IfSome found (λ v. P (f v))
+some_of_map P f None all = all
+some_of_map P f (Some v) all = all
+
+-- and so of what is lent
+pub found_holds : {V X : Type 0} (P : X → Type 0) (f : V → X) (p : X → Bool) (xs : List X) (found : Option V) → option_map f found ≡ find p xs → AllByRecursion P xs
+    → IfSome found (λ v. P (f v))
+found_holds P f p xs found is all =
+    some_of_map P f found (subst (λ o. IfSome o P) (sym is) (holds_found P p xs all))
 
 -- ---- contexts
 
@@ -163,7 +178,9 @@ sized view world cells statements reads small moment cells_is statements_is with
   few_cells = at_most cells 16777216 (λ many. within (inl (subst (λ n. 16777216 < n) cells_is many)));
   few_statements = at_most statements 4096 (λ many. within (inr (subst (λ n. 4096 < n) statements_is many)));
   policies = few view.principals world.principals small.principals reads.principals;
-  orgs = few_levels view.accounts world.accounts small.accounts reads.accounts;
+  orgs = few_levels kind.Org (λ v. v.org) (λ a. a.org) ReadsAccount (λ v a read. read.org) view.accounts world.accounts small.accounts reads.accounts;
+  controls =
+      few_levels kind.Control (λ v. v.control) (λ r. r.control) ReadsResource (λ v r read. read.control) view.resources world.resources small.resources reads.resources;
   moment = subst (λ n. n ≤ 253402300799) (sym reads.moment) moment;
   contexts = can_join view world reads clean;
 }

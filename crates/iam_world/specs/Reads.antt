@@ -35,6 +35,7 @@ pub record ReadsResource (view : ResourceView) (resource : ResourceValue) : Type
   pub policy : ReadsOptional kind.Resource view.policy resource.policy
   pub sealed : resource.sealed ≡ view.sealed
   pub context : resource.context ≡ part_of view.context
+  pub control : AllZip (AllZip (Reads kind.Control)) view.control resource.control
 
 pub record ReadsWorld (view : WorldView) (world : WorldValue) : Type 0 where
   pub moment : world.moment ≡ view.moment

@@ -1,8 +1,9 @@
 -- A world: accounts with organisation policies, principals and resources with their policies, actions and a moment.
 -- A text is the list of its bytes.
-use Rattle.std.specs.Prelude.{ℕ, ◌*◌, List, [], ◌++◌, Bool, Option, None, Some, length, if◌then◌else◌}
-use Rattle.std.specs.List.{flat_map, sum_by}
+use Rattle.std.specs.Prelude.{ℕ, ◌*◌, List, ◌++◌, Bool, Option, length}
+use Rattle.std.specs.List.{find, flat_map, sum_by}
 use Rattle.std.specs.Option.{option_to_list}
+use Rattle.std.specs.Str.{bytes_eq}
 use Rattle.iam_policy.specs.Reading.{PolicyValue}
 use Rattle.iam_context.specs.Context.{ContextValue}
 use Rattle.iam_match.specs.Requester.{RequesterValue}
@@ -22,13 +23,14 @@ pub record PrincipalValue : Type 0 where
   pub context : ContextValue
 
 -- a resource: its ARN or `*`, its account, the policy that is attached to it, whether that one must
--- grant, and the context that it gives
+-- grant, the context that it gives, and the resource control policies by level from the root
 pub record ResourceValue : Type 0 where
   pub arn : List ℕ
   pub account : List ℕ
   pub policy : Option PolicyValue
   pub sealed : Bool
   pub context : ContextValue
+  pub control : List (List PolicyValue)
 
 -- the moment is in seconds from 1970-01-01T00:00:00Z; the context is that of every request
 pub record WorldValue : Type 0 where
@@ -47,16 +49,16 @@ world_cells world = length world.principals * length world.actions * length worl
 abbrev pub policies_of : WorldValue → List PolicyValue
 policies_of world =
     flat_map (λ account. flat_map (λ level. level) account.org) world.accounts
+    ++ (flat_map (λ resource. flat_map (λ level. level) resource.control) world.resources
     ++ (flat_map (λ resource. option_to_list resource.policy) world.resources
     ++ (flat_map (λ principal. principal.identity) world.principals
     ++ (flat_map (λ principal. option_to_list principal.boundary) world.principals
-    ++ flat_map (λ principal. principal.session) world.principals)))
+    ++ flat_map (λ principal. principal.session) world.principals))))
 
 -- how many statements the policies of a world have
 abbrev pub world_statements : WorldValue → ℕ
 world_statements world = sum_by (λ policy. length policy.statements) (policies_of world)
 
--- the organisation policies that apply to an account's requests, none where it manages its organisation
-abbrev pub org_of : Option AccountValue → List (List PolicyValue)
-org_of None = []
-org_of (Some account) = if account.management then [] else account.org
+-- the account with this id
+abbrev pub account_with : List ℕ → WorldValue → Option AccountValue
+account_with id world = find (λ account. bytes_eq account.id id) world.accounts

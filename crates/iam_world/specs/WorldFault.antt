@@ -14,7 +14,8 @@ use Rattle.iam_policy.specs.declared.fault.Kind.{Kind}
 use Rattle.iam_policy.specs.declared.fault.Kind.TheVariants as kind
 use Rattle.iam_policy.specs.declared.fault.Refused.{Refused}
 use Rattle.iam_match.specs.Requester.{RequesterValue, IsRequesterOf}
-use Rattle.iam_shape.specs.declared.path.Name.TheVariants.{Accounts, Principals, Actions, Resources, Org, Identity, Boundary, SessionPolicies}
+use Rattle.iam_shape.specs.declared.path.Name.{Name}
+use Rattle.iam_shape.specs.declared.path.Name.TheVariants.{Accounts, Principals, Actions, Resources, Org, Identity, Boundary, SessionPolicies, Control}
 use Rattle.iam_shape.specs.declared.path.Name.TheVariants as name
 use Rattle.iam_shape.specs.declared.path.Path.{Path}
 use Rattle.iam_shape.specs.declared.path.Path.TheVariants.{Item, Field, Entry, Leaf}
@@ -127,9 +128,17 @@ abbrev pub of_each : {X : Type 0} → (ℕ → X → List Document) → ℕ → 
 of_each documents i [] = []
 of_each documents i (x ∷ xs) = documents i x ++ of_each documents (i + 1) xs
 
--- the organisation policies of account i, level by level
+-- the documents of levels that stand under a name of member i of a list, level by level
+abbrev pub level_documents : Kind → Name → ℕ → Name → List (List Data) → List Document
+level_documents kind list i name levels = of_each (λ j level. numbered kind (Leaf list i name j) 0 level) 0 levels
+
+-- the organisation policies of account i
 abbrev pub org_documents : ℕ → AccountView → List Document
-org_documents i account = of_each (λ j level. numbered kind.Org (Leaf Accounts i Org j) 0 level) 0 account.org
+org_documents i account = level_documents kind.Org Accounts i Org account.org
+
+-- the resource control policies of resource i
+abbrev pub control_documents : ℕ → ResourceView → List Document
+control_documents i resource = level_documents kind.Control Resources i Control resource.control
 
 -- the policy of resource i
 abbrev pub resource_documents : ℕ → ResourceView → List Document
@@ -152,10 +161,11 @@ session_documents i principal =
 abbrev pub documents : WorldView → List Document
 documents world =
     of_each org_documents 0 world.accounts
+    ++ (of_each control_documents 0 world.resources
     ++ (of_each resource_documents 0 world.resources
     ++ (of_each identity_documents 0 world.principals
     ++ (of_each boundary_documents 0 world.principals
-    ++ of_each session_documents 0 world.principals)))
+    ++ of_each session_documents 0 world.principals))))
 
 abbrev pub IsNotAccepted : Document → Type 0
 IsNotAccepted document = ¬ IsAccepted document.kind document.value

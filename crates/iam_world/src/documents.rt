@@ -5,17 +5,19 @@ ghost use Rattle.serde_json.specs.View.{view};
 ghost use Rattle.iam_policy.specs.Reading.{Reads};
 ghost use Rattle.iam_policy.specs.declared.fault.Kind.TheVariants as kind;
 ghost use Rattle.iam_world.specs.declared.documents.Place.TheVariants as place;
-ghost use Rattle.iam_shape.specs.Code.Lent.{account_of, principal_of, resource_of};
-ghost use Rattle.iam_shape.specs.Code.LentWorld.{world_of};
+ghost use Rattle.iam_shape.specs.Lent.{account_of, levels_of, policies_in, principal_of, resource_of};
+ghost use Rattle.iam_shape.specs.LentWorld.{world_of};
 ghost use Rattle.iam_world.specs.Code.Documents.{HasPolicies, IsCleared, IsRefusedAmong, document_at, path_at};
 ghost use Rattle.iam_world.specs.Reads.{ReadsOptional};
-ghost use Rattle.iam_world.specs.WorldFault.{Document, boundary_documents, documents, identity_documents, numbered, of_each, org_documents, resource_documents, session_documents};
+ghost use Rattle.iam_world.specs.WorldFault.{Document, boundary_documents, control_documents, documents, identity_documents, level_documents, numbered, of_each, org_documents, resource_documents, session_documents};
 ghost use Rattle.iam_world.specs.declared.fault.WorldFault.TheVariants as w;
 
 use crate::fault::WorldFault;
 use crate::limits::Budget;
 use iam_policy::{Fault, Kind, Policy, Refused};
-use iam_shape::{AccountView, Name, Path, PrincipalView, ResourceView, WorldView};
+use iam_shape::{
+    AccountView, Levels, Name, Path, PrincipalView, ResourceView, WorldView, policies_in,
+};
 use iam_text::Items;
 use serde_json::Value;
 use std::alloc::Global;
@@ -66,8 +68,8 @@ fn read_each<T, L: Layer<T>>(
 enum Place {
     /// In a list of a member of a list, as `principals/0/identity`.
     Entries(Name, usize, Name),
-    /// In a level of an account, as `accounts/0/org/1`.
-    Level(usize, usize),
+    /// In a level of a member of a list, as `accounts/0/org/1`.
+    Level(Name, usize, Name, usize),
     /// Alone under a name, as `principals/0/boundary`.
     Alone(Name, usize, Name),
 }
@@ -82,13 +84,7 @@ impl Place {
     {
         match self {
             Place::Entries(list, of, name) => Path::Entry(list, of, name, i),
-            Place::Level(account, level) => Path::Leaf(
-                Name::Accounts,
-                account,
-                Name::Org,
-                level,
-                i,
-            ),
+            Place::Level(list, of, name, level) => Path::Leaf(list, of, name, level, i),
             Place::Alone(list, of, name) => Path::Field(list, of, name),
         }
     }
@@ -176,29 +172,49 @@ fn read_optional(
     }
 }
 
-/// The organisation policies of account `account`, level by level.
+/// The documents of levels, all of one kind: where the levels stand.
 #[derive(Clone, Copy)]
-struct Levels {
-    account: usize,
+struct LevelDocuments {
+    kind: Kind,
+    list: Name,
+    of: usize,
+    name: Name,
 }
 
-impl<'v> Layer<&'v [Value]> for Levels {
+impl Layer<Value> for LevelDocuments {
     type Read = Vec<Policy>;
 
-    ghost documents = { λ self i level. numbered kind.Org (path_at (place.Level self.account i)) 0 (map view level.now) };
+    ghost documents = { λ self i level. numbered self.kind (path_at (place.Level self.list self.of self.name i)) 0 (policies_in (view level)) };
 
-    ghost reads = { λ self level policies. AllZip (Reads kind.Org) (map view level.now) policies.items };
+    ghost reads = { λ self level policies. AllZip (Reads self.kind) (policies_in (view level)) policies.items };
 
     fn read(
         &self,
         alloc: Global,
         budget: &mut Budget,
         i: usize,
-        level: &&'v [Value],
+        level: &Value,
     ) -> Result<Vec<Policy>, WorldFault> {
-        let place = Place::Level(self.account, i);
-        read_policies(alloc, budget, Kind::Org, place, level)
+        let place = Place::Level(self.list, self.of, self.name, i);
+        read_policies(alloc, budget, self.kind, place, policies_in(level))
     }
+}
+
+/// The policies of levels, level by level.
+fn read_levels(
+    at: LevelDocuments,
+    alloc: Global,
+    budget: &mut Budget,
+    levels: Levels<'_>,
+) -> Result<Vec<Vec<Policy>>, WorldFault>
+    ensures ok { IfOk result (λ policies. AllZip (AllZip (Reads at.kind)) (levels_of levels.entry)
+        (map (λ level. level.items) policies.items)) }
+    ensures cleared { OnOk result
+        (IsCleared (level_documents at.kind at.list at.of at.name (levels_of levels.entry)) budget.old budget.new) }
+    ensures fault { IfErr result (λ fault. fault ≢ w.OutOfMemory
+        → IsRefusedAmong (level_documents at.kind at.list at.of at.name (levels_of levels.entry)) fault) }
+{
+    read_each(&at, alloc, budget, levels.values)
 }
 
 /// The layer of organisation policies.
@@ -219,12 +235,41 @@ impl<'v> Layer<AccountView<'v>> for OrgPolicies {
         i: usize,
         account: &AccountView<'v>,
     ) -> Result<Vec<Vec<Policy>>, WorldFault> {
-        read_each(
-            &Levels { account: i },
-            alloc,
-            budget,
-            account.org.as_slice(),
-        )
+        let at = LevelDocuments {
+            kind: Kind::Org,
+            list: Name::Accounts,
+            of: i,
+            name: Name::Org,
+        };
+        read_levels(at, alloc, budget, account.org)
+    }
+}
+
+/// The layer of resource control policies.
+#[derive(Clone, Copy)]
+struct ControlPolicies;
+
+impl<'v> Layer<ResourceView<'v>> for ControlPolicies {
+    type Read = Vec<Vec<Policy>>;
+
+    ghost documents = { λ self i resource. control_documents i (resource_of resource) };
+
+    ghost reads = { λ self resource levels. AllZip (AllZip (Reads kind.Control)) (resource_of resource).control (map (λ level. level.items) levels.items) };
+
+    fn read(
+        &self,
+        alloc: Global,
+        budget: &mut Budget,
+        i: usize,
+        resource: &ResourceView<'v>,
+    ) -> Result<Vec<Vec<Policy>>, WorldFault> {
+        let at = LevelDocuments {
+            kind: Kind::Control,
+            list: Name::Resources,
+            of: i,
+            name: Name::Control,
+        };
+        read_levels(at, alloc, budget, resource.control)
     }
 }
 
@@ -327,6 +372,7 @@ impl<'v> Layer<PrincipalView<'v>> for SessionPolicies {
 #[derive(Drop)]
 pub struct Policies {
     pub org: Vec<Vec<Vec<Policy>>>,
+    pub control: Vec<Vec<Vec<Policy>>>,
     pub resource: Vec<Option<Policy>>,
     pub identity: Vec<Items<Policy>>,
     pub boundary: Vec<Option<Policy>>,
@@ -345,10 +391,12 @@ pub fn read_documents(
         → IsRefusedAmong (documents (world_of world.now)) fault) }
 {
     let accounts = world.accounts.views.as_slice();
+    let resources = world.resources.as_slice();
     let principals = world.principals.as_slice();
     Ok(Policies {
         org: read_each(&OrgPolicies, alloc, budget, accounts)?,
-        resource: read_each(&ResourcePolicies, alloc, budget, world.resources.as_slice())?,
+        control: read_each(&ControlPolicies, alloc, budget, resources)?,
+        resource: read_each(&ResourcePolicies, alloc, budget, resources)?,
         identity: read_each(&IdentityPolicies, alloc, budget, principals)?,
         boundary: read_each(&Boundaries, alloc, budget, principals)?,
         session: read_each(&SessionPolicies, alloc, budget, principals)?,

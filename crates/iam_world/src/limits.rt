@@ -1,6 +1,6 @@
 ghost use Rattle.std.specs.Prelude.{◌≡◌, ◌≤◌, ◌<◌, ◌+◌, ◌*◌, map, MatchOption, length};
 ghost use Rattle.iam_world.specs.Code.Budget.{Leaves};
-ghost use Rattle.iam_shape.specs.Code.LentWorld.{world_of};
+ghost use Rattle.iam_shape.specs.LentWorld.{world_of};
 ghost use Rattle.iam_world.specs.WorldFault.{IsOverLimits, cell_count, statement_count};
 
 use iam_shape::WorldView;

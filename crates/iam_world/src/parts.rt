@@ -1,6 +1,6 @@
 ghost use Rattle.std.specs.Prelude.{◌≡◌, map, string_bytes, IfOk};
 ghost use Rattle.std.specs.List.{zip};
-ghost use Rattle.iam_shape.specs.Code.Lent.{account_of, resource_of};
+ghost use Rattle.iam_shape.specs.Lent.{account_of, resource_of};
 ghost use Rattle.iam_world.specs.Code.Made.{bare_account, bare_resource, made_account, made_principal, made_resource};
 
 use iam_context::Part;
@@ -33,11 +33,10 @@ impl Model for Account {
 }
 
 impl Account {
-    ghost use Rattle.std.specs.Prelude.{◌≡◌, map, Some, IfOk};
+    ghost use Rattle.std.specs.Prelude.{◌≡◌, map, IfOk};
     ghost use Rattle.std.specs.Str.{bytes_eq};
-    ghost use Rattle.iam_shape.specs.Code.Lent.{account_of};
+    ghost use Rattle.iam_shape.specs.Lent.{account_of};
     ghost use Rattle.iam_world.specs.Code.Made.{bare_account, made_account};
-    ghost use Rattle.iam_world.specs.World.{org_of};
 
     /// The account that a document gives, without its policies.
     fn read(alloc: Global, account: &AccountView<'_>) -> Result<Account, OutOfMemory>
@@ -68,18 +67,18 @@ impl Account {
         self.id.as_str() == id
     }
 
-    /// The organisation policies that apply to its requesters, by level from the root: none where it manages its
-    /// organisation.
-    ///
-    /// AWS IAM User Guide, "Policy evaluation logic".
-    pub fn org(&self) -> &[Vec<Policy>]
-        ensures { map (λ level. level.items) result.now ≡ org_of (Some self.now) }
+    /// Whether it manages its organisation.
+    pub fn manages(&self) -> bool
+        ensures { result ≡ self.now.management }
     {
-        if self.management {
-            &[]
-        } else {
-            self.org.as_slice()
-        }
+        self.management
+    }
+
+    /// Its organisation policies, by level from the root.
+    pub fn org(&self) -> &[Vec<Policy>]
+        ensures { map (λ level. level.items) result.now ≡ self.now.org }
+    {
+        self.org.as_slice()
     }
 }
 
@@ -146,7 +145,7 @@ impl Principal {
     }
 }
 
-/// A resource, with the policy that is attached to it.
+/// A resource, with the policy that is attached to it, and its resource control policies by level from the root.
 #[derive(Debug, Drop)]
 pub struct Resource {
     arn: String,
@@ -154,10 +153,11 @@ pub struct Resource {
     policy: Option<Policy>,
     sealed: bool,
     context: Part,
+    control: Vec<Vec<Policy>>,
 }
 
 impl Model for Resource {
-    ghost use Rattle.std.specs.Prelude.{string_bytes};
+    ghost use Rattle.std.specs.Prelude.{map, string_bytes};
     ghost use Rattle.iam_world.specs.World.{ResourceValue};
 
     ghost Value = { ResourceValue };
@@ -168,15 +168,16 @@ impl Model for Resource {
       policy = r.policy;
       sealed = r.sealed;
       context = r.context.items;
+      control = map (λ level. level.items) r.control.items;
     } };
 }
 
 impl Resource {
-    ghost use Rattle.std.specs.Prelude.{◌≡◌, option_map, IfOk};
-    ghost use Rattle.iam_shape.specs.Code.Lent.{resource_of};
+    ghost use Rattle.std.specs.Prelude.{◌≡◌, map, option_map, IfOk};
+    ghost use Rattle.iam_shape.specs.Lent.{resource_of};
     ghost use Rattle.iam_world.specs.Code.Made.{bare_resource, made_resource};
 
-    /// The resource that a document gives, without its policy and its context.
+    /// The resource that a document gives, without its policies and its context.
     fn read(alloc: Global, resource: &ResourceView<'_>) -> Result<Resource, OutOfMemory>
         ensures { IfOk result (λ r. r ≡ bare_resource (resource_of resource.now)) }
     {
@@ -186,12 +187,13 @@ impl Resource {
             policy: None,
             sealed: resource.sealed,
             context: Vec::new(alloc),
+            control: Vec::new(alloc),
         })
     }
 
-    /// The resource with this policy and this context.
-    fn with(self, policy: Option<Policy>, context: Part) -> Resource
-        ensures { result ≡ made_resource ((self, policy), context.items) }
+    /// The resource with this policy, these resource control policies and this context.
+    fn with(self, policy: Option<Policy>, control: Vec<Vec<Policy>>, context: Part) -> Resource
+        ensures { result ≡ made_resource (((self, policy), map (λ level. level.items) control.items), context.items) }
     {
         Resource {
             arn: self.arn,
@@ -199,6 +201,7 @@ impl Resource {
             policy,
             sealed: self.sealed,
             context,
+            control,
         }
     }
 
@@ -235,6 +238,13 @@ impl Resource {
         ensures { result.now.items ≡ self.now.context }
     {
         &self.context
+    }
+
+    /// The resource control policies, by level from the root.
+    pub fn control(&self) -> &[Vec<Policy>]
+        ensures { map (λ level. level.items) result.now ≡ self.now.control }
+    {
+        self.control.as_slice()
     }
 }
 
@@ -323,15 +333,18 @@ pub fn resources(
     alloc: Global,
     resources: &[ResourceView<'_>],
     policies: Vec<Option<Policy>>,
+    control: Vec<Vec<Vec<Policy>>>,
     contexts: Vec<Part>,
 ) -> Result<Vec<Resource>, OutOfMemory>
-    ensures { IfOk result (λ read. read.items ≡ map (λ p. made_resource (p.0, p.1.items))
-        (zip (zip (map bare_resource (map resource_of resources.now)) policies.items) contexts.items)) }
+    ensures { IfOk result (λ read. read.items
+        ≡ map (λ p. made_resource ((p.0.0, map (λ level. level.items) p.0.1.items), p.1.items))
+        (zip (zip (zip (map bare_resource (map resource_of resources.now)) policies.items) control.items) contexts.items)) }
 {
     bare_resources(alloc, resources)?
         .into_iter()
         .zip(policies)
+        .zip(control)
         .zip(contexts)
-        .map(|((resource, policy), context)| resource.with(policy, context))
+        .map(|(((resource, policy), control), context)| resource.with(policy, control, context))
         .collect(alloc)
 }

@@ -7,8 +7,8 @@ ghost use Rattle.iam_world.specs.Code.ViewFault.{IsFirstViewFault, ViewHasFault}
 ghost use Rattle.iam_world_context.specs.Code.Contexts.{HasContexts};
 ghost use Rattle.iam_world.specs.Code.Documents.{HasPolicies};
 ghost use Rattle.iam_shape.specs.Few.{HasFewLists};
-ghost use Rattle.iam_shape.specs.Code.Lent.{principal_of};
-ghost use Rattle.iam_shape.specs.Code.LentWorld.{world_of};
+ghost use Rattle.iam_shape.specs.Lent.{principal_of};
+ghost use Rattle.iam_shape.specs.LentWorld.{world_of};
 ghost use Rattle.iam_world.specs.Reads.{ReadsWorld};
 ghost use Rattle.iam_world.specs.WorldFault.{IsJson, IsOverLimits, IsRequesterAt, cell_count, statement_count};
 ghost use Rattle.iam_world.specs.declared.fault.WorldFault.{WorldFault};
@@ -21,7 +21,6 @@ use crate::names::check_names;
 use crate::parts::{Account, Principal, Resource, accounts, principals, read_actions, resources};
 use iam_context::Part;
 use iam_match::Requester;
-use iam_policy::Policy;
 use iam_shape::{WorldView, few_documents, one_view, walk};
 use iam_text::OutOfMemory;
 use iam_world_context::{Contexts, read_contexts};
@@ -129,6 +128,7 @@ fn build(
             alloc,
             world.resources.as_slice(),
             policies.resource,
+            policies.control,
             contexts.resources,
         )?,
         context: contexts.world,
@@ -164,13 +164,12 @@ fn find_account<'a>(accounts: &'a [Account], id: &str) -> Option<&'a Account>
 }
 
 impl WorldParts {
-    ghost use Rattle.std.specs.Prelude.{◌≡◌, ◌≢◌, ◌≤◌, IfOk, IfErr, map, string_bytes};
-    ghost use Rattle.std.specs.List.{AllByRecursion, find};
-    ghost use Rattle.std.specs.Str.{bytes_eq};
+    ghost use Rattle.std.specs.Prelude.{◌≡◌, ◌≢◌, ◌≤◌, IfOk, IfErr, IfSome, map, option_map, string_bytes};
+    ghost use Rattle.std.specs.List.{AllByRecursion};
     ghost use Rattle.iam_shape.specs.Few.{HasFewLevels};
     ghost use Rattle.iam_world.specs.Code.Invariants.{CanJoin, HasFewPolicies};
     ghost use Rattle.iam_world.specs.Reads.{IsWorld};
-    ghost use Rattle.iam_world.specs.World.{org_of, world_cells, world_statements};
+    ghost use Rattle.iam_world.specs.World.{account_with, world_cells, world_statements};
     ghost use Rattle.iam_world.specs.WorldFault.{IsFirstWorldFault};
     ghost use Rattle.iam_world.specs.declared.fault.WorldFault.TheVariants as w;
 
@@ -223,9 +222,11 @@ impl WorldParts {
         self.actions.as_slice()
     }
 
-    /// The resources, in order.
+    /// The resources, in order; each has fewer than 2^32 levels of resource control policies, and fewer than 2^32
+    /// policies in each.
     pub fn resources(&self) -> &[Resource]
-        ensures { result.now ≡ self.now.resources }
+        ensures value { result.now ≡ self.now.resources }
+        ensures few { AllByRecursion (λ resource. HasFewLevels resource.control) self.now.resources }
     {
         self.resources.as_slice()
     }
@@ -246,18 +247,12 @@ impl WorldParts {
         self.statements as u64
     }
 
-    /// The organisation policies that apply to requesters of the account with this id, by level from the root: none
-    /// where it manages its organisation. There are fewer than 2^32 levels, and fewer than 2^32 policies in each.
-    ///
-    /// AWS IAM User Guide, "Policy evaluation logic".
-    pub fn org(&self, id: &str) -> &[Vec<Policy>]
-        ensures value { map (λ level. level.items) result.now
-            ≡ org_of (find (λ account. bytes_eq account.id id.now) self.now.accounts) }
-        ensures few { HasFewLevels (map (λ level. level.items) result.now) }
+    /// The account with this id; it has fewer than 2^32 levels of organisation policies, and fewer than 2^32 policies
+    /// in each.
+    pub fn account(&self, id: &str) -> Option<&Account>
+        ensures value { option_map (λ account. account.now) result ≡ account_with id.now self.now }
+        ensures few { IfSome result (λ account. HasFewLevels account.now.org) }
     {
-        match find_account(self.accounts.as_slice(), id) {
-            Some(account) => account.org(),
-            None => &[],
-        }
+        find_account(self.accounts.as_slice(), id)
     }
 }

@@ -5,7 +5,7 @@ ghost use Rattle.iam_context.specs.Code.Keys.{HasKeys};
 ghost use Rattle.iam_context.specs.Context.{keys_of};
 ghost use Rattle.iam_context.specs.ContextFault.{IsClean};
 ghost use Rattle.iam_json.specs.Scalar.{scalar_text};
-ghost use Rattle.iam_shape.specs.Code.LentWorld.{world_of};
+ghost use Rattle.iam_shape.specs.LentWorld.{world_of};
 ghost use Rattle.iam_world_context.specs.Code.Contexts.{AllClean, AreClean, HasContexts, IsFaultyAmong, IsFaultyPart};
 ghost use Rattle.iam_world_context.specs.Contexts.{IsFaulty, all_parts, parts, parts_of};
 ghost use Rattle.iam_world_context.specs.Part.{members_part, part_of, value_texts};

@@ -1,7 +1,5 @@
--- The values of each kind of operator, beside `Operand`.
+-- The values of each kind of operator that has no texts, beside `Operand`.
 use Rattle.std.specs.Prelude.{◌≡◌, ℕ, ℤ, List, Bool}
-use Rattle.iam_text.specs.declared.draft.Piece.{Piece}
-use Rattle.iam_text.specs.Draft.{IsDraft}
 use Rattle.iam_value.specs.Address.{Block, IsRange}
 use Rattle.iam_value.specs.Bytes.{IsBase64}
 use Rattle.iam_value.specs.Moment.{IsMoment}
@@ -9,9 +7,6 @@ use Rattle.iam_value.specs.Truth.{IsTruth}
 use Rattle.iam_value.specs.Whole.{IsWhole}
 use Rattle.iam_condition.specs.declared.operand.Operand.{Operand}
 use Rattle.iam_condition.specs.declared.operand.Operand.TheVariants as operand
-
-abbrev pub IsTextOperand : Bool → List ℕ → Operand → Type 0
-IsTextOperand wild text value = (pieces : List Piece) × (value ≡ operand.Text pieces) × IsDraft wild text pieces
 
 abbrev pub IsNumberOperand : List ℕ → Operand → Type 0
 IsNumberOperand text value = (n : ℤ) × (value ≡ operand.Number n) × IsWhole text n

@@ -24,7 +24,7 @@ is_bad_member m = is_some (operator_of m.0) && is_bad_keys m.1
 
 -- a key has the fault
 abbrev pub key_has : KeyFault → Base → Data → Bool
-key_has BadText base value = has_texts base && list_any is_bad_text (values_under value)
+key_has (BadText version) base value = has_texts base && list_any (is_bad_text version) (values_under value)
 key_has ManyValues base value = nat_lt 4096 (length (values_under value))
 
 abbrev pub given_has : KeyFault → Given → Bool

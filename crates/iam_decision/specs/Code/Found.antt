@@ -9,7 +9,7 @@ use Rattle.iam_decision.specs.Matched.{Selects}
 use Rattle.iam_decision.specs.declared.place.Layer.{Layer}
 use Rattle.iam_decision.specs.declared.place.Layer.TheVariants.{Resource}
 use Rattle.iam_decision.specs.declared.place.Place.{Place}
-use Rattle.iam_decision.specs.declared.scan.Matched.{Matched}
+use Rattle.iam_decision.specs.declared.living.Matched.{Matched}
 
 abbrev pub DeniesIn : List Matched → Type 0
 DeniesIn found = Any (λ m. m.effect ≡ Deny) found

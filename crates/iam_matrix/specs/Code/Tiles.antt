@@ -1,5 +1,5 @@
 -- What the workers make of a tile, and of tiles that follow one another.
-use Rattle.std.specs.Prelude.{◌≡◌, ℕ, ◌+◌, ◌<◌, ◌≤◌, List, [], ◌∷◌, ⊤, Bool, Option, Some, None, MatchBool, length, map, sum}
+use Rattle.std.specs.Prelude.{◌≡◌, ℕ, ◌+◌, ◌<◌, ◌≤◌, List, [], ◌∷◌, ⊤, Bool, Option, Some, None, MatchBool, length, sum}
 use Rattle.iam_decision.specs.declared.verdict.Decision.{Decision}
 use Rattle.iam_decision.specs.declared.verdict.Decision.TheVariants.{Allowed}
 use Rattle.iam_decision.specs.declared.verdict.Verdict.{Verdict}
@@ -7,30 +7,36 @@ use Rattle.iam_report.specs.Piece.{AddsRows, brief_row, full_row}
 use Rattle.iam_report.specs.declared.quoted.Format.{Format}
 use Rattle.iam_world.specs.World.{WorldValue, world_cells}
 use Rattle.iam_lanes.specs.LaneRule.{no_cell}
-use Rattle.iam_matrix.specs.Matrix.{AreVerdictsFrom, IsDecisionOf, IsDenied}
+use Rattle.iam_layers.specs.Cell.{IsDecisionOf, IsVerdictOf}
+use Rattle.iam_report.specs.Report.{CellTexts}
+use Rattle.iam_matrix.specs.Matrix.{AreEntriesFrom, IsDenied}
 
 -- the cut has this tile, and is one of the world's cells
 abbrev pub IsTileOf : WorldValue → List ℕ → ℕ → Type 0
 IsTileOf world lengths tile = (sum lengths ≡ world_cells world) × (tile < length lengths)
 
--- the verdicts of so many cells from this one on
-pub record AreVerdicts (world : WorldValue) (from count : ℕ) (verdicts : List Verdict) : Type 0 where
-  pub count_is : length verdicts ≡ count
-  pub each : AreVerdictsFrom world from verdicts
+-- entries of so many cells from this one on, each as it has to be
+pub record AreEntries {X : Type 0} (Is : ℕ → X → Type 0) (from count : ℕ) (entries : List X) : Type 0 where
+  pub count_is : length entries ≡ count
+  pub each : AreEntriesFrom Is from entries
 
--- the decisions of these cells
+-- the verdicts, and the decisions, of these cells
+abbrev pub AreVerdicts : WorldValue → ℕ → ℕ → List Verdict → Type 0
+AreVerdicts world from count verdicts = AreEntries (IsVerdictOf world) from count verdicts
+
 abbrev pub AreDecisions : WorldValue → ℕ → ℕ → List Decision → Type 0
-AreDecisions world from count decisions =
-    (verdicts : List Verdict) × AreVerdicts world from count verdicts × (decisions ≡ map (λ verdict. verdict.decision) verdicts)
+AreDecisions world from count decisions = AreEntries (IsDecisionOf world) from count decisions
 
--- the rows of these cells
+-- the rows of the entries of these cells
+abbrev pub AreRows : {X : Type 0} → (ℕ → X → Type 0) → (ℕ → CellTexts → X → List ℕ) → WorldValue → ℕ → ℕ → List ℕ → Type 0
+AreRows {X} Is row world from count text =
+    (entries : List X) × AreEntries Is from count entries × AddsRows world row from entries [] text
+
 abbrev pub AreFullRows : Format → WorldValue → ℕ → ℕ → List ℕ → Type 0
-AreFullRows format world from count text =
-    (verdicts : List Verdict) × AreVerdicts world from count verdicts × AddsRows world (full_row format) from verdicts [] text
+AreFullRows format world from count text = AreRows (IsVerdictOf world) (full_row format) world from count text
 
 abbrev pub AreBriefRows : Format → WorldValue → ℕ → ℕ → List ℕ → Type 0
-AreBriefRows format world from count text =
-    (decisions : List Decision) × AreDecisions world from count decisions × AddsRows world (brief_row format) from decisions [] text
+AreBriefRows format world from count text = AreRows (IsDecisionOf world) (brief_row format) world from count text
 
 abbrev pub AreRowsOf : Format → Bool → WorldValue → ℕ → ℕ → List ℕ → Type 0
 AreRowsOf format brief world from count text =

@@ -2,25 +2,33 @@
 use Rattle.std.specs.Prelude.{◌≡◌, ◌↔◌, ℕ, ◌<◌, Bool, false, ◌&&◌, ◌||◌, Option, Some, None, IsTrue}
 use Rattle.std.specs.List.{find, slice_get}
 use Rattle.serde_json.specs.Data.{Data}
+use Rattle.iam_text.specs.declared.version.Version.{Version}
 use Rattle.iam_condition.specs.Condition.{has_bad_text, has_many_values, has_unknown_operator, is_bad_form}
 use Rattle.iam_policy.specs.declared.fault.Fault.{Fault}
 use Rattle.iam_policy.specs.declared.fault.Fault.TheVariants.{BadCondition, BadValue, BadVariable, TooMany, UnknownOperator}
 use Rattle.iam_policy.specs.declared.fault.Kind.{Kind}
 use Rattle.iam_policy.specs.declared.fault.Refused.{Refused}
-use Rattle.iam_policy.specs.Fault.{HasBadValueIn, document_has, statement_has, statements_in}
+use Rattle.iam_policy.specs.declared.table.Place.{Place}
+use Rattle.iam_policy.specs.Fault.{HasBadValueIn, document_has, repeats_sid, sids_before, statement_has, statements_in}
 use Rattle.iam_policy.specs.Table.{fault_is, table}
+use Rattle.iam_policy.specs.Version.{version_of}
 
 -- the least fault of a document itself
 abbrev pub document_fault : Kind → Data → Option Fault
 document_fault kind d = find (document_has kind d) table
 
--- the lines of the table for a condition
-abbrev pub condition_line : Fault → Data → Bool
-condition_line BadVariable condition = has_bad_text condition
-condition_line UnknownOperator condition = has_unknown_operator condition
-condition_line BadCondition condition = is_bad_form condition
-condition_line TooMany condition = has_many_values condition
-condition_line _ condition = false
+-- the lines of the table for a condition in a document of the version
+abbrev pub condition_line : Version → Fault → Data → Bool
+condition_line version BadVariable condition = has_bad_text version condition
+condition_line version UnknownOperator condition = has_unknown_operator condition
+condition_line version BadCondition condition = is_bad_form condition
+condition_line version TooMany condition = has_many_values condition
+condition_line version _ condition = false
+
+-- what stands there of the document is so of statement i: its version, and that the `Sid` repeats an earlier one
+pub record IsPlaceOf (d : Data) (i : ℕ) (s : Data) (place : Place) : Type 0 where
+  pub version : place.version ≡ version_of d
+  pub repeats : place.repeats ≡ repeats_sid (sids_before d i) s
 
 -- a line of the table for a statement, where it is known whether a value of its condition is bad
 abbrev pub line_has : Kind → Data → ℕ → Data → Bool → Fault → Bool

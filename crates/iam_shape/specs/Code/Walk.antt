@@ -2,12 +2,12 @@
 use Rattle.std.specs.Prelude.{◌≡◌, ℕ, List, [], ◌∷◌, Result, Some, None, false, is_some, MatchResult}
 use Rattle.std.specs.Option.{option_map_or}
 use Rattle.serde_json.specs.Data.{Data}
-use Rattle.iam_shape.specs.declared.path.Name.TheVariants.{Accounts, Principals, Context, Id, Management, Org, User, Role, Session, Identity, Boundary, SessionPolicies}
+use Rattle.iam_shape.specs.declared.path.Name.TheVariants.{Accounts, Principals, Resources, Context, Id, Management, Org, User, Role, Session, Identity, Boundary, SessionPolicies, Arn, Account, Policy, Sealed, Control}
 use Rattle.iam_shape.specs.declared.path.Path.{Path}
 use Rattle.iam_shape.specs.declared.path.Path.TheVariants.{Item, Field}
 use Rattle.iam_shape.specs.declared.fault.ShapeFault.{ShapeFault}
 use Rattle.iam_shape.specs.declared.fault.ShapeFault.TheVariants.{At, OutOfMemory}
-use Rattle.iam_shape.specs.Shape.{Check, first_bad, has_only, is_absent_or, is_context, is_list, is_new_id, is_object, is_text, text_at}
+use Rattle.iam_shape.specs.Shape.{Check, first_bad, has_only, is_absent_or, is_bool, is_context, is_list, is_new_id, is_object, is_text, text_at}
 
 -- no check fails, and P holds of what was found; or this is the path of the first that fails
 abbrev pub Walks : {A : Type 0} → List Check → (A → Type 0) → Result A Path → Type 0
@@ -38,13 +38,29 @@ session_checks i session =
     ∷ ((Item Principals i, has_only (Role ∷ (Session ∷ (Identity ∷ (Boundary ∷ (SessionPolicies ∷ (Context ∷ [])))))) session)
     ∷ [])))))
 
--- what stands first in an account: that it is an object, with the id of no account before it
-abbrev pub id_checks : List (List ℕ) → ℕ → Data → List Check
-id_checks ids i account =
+-- what is checked of an account before its levels: that it is an object, its id, which no account before it has, and
+-- whether it manages its organisation
+abbrev pub account_front : List (List ℕ) → ℕ → Data → List Check
+account_front ids i account =
     (Item Accounts i, is_object account)
     ∷ ((Field Accounts i Id, option_map_or (is_new_id ids) (text_at Id account) false)
-    ∷ [])
+    ∷ ((Field Accounts i Management, is_absent_or is_bool Management account)
+    ∷ []))
 
--- what stands last: that it has no other members
-abbrev pub last_checks : ℕ → Data → List Check
-last_checks i account = (Item Accounts i, has_only (Id ∷ (Management ∷ (Org ∷ []))) account) ∷ []
+-- and behind them: that it has no other members
+abbrev pub account_back : ℕ → Data → List Check
+account_back i account = (Item Accounts i, has_only (Id ∷ (Management ∷ (Org ∷ []))) account) ∷ []
+
+-- what is checked of a resource before its levels, and behind them
+abbrev pub resource_front : ℕ → Data → List Check
+resource_front i resource =
+    (Item Resources i, is_object resource)
+    ∷ ((Field Resources i Arn, is_some (text_at Arn resource))
+    ∷ ((Field Resources i Account, is_some (text_at Account resource))
+    ∷ ((Field Resources i Sealed, is_absent_or is_bool Sealed resource)
+    ∷ ((Field Resources i Context, is_absent_or is_context Context resource)
+    ∷ []))))
+
+abbrev pub resource_back : ℕ → Data → List Check
+resource_back i resource =
+    (Item Resources i, has_only (Arn ∷ (Account ∷ (Policy ∷ (Sealed ∷ (Context ∷ (Control ∷ [])))))) resource) ∷ []

@@ -13,9 +13,8 @@ use Rattle.iam_world.specs.declared.fault.WorldFault.TheVariants.{Policy}
 use Rattle.iam_world.specs.declared.limits.Budget.{Budget}
 use Rattle.iam_shape.specs.declared.path.Path.{Path}
 use Rattle.iam_shape.specs.declared.path.Path.TheVariants.{Field, Entry, Leaf}
-use Rattle.iam_shape.specs.declared.path.Name.TheVariants.{Accounts, Org}
 use Rattle.iam_shape.specs.declared.view.WorldView as lent
-use Rattle.iam_shape.specs.Code.Lent.{account_of, principal_of, resource_of}
+use Rattle.iam_shape.specs.Lent.{account_of, principal_of, resource_of}
 use Rattle.iam_world.specs.Reads.{ReadsOptional}
 use Rattle.iam_world.specs.declared.documents.Documents.{Documents}
 use Rattle.iam_world.specs.declared.documents.Policies.{Policies}
@@ -38,7 +37,7 @@ pub record IsCleared (ds : List Document) (before after : Budget) : Type 0 where
 -- the path of a document of a list
 abbrev pub path_at : Place → ℕ → Path
 path_at (Entries list i name) j = Entry list i name j
-path_at (Level i level) j = Leaf Accounts i Org level j
+path_at (Level list i name level) j = Leaf list i name level j
 path_at (Alone list i name) j = Field list i name
 
 -- document j of a list
@@ -49,6 +48,8 @@ document_at ds j value = record { path = path_at ds.place j; kind = ds.kind; val
 pub record HasPolicies (world : lent.WorldView) (policies : Policies) : Type 0 where
   pub org : AllZip (λ v levels. AllZip (AllZip (Reads kind.Org)) v.org (map (λ level. level.items) levels.items))
       (map account_of world.accounts.views.items) policies.org.items
+  pub control : AllZip (λ v levels. AllZip (AllZip (Reads kind.Control)) v.control (map (λ level. level.items) levels.items))
+      (map resource_of world.resources.items) policies.control.items
   pub resource : AllZip (λ v policy. ReadsOptional kind.Resource v.policy policy) (map resource_of world.resources.items)
       policies.resource.items
   pub identity : AllZip (λ v own. AllZip (Reads kind.Identity) v.identity own) (map principal_of world.principals.items)

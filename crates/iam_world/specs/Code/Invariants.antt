@@ -32,5 +32,6 @@ pub record IsSized (world : WorldValue) (cells statements : ℕ) : Type 0 where
   pub few_statements : statements ≤ 4096
   pub policies : AllByRecursion HasFewPolicies world.principals
   pub orgs : AllByRecursion (λ account. HasFewLevels account.org) world.accounts
+  pub controls : AllByRecursion (λ resource. HasFewLevels resource.control) world.resources
   pub moment : world.moment ≤ 253402300799
   pub contexts : CanJoin world

@@ -11,7 +11,14 @@ abbrev pub bare_account : AccountView → AccountValue
 bare_account view = record { id = view.id; management = view.management; org = [] }
 
 abbrev pub bare_resource : ResourceView → ResourceValue
-bare_resource view = record { arn = view.arn; account = view.account; policy = None; sealed = view.sealed; context = [] }
+bare_resource view = record {
+  arn = view.arn;
+  account = view.account;
+  policy = None;
+  sealed = view.sealed;
+  context = [];
+  control = [];
+}
 
 -- with these
 abbrev pub made_account : AccountValue × List (List PolicyValue) → AccountValue
@@ -27,11 +34,12 @@ made_principal p = record {
   context = p.1;
 }
 
-abbrev pub made_resource : (ResourceValue × Option PolicyValue) × ContextValue → ResourceValue
+abbrev pub made_resource : ((ResourceValue × Option PolicyValue) × List (List PolicyValue)) × ContextValue → ResourceValue
 made_resource p = record {
-  arn = p.0.0.arn;
-  account = p.0.0.account;
-  policy = p.0.1;
-  sealed = p.0.0.sealed;
+  arn = p.0.0.0.arn;
+  account = p.0.0.0.account;
+  policy = p.0.0.1;
+  sealed = p.0.0.0.sealed;
   context = p.1;
+  control = p.0.1;
 }

@@ -6,8 +6,8 @@ use Rattle.iam_app.specs.Streams.{AppendsBeginning}
 use Rattle.iam_app.proofs.output.write_pieces.Goals as goal
 
 -- the pieces that were written, and then a beginning of this one
-pub returns-in_err-write_output-clause-err : goal.returns-in_err-write_output-clause-err
-returns-in_err-write_output-clause-err g c =
+pub returns-in_err-write_text-clause-err : goal.returns-in_err-write_text-clause-err
+returns-in_err-write_text-clause-err g c =
     let pieces = c.args.pieces.now in
     let i = c.loop-piece.piece-index in
     let before = flat_map string_bytes (take i pieces) in
@@ -19,4 +19,4 @@ returns-in_err-write_output-clause-err g c =
     ∙ ap (λ text. before ++ (text ++ rest)) this in
     let p = err_from_is_err_and c.from_residual.result c.from_residual.ensures.1 in
     rw p.1
-    (subst (AppendsBeginning _ _) (sym whole) (beginning_behind _ _ _ before c.as_bytes.result.now rest c.loop-piece.invariant c.in_err-write_output.ensures.err))
+    (subst (AppendsBeginning _ _) (sym whole) (beginning_behind _ _ _ before c.as_bytes.result.now rest c.loop-piece.invariant c.in_err-write_text.ensures.err))

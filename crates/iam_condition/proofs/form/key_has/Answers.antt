@@ -10,4 +10,4 @@ returns-then-has_texts c =
     let texts = sym c.has_texts.ensures ∙ c.if-has_texts.true in
     let values = c.values_under-values in
     rw (c.in-BadText.is, texts)
-    (c.is_some_text_bad.ensures ∙ sym (any-map view is_bad_text values.result.now) ∙ ap (list_any is_bad_text) values.ensures)
+    (c.is_some_text_bad.ensures ∙ sym (any-map view (is_bad_text c.in-BadText.version) values.result.now) ∙ ap (list_any (is_bad_text c.in-BadText.version)) values.ensures)

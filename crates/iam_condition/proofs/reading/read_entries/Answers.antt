@@ -8,4 +8,4 @@ use Rattle.iam_condition.proofs.reading.read_entries.Goals as goal
 pub read_keys-requires : goal.read_keys-requires
 read_keys-requires c =
     rw c.as_slice.ensures.value
-    (subst (AllByRecursion IsFineGiven) (sym c.in_ok-keys.ensures) (all_fine (view c.args.condition.now) c.requires.texts c.requires.values))
+    (subst (AllByRecursion (IsFineGiven c.args.version)) (sym c.in_ok-keys.ensures) (all_fine c.args.version (view c.args.condition.now) c.requires.texts c.requires.values))

@@ -9,4 +9,4 @@ read_text-requires-2 c =
     let d = view c.args.value.now in
     let text : scalar_text d ≡ Some c.as_str-2.result.now =
     sym c.in_ok-scalar_text.ensures ∙ ap (option_map string_bytes) c.unwrap-text.ensures ∙ ap Some (sym c.as_str-2.ensures.value) in
-    other_is_fine c.args.base d c.as_str-2.result.now (sym c.in_default.ensures) text c.requires
+    other_is_fine c.args.version c.args.base d c.as_str-2.result.now (sym c.in_default.ensures) text c.requires

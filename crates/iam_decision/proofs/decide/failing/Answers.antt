@@ -1,6 +1,6 @@
 use Rattle.std.proofs.Common.{List, take, ◌+◌, sym, ◌∙◌, ap, subst}
 use Rattle.iam_decision.specs.Matched.{Selects}
-use Rattle.iam_decision.specs.Code.Scan.{value_of}
+use Rattle.iam_decision.specs.Applicable.{value_of}
 use Rattle.iam_decision.specs.Code.Found.{AllowsIn, GrantsIn}
 use Rattle.iam_decision.specs.Decision.{Fails}
 use Rattle.iam_decision.specs.declared.place.Layer.{Layer}

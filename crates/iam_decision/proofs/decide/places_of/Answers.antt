@@ -3,7 +3,7 @@ use Rattle.std.proofs.lemmas.List.{map-append}
 use Rattle.iam_policy.specs.declared.effect.Effect.TheVariants.{Allow}
 use Rattle.iam_match.specs.declared.principal.Grant.TheVariants.{None}
 use Rattle.iam_decision.specs.declared.place.Layer.TheVariants.{Org}
-use Rattle.iam_decision.specs.declared.scan.Matched.{Matched}
+use Rattle.iam_decision.specs.declared.living.Matched.{Matched}
 use Rattle.iam_decision.proofs.ScanLemmas.{select_more, select_skip}
 use Rattle.iam_decision.proofs.decide.places_of.Goals as goal
 use Rattle.iam_decision.proofs.decide.places_of.Goals.{then-has_effect+in_ok-push, else-has_effect}

@@ -1,5 +1,5 @@
 use Rattle.std.proofs.Common.{◌↔◌, IfOk, IsTrue, Option, subst}
-use Rattle.iam_policy.specs.Reading.{ResourceElement}
+use Rattle.iam_element.specs.Reading.{ResourceElement}
 use Rattle.iam_match.specs.Statement.{ResourceMatches}
 use Rattle.iam_match.proofs.resource.resource_matches.Goals as goal
 

@@ -6,14 +6,14 @@ use Rattle.iam_match.proofs.statement.rest_matches.Goals as goal
 
 pub returns : goal.returns
 returns c =
-    let P : List EntryValue → Type 0 = λ es. IfOk c.conditions_hold.result (λ held. IsTrue held ↔ All (EntryHolds c.args.request.now.context.now) es) in
+    let P : List EntryValue → Type 0 = λ es. IfOk c.conditions_hold.result (λ held. IsTrue held ↔ All (EntryHolds c.args.access.context.now) es) in
     IfOk-weaker c.conditions_hold.result _ _
     (λ held agrees. (
-      λ t. (
-        c.principal_matches.ensures.0 c.if-not-principal_matches.false,
-        c.in_ok-resource_matches.ensures.0 c.if-not-branch.false,
-        agrees.0 t,
-      ),
-      λ rest. agrees.1 rest.2,
+      λ t. record {
+        principal = c.principal_matches.ensures.0 c.if-not-principal_matches.false;
+        resource = c.in_ok-resource_matches.ensures.0 c.if-not-branch.false;
+        conditions = agrees.0 t;
+      },
+      λ rest. agrees.1 rest.conditions,
     ))
     (subst P c.conditions.ensures c.conditions_hold.ensures)

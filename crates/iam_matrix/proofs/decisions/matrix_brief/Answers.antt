@@ -1,7 +1,9 @@
-use Rattle.std.proofs.Common.{ℕ, Vec, Global, List, length, ap, ◌∙◌}
+use Rattle.std.proofs.Common.{ℕ, Vec, Global, List, length, ap, ◌∙◌, sym, subst}
 use Rattle.iam_decision.specs.declared.verdict.Decision.{Decision}
+use Rattle.iam_layers.specs.Cell.{IsDecisionOf}
+use Rattle.iam_matrix.specs.Matrix.{IsBriefMatrix}
 use Rattle.iam_matrix.specs.Code.Tiles.{AreDecisions}
-use Rattle.iam_matrix.proofs.Tiles.{chain-all, chain-decisions, whole}
+use Rattle.iam_matrix.proofs.Tiles.{chain-all, chain-entries, whole-brief}
 use Rattle.iam_matrix.proofs.decisions.matrix_brief.Goals as goal
 
 pub returns-clause-ok : goal.returns-clause-ok
@@ -13,5 +15,5 @@ returns-clause-ok g c =
     let items : Vec Decision Global → List Decision = λ v. v.items in
     let Makes : ℕ → ℕ → Vec Decision Global → Type 0 = λ from n output. AreDecisions world from n output.items in
     let chained = chain-all Makes lengths outputs (gathered.count ∙ ap (λ (ls : List ℕ). length ls) c.lengths.ensures.value) gathered.given in
-    let all = chain-decisions items world 0 lengths outputs chained in
-    (all.0, whole world lengths all.0 c.requires all.1, c.in_ok-joined.ensures ∙ all.2)
+    let P : List Decision → Type 0 = λ ds. IsBriefMatrix world ds in
+    subst P (sym c.in_ok-joined.ensures) (whole-brief world lengths _ c.requires (chain-entries (IsDecisionOf world) items 0 lengths outputs chained))

@@ -12,7 +12,7 @@ pub returns-in-Some : goal.returns-in-Some
 returns-in-Some c =
     let P : Option ℕ → Type 0 = λ found. IsFirstAllowed c.args.world.now found in
     let known = subst P c.in-Some.is c.requires in
-    let at = known.1.1 in
+    let at = known.1 in
     IfOk-weaker c.csv_row_brief.result _ _
     (λ text is. let Q : Option ℕ → Type 0 = λ found. IsFirstText c.args.world.now found text.items in
     subst Q (sym c.in-Some.is) (at.0, at.1, at.2, at.3, is at.0 at.1 at.2 at.3))

@@ -1,4 +1,4 @@
-use Rattle.std.proofs.Common.{◌≤◌, ◌<◌, ℕ}
+use Rattle.std.proofs.Common.{◌≡◌, ◌≤◌, ◌<◌, ℕ}
 use Rattle.iam_matrix.specs.Matrix.{IsDenied}
 use Rattle.iam_matrix.proofs.search.first_in.Given as goal
 
@@ -6,5 +6,6 @@ use Rattle.iam_matrix.proofs.search.first_in.Given as goal
 abbrev pub invariant-loop-cell : goal.invariant-loop-cell
 invariant-loop-cell l = record {
   least : l.from ≤ l.cell;
-  denied : (cell : ℕ) → l.from ≤ cell → cell < l.cell → IsDenied l.world cell;
+  same : l.engine ≡ l.initial.engine;
+  denied : (cell : ℕ) → l.from ≤ cell → cell < l.cell → IsDenied l.initial.engine cell;
 }

@@ -1,8 +1,9 @@
 use Rattle.std.proofs.Common.{ℕ, Vec, Global, List, length, ap, ◌∙◌, sym, subst}
 use Rattle.iam_decision.specs.declared.verdict.Verdict.{Verdict}
+use Rattle.iam_layers.specs.Cell.{IsVerdictOf}
 use Rattle.iam_matrix.specs.Matrix.{IsMatrix}
 use Rattle.iam_matrix.specs.Code.Tiles.{AreVerdicts}
-use Rattle.iam_matrix.proofs.Tiles.{chain-all, chain-verdicts, whole}
+use Rattle.iam_matrix.proofs.Tiles.{chain-all, chain-entries, whole}
 use Rattle.iam_matrix.proofs.verdicts.matrix.Goals as goal
 
 pub returns-clause-ok : goal.returns-clause-ok
@@ -14,4 +15,4 @@ returns-clause-ok g c =
     let Makes : ℕ → ℕ → Vec Verdict Global → Type 0 = λ from n output. AreVerdicts world from n output.items in
     let chained = chain-all Makes lengths c.in_ok-gathered.gathered.outputs.items (gathered.count ∙ ap (λ (ls : List ℕ). length ls) c.lengths.ensures.value) gathered.given in
     let P : List Verdict → Type 0 = λ vs. IsMatrix world vs in
-    subst P (sym c.in_ok-joined.ensures) (whole world lengths _ c.requires (chain-verdicts items world 0 lengths c.in_ok-gathered.gathered.outputs.items chained))
+    subst P (sym c.in_ok-joined.ensures) (whole world lengths _ c.requires (chain-entries (IsVerdictOf world) items 0 lengths c.in_ok-gathered.gathered.outputs.items chained))

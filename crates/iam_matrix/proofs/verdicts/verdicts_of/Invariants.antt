@@ -1,4 +1,4 @@
-use Rattle.std.proofs.Common.{◌-◌, ◌≤◌}
+use Rattle.std.proofs.Common.{◌≡◌, ◌-◌, ◌≤◌}
 use Rattle.iam_matrix.specs.Code.Tiles.{AreVerdicts}
 use Rattle.iam_matrix.proofs.verdicts.verdicts_of.Given as goal
 
@@ -6,5 +6,6 @@ use Rattle.iam_matrix.proofs.verdicts.verdicts_of.Given as goal
 abbrev pub invariant-loop-cell : goal.invariant-loop-cell
 invariant-loop-cell l = record {
   least : l.from ≤ l.cell;
-  so_far : AreVerdicts l.world l.from (l.cell - l.from) l.verdicts.items;
+  same : l.engine ≡ l.initial.engine;
+  so_far : AreVerdicts l.initial.engine l.from (l.cell - l.from) l.verdicts.items;
 }

@@ -9,5 +9,5 @@ use Rattle.iam_policy.proofs.table.statement_fault.Goals as goal
 pub loop-fault-preserved : goal.loop-fault-preserved
 loop-fault-preserved c = λ d i same.
     c.loop-fault.invariant d i same
-    ∙ find-next (line_has c.args.kind d i (view c.args.statement.now) c.args.bad_value) table c.loop-fault.fault-index NotObject _ c.loop-fault-test.true
+    ∙ find-next (line_has c.args.place.kind d i (view c.args.statement.now) c.args.bad_value) table c.loop-fault.fault-index NotObject _ c.loop-fault-test.true
     (sym (c.line_has.ensures d i same) ∙ c.if-line_has.false)

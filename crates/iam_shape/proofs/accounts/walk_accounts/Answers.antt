@@ -4,12 +4,12 @@ use Rattle.std.proofs.lemmas.List.{map-append}
 use Rattle.std.proofs.lemmas.Result.{err_from_is_err_and}
 use Rattle.serde_json.specs.View.{view}
 use Rattle.iam_shape.specs.Code.Texts.{HasTexts}
-use Rattle.iam_shape.specs.Code.Lent.{account_of}
-use Rattle.iam_shape.specs.Shape.{account_checks, all_account_checks, text_at, nth_account_checks}
+use Rattle.iam_shape.specs.Lent.{account_of}
+use Rattle.iam_shape.specs.Shape.{text_at, nth_account_checks}
 use Rattle.iam_shape.specs.View.{AccountView, IsAccountView}
 use Rattle.iam_shape.specs.declared.path.Name.TheVariants.{Id}
 use Rattle.iam_shape.proofs.AccountIds.{earlier-ids}
-use Rattle.iam_shape.proofs.Walks.{each_here, each_later, shape_fault-from, zip_more_of}
+use Rattle.iam_shape.proofs.Walks.{each_here, each_later, zip_more_of}
 use Rattle.iam_shape.proofs.accounts.walk_accounts.Goals as goal
 
 pub returns-in_err-view-clause-path : goal.returns-in_err-view-clause-path
@@ -23,13 +23,9 @@ returns-in_err-view-clause-path c =
     rw (p.1, p.2)
     (
     λ other.
-    shape_fault-from (account_checks ids i (view c.index-accounts-i.result)) (all_account_checks (map view vs))
-    (
-    λ path bad.
     c.loop-i.invariant.left
-    ∙ each_here view (nth_account_checks (map view vs)) vs i c.index-accounts-i.result path c.loop-i-test.true c.index-accounts-i.is bad
-    )
-    c.in_err-view.field-0.0 (c.in_err-view.ensures.path other ids known)
+    ∙ each_here view (nth_account_checks (map view vs)) vs i c.index-accounts-i.result c.in_err-view.field-0.0 c.loop-i-test.true c.index-accounts-i.is
+    (c.in_err-view.ensures ids known)
     )
 
 pub loop-i-preserved : goal.loop-i-preserved
@@ -39,7 +35,7 @@ loop-i-preserved c =
     let views = c.loop-i.views.items in
     let known : HasTexts c.loop-i.ids (filter_map (text_at Id) (take i (map view vs))) =
     subst (HasTexts c.loop-i.ids) (earlier-ids view vs i (map account_of views) c.loop-i.invariant.said) c.loop-i.invariant.known in
-    let walked = c.in_ok-view.ensures.ok (filter_map (text_at Id) (take i (map view vs))) known in
+    let walked = c.in_ok-view.ensures (filter_map (text_at Id) (take i (map view vs))) known in
     let ids : List AccountView → List (List ℕ) = map (λ (account : AccountView). account.id) in
     record {
       left =

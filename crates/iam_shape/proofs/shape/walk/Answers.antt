@@ -2,7 +2,7 @@ use Rattle.std.proofs.Common.{◌≡◌, ◌∙◌, Some}
 use Rattle.std.proofs.lemmas.Result.{err_from_is_err_and}
 use Rattle.serde_json.specs.Find.{as_str}
 use Rattle.serde_json.specs.View.{view}
-use Rattle.iam_shape.specs.Code.Lent.{principal_of, resource_of}
+use Rattle.iam_shape.specs.Lent.{principal_of, resource_of}
 use Rattle.iam_shape.specs.Shape.{shape_checks}
 use Rattle.iam_shape.specs.View.{IsPrincipalView, IsResourceView}
 use Rattle.iam_shape.specs.declared.path.Name.TheVariants.{Principals, Actions, Resources}

@@ -1,32 +1,27 @@
-use Rattle.std.proofs.Common.{◌≡◌, ◌≢◌, ◌==◌, ◌∙◌, [], ap, eqb-true, false, true, length, rules, sym}
-use Rattle.std.proofs.lemmas.List.{nil_from_length}
-use Rattle.iam_text.specs.Variables.{is_draft}
-use Rattle.iam_text.proofs.DraftLemmas.{begins-shorter}
-use Rattle.iam_text.proofs.VariableLemmas.{draft-told, no-piece, run-piece}
+use Rattle.std.proofs.Common.{◌≡◌, ◌∙◌, ℕ, List, Bool, true, sym}
+use Rattle.iam_text.specs.declared.version.Version.{Version}
+use Rattle.iam_text.specs.declared.version.Version.TheVariants.{V2012}
+use Rattle.iam_text.specs.Variables.{is_draft, is_draft_in}
+use Rattle.iam_text.proofs.VersionLemmas.{draft_told_in, passes}
 use Rattle.iam_text.proofs.draft.has_draft.Goals as goal
+use Rattle.iam_text.proofs.draft.has_draft.Goals.{Then-is_plain}
 
-pub loop-rest-smaller : goal.loop-rest-smaller
-loop-rest-smaller c = begins-shorter false c.loop-rest.rest.now _ c.in-Some.behind.now (c.in-Some.ensures false)
+plain : (c : Then-is_plain) → c.is_plain.result ≡ is_draft_in c.args.version c.args.text.now
+plain c = c.if-is_plain.true ∙ sym (passes c.args.version true c.args.text.now _ (c.is_plain.ensures.plain c.if-is_plain.true true))
 
-pub loop-rest-preserved : goal.loop-rest-preserved
-loop-rest-preserved c = (search rules, c.loop-rest.invariant.1 ∙ run-piece false c.loop-rest.rest.now _ c.in-Some.behind.now (c.in-Some.ensures false))
+pub returns-then-is_plain-clause-value : goal.returns-then-is_plain-clause-value
+returns-then-is_plain-clause-value c = plain c
 
-off : (c : goal.In-None) → false ≡ is_draft c.args.text.now
-off c =
-    let some : c.loop-rest.rest.now ≢ [] = λ none.
-    let empty : (length c.loop-rest.rest.now == 0) ≡ true = ap (λ r. length r == 0) none in
-    let no : ⊥ = cc in
-    no in
-    no-piece c.args.text.now c.loop-rest.rest.now c.loop-rest.invariant.1 some c.loop-rest.invariant.0 c.in-None.ensures
+pub returns-then-is_plain-clause-drafts : goal.returns-then-is_plain-clause-drafts
+returns-then-is_plain-clause-drafts c = draft_told_in c.is_plain.result c.args.version c.args.text.now c.utf8.text (plain c)
 
-pub returns-in-None-clause-value : goal.returns-in-None-clause-value
-returns-in-None-clause-value c = off c
+told : (forms : Bool) (version : Version) (text : List ℕ) → version ≡ V2012 → forms ≡ is_draft text → forms ≡ is_draft_in version text
+told forms version text other is = rw other is
 
-pub returns-in-None-clause-drafts : goal.returns-in-None-clause-drafts
-returns-in-None-clause-drafts c = draft-told false c.args.text.now c.utf8.text (off c)
+pub returns-else-is_plain-clause-value : goal.returns-else-is_plain-clause-value
+returns-else-is_plain-clause-value c = told c.has_forms.result c.args.version c.args.text.now (c.is_plain.ensures.other c.if-is_plain.false) c.has_forms.ensures
 
-pub returns-clause-drafts : goal.returns-clause-drafts
-returns-clause-drafts c =
-    let empty : (length c.loop-rest.rest.now == 0) ≡ true = cc in
-    let none : c.loop-rest.rest.now ≡ [] = nil_from_length c.loop-rest.rest.now (eqb-true (length c.loop-rest.rest.now) 0 empty) in
-    draft-told true c.args.text.now c.utf8.text (sym (c.loop-rest.invariant.1 ∙ ap is_draft none))
+pub returns-else-is_plain-clause-drafts : goal.returns-else-is_plain-clause-drafts
+returns-else-is_plain-clause-drafts c =
+    draft_told_in c.has_forms.result c.args.version c.args.text.now c.utf8.text
+    (told c.has_forms.result c.args.version c.args.text.now (c.is_plain.ensures.other c.if-is_plain.false) c.has_forms.ensures)

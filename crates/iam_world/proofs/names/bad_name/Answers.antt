@@ -1,4 +1,4 @@
-use Rattle.iam_shape.specs.Code.LentWorld.{world_of}
+use Rattle.iam_shape.specs.LentWorld.{world_of}
 use Rattle.iam_world.proofs.Clearing.{clear_4, clear_5, clear_6, clear_7}
 use Rattle.iam_world.proofs.names.bad_name.Goals as goal
 

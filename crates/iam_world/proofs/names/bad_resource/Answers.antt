@@ -1,4 +1,4 @@
-use Rattle.iam_shape.specs.Code.Lent.{resource_of}
+use Rattle.iam_shape.specs.Lent.{resource_of}
 use Rattle.iam_world.specs.WorldFault.{is_resource}
 use Rattle.iam_shape.specs.declared.path.Path.TheVariants.{Item}
 use Rattle.iam_shape.specs.declared.path.Name.TheVariants.{Resources}

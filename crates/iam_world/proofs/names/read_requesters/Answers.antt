@@ -1,5 +1,5 @@
 use Rattle.std.proofs.Common.{refl}
-use Rattle.iam_shape.specs.Code.Lent.{principal_of}
+use Rattle.iam_shape.specs.Lent.{principal_of}
 use Rattle.iam_world.specs.WorldFault.{IsNoRequester, IsRequesterAt}
 use Rattle.iam_shape.specs.declared.path.Name.TheVariants.{Principals}
 use Rattle.iam_shape.specs.declared.path.Path.TheVariants.{Item}

@@ -1,6 +1,6 @@
 use Rattle.std.proofs.Common.{map, take, drop}
 use Rattle.std.specs.List.{AllZip}
-use Rattle.iam_shape.specs.Code.Lent.{principal_of}
+use Rattle.iam_shape.specs.Lent.{principal_of}
 use Rattle.iam_shape.specs.First.{IsFirstAt, placed}
 use Rattle.iam_world.specs.WorldFault.{IsNoRequester, IsRequesterAt}
 use Rattle.iam_shape.specs.declared.path.Path.TheVariants.{Item}

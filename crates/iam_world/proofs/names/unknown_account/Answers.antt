@@ -2,8 +2,8 @@ use Rattle.std.proofs.Common.{◌≡◌, ◌∙◌, List, map, not, option_map, 
 use Rattle.std.specs.BTreeSet.{contains_text}
 use Rattle.std.specs.List.{position_from}
 use Rattle.iam_world.specs.Code.ViewFault.{FindsFirst}
-use Rattle.iam_shape.specs.Code.Lent.{resource_of}
-use Rattle.iam_shape.specs.Code.LentWorld.{world_of}
+use Rattle.iam_shape.specs.Lent.{resource_of}
+use Rattle.iam_shape.specs.LentWorld.{world_of}
 use Rattle.iam_shape.specs.First.{placed}
 use Rattle.iam_world.specs.WorldFault.{IsOfUnknownAccount, of_principal, of_resource}
 use Rattle.iam_shape.specs.declared.path.Name.TheVariants.{Principals, Resources}

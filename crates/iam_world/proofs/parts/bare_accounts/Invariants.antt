@@ -1,5 +1,5 @@
 use Rattle.std.proofs.Common.{◌≡◌, ◌++◌, map, drop}
-use Rattle.iam_shape.specs.Code.Lent.{account_of}
+use Rattle.iam_shape.specs.Lent.{account_of}
 use Rattle.iam_world.specs.Code.Made.{bare_account}
 use Rattle.iam_world.proofs.parts.bare_accounts.Given as goal
 

@@ -1,5 +1,5 @@
 use Rattle.std.proofs.Common.{◌≡◌, ◌++◌, map, drop}
-use Rattle.iam_shape.specs.Code.Lent.{resource_of}
+use Rattle.iam_shape.specs.Lent.{resource_of}
 use Rattle.iam_world.specs.Code.Made.{bare_resource}
 use Rattle.iam_world.proofs.parts.bare_resources.Given as goal
 

@@ -1,7 +1,7 @@
 use Rattle.std.proofs.Common.{List, map, string_bytes, refl, sym, subst}
 use Rattle.std.specs.List.{AllZip}
-use Rattle.iam_shape.specs.Code.Lent.{account_of, principal_of, resource_of}
-use Rattle.iam_shape.specs.Code.LentWorld.{world_of}
+use Rattle.iam_shape.specs.Lent.{account_of, principal_of, resource_of}
+use Rattle.iam_shape.specs.LentWorld.{world_of}
 use Rattle.iam_world.specs.Reads.{ReadsAccount, ReadsPrincipal, ReadsResource, ReadsWorld}
 use Rattle.iam_world.specs.World.{AccountValue, PrincipalValue, ResourceValue}
 use Rattle.iam_world.proofs.Worlds.{reads_accounts, reads_principals, reads_resources, sized}
@@ -36,8 +36,8 @@ read c =
       actions = rw c.as_slice-2.ensures.value at c.in_ok-read_actions.ensures;
       resources =
           subst R (sym (rw c.as_slice-3.ensures.value at c.in_ok-resources.ensures))
-          (reads_resources (λ part. part.items) (map resource_of lent.resources.items) policies.resource.items contexts.resources.items c.requires.policies.resource
-          c.requires.contexts.resources);
+          (reads_resources (λ levels. map (λ level. level.items) levels.items) (λ part. part.items) (map resource_of lent.resources.items) policies.resource.items
+          policies.control.items contexts.resources.items c.requires.policies.resource c.requires.policies.control c.requires.contexts.resources);
       context = c.requires.contexts.world;
     }
 

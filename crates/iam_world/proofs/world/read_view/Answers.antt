@@ -1,5 +1,5 @@
 use Rattle.std.proofs.lemmas.Result.{err_from_is_err_and}
-use Rattle.iam_shape.specs.Code.LentWorld.{world_of}
+use Rattle.iam_shape.specs.LentWorld.{world_of}
 use Rattle.iam_world.proofs.Clearing.{clear_8, clear_9, clear_all, first_refused}
 use Rattle.iam_world.proofs.world.read_view.Goals as goal
 

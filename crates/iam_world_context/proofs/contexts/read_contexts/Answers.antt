@@ -1,8 +1,8 @@
 use Rattle.std.proofs.Common.{◌≡◌, map, option_map, refl}
 use Rattle.std.proofs.lemmas.Result.{err_from_is_err_and}
 use Rattle.serde_json.specs.View.{view}
-use Rattle.iam_shape.specs.Code.Lent.{principal_of, resource_of}
-use Rattle.iam_shape.specs.Code.LentWorld.{world_of}
+use Rattle.iam_shape.specs.Lent.{principal_of, resource_of}
+use Rattle.iam_shape.specs.LentWorld.{world_of}
 use Rattle.iam_shape.specs.View.{PrincipalView, ResourceView}
 use Rattle.iam_world_context.specs.Part.{part_of}
 use Rattle.iam_world_context.specs.Contexts.{principal_parts, resource_parts}

@@ -1,23 +1,11 @@
-use Rattle.std.proofs.Common.{inl, inr}
+use Rattle.std.proofs.Common.{Bool, Option, MatchOption, IfOk, subst}
+use Rattle.iam_value.specs.Reading.{IsReading}
+use Rattle.iam_condition.specs.Operand.{IsTextOperand, IsValueOperand}
 use Rattle.iam_condition.proofs.operand.Operand.read.Goals as goal
 
-pub returns-in-Text : goal.returns-in-Text
-returns-in-Text c = rw c.in-Text.is (rw c.is_wild.ensures at c.read_text.ensures)
-
-pub returns-in-Arn : goal.returns-in-Arn
-returns-in-Arn c = rw c.in-Arn.is c.read_text-in-Arn.ensures
-
-pub returns-in-Number : goal.returns-in-Number
-returns-in-Number c = rw c.in-Number.is c.read_number.ensures
-
-pub returns-in-Date : goal.returns-in-Date
-returns-in-Date c = rw c.in-Date.is c.read_date.ensures
-
-pub returns-in-Truth : goal.returns-in-Truth
-returns-in-Truth c = elim c.in-Truth.is [ inl e ↦ rw e c.read_truth.ensures | inr e ↦ rw e c.read_truth.ensures ]
-
-pub returns-in-Binary : goal.returns-in-Binary
-returns-in-Binary c = rw c.in-Binary.is c.read_bytes.ensures
-
-pub returns-in-Address : goal.returns-in-Address
-returns-in-Address c = rw c.in-Address.is c.read_range.ensures
+pub returns-in-Some : goal.returns-in-Some
+returns-in-Some c =
+    let text = c.args.text.now in
+    let P : Option Bool → Type 0 = λ form. IfOk c.read_text.result (λ found. IsReading found
+    (λ value. MatchOption form (IsValueOperand c.args.base text value) (λ wild. IsTextOperand c.args.version wild text value))) in
+    subst P c.in-Some.ensures c.read_text.ensures

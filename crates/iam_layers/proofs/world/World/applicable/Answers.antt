@@ -6,8 +6,8 @@ pub returns-clause-numbered : goal.returns-clause-numbered
 returns-clause-numbered c =
     let P : List PolicyValue → Type 0 = λ policies. length policies < 2 ^ 32 in
     record {
-      levels = c.org.ensures.few.levels_few;
-      org = c.org.ensures.few.policies_few;
+      org = record { levels_count = c.org_of.ensures.few.levels_few; policies_count = c.org_of.ensures.few.policies_few };
+      control = record { levels_count = c.control_of.ensures.few.levels_few; policies_count = c.control_of.ensures.few.policies_few };
       identity = subst P (sym c.identity.ensures) c.principal-principal.ensures.few.identity;
       session = subst P (sym c.session.ensures) c.principal-principal.ensures.few.session;
     }

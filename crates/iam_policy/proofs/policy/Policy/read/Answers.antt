@@ -1,7 +1,11 @@
-use Rattle.std.proofs.Common.{sym, ◌∙◌}
+use Rattle.std.proofs.Common.{sym, ◌∙◌, ap, subst, Some}
 use Rattle.std.proofs.lemmas.Result.{err_from_is_err_and}
+use Rattle.std.specs.List.{AllZip}
 use Rattle.serde_json.specs.View.{view}
-use Rattle.iam_policy.proofs.FaultLaws.{document_least, refused_least, accepted}
+use Rattle.iam_text.specs.declared.version.Version.{Version}
+use Rattle.iam_policy.specs.Fault.{statements_in}
+use Rattle.iam_policy.specs.Reading.{ReadsStatement}
+use Rattle.iam_policy.proofs.FaultLaws.{document_least, refused_least, accepted, version_is}
 use Rattle.iam_policy.proofs.policy.Policy.read.Goals as goal
 
 pub returns-in-Some-clause-least : goal.returns-in-Some-clause-least
@@ -16,7 +20,12 @@ returns-in_err-statements-clause-least c =
     (c.in_err-statements.ensures.first known))
 
 pub returns-clause-ok : goal.returns-clause-ok
-returns-clause-ok c = (
-  accepted c.args.kind (view c.args.value.now) (sym c.document_fault.ensures ∙ c.in_default.is) c.in_ok-statements.ensures.clean,
-  c.in_ok-statements.ensures.read,
-)
+returns-clause-ok c =
+    let d = view c.args.value.now in
+    let none = accepted c.args.kind d (sym c.document_fault.ensures ∙ c.in_default.is) c.in_ok-statements.ensures.clean in
+    let P : Version → Type 0 = λ v. AllZip (ReadsStatement v) (statements_in d) c.in_ok-statements.statements.items in
+    record {
+      accepted = none;
+      version = version_is c.args.kind d none ∙ ap Some (sym c.version_of.ensures);
+      statements = subst P (sym c.version_of.ensures) c.in_ok-statements.ensures.read;
+    }

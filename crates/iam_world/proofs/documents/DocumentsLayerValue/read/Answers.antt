@@ -10,10 +10,10 @@ pub returns-in-Ok-clause-cleared : goal.returns-in-Ok-clause-cleared
 returns-in-Ok-clause-cleared c =
     let reads = c.in-Ok.ensures.ok in
     let d = view c.args.document.now in
-    let many : length (statements_in d) ≡ length c.in-Ok.policy.statements = zip-length _ _ c.in-Ok.policy.statements reads.1 in
+    let many : length (statements_in d) ≡ length c.in-Ok.policy.statements = zip-length _ _ c.in-Ok.policy.statements reads.statements in
     let lent : length c.statements.result.now ≡ length c.in-Ok.policy.statements = ap length c.statements.ensures.value in
     record {
-      accepted = ((λ off. off reads.0), tt);
+      accepted = ((λ off. off reads.accepted), tt);
       counted = λ total leaves.
           let sum : total + length c.statements.result.now ≡ total + (0 + length (statements_in d)) = omega (arith, many, lent) in
           subst (Leaves c.count.new.self) sum (c.count.ensures total leaves);

@@ -1,6 +1,6 @@
 use Rattle.std.proofs.lemmas.Result.{IfOk-weaker, IfErr-weaker}
 use Rattle.serde_json.specs.View.{view}
-use Rattle.iam_shape.specs.Code.LentWorld.{world_of}
+use Rattle.iam_shape.specs.LentWorld.{world_of}
 use Rattle.iam_world.proofs.FaultSet.{first_of_view, to_view}
 use Rattle.iam_world.proofs.world.WorldParts.read.Goals as goal
 

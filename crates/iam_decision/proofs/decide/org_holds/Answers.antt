@@ -1,7 +1,0 @@
-use Rattle.std.proofs.Common.{below_more}
-use Rattle.iam_decision.specs.Code.Found.{AllowsIn}
-use Rattle.iam_decision.specs.declared.place.Layer.TheVariants.{Org}
-use Rattle.iam_decision.proofs.decide.org_holds.Goals as goal
-
-pub loop-level-preserved : goal.loop-level-preserved
-loop-level-preserved c = below_more (AllowsIn c.args.found.now Org) c.loop-level.level c.loop-level.invariant (c.allows.ensures.0 c.if-not-allows.false)

@@ -1,0 +1,10 @@
+use Rattle.std.proofs.Common.{map, take}
+use Rattle.iam_match.specs.Request.{access_of}
+use Rattle.iam_decision.specs.Matched.{in_layer}
+use Rattle.iam_decision.specs.Code.Scan.{Adds}
+use Rattle.iam_decision.specs.Living.{living_value}
+use Rattle.iam_decision.proofs.scan.scan_layer.Given as goal
+
+abbrev pub invariant-loop-number : goal.invariant-loop-number
+invariant-loop-number l =
+    Adds (access_of l.access) (in_layer l.layer (take l.number (map (λ level. level.items) l.levels))) (map living_value l.initial.found.items) (map living_value l.found.items)

@@ -1,0 +1,55 @@
+-- The statements of the applicable policies that match a request once their action elements do, and those that match: what
+-- a decision needs of them. No action is looked at for the former, so requests for many actions share them.
+use Rattle.std.specs.Prelude.{◌≡◌, List, map}
+use Rattle.iam_element.specs.Reading.{ActionElement}
+use Rattle.iam_match.specs.Principal.{grant_of}
+use Rattle.iam_match.specs.Requester.{RequesterValue}
+use Rattle.iam_match.specs.Statement.{AccessValue, RequestValue, RestMatches}
+use Rattle.iam_decision.specs.Applicable.{ApplicableValue}
+use Rattle.iam_decision.specs.Matched.{IsMatched, Placed, Selects, placed}
+use Rattle.iam_decision.specs.declared.living.Living.{Living}
+use Rattle.iam_decision.specs.declared.living.Matched.{Matched}
+
+-- what is kept of a statement that matches
+abbrev pub item_of : RequesterValue → Placed → Matched
+item_of requester s = record {
+  place = s.place;
+  effect = s.statement.effect;
+  grant = grant_of s.statement.principal requester;
+}
+
+-- what is kept of a statement that lives, with its action element
+pub record LivingValue : Type 0 where
+  pub matched : Matched
+  pub action : ActionElement
+
+abbrev pub living_of : RequesterValue → Placed → LivingValue
+living_of requester s = record { matched = item_of requester s; action = s.statement.action }
+
+-- without where it lies in memory
+abbrev pub living_value : Living → LivingValue
+living_value living = record { matched = living.matched; action = living.action.now }
+
+-- all elements of the statement but its action element match
+abbrev pub Lives : AccessValue → Placed → Type 0
+Lives access s = RestMatches s.statement access
+
+-- these are the living ones of the statements, in order
+abbrev pub AreLiving : AccessValue → List Placed → List LivingValue → Type 0
+AreLiving access statements living =
+    (chosen : List Placed) × Selects (Lives access) statements chosen × (living ≡ map (living_of access.requester) chosen)
+
+-- these are the statements that match the request, in order
+abbrev pub AreFound : RequestValue → List Placed → List Matched → Type 0
+AreFound q statements found =
+    (chosen : List Placed) × Selects (IsMatched q) statements chosen × (found ≡ map (item_of q.requester) chosen)
+
+-- what requests share: the policies that apply, and their living statements
+pub record SharedValue : Type 0 where
+  pub applicable : ApplicableValue
+  pub living : List LivingValue
+
+-- these are shared by the requests for this access to which these policies apply
+pub record IsShared (a : ApplicableValue) (access : AccessValue) (shared : SharedValue) : Type 0 where
+  pub applicable : shared.applicable ≡ a
+  pub living : AreLiving access (placed a) shared.living

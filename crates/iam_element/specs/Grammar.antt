@@ -1,0 +1,54 @@
+-- Tests on the texts of a statement: AWS IAM User Guide, "Grammar of the IAM JSON policy language".
+-- A text is the list of its bytes.
+use Rattle.std.specs.Prelude.{ℕ, List, [], ◌∷◌, Bool, true, false, not, ◌&&◌, ◌||◌, ◌==◌, length, nat_eq, nat_le, nat_lt, codes, Option, Some, None, option_map, if◌then◌else◌}
+use Rattle.std.specs.List.{starts_with, list_any}
+use Rattle.std.specs.Option.{option_map_or}
+use Rattle.std.specs.Str.{bytes_eq}
+use Rattle.std.specs.Char.{is_ascii_alphanumeric}
+use Rattle.iam_text.specs.declared.version.Version.{Version}
+use Rattle.iam_text.specs.declared.version.Version.TheVariants.{V2012, V2008}
+use Rattle.iam_text.specs.Action.{is_wildcard}
+use Rattle.iam_text.specs.Arn.{colons}
+use Rattle.iam_text.specs.Characters.{is_run, is_account}
+use Rattle.iam_text.specs.Variables.{is_draft}
+
+-- a text that begins with `arn:`
+abbrev pub begins_as_arn : List ℕ → Bool
+begins_as_arn text = starts_with nat_eq text (codes "arn:")
+
+-- `*`, or a text that begins with `arn:`
+abbrev pub is_resource : List ℕ → Bool
+is_resource text = bytes_eq text (codes "*") || begins_as_arn text
+
+-- what stands before the first `${`; `None` where there is none
+abbrev pub before_variable : List ℕ → Option (List ℕ)
+before_variable [] = None
+before_variable (c ∷ []) = None
+before_variable (c ∷ d ∷ text) =
+    if c == 36 && d == 123 then Some [] else option_map (λ front. c ∷ front) (before_variable (d ∷ text))
+
+-- a `${` stands there, and fewer than five colons before the first one
+abbrev pub has_early_variable : List ℕ → Bool
+has_early_variable text = option_map_or (λ front. nat_lt (colons front) 5) (before_variable text) false
+
+-- a resource text off the variable grammar, or one whose first `${` stands in its first five parts; in a document of
+-- version 2008-10-17 no variable begins
+abbrev pub is_bad_variable : Version → List ℕ → Bool
+is_bad_variable V2012 text = not (is_draft text) || has_early_variable text
+is_bad_variable V2008 text = false
+
+-- a text that begins with `arn:`, has six parts, and holds no wildcard
+abbrev pub is_whole_arn : List ℕ → Bool
+is_whole_arn text = begins_as_arn text && nat_le 5 (colons text) && not (list_any is_wildcard text)
+
+-- the unique id of a principal: 1 to 128 ASCII letters or digits
+abbrev pub is_unique_id : List ℕ → Bool
+is_unique_id text = is_run is_ascii_alphanumeric text && nat_le (length text) 128
+
+-- a text under `AWS`: `*`, an account, an ARN or a unique id
+abbrev pub is_aws_name : List ℕ → Bool
+is_aws_name text = bytes_eq text (codes "*") || is_account text || is_whole_arn text || is_unique_id text
+
+-- any text
+abbrev pub is_any_name : List ℕ → Bool
+is_any_name text = true

@@ -1,0 +1,6 @@
+pub mod Code
+pub mod Element
+pub mod Grammar
+pub mod Principal
+pub mod Reading
+pub mod Resource

@@ -1,0 +1,85 @@
+ghost use Rattle.std.specs.Prelude.{◌≡◌, codes, false, map, IfOk};
+ghost use Rattle.std.specs.List.{filter_map};
+ghost use Rattle.serde_json.specs.Find.{as_str, get};
+ghost use Rattle.serde_json.specs.View.{view};
+ghost use Rattle.iam_element.specs.Element.{neither};
+ghost use Rattle.iam_element.specs.Reading.{ReadsAction, pattern_of};
+
+use crate::OutOfMemory;
+use crate::element::{Element, either, values_in};
+use iam_text::Glob;
+use serde_json::Value;
+use std::alloc::Global;
+use std::marker::Model;
+
+/// The element `Action` or `NotAction` of a statement.
+///
+/// AWS IAM User Guide, "IAM JSON policy elements: Action".
+#[derive(Debug, Drop)]
+pub struct Actions {
+    is_negated: bool,
+    patterns: Vec<Glob>,
+}
+
+impl Model for Actions {
+    ghost use Rattle.iam_element.specs.Reading.{ActionElement};
+
+    ghost Value = { ActionElement };
+
+    ghost view = { λ a. record { negated = a.is_negated; patterns = a.patterns.items } };
+}
+
+impl Actions {
+    ghost use Rattle.std.specs.Prelude.{◌≡◌, IfOk, Some, map};
+    ghost use Rattle.serde_json.specs.View.{view};
+    ghost use Rattle.iam_element.specs.Element.{texts_of};
+    ghost use Rattle.iam_element.specs.Reading.{pattern_of};
+
+    /// Whether the element is `NotAction`.
+    pub fn is_negated(&self) -> bool
+        ensures { result ≡ self.now.negated }
+    {
+        self.is_negated
+    }
+
+    /// The pattern of each text of the element.
+    pub fn patterns(&self) -> &[Glob]
+        ensures { result.now ≡ self.now.patterns }
+    {
+        self.patterns.as_slice()
+    }
+
+    /// Reads the element.
+    fn read(alloc: Global, element: Element<'_>) -> Result<Actions, OutOfMemory>
+        ensures { IfOk result (λ r. r ≡ record {
+          negated = element.entry.is_negated;
+          patterns = map pattern_of (texts_of (Some (view element.entry.value.now)));
+        }) }
+    {
+        Ok(Actions {
+            is_negated: element.is_negated,
+            patterns: patterns(alloc, values_in(element.value))?,
+        })
+    }
+}
+
+/// Reads the `Action` or the `NotAction` that stands in a statement.
+pub fn read_action(alloc: Global, statement: &Value) -> Result<Actions, OutOfMemory>
+    requires { neither (get (codes "Action") (view statement.now)) (get (codes "NotAction") (view statement.now)) ≡ false }
+    ensures { IfOk result (λ r. ReadsAction (view statement.now) r) }
+{
+    Actions::read(alloc, either(statement, "Action", "NotAction").unwrap())
+}
+
+/// The patterns of the texts among the values, in which `*` and `?` are wildcards.
+fn patterns(alloc: Global, values: &[Value]) -> Result<Vec<Glob>, OutOfMemory>
+    ensures { IfOk result (λ globs. globs.items ≡ map pattern_of (filter_map as_str (map view values.now))) }
+{
+    let mut globs = Vec::new(alloc);
+    for value in values {
+        if let Some(text) = value.as_str() {
+            globs.push(Glob::read(alloc, text)?)?;
+        }
+    }
+    Ok(globs)
+}

@@ -1,0 +1,136 @@
+ghost use Rattle.std.specs.Prelude.{◌≡◌, map, Some, MatchOption, true, if◌then◌else◌};
+ghost use Rattle.std.specs.List.{list_all, list_any};
+ghost use Rattle.serde_json.specs.Find.{get};
+ghost use Rattle.serde_json.specs.View.{view};
+ghost use Rattle.iam_element.specs.Code.Form.{form_of};
+ghost use Rattle.iam_element.specs.Element.{both, neither, listed, is_text, is_no_text, are_texts, is_bad_list, has_text, is_this, is_too_long};
+
+use crate::grammar::Form;
+use serde_json::Value;
+use std::slice;
+
+/// How many statements a document may have, and how many members a list of a statement.
+pub const MOST: usize = 4096;
+
+/// Whether both elements stand there.
+pub fn has_both(of: &Value, name: &str, other: &str) -> bool
+    ensures { result ≡ both (get name.now (view of.now)) (get other.now (view of.now)) }
+{
+    of.get(name).is_some() && of.get(other).is_some()
+}
+
+/// Whether neither element stands there.
+pub fn has_neither(of: &Value, name: &str, other: &str) -> bool
+    ensures { result ≡ neither (get name.now (view of.now)) (get other.now (view of.now)) }
+{
+    of.get(name).is_none() && of.get(other).is_none()
+}
+
+/// What stands in a list of texts, where one text may stand without brackets.
+pub fn listed<'v>(of: &'v Value, name: &str) -> &'v [Value]
+    ensures { map view result.now ≡ listed (get name.now (view of.entry.now)) }
+{
+    of.get(name).map_or(&[], values_in)
+}
+
+/// The values of a list, or one text.
+pub fn values_in(value: &Value) -> &[Value]
+    ensures { map view result.now ≡ listed (Some (view value.entry.now)) }
+{
+    match iam_json::values(value) {
+        Some(values) => values,
+        None => {
+            if value.is_string() {
+                slice::from_ref(value)
+            } else {
+                &[]
+            }
+        }
+    }
+}
+
+/// Whether the value is a text of the form.
+pub fn is_text(value: &Value, form: Form) -> bool
+    ensures { result ≡ is_text (form_of form) (view value.now) }
+{
+    value.as_str().is_some_and(|text| form.fits(text))
+}
+
+/// Whether the element stands there and is no text.
+pub fn is_no_text(of: &Value, name: &str) -> bool
+    ensures { result ≡ is_no_text (get name.now (view of.now)) }
+{
+    of.get(name).is_some_and(|value| !value.is_string())
+}
+
+fn all_texts(values: &[Value], form: Form) -> bool
+    ensures { result ≡ list_all (λ v. is_text (form_of form) (view v)) values.now }
+{
+    values.iter().all(|value| is_text(value, form))
+}
+
+fn are_texts(values: &[Value], form: Form) -> bool
+    ensures { result ≡ are_texts (form_of form) (map view values.now) }
+{
+    !values.is_empty() && all_texts(values, form)
+}
+
+fn any_text(values: &[Value], form: Form) -> bool
+    ensures { result ≡ list_any (λ v. is_text (form_of form) (view v)) values.now }
+{
+    values.iter().any(|value| is_text(value, form))
+}
+
+/// Whether the element stands there and is not one or more texts of the form.
+pub fn is_bad_list(of: &Value, name: &str, form: Form) -> bool
+    ensures { result ≡ is_bad_list (form_of form) (get name.now (view of.now)) }
+{
+    of.get(name).is_some() && !are_texts(listed(of, name), form)
+}
+
+/// Whether some text of the element has the form.
+pub fn has_text(of: &Value, name: &str, form: Form) -> bool
+    ensures { result ≡ has_text (form_of form) (get name.now (view of.now)) }
+{
+    any_text(listed(of, name), form)
+}
+
+/// Whether the element is this text.
+pub fn is_this(of: &Value, name: &str, text: &str) -> bool
+    ensures { result ≡ is_this text.now (get name.now (view of.now)) }
+{
+    of.get(name)
+        .is_some_and(|value| value.as_str().is_some_and(|found| found == text))
+}
+
+/// Whether the element is a list of more members than it may have.
+pub fn is_too_long(of: &Value, name: &str) -> bool
+    ensures { result ≡ is_too_long (get name.now (view of.now)) }
+{
+    listed(of, name).len() > MOST
+}
+
+/// One of two elements of a statement, such as `Action` and `NotAction`.
+#[derive(Clone, Copy)]
+pub struct Element<'v> {
+    pub is_negated: bool,
+    pub value: &'v Value,
+}
+
+/// The first of two elements, or else the second, which is the negated one.
+pub fn either<'v>(of: &'v Value, name: &str, negated_name: &str) -> Option<Element<'v>>
+    ensures { MatchOption result
+        (neither (get name.now (view of.entry.now)) (get negated_name.now (view of.entry.now)) ≡ true)
+        (λ e. get (if e.is_negated then negated_name.now else name.now) (view of.entry.now) ≡ Some (view e.value.now)) }
+{
+    if let Some(value) = of.get(name) {
+        return Some(Element {
+            is_negated: false,
+            value,
+        });
+    }
+    of.get(negated_name).map(|value| Element {
+        is_negated: true,
+        value,
+    })
+}

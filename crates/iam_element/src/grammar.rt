@@ -1,0 +1,106 @@
+ghost use Rattle.std.specs.Prelude.{◌≡◌, nat_le, ◌&&◌, not};
+ghost use Rattle.std.specs.List.{list_all, list_any};
+ghost use Rattle.std.specs.Char.{is_ascii_alphanumeric};
+ghost use Rattle.iam_text.specs.Arn.{colons};
+ghost use Rattle.iam_text.specs.Action.{is_wildcard};
+ghost use Rattle.iam_element.specs.Grammar.{begins_as_arn, is_resource, has_early_variable, is_bad_variable, is_whole_arn, is_unique_id, is_aws_name};
+
+use iam_text::{Arn, Version, has_draft, is_account, is_action, is_wildcard};
+
+/// A form that a text of a statement may have.
+#[derive(Clone, Copy)]
+pub enum Form {
+    /// An action pattern: `*`, or a service prefix, a colon and a name.
+    Action,
+    /// A resource text: `*`, or one that begins with `arn:`.
+    Resource,
+    /// A resource text off the variable grammar of the version, or with a variable before its fifth colon.
+    BadVariable(Version),
+    /// A principal under `AWS`: `*`, an account, an ARN or a unique id.
+    AwsName,
+    /// A principal under another type: any text.
+    AnyName,
+}
+
+impl Form {
+    ghost use Rattle.std.specs.Prelude.{◌≡◌};
+    ghost use Rattle.iam_element.specs.Code.Form.{form_of};
+
+    pub fn fits(self, text: &str) -> bool
+        ensures { result ≡ form_of self text.now }
+    {
+        match self {
+            Form::Action => is_action(text),
+            Form::Resource => is_resource(text),
+            Form::BadVariable(version) => is_bad_variable(text, version),
+            Form::AwsName => is_aws_name(text),
+            Form::AnyName => true,
+        }
+    }
+}
+
+fn begins_as_arn(text: &str) -> bool
+    ensures { result ≡ begins_as_arn text.now }
+{
+    text.starts_with("arn:")
+}
+
+fn is_resource(text: &str) -> bool
+    ensures { result ≡ is_resource text.now }
+{
+    text == "*" || begins_as_arn(text)
+}
+
+fn is_bad_variable(text: &str, version: Version) -> bool
+    ensures { result ≡ is_bad_variable version text.now }
+{
+    match version {
+        Version::V2012 => !has_draft(text, version) || has_early_variable(text),
+        Version::V2008 => false,
+    }
+}
+
+fn has_early_variable(text: &str) -> bool
+    ensures { result ≡ has_early_variable text.now }
+{
+    match text.split_once("${") {
+        Some((front, _)) => Arn::cut(front).is_none(),
+        None => false,
+    }
+}
+
+fn is_aws_name(text: &str) -> bool
+    ensures { result ≡ is_aws_name text.now }
+{
+    text == "*" || is_account(text) || is_whole_arn(text) || is_unique_id(text)
+}
+
+fn is_whole_arn(text: &str) -> bool
+    ensures { result ≡ is_whole_arn text.now }
+{
+    begins_as_arn(text) && has_six_parts(text) && !has_wildcard(text.as_bytes())
+}
+
+fn has_six_parts(text: &str) -> bool
+    ensures { result ≡ nat_le 5 (colons text.now) }
+{
+    Arn::cut(text).is_some()
+}
+
+fn has_wildcard(text: &[u8]) -> bool
+    ensures { result ≡ list_any is_wildcard text.now }
+{
+    text.iter().any(|&character| is_wildcard(character))
+}
+
+fn is_unique_id(text: &str) -> bool
+    ensures { result ≡ is_unique_id text.now }
+{
+    !text.is_empty() && all_alphanumeric(text.as_bytes()) && text.len() <= 128
+}
+
+fn all_alphanumeric(text: &[u8]) -> bool
+    ensures { result ≡ list_all is_ascii_alphanumeric text.now }
+{
+    text.iter().all(|c| c.is_ascii_alphanumeric())
+}

@@ -1,0 +1,18 @@
+//! The elements of a statement: each tested, and read, by itself.
+#![tactic(auto)]
+
+mod actions;
+mod element;
+mod grammar;
+mod principal_grammar;
+mod principals;
+mod resources;
+
+pub use actions::{Actions, read_action};
+pub use element::{MOST, has_both, has_neither, is_bad_list, is_no_text, is_this, is_too_long};
+pub use grammar::Form;
+pub use principal_grammar::{has_long_kind, is_bad_principal, is_everyone};
+pub use principals::{PrincipalKind, PrincipalName, Principals, read_principal};
+pub use resources::{Resources, has_bad_variable, read_resource};
+/// The error of an allocator that refused a growth.
+pub use iam_text::OutOfMemory;

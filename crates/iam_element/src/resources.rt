@@ -1,0 +1,121 @@
+ghost use Rattle.std.specs.Prelude.{◌≡◌, IfOk, IsTrue, false, true, map};
+ghost use Rattle.std.specs.List.{AllZip, filter_map, list_any};
+ghost use Rattle.serde_json.specs.Find.{as_str};
+ghost use Rattle.serde_json.specs.View.{view};
+ghost use Rattle.iam_text.specs.Draft.{IsDraftIn};
+ghost use Rattle.iam_text.specs.Variables.{is_draft_in};
+ghost use Rattle.iam_element.specs.Element.{is_text};
+ghost use Rattle.iam_element.specs.Grammar.{is_bad_variable};
+ghost use Rattle.iam_element.specs.Reading.{ReadsResource};
+ghost use Rattle.iam_element.specs.Resource.{has_bad_variable};
+
+use crate::OutOfMemory;
+use crate::element::{Element, either, has_text, values_in};
+use crate::grammar::Form;
+use iam_text::{Template, Version, drafts_are_tested};
+use serde_json::Value;
+use std::alloc::Global;
+use std::marker::Model;
+
+/// The element `Resource` or `NotResource` of a statement.
+///
+/// AWS IAM User Guide, "IAM JSON policy elements: Resource".
+#[derive(Debug, Drop)]
+pub struct Resources {
+    is_negated: bool,
+    texts: Vec<Template>,
+}
+
+impl Model for Resources {
+    ghost use Rattle.iam_element.specs.Reading.{ResourceElement};
+
+    ghost Value = { ResourceElement };
+
+    ghost view = { λ r. record { negated = r.is_negated; texts = r.texts.items } };
+}
+
+impl Resources {
+    ghost use Rattle.std.specs.Prelude.{◌≡◌, IfOk, Some, false, true};
+    ghost use Rattle.std.specs.List.{AllZip};
+    ghost use Rattle.serde_json.specs.View.{view};
+    ghost use Rattle.iam_text.specs.Draft.{IsDraftIn};
+    ghost use Rattle.iam_element.specs.Element.{has_text, texts_of};
+    ghost use Rattle.iam_element.specs.Grammar.{is_bad_variable};
+
+    /// Whether the element is `NotResource`.
+    pub fn is_negated(&self) -> bool
+        ensures { result ≡ self.now.negated }
+    {
+        self.is_negated
+    }
+
+    /// Each text of the element, with its variables.
+    pub fn texts(&self) -> &[Template]
+        ensures { result.now ≡ self.now.texts }
+    {
+        self.texts.as_slice()
+    }
+
+    /// Reads the element, in a document of the version.
+    fn read(alloc: Global, element: Element<'_>, version: Version) -> Result<Resources, OutOfMemory>
+        requires { has_text (is_bad_variable version) (Some (view element.value.now)) ≡ false }
+        ensures negated { IfOk result (λ r. r.negated ≡ element.entry.is_negated) }
+        ensures texts { IfOk result (λ r. AllZip (IsDraftIn version true) (texts_of (Some (view element.entry.value.now))) r.texts) }
+    {
+        Ok(Resources {
+            is_negated: element.is_negated,
+            texts: templates(alloc, values_in(element.value), version)?,
+        })
+    }
+}
+
+/// Reads the `Resource` or the `NotResource` of a statement without a bad variable, in a document of the version; `None`
+/// where neither stands there.
+pub fn read_resource(
+    alloc: Global,
+    statement: &Value,
+    version: Version,
+) -> Result<Option<Resources>, OutOfMemory>
+    requires { has_bad_variable version (view statement.now) ≡ false }
+    ensures { IfOk result (λ r. ReadsResource version (view statement.now) r) }
+{
+    match either(statement, "Resource", "NotResource") {
+        Some(element) => Ok(Some(Resources::read(alloc, element, version)?)),
+        None => Ok(None),
+    }
+}
+
+/// Whether a text of `Resource` or `NotResource` has a variable off the grammar of the version, or one that stands too
+/// early.
+pub fn has_bad_variable(statement: &Value, version: Version) -> bool
+    ensures { result ≡ has_bad_variable version (view statement.now) }
+{
+    let form = Form::BadVariable(version);
+    has_text(statement, "Resource", form) || has_text(statement, "NotResource", form)
+}
+
+/// The templates of the texts among the values.
+fn templates(
+    alloc: Global,
+    values: &[Value],
+    version: Version,
+) -> Result<Vec<Template>, OutOfMemory>
+    requires { list_any (is_text (is_bad_variable version)) (map view values.now) ≡ false }
+    ensures { IfOk result (λ templates. AllZip (IsDraftIn version true) (filter_map as_str (map view values.now)) templates.items) }
+{
+    let mut templates = Vec::new(alloc);
+    for value in values {
+        if let Some(text) = value.as_str() {
+            templates.push(template(alloc, text, version)?)?;
+        }
+    }
+    Ok(templates)
+}
+
+fn template(alloc: Global, text: &str, version: Version) -> Result<Template, OutOfMemory>
+    requires { IsTrue (is_draft_in version text.now) }
+    ensures { IfOk result (λ template. IsDraftIn version true text.now template) }
+{
+    drafts_are_tested();
+    Ok(Template::read(alloc, text, true, version)?.unwrap())
+}

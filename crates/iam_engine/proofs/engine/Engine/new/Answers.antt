@@ -1,0 +1,4 @@
+use Rattle.iam_engine.proofs.engine.Engine.new.Goals as goal
+
+pub invariant_of-result : goal.invariant_of-result
+invariant_of-result c = c.in_ok-empty_slots.ensures c.args.world.now

@@ -1,0 +1,7 @@
+//! An engine that decides the cells of a world one after the other, and keeps what they share.
+#![tactic(auto)]
+
+mod engine;
+mod memo;
+
+pub use engine::Engine;

@@ -1,0 +1,12 @@
+use Rattle.std.proofs.Common.{refl}
+use Rattle.std.proofs.lemmas.Result.{IfOk-weaker}
+use Rattle.iam_match.specs.Statement.{request_for}
+use Rattle.iam_layers.proofs.world.World.decide_plain.Goals as goal
+
+pub returns : goal.returns
+returns c =
+    let action = c.action_text.result.now in
+    let (access, at, own) = c.in_ok-shared.ensures in
+    IfOk-weaker c.verdict.result _ _
+    (λ verdict holds. (c.in_ok-shared.shared.applicable, request_for access action, (access, action, at, c.action_text.ensures, refl), holds))
+    (c.verdict.ensures access own)

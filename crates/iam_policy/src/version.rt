@@ -1,0 +1,34 @@
+ghost use Rattle.std.specs.Prelude.{◌≡◌, codes};
+ghost use Rattle.serde_json.specs.Find.{get};
+ghost use Rattle.serde_json.specs.View.{view};
+ghost use Rattle.iam_policy.specs.Version.{version_named, version_of, version_text};
+
+use iam_text::Version;
+use serde_json::Value;
+
+/// The version that a document names, or that an absent `Version` means.
+pub fn version_named(document: &Value) -> Option<Version>
+    ensures { result ≡ version_named (get (codes "Version") (view document.now)) }
+{
+    match document.get("Version") {
+        Some(version) => version_text(version.as_str()?),
+        None => Some(Version::V2008),
+    }
+}
+
+fn version_text(text: &str) -> Option<Version>
+    ensures { result ≡ version_text text.now }
+{
+    match text {
+        "2012-10-17" => Some(Version::V2012),
+        "2008-10-17" => Some(Version::V2008),
+        _ => None,
+    }
+}
+
+/// The version that a document is read in; one that names no version is refused.
+pub fn version_of(document: &Value) -> Version
+    ensures { result ≡ version_of (view document.now) }
+{
+    version_named(document).unwrap_or(Version::V2012)
+}
