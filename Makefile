@@ -1,8 +1,13 @@
-.PHONY: run build install test attacks fmt
+.PHONY: try run build install test attacks fmt
 
 PREFIX ?= /usr/local
 
-# The main job: one decision on the smallest example world.
+# A first look: the main job, unproved. It runs with checks that stop it at a bad index or a sum that wraps.
+try:
+	@echo 'make try: nothing was proved; make run proves and builds the program' >&2
+	@cd crates/iamsim && rt try -- decide 0 0 0 < ../../examples/smallest.json
+
+# The main job, proved: one decision on the smallest example world.
 run: build
 	@./iamsim decide 0 0 0 < examples/smallest.json
 
@@ -15,9 +20,10 @@ build:
 install: build
 	install -D iamsim $(DESTDIR)$(PREFIX)/bin/iamsim
 
-# The gate: every proof from nothing, the must-fail edits, the tests, the rows and the stored run of the program.
+# The gate: every proof from nothing, the must-fail edits, the tests, the rows and the stored run of the program (rt ci);
+# then the tests of the tools.
 test:
-	rt ci
+	tools/gate
 
 # The further edits that the prover has to refuse, of all crates or of CRATE=name; not part of the gate.
 attacks:

@@ -1,0 +1,244 @@
+"""The page of a matrix, in headless Chromium. $SCREENSHOTS names a folder in which pictures are left."""
+
+import json
+import os
+import shutil
+import subprocess
+import sys
+import time
+
+from browser import Browser
+from harness import EXAMPLES, IAMSIM, TOOLS, document, matrix, run, same, small_world, statement
+
+PAGE = os.path.join(TOOLS, "page")
+ROOM = os.environ["TOOLS_TEST_ROOM"]
+CHROMIUM = os.environ.get("CHROMIUM") or shutil.which("chromium")
+
+
+def page_of(value, name, *words):
+    """The path of the page of a world, made as README says."""
+    world, page = os.path.join(ROOM, f"{name}.json"), os.path.join(ROOM, f"{name}.html")
+    with open(world, "w") as it:
+        json.dump(value, it)
+    report, _ = run([IAMSIM, "matrix", "--workers", "1", "--format", "json", *words], json.dumps(value))
+    with open(page, "w") as it:
+        it.write(run([PAGE, world], report)[0])
+    return page
+
+
+class Opened:
+    """A page in a browser, closed at the end."""
+
+    def __init__(self, path):
+        self.path = path
+
+    def __enter__(self):
+        self.browser = Browser(CHROMIUM)
+        self.browser.open(self.path)
+        return self.browser
+
+    def __exit__(self, *_):
+        self.browser.close()
+
+
+def company():
+    with open(os.path.join(EXAMPLES, "company.json")) as it:
+        return json.load(it)
+
+
+def words(browser):
+    """{cell: decision} of what the grid shows."""
+    found = browser.evaluate("[...document.querySelectorAll('.cell')].map((it) => [it.dataset.cell, it.getAttribute('aria-label'), it.className])")
+    return {int(cell): (label.split(": ")[-1], kind.split()[1]) for cell, label, kind in found}
+
+
+def detail(browser):
+    return browser.evaluate("document.getElementById('detail').innerText")
+
+
+def screenshot(browser, name):
+    folder = os.environ.get("SCREENSHOTS")
+    if folder:
+        os.makedirs(folder, exist_ok=True)
+        browser.screenshot(os.path.join(folder, name))
+
+
+KINDS = {"allowed": "d0", "explicitDeny": "d1", "implicitDeny": "d2"}
+
+
+def test_each_cell_is_that_of_the_report():
+    value = company()
+    wanted = {n: it[0] for n, it in enumerate(matrix(value).values())}
+    with Opened(page_of(value, "company")) as browser:
+        seen = {}
+        for view in range(3):
+            browser.evaluate(f"setView({view})")
+            for fixed in range(browser.evaluate("document.getElementById('fixed').options.length")):
+                browser.evaluate(f"setFixed({fixed})")
+                seen[view, fixed] = words(browser)
+        for view in range(3):
+            cells = {n: it for (of, _), shown in seen.items() if of == view for n, it in shown.items()}
+            same(cells, {n: (word, KINDS[word]) for n, word in wanted.items()}, f"view {view}")
+        same(browser.faults(), [])
+        # By hand, as README has them: ann 3 of 3 on the object, bob 1 and 1 denied, the session 2.
+        browser.evaluate("setView(0); setFixed(0)")
+        same(browser.evaluate("[...document.querySelectorAll('.row .counts')].map((it) => it.innerText.split(/\\s+/).join(' '))"), ["3 0 0", "1 1 1", "2 0 1"])
+        same(browser.evaluate("[...document.querySelectorAll('.column .counts')].map((it) => it.innerText.split(/\\s+/).join(' '))"), ["3 0 0", "1 1 1", "2 0 1"])
+
+
+def test_a_cell_in_words():
+    with Opened(page_of(company(), "company")) as browser:
+        browser.evaluate("choose(1, 1)")
+        text = detail(browser)
+        for wanted in ("explicitDeny", "HomesAreTheirs", "the resource's policy, statement 1 (resource/0/1)",
+                       '"Action": "s3:PutObject"', "iamsim decide 1 1 0"):
+            assert wanted in text, f"{wanted} is not in {text}"
+        browser.evaluate("choose(2, 1)")
+        text = detail(browser)
+        for wanted in ("Everything", "organisation policy 0 of level 1, statement 0 (org/1/0/0)", "Reports", "identity policy 0, statement 0",
+                       "boundary: The principal's permissions boundary does not allow this.", "did not suffice"):
+            assert wanted in text, f"{wanted} is not in {text}"
+        screenshot(browser, "company.png")
+    with Opened(page_of(company(), "brief", "--brief")) as browser:
+        assert "The report is brief" in detail(browser)
+
+
+def test_filters():
+    with Opened(page_of(company(), "company")) as browser:
+        browser.evaluate("at('row-filter').value = 'USER/'; at('row-filter').oninput()")
+        same(sorted(words(browser)), [0, 2, 4, 6, 8, 10])
+        browser.evaluate("at('column-filter').value = 'put'; at('column-filter').oninput()")
+        same(sorted(words(browser)), [2, 8])
+        browser.evaluate("at('show-allowed').click()")
+        same(sorted(words(browser)), [8])
+        browser.evaluate("at('show-explicitDeny').click()")
+        same(words(browser), {})
+        same(browser.evaluate("at('nothing').hidden"), False)
+        same(browser.faults(), [])
+
+
+def test_keys():
+    with Opened(page_of(company(), "company")) as browser:
+        chosen = lambda: int(browser.evaluate("document.querySelector('.cell.chosen').dataset.cell"))
+        same(chosen(), 0)
+        for key, cell in [("ArrowRight", 2), ("ArrowDown", 8), ("End", 10), ("ArrowRight", 10), ("PageDown", 16), ("Home", 12), ("]", 13), ("ArrowUp", 7), ("[", 6)]:
+            browser.key(key)
+            same(chosen(), cell, key)
+        same(browser.evaluate("at('pane').getAttribute('aria-activedescendant')"), "cell-6")
+        browser.key("Enter")
+        same(browser.evaluate("document.activeElement.id"), "detail")
+        browser.key("Escape")
+        same(browser.evaluate("document.activeElement.id"), "pane")
+
+
+def test_texts_of_a_world_stay_texts():
+    hostile = ["</script><script>document.title='owned'</script>", "<img src=x onerror=\"document.title='owned'\">", "<!--<script>", "</title>\u2028'\"&amp;"]
+    value = small_world(document(*[statement(Sid=f"{it}", resource="*") for it in hostile]),
+                        resources=[{"arn": f"arn:aws:s3:::b/{it}", "account": "111122223333"} for it in hostile])
+    value["principals"].append({"user": "arn:aws:iam::111122223333:user/<img:src=x:onerror=alert(1)>"})
+    with Opened(page_of(value, "hostile")) as browser:
+        # With one action, principals by resources come first.
+        same(sorted(words(browser)), list(range(8)))
+        browser.evaluate("setView(0)")
+        for fixed in range(len(hostile)):
+            browser.evaluate(f"setFixed({fixed})")
+            text = detail(browser)
+            assert f"arn:aws:s3:::b/{hostile[fixed]}".replace("\u2028", "") in text.replace("\u2028", "").replace("\n", ""), text
+        browser.evaluate("setView(1)")
+        same(browser.evaluate("document.querySelectorAll('img, #detail script, header script').length"), 0)
+        same(browser.evaluate("document.scripts.length"), 2)
+        same(browser.evaluate("document.title"), "Access matrix")
+        same(browser.evaluate("[...document.querySelectorAll('article h4')].map((it) => it.firstChild.data)"), hostile)
+        same(browser.evaluate("document.querySelectorAll('.row .name')[1].title"), "arn:aws:iam::111122223333:user/<img:src=x:onerror=alert(1)>")
+        same(browser.faults(), [])
+        screenshot(browser, "hostile.png")
+
+
+def test_control_policies_in_words():
+    with open(os.path.join(EXAMPLES, "shared.json")) as it:
+        value = json.load(it)
+    # A report of the form that docs/LOGIC.md states, by hand.
+    rows = [{"action": action, "cell": 2 * p + a, "decision": "explicitDeny", "lacks": [], "principal": principal["user"],
+             "resource": "arn:aws:s3:::shared/data.csv", "statements": ["control/1/1/0"]}
+            for p, principal in enumerate(value["principals"]) for a, action in enumerate(value["actions"])]
+    path = os.path.join(ROOM, "shared.html")
+    with open(path, "w") as it:
+        it.write(run([PAGE, os.path.join(EXAMPLES, "shared.json")], json.dumps(rows))[0])
+    with Opened(path) as browser:
+        text = detail(browser)
+        for wanted in ("OurOrganisation", "resource control policy 1 of level 1, statement 0 (control/1/1/0)", '"StringNotEquals"'):
+            assert wanted in text, f"{wanted} is not in {text}"
+
+
+def test_nothing_from_outside():
+    with open(page_of(company(), "company")) as it:
+        text = it.read()
+    for word in ("src=", "href=", "@import", "url(", "http://", "https://"):
+        assert word not in text, word
+    assert "default-src 'none'" in text
+
+
+def test_a_report_of_another_world_is_refused():
+    value = company()
+    report, _ = run([IAMSIM, "matrix", "--format", "json"], json.dumps(value))
+    for change in (lambda it: it["actions"].append("s3:ListBucket"), lambda it: it["principals"].pop(), lambda it: it["resources"].reverse()):
+        other = company()
+        change(other)
+        path = os.path.join(ROOM, "other.json")
+        with open(path, "w") as it:
+            json.dump(other, it)
+        _, said = run([PAGE, path], report, status=1)
+        assert "make both of the same world" in said, said
+    for cut, why in (("", "no report"), (report[:-5], "cut off"), (report[:200], "cut off"), ("[]\n", "fewer cells")):
+        _, said = run([PAGE, os.path.join(EXAMPLES, "company.json")], cut, status=1)
+        assert why in said, said
+
+
+def large_report():
+    """A world of 1,000,000 cells, and a report of its form: made here, and not what the program would say of it."""
+    users = [f"arn:aws:iam::111122223333:user/team{n % 10}/user{n}" for n in range(100)]
+    actions, resources = [f"s3:Action{n}" for n in range(100)], [f"arn:aws:s3:::bucket{n % 7}/key{n}" for n in range(100)]
+    world = small_world(actions=actions, resources=[{"arn": it, "account": "111122223333"} for it in resources])
+    own = document(*[statement(Sid=f"Number{n}", effect="Deny" if n % 4 == 3 else "Allow") for n in range(400)])
+    world["principals"] = [{"user": it, "identity": [own]} for it in users]
+    answers = ['"allowed","lacks":[]', '"explicitDeny","lacks":[]', '"implicitDeny","lacks":["identity"]']
+    rows, cell = [], 0
+    for p, user in enumerate(users):
+        for a, action in enumerate(actions):
+            for r, resource in enumerate(resources):
+                kind = (p * 7 + a * 3 + r * 5) % 11 % 3
+                places = f'"identity/0/{(p + a + r) % 400}"' if kind < 2 else ""
+                rows.append(f'{{"action":"{action}","cell":{cell},"decision":{answers[kind]},"principal":"{user}","resource":"{resource}","statements":[{places}]}}')
+                cell += 1
+    return world, "[" + ",".join(rows) + "]\n"
+
+
+def test_a_million_cells():
+    world, report = large_report()
+    path = os.path.join(ROOM, "large")
+    with open(f"{path}.json", "w") as it:
+        json.dump(world, it)
+    started = time.monotonic()
+    with open(f"{path}.html", "wb") as it:
+        subprocess.run([sys.executable, PAGE, f"{path}.json"], input=report.encode(), stdout=it, check=True, timeout=120)
+    made, size = time.monotonic() - started, os.path.getsize(f"{path}.html")
+    browser = Browser(CHROMIUM)
+    try:
+        started = time.monotonic()
+        browser.open(f"{path}.html")
+        shown = words(browser)
+        opened = time.monotonic() - started
+        same(shown[0][0], "allowed")
+        started = time.monotonic()
+        browser.evaluate("setFixed(99)")
+        browser.evaluate("choose(99, 99)")
+        moved = time.monotonic() - started
+        # (99 * 7 + 99 * 3 + 99 * 5) % 11 % 3 is 0, and (99 + 99 + 99) % 400 is 297.
+        same(words(browser)[999999][0], "allowed")
+        assert "Number297" in detail(browser)
+        same(browser.faults(), [])
+        screenshot(browser, "large.png")
+    finally:
+        browser.close()
+    print(f"a page of 1,000,000 cells: {size / 1e6:.1f} MB, made in {made:.1f} s, opened in {opened:.1f} s, turned in {moved:.1f} s")
+    assert opened < 20, f"it opened in {opened} s"
