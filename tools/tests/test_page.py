@@ -106,11 +106,11 @@ def test_a_cell_in_words():
 def test_filters():
     with Opened(page_of(company(), "company")) as browser:
         browser.evaluate("at('row-filter').value = 'USER/'; at('row-filter').oninput()")
-        same(sorted(words(browser)), [0, 2, 4, 6, 8, 10])
+        same(sorted(words(browser)), [0, 3, 6, 9, 12, 15])
         browser.evaluate("at('column-filter').value = 'put'; at('column-filter').oninput()")
-        same(sorted(words(browser)), [2, 8])
+        same(sorted(words(browser)), [3, 12])
         browser.evaluate("at('show-allowed').click()")
-        same(sorted(words(browser)), [8])
+        same(sorted(words(browser)), [12])
         browser.evaluate("at('show-explicitDeny').click()")
         same(words(browser), {})
         same(browser.evaluate("at('nothing').hidden"), False)
@@ -121,10 +121,10 @@ def test_keys():
     with Opened(page_of(company(), "company")) as browser:
         chosen = lambda: int(browser.evaluate("document.querySelector('.cell.chosen').dataset.cell"))
         same(chosen(), 0)
-        for key, cell in [("ArrowRight", 2), ("ArrowDown", 8), ("End", 10), ("ArrowRight", 10), ("PageDown", 16), ("Home", 12), ("]", 13), ("ArrowUp", 7), ("[", 6)]:
+        for key, cell in [("ArrowRight", 3), ("ArrowDown", 12), ("End", 15), ("ArrowRight", 15), ("PageDown", 24), ("Home", 18), ("]", 19), ("ArrowUp", 10), ("[", 9)]:
             browser.key(key)
             same(chosen(), cell, key)
-        same(browser.evaluate("at('pane').getAttribute('aria-activedescendant')"), "cell-6")
+        same(browser.evaluate("at('pane').getAttribute('aria-activedescendant')"), "cell-9")
         browser.key("Enter")
         same(browser.evaluate("document.activeElement.id"), "detail")
         browser.key("Escape")
