@@ -18,7 +18,8 @@ use Rattle.iam_matrix.specs.declared.cut.CutFault.{CutFault}
 use Rattle.iam_matrix.specs.declared.cut.CutFault.TheVariants as c
 use Rattle.iam_matrix.specs.declared.fault.MatrixFault.{MatrixFault}
 use Rattle.iam_matrix.specs.declared.fault.MatrixFault.TheVariants as m
-use Rattle.iam_app.specs.Streams.{AllRemained, AppendsBeginning, MoreRemained}
+use Rattle.iam_report.specs.Streams.{AppendsBeginning}
+use Rattle.iam_app.specs.Streams.{AllRemained, MoreRemained}
 use Rattle.iam_app.specs.declared.input.InputFault.{InputFault}
 use Rattle.iam_app.specs.declared.input.InputFault.TheVariants as i
 use Rattle.iam_app.specs.declared.fault.RunFault.{RunFault}

@@ -1,7 +1,7 @@
--- What reading all input and writing a text do to the bytes that a reader has left and a writer holds. `None` stands
--- where a reader or a writer does not say which bytes these are, and nothing is claimed of it.
-use Rattle.std.specs.Prelude.{Option, ◌≡◌, ℕ, ◌<◌, ◌≤◌, List, [], ◌++◌, length, take, ⊤, Some, None}
-use Rattle.std.specs.Io.KnownBytes.{Appends, Consumes}
+-- What reading all input does to the bytes that a reader has left. `None` stands where a reader does not say which bytes
+-- these are, and nothing is claimed of it.
+use Rattle.std.specs.Prelude.{Option, ◌≡◌, ℕ, ◌<◌, ◌≤◌, List, [], ◌++◌, length, ⊤, Some, None}
+use Rattle.std.specs.Io.KnownBytes.{Consumes}
 
 -- the bytes that remained are these
 abbrev pub AllRemained : Option (List ℕ) → List ℕ → Type 0
@@ -16,10 +16,6 @@ MoreRemained (Some remained) most = most < length remained
 -- a reader lost its first bytes, at most this many, and no others
 abbrev pub ConsumesAtMost : Option (List ℕ) → Option (List ℕ) → ℕ → Type 0
 ConsumesAtMost old new most = (bytes : List ℕ) × (length bytes ≤ most) × Consumes old new bytes
-
--- a writer gained the first bytes of a text, and no others
-abbrev pub AppendsBeginning : Option (List ℕ) → Option (List ℕ) → List ℕ → Type 0
-AppendsBeginning old new text = (n : ℕ) × (n ≤ length text) × Appends old new (take n text)
 
 -- a reader lost at least one byte, and these bytes were kept
 abbrev pub Gains : Option (List ℕ) → Option (List ℕ) → List ℕ → List ℕ → Type 0

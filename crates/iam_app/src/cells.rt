@@ -61,7 +61,7 @@ pub fn matrix<T: Threads + Sync>(
 {
     let cut = cut_cells(alloc, options, world)?;
     let format = format_in(options);
-    let pieces = matrix_report(
+    let report = matrix_report(
         rt,
         alloc,
         world,
@@ -71,7 +71,7 @@ pub fn matrix<T: Threads + Sync>(
         format,
         options.brief,
     )?;
-    Ok(Report::Pieces(pieces))
+    Ok(Report::Matrix(report))
 }
 
 /// The report of the first cell that is allowed.

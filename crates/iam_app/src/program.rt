@@ -4,6 +4,9 @@ ghost use Rattle.iam_app.specs.Code.Refusal.{IsWorldRefusal};
 ghost use Rattle.iam_app.specs.Output.{EndsBy, HasTriple, IsAnswer, IsOutput, IsRefusal, IsReport, LacksCell, WritesOutput, check_text, counts_text, fault_of_input};
 ghost use Rattle.iam_app.specs.Streams.{ConsumesAtMost};
 ghost use Rattle.iam_app.specs.declared.fault.RunFault.TheVariants as f;
+ghost use Rattle.iam_world.specs.Reads.{IsWorld};
+ghost use Rattle.iam_world.specs.WorldFault.{IsFirstWorldFault};
+ghost use Rattle.iam_world.specs.declared.fault.WorldFault.TheVariants as w;
 
 use crate::OutOfMemory;
 use crate::cells::{first, matrix};
@@ -13,6 +16,7 @@ use crate::output::{Report, write_report};
 use iam_layers::{World, WorldFault};
 use iam_matrix::csv_row;
 use iam_options::{Options, Task};
+use iam_report::buffer;
 use std::alloc::Global;
 use std::io::{Read, Write};
 use std::thread::Threads;
@@ -85,17 +89,25 @@ fn report<T: Threads + Sync>(
     }
 }
 
+/// The world of these bytes, which are let go once it is read.
+fn world_of(alloc: Global, bytes: Vec<u8>) -> Result<World, WorldFault>
+    ensures ok { IfOk result (IsWorld bytes.items) }
+    ensures fault { IfErr result (λ fault. fault ≢ w.OutOfMemory → IsFirstWorldFault bytes.items fault) }
+{
+    World::read(alloc, bytes.as_slice())
+}
+
 /// The report that the options ask for, of the world of these bytes.
 fn answer<T: Threads + Sync>(
     rt: &T,
     alloc: Global,
     options: &Options,
-    bytes: &[u8],
+    bytes: Vec<u8>,
 ) -> Result<Report, RunFault>
-    ensures ok { IfOk result (λ report. IsOutput options.now bytes.now (report_text report)) }
-    ensures fault { IfErr result (λ fault. IsRefusal options.now bytes.now fault) }
+    ensures ok { IfOk result (λ report. IsOutput options.now bytes.items (report_text report)) }
+    ensures fault { IfErr result (λ fault. IsRefusal options.now bytes.items fault) }
 {
-    match World::read(alloc, bytes) {
+    match world_of(alloc, bytes) {
         Ok(world) => report(rt, alloc, options, &world),
         Err(fault) => Err(RunFault::World(fault)),
     }
@@ -133,8 +145,9 @@ pub fn run<T: Threads + Sync, R: Read, W: Write>(
         Ok(bytes) => bytes,
         Err(fault) => return Err(input_fault(fault)),
     };
-    let report = answer(rt, alloc, options, bytes.as_slice())?;
-    match write_report(writer, &report) {
+    let report = answer(rt, alloc, options, bytes)?;
+    let mut kept = buffer(alloc)?;
+    match write_report(writer, &mut kept, &report) {
         Ok(()) => Ok(()),
         Err(_) => Err(RunFault::Write),
     }

@@ -1,13 +1,12 @@
--- Parts that are put into a table, one behind the other.
+-- Parts, one behind the other.
 use Rattle.std.proofs.Common.{◌≡◌, ℕ, suc, ◌+◌, ◌<◌, List, [], ◌∷◌, ◌++◌, Bool, true, false, ◌||◌, length, get_or, take, drop, map, refl, sym, ap, ◌∙◌, append_assoc, add-one, drop-cons, subst}
 use Rattle.std.proofs.lemmas.List.{append-nil, map-append, take_more}
 use Rattle.std.proofs.lemmas.List.Concat.{flat_map-append}
 use Rattle.iam_context.specs.Code.Keys.{shares}
-use Rattle.iam_context.specs.Context.{ContextValue, all_of, has_derived, has_key, has_twice, keys_of}
+use Rattle.iam_context.specs.Context.{ContextValue, all_of, has_derived, has_twice, joined, keys_of}
 use Rattle.iam_context.specs.ContextFault.{IsClean}
 use Rattle.iam_context.specs.declared.fault.ContextFault.TheVariants.{KeyTwice, DerivedKeyGiven, OutOfMemory}
-use Rattle.iam_context.proofs.KeyLemmas.{keys-left-of}
-use Rattle.iam_context.proofs.Shares.{shares-append, shares-here, shares-next, shares-none}
+use Rattle.iam_context.proofs.Shares.{shares-append, shares-none}
 
 abbrev Entry : Type 0
 Entry = List ℕ × List (List ℕ)
@@ -23,29 +22,6 @@ entries-more context xs ys i e k v same below is key values =
     ∙ ap (λ (t : List ℕ). (context ++ take i ys) ++ ((t, e.1) ∷ [])) (sym key)
     ∙ ap (λ (t : List (List ℕ)). (context ++ take i ys) ++ ((k, t) ∷ [])) (sym values))
 
--- the key of the entry is there
-pub entry-shared : (context xs ys : ContextValue) (i : ℕ) (e : Entry) (k : List ℕ) → ys ≡ xs → i < length ys
-    → e ≡ get_or ys i e → k ≡ e.0 → has_key (keys_of (context ++ take i xs)) k ≡ true
-    → shares (keys_of (context ++ take i xs)) (keys_of (drop i xs)) ≡ true
-entry-shared context xs ys i e k same below is key has =
-    ap (shares (keys_of (context ++ take i xs))) (keys-left-of xs ys i e same below is)
-    ∙ shares-here (keys_of (context ++ take i xs)) (keys_of (drop (i + 1) xs)) e.0
-    (ap (has_key (keys_of (context ++ take i xs))) (sym key) ∙ has)
-
--- it is not
-pub entry-new : (context xs ys : ContextValue) (i : ℕ) (e : Entry) (k : List ℕ) (v : List (List ℕ)) → ys ≡ xs → i < length ys
-    → e ≡ get_or ys i e → k ≡ e.0 → v ≡ e.1 → has_key (keys_of (context ++ take i xs)) k ≡ false
-    → shares (keys_of (context ++ take i xs)) (keys_of (drop i xs)) ≡ shares (keys_of (context ++ take (i + 1) xs)) (keys_of (drop (i + 1) xs))
-entry-new context xs ys i e k v same below is key values has =
-    let seen = keys_of (context ++ take i xs) in
-    let rest = keys_of (drop (i + 1) xs) in
-    ap (shares seen) (keys-left-of xs ys i e same below is)
-    ∙ shares-next seen rest e.0 (ap (has_key seen) (sym key) ∙ has)
-    ∙ ap (λ (t : List ℕ). shares (seen ++ (t ∷ [])) rest) (sym key)
-    ∙ ap (λ l. shares l rest)
-    (sym (map-append (λ (entry : Entry). entry.0) (context ++ take i xs) ((k, v) ∷ []))
-    ∙ ap keys_of (sym (entries-more context xs ys i e k v same below is key values)))
-
 -- one part more
 pub parts-more : {A : Type 0} (f : A → ContextValue) (given : List A) (i : ℕ) (e : A) → i < length given → e ≡ get_or given i e
     → all_of (map f (take (i + 1) given)) ≡ all_of (map f (take i given)) ++ f e
@@ -57,12 +33,27 @@ parts-more f given i e below is =
     ∙ ap (λ x. all_of (map f (take i given)) ++ f x) (sym is)
 
 -- the parts that are left, with the first of them
-parts-left : {A : Type 0} (f : A → ContextValue) (given : List A) (i : ℕ) (e : A) → i < length given → e ≡ get_or given i e
+pub parts-left : {A : Type 0} (f : A → ContextValue) (given : List A) (i : ℕ) (e : A) → i < length given → e ≡ get_or given i e
     → all_of (map f (drop i given)) ≡ f e ++ all_of (map f (drop (i + 1) given))
 parts-left f given i e below is =
     ap (λ l. all_of (map f l)) (drop-cons given i e below)
     ∙ ap (λ x. f x ++ all_of (map f (drop (suc i) given))) (sym is)
     ∙ ap (λ k. f e ++ all_of (map f (drop k given))) (sym (add-one i))
+
+-- the derived keys behind the given parts
+pub joined-of : {A : Type 0} (f : A → ContextValue) (given parts all : List A) (derived : A) → parts ≡ given → all ≡ parts ++ (derived ∷ [])
+    → all_of (map f all) ≡ joined (map f given) (f derived)
+joined-of f given parts all derived same behind =
+    ap (λ l. all_of (map f l)) (behind ∙ ap (λ l. l ++ (derived ∷ [])) same)
+    ∙ ap all_of (map-append f given (derived ∷ []))
+    ∙ flat_map-append (λ (part : ContextValue). part) (map f given) (f derived ∷ [])
+    ∙ ap (λ l. all_of (map f given) ++ l) (append-nil (f derived))
+
+-- the same of their keys
+pub part-keys-more : {A : Type 0} (f : A → ContextValue) (given : List A) (i : ℕ) (e : A) → i < length given → e ≡ get_or given i e
+    → keys_of (all_of (map f (take (i + 1) given))) ≡ keys_of (all_of (map f (take i given))) ++ keys_of (f e)
+part-keys-more f given i e below is =
+    ap keys_of (parts-more f given i e below is) ∙ map-append (λ (entry : Entry). entry.0) (all_of (map f (take i given))) (f e)
 
 -- what is left beside the parts before, by its first part
 parts-shared : {A : Type 0} (f : A → ContextValue) (given : List A) (i : ℕ) (e : A) (shared : Bool) → i < length given → e ≡ get_or given i e

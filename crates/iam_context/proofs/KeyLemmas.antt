@@ -88,24 +88,6 @@ find-same : (context : ContextValue) (key text : List ℕ) → folded key ≡ fo
     → find (λ entry. is_same_key entry.0 key) context ≡ find (λ entry. is_same_key entry.0 text) context
 find-same context key text e = ap (λ (t : List ℕ). find (λ (entry : List ℕ × List (List ℕ)). bytes_eq (folded entry.0) t) context) e
 
--- whether a key is there, by whether its values are found
-pub has_found : (context : ContextValue) (key : List ℕ) (found : Option (List (List ℕ)))
-    → found ≡ option_map (λ (entry : List ℕ × List (List ℕ)). entry.1) (find (λ entry. is_same_key entry.0 key) context)
-    → is_some found ≡ has_key (keys_of context) key
-has_found context key found is = ap is_some is ∙ go context
-  where
-    step : (b : Bool) (entry : List ℕ × List (List ℕ)) (rest : Option (List ℕ × List (List ℕ))) (has : Bool)
-        → is_some (option_map (λ (entry : List ℕ × List (List ℕ)). entry.1) rest) ≡ has
-        → is_some (option_map (λ (entry : List ℕ × List (List ℕ)). entry.1) (cond b (Some entry) rest)) ≡ (b || has)
-    step true entry rest has e = refl
-    step false entry rest has e = e
-
-    go : (entries : ContextValue)
-        → is_some (option_map (λ (entry : List ℕ × List (List ℕ)). entry.1) (find (λ entry. is_same_key entry.0 key) entries))
-        ≡ has_key (keys_of entries) key
-    go [] = refl
-    go (e ∷ entries) = step (is_same_key e.0 key) e (find (λ entry. is_same_key entry.0 key) entries) (has_key (keys_of entries) key) (go entries)
-
 -- a map with the values of one key more, that was not there
 pub values_more : (old new : BTreeMap Key (Bor (List (List ℕ)))) (key : Key) (values : Bor (List (List ℕ))) (context : ContextValue)
     → HasValues old context → find (λ entry. is_same_key entry.0 key.0.now) context ≡ None
@@ -133,13 +115,36 @@ values_more old new key values context has absent updates text =
         or-none None = refl
         or-none (Some x) = refl
 
+-- a map that has the key keeps its values
+pub values_kept : (table : BTreeMap Key (Bor (List (List ℕ)))) (key : List ℕ) (values : List (List ℕ)) (context : ContextValue)
+    → HasValues table context → is_some (tree.get_by (λ k. key_cmp key k.0.now) table) ≡ true → HasValues table (context ++ ((key, values) ∷ []))
+values_kept table key values context has there text =
+    has text
+    ∙ ap (λ o. option_map (λ (entry : List ℕ × List (List ℕ)). entry.1) o)
+    (either (is_same_key key text) (bytes_eq-Decides (folded key) (folded text))
+    ∙ sym (find-append (λ entry. is_same_key entry.0 text) context ((key, values) ∷ [])))
+  where
+    kept : (o more : Option (List ℕ × List (List ℕ))) (found : Option (Bor (List (List ℕ))))
+        → option_map (λ v. v.now) found ≡ option_map (λ (entry : List ℕ × List (List ℕ)). entry.1) o → is_some found ≡ true → o ≡ option_or o more
+    kept (Some x) more found same some = refl
+    kept None more None same some = cc
+    kept None more (Some v) same some = cc
+
+    either : (same : Bool) → Decides same (folded key ≡ folded text)
+        → find (λ entry. is_same_key entry.0 text) context
+        ≡ option_or (find (λ entry. is_same_key entry.0 text) context) (cond same (Some (key, values)) None)
+    either true decides =
+        rw (sym (find-same context key text (decides.0 refl)))
+        (kept (find (λ entry. is_same_key entry.0 key) context) (Some (key, values)) (tree.get_by (λ k. key_cmp key k.0.now) table) (has key) there)
+    either false decides = or-none (find (λ entry. is_same_key entry.0 text) context)
+      where
+        or-none : (o : Option (List ℕ × List (List ℕ))) → o ≡ option_or o None
+        or-none None = refl
+        or-none (Some x) = refl
+
 -- nothing is found where nothing is in the map
 pub absent-from : (found : Option (Bor (List (List ℕ)))) (o : Option (List ℕ × List (List ℕ)))
     → option_map (λ v. v.now) found ≡ option_map (λ (entry : List ℕ × List (List ℕ)). entry.1) o → is_some found ≡ false → o ≡ None
 absent-from found None same none = refl
 absent-from None (Some x) same none = cc
 absent-from (Some v) (Some x) same none = cc
-
-pub some-mapped : (found : Option (Bor (List (List ℕ)))) → is_some found ≡ is_some (option_map (λ v. v.now) found)
-some-mapped None = refl
-some-mapped (Some v) = refl

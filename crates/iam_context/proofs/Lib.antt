@@ -1,4 +1,4 @@
-pub mod Clean
+pub mod Finding
 pub mod Joining
 pub mod KeyLemmas
 pub mod Shares

@@ -1,14 +1,14 @@
 -- Keys that stand twice, by walking over them.
-use Rattle.std.proofs.Common.{◌≡◌, ℕ, List, [], ◌∷◌, ◌++◌, Bool, true, false, ◌||◌, ◌&&◌, not, map, refl, sym, ap, ◌∙◌, append_assoc}
+use Rattle.std.proofs.Common.{◌≡◌, ℕ, List, [], ◌∷◌, ◌++◌, Bool, true, false, ◌||◌, not, map, refl, sym, ap, ◌∙◌, append_assoc}
 use Rattle.std.proofs.lemmas.List.{append-nil}
 use Rattle.std.proofs.lemmas.List.Folds.{list_any-append}
 use Rattle.std.proofs.lemmas.Slice.Eq.{bytes_eq-Decides}
 use Rattle.std.specs.Bool.{Decides}
 use Rattle.std.specs.Char.{to_ascii_lowercase}
-use Rattle.std.specs.List.{list_all, list_any}
+use Rattle.std.specs.List.{list_any}
 use Rattle.std.specs.Str.{bytes_eq}
 use Rattle.iam_context.specs.Code.Keys.{shares}
-use Rattle.iam_context.specs.Context.{derived_names, has_derived, has_key, has_twice, is_same_key}
+use Rattle.iam_context.specs.Context.{has_key, has_twice, is_same_key}
 
 same-way : (a b : List ℕ) → bytes_eq a b ≡ bytes_eq b a
 same-way a b = go (bytes_eq a b) (bytes_eq b a) (bytes_eq-Decides a b) (bytes_eq-Decides b a)
@@ -71,52 +71,6 @@ shares-none keys = ap (λ b. b || has_twice keys) (none keys)
     none [] = refl
     none (k ∷ ks) = none ks
 
--- a key that is none of the derived ones is not the same as one of them
-apart-here : (g key : List ℕ) (same : Bool) → Decides same (map to_ascii_lowercase g ≡ map to_ascii_lowercase key)
-    → has_key derived_names g ≡ false → has_key derived_names key ≡ true → same ≡ false
-apart-here g key false decides clean derived = refl
-apart-here g key true decides clean derived =
-    let e : has_key derived_names g ≡ has_key derived_names key
-    = ap (λ t. list_any (λ k. bytes_eq (map to_ascii_lowercase k) t) derived_names) (decides.0 refl) in cc
-
-first-false : (a b : Bool) → (a || b) ≡ false → a ≡ false
-first-false false b e = refl
-first-false true b e = cc
-
-second-false : (a b : Bool) → (a || b) ≡ false → b ≡ false
-second-false false b e = e
-second-false true b e = cc
-
-first-true : (a b : Bool) → (a && b) ≡ true → a ≡ true
-first-true true b e = refl
-first-true false b e = cc
-
-second-true : (a b : Bool) → (a && b) ≡ true → b ≡ true
-second-true true b e = e
-second-true false b e = cc
-
-apart : (given : List (List ℕ)) (key : List ℕ) → has_derived given ≡ false → has_key derived_names key ≡ true → has_key given key ≡ false
-apart [] key clean derived = refl
-apart (g ∷ given) key clean derived =
-    ap (λ b. b || has_key given key)
-    (apart-here g key (is_same_key g key) (bytes_eq-Decides (map to_ascii_lowercase g) (map to_ascii_lowercase key))
-    (first-false (has_key derived_names g) (has_derived given) clean) derived)
-    ∙ apart given key (second-false (has_key derived_names g) (has_derived given) clean) derived
-
--- derived keys share none with keys that are not derived
-none-shared : (given derived : List (List ℕ)) → has_derived given ≡ false → list_all (has_key derived_names) derived ≡ true
-    → list_any (has_key given) derived ≡ false
-none-shared given [] clean named = refl
-none-shared given (k ∷ keys) clean named =
-    ap (λ b. b || list_any (has_key given) keys)
-    (apart given k clean (first-true (has_key derived_names k) (list_all (has_key derived_names) keys) named))
-    ∙ none-shared given keys clean (second-true (has_key derived_names k) (list_all (has_key derived_names) keys) named)
-
--- the same of derived keys that stand once
-pub derived-apart : (given derived : List (List ℕ)) → has_derived given ≡ false → list_all (has_key derived_names) derived ≡ true
-    → has_twice derived ≡ false → shares given derived ≡ false
-derived-apart given derived clean named once = ap (λ b. b || has_twice derived) (none-shared given derived clean named) ∙ once
-
 -- the first key is one of those before
 pub shares-here : (seen keys : List (List ℕ)) (k : List ℕ) → has_key seen k ≡ true → shares seen (k ∷ keys) ≡ true
 shares-here seen keys k has = shares-cons seen keys k ∙ ap (λ b. b || shares (seen ++ (k ∷ [])) keys) has
@@ -129,3 +83,8 @@ shares-next seen keys k has = shares-cons seen keys k ∙ ap (λ b. b || shares 
 pub not-there : (has is_new : Bool) → is_new ≡ not has → is_new ≡ true → has ≡ false
 not-there false is_new e f = refl
 not-there true is_new e f = cc
+
+-- what is not new was there
+pub there : (has is_new : Bool) → is_new ≡ not has → is_new ≡ false → has ≡ true
+there true is_new e f = refl
+there false is_new e f = cc

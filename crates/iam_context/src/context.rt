@@ -1,42 +1,42 @@
-ghost use Rattle.std.specs.Prelude.{◌≡◌, ◌≢◌, ℕ, List, [], ◌∷◌, ◌++◌, true, false, map, IfOk, IfErr};
-ghost use Rattle.std.specs.List.{list_all};
-ghost use Rattle.iam_context.specs.Context.{ContextValue, all_of, derived_names, has_derived, has_key, has_twice, joined, keys_of, values_of};
-ghost use Rattle.iam_context.specs.Code.Keys.{shares};
-ghost use Rattle.iam_context.specs.Code.Values.{HasValues};
+ghost use Rattle.std.specs.Prelude.{◌≡◌, ◌≢◌, ℕ, List, [], ◌∷◌, ◌++◌, map, option_map, IfOk, IfErr};
+ghost use Rattle.iam_context.specs.Context.{ContextValue, all_of, has_derived, joined, keys_of, values_of};
+ghost use Rattle.iam_context.specs.Code.Values.{first_values};
 
 use crate::OutOfMemory;
 use crate::fault::ContextFault;
 use crate::key::Key;
-use crate::part::{Derived, Part, has_derived};
+use crate::part::{Derived, Part, has_derived, is_same_key, stand_twice};
+use crate::parts::{Four, Parts};
+use crate::table::{Table, table_of};
 use iam_text::Text;
 use std::alloc::Global;
-use std::collections::BTreeMap;
 use std::marker::Model;
 
 /// The keys of a request with their values.
 #[derive(Drop)]
 pub struct Context<'a> {
     // What the contracts see as the context.
-    given: Vec<&'a Part>,
-    derived: &'a Derived,
-    // The same by key: what is read.
-    table: BTreeMap<Key<'a>, &'a [Text]>,
+    parts: Parts<'a>,
+    // The same by key, where there are many.
+    table: Option<Table<'a>>,
 }
 
 impl<'a> Model for Context<'a> {
-    ghost use Rattle.std.specs.Prelude.{map};
-    ghost use Rattle.iam_context.specs.Context.{ContextValue, joined};
+    ghost use Rattle.std.specs.Option.{ForSome};
+    ghost use Rattle.iam_context.specs.Context.{ContextValue, all_of};
+    ghost use Rattle.iam_context.specs.Code.Parts.{parts_of};
 
     ghost Value = { ContextValue };
 
     ghost use Rattle.iam_context.specs.Code.Values.{HasValues};
 
-    ghost view = { λ c. joined (map (λ part. part.now.items) c.given.items) c.derived.now.items };
+    ghost view = { λ c. all_of (parts_of c.parts) };
 
-    ghost invariant = { λ c. HasValues c.table (joined (map (λ part. part.now.items) c.given.items) c.derived.now.items) };
+    ghost invariant = { λ c. ForSome c.table (λ table. HasValues table (all_of (parts_of c.parts))) };
 }
 
 impl<'a> Context<'a> {
+    ghost use Rattle.iam_context.specs.Code.Parts.{parts_of};
     ghost use Rattle.iam_context.specs.ContextFault.{IsClean, JoinFault};
     ghost use Rattle.iam_context.specs.declared.fault.ContextFault.TheVariants as f;
 
@@ -48,35 +48,60 @@ impl<'a> Context<'a> {
         given: &[&'a Part],
         derived: &'a Derived,
     ) -> Result<Context<'a>, ContextFault>
-        requires named { list_all (has_key derived_names) (keys_of derived.now.items) ≡ true }
-        requires once { has_twice (keys_of derived.now.items) ≡ false }
         ensures ok { IfOk result (λ c. (c ≡ joined (map (λ part. part.now.items) given.now) derived.now.items)
             × IsClean [] (all_of (map (λ part. part.now.items) given.now))) }
         ensures fault { IfErr result (λ fault. fault ≢ f.OutOfMemory → JoinFault (map (λ part. part.now.items) given.now) fault) }
     {
-        let mut table = BTreeMap::new(alloc);
-        if put_given(&mut table, given)? {
+        if stand_twice(alloc, given)? {
             return Err(ContextFault::KeyTwice);
         }
         if some_derived(given) {
             return Err(ContextFault::DerivedKeyGiven);
         }
-        // None of the derived keys is in the table yet.
-        put_part(&mut table, derived)?;
-        Ok(Context {
-            given: Vec::from_slice(alloc, given)?,
-            derived,
-            table,
-        })
+        let mut parts = Vec::from_slice(alloc, given)?;
+        parts.push(derived)?;
+        Ok(Context::over(alloc, Parts::Any(parts))?)
+    }
+
+    /// The context of three given parts and of the keys that follow from requester, resource and moment. It takes no memory
+    /// where there are few keys. Of equal keys the first one counts.
+    pub fn of(
+        alloc: Global,
+        given: [&'a Part; 3],
+        derived: &'a Derived,
+    ) -> Result<Context<'a>, OutOfMemory>
+        ensures { IfOk result (λ c. c ≡ joined (map (λ part. part.now.items) given.entry) derived.now.items) }
+    {
+        let [first, second, third] = given;
+        let parts = [first, second, third, derived];
+        Context::over(alloc, Parts::Four(Four { parts }))
+    }
+
+    /// The context of these parts.
+    fn over(alloc: Global, parts: Parts<'a>) -> Result<Context<'a>, OutOfMemory>
+        ensures { IfOk result (λ c. c ≡ all_of (parts_of parts.entry)) }
+    {
+        let table = table_of(alloc, parts.as_slice())?;
+        Ok(Context { parts, table })
     }
 
     /// The values of the key, compared without regard to case; none where the key is not there. It takes no memory.
     pub fn values(&self, key: &'a str) -> &[Text]
         ensures { result.now ≡ values_of self.now key.now }
     {
-        match self.table.get(&Key(key)) {
+        match self.find(key) {
             Some(values) => values,
             None => &[],
+        }
+    }
+
+    /// The values of the first entry with the key.
+    fn find(&self, key: &'a str) -> Option<&'a [Text]>
+        ensures { option_map (λ values. values.now) result ≡ first_values self.now key.now }
+    {
+        match &self.table {
+            Some(table) => table.get(&Key(key)).copied(),
+            None => find_in_parts(self.parts.as_slice(), key),
         }
     }
 }
@@ -93,50 +118,27 @@ fn some_derived(given: &[&Part]) -> bool
     false
 }
 
-/// Puts the parts into the table up to a key that is there already; whether there is one.
-fn put_given<'a>(
-    table: &mut BTreeMap<Key<'a>, &'a [Text]>,
-    given: &[&'a Part],
-) -> Result<bool, OutOfMemory>
-    ensures { IfOk result (λ shared. HasValues table.old []
-        → (shared ≡ has_twice (keys_of (all_of (map (λ part. part.now.items) given.now))))
-        × (shared ≡ false → HasValues table.new (all_of (map (λ part. part.now.items) given.now)))) }
+/// The values of the first entry of the parts with the key.
+fn find_in_parts<'a>(parts: &[&'a Part], key: &str) -> Option<&'a [Text]>
+    ensures { option_map (λ values. values.now) result
+        ≡ first_values (all_of (map (λ part. part.now.items) parts.now)) key.now }
 {
-    for part in given {
-        if put_part(table, part)? {
-            return Ok(true);
+    for part in parts {
+        if let Some(values) = find_in_part(part, key) {
+            return Some(values);
         }
     }
-    Ok(false)
+    None
 }
 
-/// Puts the part into the table up to a key that is there already; whether there is one.
-fn put_part<'a>(
-    table: &mut BTreeMap<Key<'a>, &'a [Text]>,
-    part: &'a Part,
-) -> Result<bool, OutOfMemory>
-    ensures { IfOk result (λ shared. (context : ContextValue) → HasValues table.old context
-        → (shared ≡ shares (keys_of context) (keys_of part.now.items))
-        × (shared ≡ false → HasValues table.new (context ++ part.now.items))) }
+/// The values of the first entry of the part with the key.
+fn find_in_part<'a>(part: &'a Part, key: &str) -> Option<&'a [Text]>
+    ensures { option_map (λ values. values.now) result ≡ first_values part.entry.now.items key.now }
 {
-    for (key, values) in part {
-        if put(table, key.as_str(), values.as_slice())? {
-            return Ok(true);
+    for (name, values) in part {
+        if is_same_key(name.as_str(), key) {
+            return Some(values.as_slice());
         }
     }
-    Ok(false)
-}
-
-/// Puts the key with its values into the table; whether the key was there.
-fn put<'a>(
-    table: &mut BTreeMap<Key<'a>, &'a [Text]>,
-    key: &'a str,
-    values: &'a [Text],
-) -> Result<bool, OutOfMemory>
-    ensures { IfOk result (λ shared. (context : ContextValue) → HasValues table.old context
-        → (shared ≡ has_key (keys_of context) key.now)
-        × (shared ≡ false → HasValues table.new (context ++ (key.now, values.now) ∷ []))) }
-{
-    let earlier = table.insert(Key(key), values)?;
-    Ok(earlier.is_some())
+    None
 }

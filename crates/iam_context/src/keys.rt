@@ -1,4 +1,4 @@
-ghost use Rattle.std.specs.Prelude.{◌≡◌, ℕ, List, [], ◌∷◌, ◌++◌, not, IfOk, OnOk};
+ghost use Rattle.std.specs.Prelude.{◌≡◌, ℕ, List, [], ◌∷◌, ◌++◌, false, not, IfOk, OnOk};
 ghost use Rattle.iam_context.specs.Context.{has_key, keys_of};
 
 use crate::OutOfMemory;
@@ -14,7 +14,7 @@ pub struct Keys<'a> {
 }
 
 impl<'a> Keys<'a> {
-    ghost use Rattle.iam_context.specs.Code.Keys.{HasKeys};
+    ghost use Rattle.iam_context.specs.Code.Keys.{HasKeys, shares};
 
     /// No keys.
     pub fn new(alloc: Global) -> Keys<'a>
@@ -35,8 +35,22 @@ impl<'a> Keys<'a> {
         Ok(())
     }
 
+    /// Adds the keys of a part up to one that is there already; whether there is one.
+    pub(crate) fn add_new(&mut self, part: &'a Part) -> Result<bool, OutOfMemory>
+        ensures { IfOk result (λ shared. (keys : List (List ℕ)) → HasKeys self.old keys
+            → (shared ≡ shares keys (keys_of part.now.items))
+            × (shared ≡ false → HasKeys self.new (keys ++ keys_of part.now.items))) }
+    {
+        for (key, _) in part {
+            if !self.insert(key.as_str())? {
+                return Ok(true);
+            }
+        }
+        Ok(false)
+    }
+
     /// Adds a key; whether it was not there.
-    pub(crate) fn insert(&mut self, key: &'a str) -> Result<bool, OutOfMemory>
+    fn insert(&mut self, key: &'a str) -> Result<bool, OutOfMemory>
         ensures { IfOk result (λ is_new. (keys : List (List ℕ)) → HasKeys self.old keys
             → (is_new ≡ not (has_key keys key.now)) × HasKeys self.new (keys ++ key.now ∷ [])) }
     {

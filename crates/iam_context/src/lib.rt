@@ -5,14 +5,14 @@ mod context;
 mod fault;
 mod key;
 mod keys;
-mod laws;
 mod part;
+mod parts;
 mod pattern;
+mod table;
 
 pub use context::Context;
 pub use fault::ContextFault;
 pub use iam_text::OutOfMemory;
 pub use keys::Keys;
-pub use laws::{clean_beside_fewer, clean_parts_join};
 pub use part::{Derived, Part, part_fault};
 pub use pattern::resolve;

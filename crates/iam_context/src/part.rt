@@ -1,6 +1,6 @@
-ghost use Rattle.std.specs.Prelude.{◌≡◌, ◌||◌, ℕ, List, MatchOption, IfOk};
+ghost use Rattle.std.specs.Prelude.{◌≡◌, ◌||◌, ℕ, List, MatchOption, IfOk, map};
 ghost use Rattle.std.specs.List.{list_any};
-ghost use Rattle.iam_context.specs.Context.{derived_names, has_derived, has_key, has_twice, is_same_key, keys_of};
+ghost use Rattle.iam_context.specs.Context.{all_of, derived_names, has_derived, has_key, has_twice, is_same_key, keys_of};
 ghost use Rattle.iam_context.specs.Code.Keys.{HasKeys, shares};
 ghost use Rattle.iam_context.specs.ContextFault.{IsClean, IsPartFault};
 
@@ -63,9 +63,16 @@ fn is_shared<'a>(part: &'a Part, others: &Keys<'a>) -> bool
 fn has_twice(alloc: Global, part: &Part) -> Result<bool, OutOfMemory>
     ensures { IfOk result (λ found. found ≡ has_twice (keys_of part.now.items)) }
 {
+    Keys::new(alloc).add_new(part)
+}
+
+/// Whether some key stands twice in the parts.
+pub fn stand_twice(alloc: Global, parts: &[&Part]) -> Result<bool, OutOfMemory>
+    ensures { IfOk result (λ found. found ≡ has_twice (keys_of (all_of (map (λ part. part.now.items) parts.now)))) }
+{
     let mut seen = Keys::new(alloc);
-    for (key, _) in part {
-        if !seen.insert(key.as_str())? {
+    for part in parts {
+        if seen.add_new(part)? {
             return Ok(true);
         }
     }
@@ -99,7 +106,7 @@ fn is_one_of(names: &[&str], key: &str) -> bool
 }
 
 /// Whether the keys differ in the case of ASCII letters alone.
-fn is_same_key(key: &str, other: &str) -> bool
+pub fn is_same_key(key: &str, other: &str) -> bool
     ensures { result ≡ is_same_key key.now other.now }
 {
     key.eq_ignore_ascii_case(other)

@@ -1,2 +1,3 @@
+mod LivingLemmas
 mod ScanLemmas
 mod VerdictLemmas

@@ -1,7 +1,6 @@
 -- What holds of the statements that were found holds of the matched statements of the applicable policies.
 use Rattle.std.proofs.Common.{◌≡◌, ◌⊎◌, inl, inr, ◌↔◌, ℕ, suc, zero, ◌<◌, ◌≤◌, List, [], ◌∷◌, map, length, refl, sym, ap, ◌∙◌, subst, arith}
 use Rattle.std.specs.List.{Any}
-use Rattle.iam_policy.specs.Reading.{PolicyValue}
 use Rattle.iam_policy.specs.declared.effect.Effect.TheVariants.{Allow, Deny}
 use Rattle.iam_match.specs.Principal.{grant_of, rank}
 use Rattle.iam_match.specs.declared.principal.Grant.{Grant}
@@ -14,6 +13,7 @@ use Rattle.iam_decision.specs.Code.Scan.{Acts, AreActing}
 use Rattle.iam_decision.specs.Living.{AreFound, AreLiving, Lives, LivingValue, item_of, living_of}
 use Rattle.iam_decision.specs.Code.Found.{DeniesIn, AllowsIn, GrantsIn, ArePlaces}
 use Rattle.iam_decision.specs.Decision.{Says, Denies, Allows, Grants, LevelsHold, BoundaryHolds, SessionHolds, AllHold, GrantSuffices, IsAllowed, IsDecided, Fails, AreLacking, AreDeciding, deciding_effect, layers_in_order}
+use Rattle.iam_decision.specs.declared.frame.Frame.{Frame}
 use Rattle.iam_decision.specs.declared.place.Layer.{Layer}
 use Rattle.iam_decision.specs.declared.place.Layer.TheVariants.{Org, Control, Resource, Identity, Boundary, Session}
 use Rattle.iam_decision.specs.declared.place.Place.{Place}
@@ -107,7 +107,7 @@ acting-found access action statements living found (chosen, selected, is) (kept,
     )
 
 -- the statements that were found are the matched ones
-module _ (a : ApplicableValue) (q : RequestValue) (found : List Matched) (scanned : AreFound q (placed a) found) where
+module _ (a : ApplicableValue) (q : RequestValue) (f : Frame) (found : List Matched) (scanned : AreFound q (placed a) found) where
   denies-same : Denies a q ↔ DeniesIn found
   denies-same =
       let P : List Matched → Type 0 = λ z. Denies a q ↔ DeniesIn z in
@@ -134,53 +134,53 @@ module _ (a : ApplicableValue) (q : RequestValue) (found : List Matched) (scanne
       (λ x r. (r.0.0, (r.0.1, r.1, r.2))) (λ x p s. ((p, s.0), s.1, s.2)) (placed a) scanned.0 scanned.1
       )
 
-  levels-same : (layer : Layer) (levels : List (List PolicyValue)) → LevelsHold (AllowsIn found) layer levels ↔ LevelsHold (Allows a q) layer levels
+  levels-same : (layer : Layer) (levels : ℕ) → LevelsHold (AllowsIn found) layer levels ↔ LevelsHold (Allows a q) layer levels
   levels-same layer levels = (λ h level below. (allows-same layer level).1 (h level below), λ h level below. (allows-same layer level).0 (h level below))
 
-  boundary-same : BoundaryHolds (AllowsIn found) a ↔ BoundaryHolds (Allows a q) a
+  boundary-same : BoundaryHolds (AllowsIn found) f ↔ BoundaryHolds (Allows a q) f
   boundary-same = (
     λ h. elim h [ inl none ↦ inl none | inr allows ↦ inr ((allows-same Boundary 0).1 allows) ],
     λ h. elim h [ inl none ↦ inl none | inr allows ↦ inr ((allows-same Boundary 0).0 allows) ],
   )
 
-  session-same : SessionHolds (AllowsIn found) a ↔ SessionHolds (Allows a q) a
+  session-same : SessionHolds (AllowsIn found) f ↔ SessionHolds (Allows a q) f
   session-same = (
     λ h. elim h [ inl none ↦ inl none | inr allows ↦ inr ((allows-same Session 0).1 allows) ],
     λ h. elim h [ inl none ↦ inl none | inr allows ↦ inr ((allows-same Session 0).0 allows) ],
   )
 
-  all-same : AllHold (AllowsIn found) (GrantsIn found) a ↔ AllHold (Allows a q) (Grants a q) a
+  all-same : AllHold (AllowsIn found) (GrantsIn found) f ↔ AllHold (Allows a q) (Grants a q) f
   all-same = (
     λ h. ((allows-same Identity 0).1 h.0, boundary-same.0 h.1, session-same.0 h.2, (λ must. (grants-same Account).1 (h.3 must))),
     λ h. ((allows-same Identity 0).0 h.0, boundary-same.1 h.1, session-same.1 h.2, (λ must. (grants-same Account).0 (h.3 must))),
   )
 
-  grant-same : GrantSuffices (AllowsIn found) (GrantsIn found) a ↔ GrantSuffices (Allows a q) (Grants a q) a
+  grant-same : GrantSuffices (AllowsIn found) (GrantsIn found) f ↔ GrantSuffices (Allows a q) (Grants a q) f
   grant-same = (
     λ h. (h.0, elim h.1 [ inl g ↦ inl ((grants-same Direct).1 g) | inr g ↦ inr ((grants-same Role).1 g.0, boundary-same.0 g.1, session-same.0 g.2) ]),
     λ h. (h.0, elim h.1 [ inl g ↦ inl ((grants-same Direct).0 g) | inr g ↦ inr ((grants-same Role).0 g.0, boundary-same.1 g.1, session-same.1 g.2) ]),
   )
 
-  allowed-same : IsAllowed (AllowsIn found) (GrantsIn found) a ↔ IsAllowed (Allows a q) (Grants a q) a
+  allowed-same : IsAllowed (AllowsIn found) (GrantsIn found) f ↔ IsAllowed (Allows a q) (Grants a q) f
   allowed-same = (
-    λ h. ((levels-same Org a.org).0 h.0, (levels-same Control a.control).0 h.1, elim h.2 [ inl g ↦ inl (grant-same.0 g) | inr all ↦ inr (all-same.0 all) ]),
-    λ h. ((levels-same Org a.org).1 h.0, (levels-same Control a.control).1 h.1, elim h.2 [ inl g ↦ inl (grant-same.1 g) | inr all ↦ inr (all-same.1 all) ]),
+    λ h. ((levels-same Org f.org).0 h.0, (levels-same Control f.control).0 h.1, elim h.2 [ inl g ↦ inl (grant-same.0 g) | inr all ↦ inr (all-same.0 all) ]),
+    λ h. ((levels-same Org f.org).1 h.0, (levels-same Control f.control).1 h.1, elim h.2 [ inl g ↦ inl (grant-same.1 g) | inr all ↦ inr (all-same.1 all) ]),
   )
 
-  pub decided-same : (d : Decision) → IsDecided (DeniesIn found) (AllowsIn found) (GrantsIn found) a d → IsDecided (Denies a q) (Allows a q) (Grants a q) a d
+  pub decided-same : (d : Decision) → IsDecided (DeniesIn found) (AllowsIn found) (GrantsIn found) f d → IsDecided (Denies a q) (Allows a q) (Grants a q) f d
   decided-same ExplicitDeny h = denies-same.1 h
   decided-same Allowed h = ((λ denies. h.0 (denies-same.0 denies)), allowed-same.0 h.1)
   decided-same ImplicitDeny h = ((λ denies. h.0 (denies-same.0 denies)), (λ allowed. h.1 (allowed-same.1 allowed)))
 
-  fails-same : (layer : Layer) → Fails (AllowsIn found) (GrantsIn found) a layer ↔ Fails (Allows a q) (Grants a q) a layer
-  fails-same Org = ((λ h holds. h ((levels-same Org a.org).1 holds)), (λ h holds. h ((levels-same Org a.org).0 holds)))
-  fails-same Control = ((λ h holds. h ((levels-same Control a.control).1 holds)), (λ h holds. h ((levels-same Control a.control).0 holds)))
+  fails-same : (layer : Layer) → Fails (AllowsIn found) (GrantsIn found) f layer ↔ Fails (Allows a q) (Grants a q) f layer
+  fails-same Org = ((λ h holds. h ((levels-same Org f.org).1 holds)), (λ h holds. h ((levels-same Org f.org).0 holds)))
+  fails-same Control = ((λ h holds. h ((levels-same Control f.control).1 holds)), (λ h holds. h ((levels-same Control f.control).0 holds)))
   fails-same Resource = ((λ h. (h.0, (λ g. h.1 ((grants-same Account).0 g)))), (λ h. (h.0, (λ g. h.1 ((grants-same Account).1 g)))))
   fails-same Identity = ((λ h allows. h ((allows-same Identity 0).0 allows)), (λ h allows. h ((allows-same Identity 0).1 allows)))
   fails-same Boundary = ((λ h holds. h (boundary-same.1 holds)), (λ h holds. h (boundary-same.0 holds)))
   fails-same Session = ((λ h holds. h (session-same.1 holds)), (λ h holds. h (session-same.0 holds)))
 
-  pub lacking-same : (d : Decision) (lacks : List Layer) → AreLacking (AllowsIn found) (GrantsIn found) a d lacks → AreLacking (Allows a q) (Grants a q) a d lacks
+  pub lacking-same : (d : Decision) (lacks : List Layer) → AreLacking (AllowsIn found) (GrantsIn found) f d lacks → AreLacking (Allows a q) (Grants a q) f d lacks
   lacking-same ExplicitDeny lacks h = h
   lacking-same Allowed lacks h = h
   lacking-same ImplicitDeny lacks h = select-same _ _ fails-same layers_in_order lacks h

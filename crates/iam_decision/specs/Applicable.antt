@@ -1,8 +1,10 @@
 -- The policies that apply to a request: AWS IAM User Guide, "Policy evaluation logic".
-use Rattle.std.specs.Prelude.{◌<◌, ◌^◌, List, Bool, Option, map, option_map, length}
+use Rattle.std.specs.Prelude.{◌<◌, ◌^◌, List, [], ◌∷◌, Bool, Option, false, true, map, option_map, length}
 use Rattle.std.specs.List.{AllByRecursion}
+use Rattle.std.specs.Option.{is_some}
 use Rattle.iam_policy.specs.Reading.{PolicyValue}
 use Rattle.iam_decision.specs.declared.applicable.Applicable.{Applicable}
+use Rattle.iam_decision.specs.declared.frame.Frame.{Frame}
 
 -- the applicable policies of a request, by layer, and what the decision asks of the accounts and the resource
 pub record ApplicableValue : Type 0 where
@@ -14,6 +16,22 @@ pub record ApplicableValue : Type 0 where
   pub session : List PolicyValue
   pub same_account : Bool
   pub sealed : Bool
+
+-- there are such policies
+abbrev pub has_policies : List PolicyValue → Bool
+has_policies [] = false
+has_policies (policy ∷ policies) = true
+
+-- what the decision asks beside the statements
+abbrev pub frame_of : ApplicableValue → Frame
+frame_of a = record {
+  org = length a.org;
+  control = length a.control;
+  boundary = is_some a.boundary;
+  session = has_policies a.session;
+  same_account = a.same_account;
+  sealed = a.sealed;
+}
 
 -- the lent policies as values, without where they lie in memory
 abbrev pub value_of : Applicable → ApplicableValue

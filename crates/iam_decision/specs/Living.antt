@@ -5,8 +5,9 @@ use Rattle.iam_element.specs.Reading.{ActionElement}
 use Rattle.iam_match.specs.Principal.{grant_of}
 use Rattle.iam_match.specs.Requester.{RequesterValue}
 use Rattle.iam_match.specs.Statement.{AccessValue, RequestValue, RestMatches}
-use Rattle.iam_decision.specs.Applicable.{ApplicableValue}
+use Rattle.iam_decision.specs.Applicable.{ApplicableValue, frame_of}
 use Rattle.iam_decision.specs.Matched.{IsMatched, Placed, Selects, placed}
+use Rattle.iam_decision.specs.declared.frame.Frame.{Frame}
 use Rattle.iam_decision.specs.declared.living.Living.{Living}
 use Rattle.iam_decision.specs.declared.living.Matched.{Matched}
 
@@ -44,12 +45,12 @@ abbrev pub AreFound : RequestValue → List Placed → List Matched → Type 0
 AreFound q statements found =
     (chosen : List Placed) × Selects (IsMatched q) statements chosen × (found ≡ map (item_of q.requester) chosen)
 
--- what requests share: the policies that apply, and their living statements
+-- what requests share: what the decision asks beside the statements, and the living statements
 pub record SharedValue : Type 0 where
-  pub applicable : ApplicableValue
+  pub frame : Frame
   pub living : List LivingValue
 
 -- these are shared by the requests for this access to which these policies apply
 pub record IsShared (a : ApplicableValue) (access : AccessValue) (shared : SharedValue) : Type 0 where
-  pub applicable : shared.applicable ≡ a
+  pub frame : shared.frame ≡ frame_of a
   pub living : AreLiving access (placed a) shared.living

@@ -1,3 +1,4 @@
+use crate::frame::Frame;
 use crate::scan::scan;
 use crate::shared::Shared;
 use iam_match::{Access, OutOfMemory};
@@ -28,9 +29,9 @@ pub struct Applicable<'a> {
 }
 
 impl<'a> Applicable<'a> {
-    ghost use Rattle.std.specs.Prelude.{IfOk};
+    ghost use Rattle.std.specs.Prelude.{◌≡◌, IfOk};
     ghost use Rattle.iam_match.specs.Request.{access_of};
-    ghost use Rattle.iam_decision.specs.Applicable.{IsNumbered, value_of};
+    ghost use Rattle.iam_decision.specs.Applicable.{IsNumbered, frame_of, value_of};
     ghost use Rattle.iam_decision.specs.Living.{IsShared};
 
     /// What requests for this access share, whatever their actions: found by a scan of all statements of these policies.
@@ -48,6 +49,21 @@ impl<'a> Applicable<'a> {
         requires { IsNumbered (value_of self.now) }
         ensures { IfOk result (IsShared (value_of self.now) (access_of access.entry)) }
     {
-        Ok(Shared::new(*self, scan(alloc, self, access)?))
+        Ok(Shared::new(self.frame(), scan(alloc, self, access)?))
+    }
+
+    /// What a decision asks beside the statements.
+    fn frame(&self) -> Frame
+        requires { IsNumbered (value_of self.now) }
+        ensures { result ≡ frame_of (value_of self.now) }
+    {
+        Frame {
+            org: self.org.len() as u32,
+            control: self.control.len() as u32,
+            boundary: self.boundary.is_some(),
+            session: !self.session.is_empty(),
+            same_account: self.same_account,
+            sealed: self.sealed,
+        }
     }
 }

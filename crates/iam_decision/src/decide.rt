@@ -1,18 +1,18 @@
-ghost use Rattle.std.specs.Prelude.{◌≡◌, ◌↔◌, ◌≤◌, IsTrue, IfOk, map};
+ghost use Rattle.std.specs.Prelude.{◌≡◌, ◌↔◌, ◌≤◌, IsTrue, IfOk};
 ghost use Rattle.iam_match.specs.Principal.{rank};
 ghost use Rattle.iam_match.specs.Statement.{RequestValue};
-ghost use Rattle.iam_decision.specs.Applicable.{IsCountable, IsNumbered, value_of};
+ghost use Rattle.iam_decision.specs.Applicable.{ApplicableValue, frame_of};
 ghost use Rattle.iam_decision.specs.Living.{AreFound};
 ghost use Rattle.iam_decision.specs.Matched.{Selects, placed};
 ghost use Rattle.iam_decision.specs.Code.Found.{AllowsIn, ArePlaces, DeniesIn, GrantsIn};
 ghost use Rattle.iam_decision.specs.Decision.{AllHold, AreLacking, deciding_effect, BoundaryHolds, Fails, GrantSuffices, IsAllowed, IsDecided, IsVerdict, LevelsHold, MustGrant, SessionHolds, layers_in_order};
 
-use crate::applicable::Applicable;
+use crate::frame::Frame;
 use crate::living::Matched;
 use crate::place::{Layer, Place};
 use crate::verdict::{Decision, Verdict};
 use iam_match::{Grant, OutOfMemory};
-use iam_policy::{Effect, Policy};
+use iam_policy::Effect;
 use iam_text::Items;
 use std::alloc::Global;
 
@@ -40,28 +40,27 @@ fn allows(found: &[Matched], layer: Layer, level: u32) -> bool
 }
 
 /// Whether each level of the layer allows.
-fn levels_hold(found: &[Matched], layer: Layer, levels: &[Vec<Policy>]) -> bool
-    requires { IsCountable (map (λ level. level.items) levels.now) }
-    ensures { IsTrue result ↔ LevelsHold (AllowsIn found.now) layer (map (λ level. level.items) levels.now) }
+fn levels_hold(found: &[Matched], layer: Layer, levels: u32) -> bool
+    ensures { IsTrue result ↔ LevelsHold (AllowsIn found.now) layer levels }
 {
-    for level in 0..levels.len() {
-        if !allows(found, layer, level as u32) {
+    for level in 0..levels {
+        if !allows(found, layer, level) {
             return false;
         }
     }
     true
 }
 
-fn boundary_holds(found: &[Matched], applicable: &Applicable<'_>) -> bool
-    ensures { IsTrue result ↔ BoundaryHolds (AllowsIn found.now) (value_of applicable.now) }
+fn boundary_holds(found: &[Matched], frame: Frame) -> bool
+    ensures { IsTrue result ↔ BoundaryHolds (AllowsIn found.now) frame }
 {
-    applicable.boundary.is_none() || allows(found, Layer::Boundary, 0)
+    !frame.boundary || allows(found, Layer::Boundary, 0)
 }
 
-fn session_holds(found: &[Matched], applicable: &Applicable<'_>) -> bool
-    ensures { IsTrue result ↔ SessionHolds (AllowsIn found.now) (value_of applicable.now) }
+fn session_holds(found: &[Matched], frame: Frame) -> bool
+    ensures { IsTrue result ↔ SessionHolds (AllowsIn found.now) frame }
 {
-    applicable.session.is_empty() || allows(found, Layer::Session, 0)
+    !frame.session || allows(found, Layer::Session, 0)
 }
 
 fn is_at_least(grant: Grant, least: Grant) -> bool
@@ -79,63 +78,60 @@ fn grants(found: &[Matched], least: Grant) -> bool
         && is_at_least(m.grant, least))
 }
 
-fn must_grant(applicable: &Applicable<'_>) -> bool
-    ensures { IsTrue result ↔ MustGrant (value_of applicable.now) }
+fn must_grant(frame: Frame) -> bool
+    ensures { IsTrue result ↔ MustGrant frame }
 {
-    !applicable.same_account || applicable.sealed
+    !frame.same_account || frame.sealed
 }
 
 /// Whether the check of the layer fails.
-fn fails(found: &[Matched], applicable: &Applicable<'_>, layer: Layer) -> bool
-    requires { IsNumbered (value_of applicable.now) }
-    ensures { IsTrue result ↔ Fails (AllowsIn found.now) (GrantsIn found.now) (value_of applicable.now) layer }
+fn fails(found: &[Matched], frame: Frame, layer: Layer) -> bool
+    ensures { IsTrue result ↔ Fails (AllowsIn found.now) (GrantsIn found.now) frame layer }
 {
     match layer {
-        Layer::Org => !levels_hold(found, Layer::Org, applicable.org),
-        Layer::Control => !levels_hold(found, Layer::Control, applicable.control),
-        Layer::Resource => must_grant(applicable) && !grants(found, Grant::Account),
+        Layer::Org => !levels_hold(found, Layer::Org, frame.org),
+        Layer::Control => !levels_hold(found, Layer::Control, frame.control),
+        Layer::Resource => must_grant(frame) && !grants(found, Grant::Account),
         Layer::Identity => !allows(found, Layer::Identity, 0),
-        Layer::Boundary => !boundary_holds(found, applicable),
-        Layer::Session => !session_holds(found, applicable),
+        Layer::Boundary => !boundary_holds(found, frame),
+        Layer::Session => !session_holds(found, frame),
     }
 }
 
-fn all_hold(found: &[Matched], applicable: &Applicable<'_>) -> bool
-    ensures { IsTrue result ↔ AllHold (AllowsIn found.now) (GrantsIn found.now) (value_of applicable.now) }
+fn all_hold(found: &[Matched], frame: Frame) -> bool
+    ensures { IsTrue result ↔ AllHold (AllowsIn found.now) (GrantsIn found.now) frame }
 {
     allows(found, Layer::Identity, 0)
-        && boundary_holds(found, applicable)
-        && session_holds(found, applicable)
-        && (!must_grant(applicable) || grants(found, Grant::Account))
+        && boundary_holds(found, frame)
+        && session_holds(found, frame)
+        && (!must_grant(frame) || grants(found, Grant::Account))
 }
 
-fn grant_suffices(found: &[Matched], applicable: &Applicable<'_>) -> bool
-    ensures { IsTrue result ↔ GrantSuffices (AllowsIn found.now) (GrantsIn found.now) (value_of applicable.now) }
+fn grant_suffices(found: &[Matched], frame: Frame) -> bool
+    ensures { IsTrue result ↔ GrantSuffices (AllowsIn found.now) (GrantsIn found.now) frame }
 {
-    applicable.same_account
+    frame.same_account
         && (grants(found, Grant::Direct)
             || grants(found, Grant::Role)
-                && boundary_holds(found, applicable)
-                && session_holds(found, applicable))
+                && boundary_holds(found, frame)
+                && session_holds(found, frame))
 }
 
-fn is_allowed(found: &[Matched], applicable: &Applicable<'_>) -> bool
-    requires { IsNumbered (value_of applicable.now) }
-    ensures { IsTrue result ↔ IsAllowed (AllowsIn found.now) (GrantsIn found.now) (value_of applicable.now) }
+fn is_allowed(found: &[Matched], frame: Frame) -> bool
+    ensures { IsTrue result ↔ IsAllowed (AllowsIn found.now) (GrantsIn found.now) frame }
 {
-    levels_hold(found, Layer::Org, applicable.org)
-        && levels_hold(found, Layer::Control, applicable.control)
-        && (grant_suffices(found, applicable) || all_hold(found, applicable))
+    levels_hold(found, Layer::Org, frame.org)
+        && levels_hold(found, Layer::Control, frame.control)
+        && (grant_suffices(found, frame) || all_hold(found, frame))
 }
 
 /// The decision on what was found.
-pub fn decision_of(found: &[Matched], applicable: &Applicable<'_>) -> Decision
-    requires { IsNumbered (value_of applicable.now) }
-    ensures { IsDecided (DeniesIn found.now) (AllowsIn found.now) (GrantsIn found.now) (value_of applicable.now) result }
+fn decision_of(found: &[Matched], frame: Frame) -> Decision
+    ensures { IsDecided (DeniesIn found.now) (AllowsIn found.now) (GrantsIn found.now) frame result }
 {
     if denies(found) {
         Decision::ExplicitDeny
-    } else if is_allowed(found, applicable) {
+    } else if is_allowed(found, frame) {
         Decision::Allowed
     } else {
         Decision::ImplicitDeny
@@ -143,17 +139,12 @@ pub fn decision_of(found: &[Matched], applicable: &Applicable<'_>) -> Decision
 }
 
 /// The verdict on a request, where these are the statements of the applicable policies that match it.
-pub fn verdict_of(
-    alloc: Global,
-    found: &[Matched],
-    applicable: &Applicable<'_>,
-) -> Result<Verdict, OutOfMemory>
-    requires { IsNumbered (value_of applicable.now) }
-    ensures { (q : RequestValue) → AreFound q (placed (value_of applicable.now)) found.now → IfOk result (IsVerdict (value_of applicable.now) q) }
+pub fn verdict_of(alloc: Global, found: &[Matched], frame: Frame) -> Result<Verdict, OutOfMemory>
+    ensures { (a : ApplicableValue) (q : RequestValue) → frame ≡ frame_of a → AreFound q (placed a) found.now → IfOk result (IsVerdict a q) }
 {
-    let decision = decision_of(found, applicable);
+    let decision = decision_of(found, frame);
     let statements = places_of(alloc, found, deciding_effect(decision))?;
-    let lacks = lacking(alloc, decision, found, applicable)?;
+    let lacks = lacking(alloc, decision, found, frame)?;
     Ok(Verdict {
         decision,
         statements: Items::from_vec(statements),
@@ -166,13 +157,12 @@ fn lacking(
     alloc: Global,
     decision: Decision,
     found: &[Matched],
-    applicable: &Applicable<'_>,
+    frame: Frame,
 ) -> Result<Vec<Layer>, OutOfMemory>
-    requires { IsNumbered (value_of applicable.now) }
-    ensures { IfOk result (λ lacks. AreLacking (AllowsIn found.now) (GrantsIn found.now) (value_of applicable.now) decision lacks.items) }
+    ensures { IfOk result (λ lacks. AreLacking (AllowsIn found.now) (GrantsIn found.now) frame decision lacks.items) }
 {
     match decision {
-        Decision::ImplicitDeny => failing(alloc, found, applicable, LAYERS.as_slice()),
+        Decision::ImplicitDeny => failing(alloc, found, frame, LAYERS.as_slice()),
         Decision::Allowed => Ok(Vec::new(alloc)),
         Decision::ExplicitDeny => Ok(Vec::new(alloc)),
     }
@@ -192,16 +182,15 @@ fn deciding_effect(decision: Decision) -> Effect
 fn failing(
     alloc: Global,
     found: &[Matched],
-    applicable: &Applicable<'_>,
+    frame: Frame,
     layers: &[Layer],
 ) -> Result<Vec<Layer>, OutOfMemory>
-    requires { IsNumbered (value_of applicable.now) }
-    ensures { IfOk result (λ failing. Selects (Fails (AllowsIn found.now) (GrantsIn found.now) (value_of applicable.now)) layers.now
+    ensures { IfOk result (λ failing. Selects (Fails (AllowsIn found.now) (GrantsIn found.now) frame) layers.now
         failing.items) }
 {
     let mut failing = Vec::new(alloc);
     for &layer in layers {
-        if fails(found, applicable, layer) {
+        if fails(found, frame, layer) {
             failing.push(layer)?;
         }
     }

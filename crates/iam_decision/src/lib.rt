@@ -3,6 +3,7 @@
 
 mod applicable;
 mod decide;
+mod frame;
 mod living;
 mod place;
 mod scan;

@@ -1,4 +1,4 @@
-ghost use Rattle.std.specs.Prelude.{OnOk, map};
+ghost use Rattle.std.specs.Prelude.{◌≡◌, IsTrue, OnOk, map};
 ghost use Rattle.iam_decision.specs.Living.{living_value};
 ghost use Rattle.iam_decision.specs.Code.Scan.{AreActing};
 
@@ -7,7 +7,7 @@ use iam_match::{Grant, OutOfMemory, action_matches};
 use iam_policy::{Actions, Effect};
 
 /// A statement that matches a request: where it stands, its effect, and what its principals grant the requester.
-#[derive(Clone, Copy)]
+#[derive(Clone, Copy, Debug, PartialEq, Eq)]
 pub struct Matched {
     pub place: Place,
     pub effect: Effect,
@@ -36,4 +36,41 @@ pub fn put_acting(
         }
     }
     Ok(())
+}
+
+/// Whether both statements are the same.
+fn is_same(one: &Living<'_>, other: &Living<'_>) -> bool
+    ensures { IsTrue result → living_value one.now ≡ living_value other.now }
+{
+    one.matched == other.matched && one.action.equals(other.action)
+}
+
+/// Whether both lists have the same statements in the same order.
+pub fn are_same(ones: &[Living<'_>], others: &[Living<'_>]) -> bool
+    ensures { IsTrue result → map living_value ones.now ≡ map living_value others.now }
+{
+    if ones.len() != others.len() {
+        return false;
+    }
+    for i in 0..ones.len() {
+        if !is_same(&ones[i], &others[i]) {
+            return false;
+        }
+    }
+    true
+}
+
+/// A number that tells most lists of statements apart.
+pub fn print_of(living: &[Living<'_>]) -> u64 {
+    let mut print: u64 = 0;
+    for statement in living {
+        let place = statement.matched.place;
+        let numbers = (place.level as u64) << 42
+            | (place.policy as u64) << 21
+            | place.statement as u64;
+        print = (print ^ numbers)
+            .wrapping_mul(0x9e37_79b9_7f4a_7c15)
+            .rotate_left(23);
+    }
+    print
 }

@@ -1,60 +1,52 @@
-use crate::applicable::Applicable;
-use crate::decide::{decision_of, verdict_of};
-use crate::living::{Living, Matched, put_acting};
-use crate::verdict::{Decision, Verdict};
+use crate::decide::verdict_of;
+use crate::frame::Frame;
+use crate::living::{Living, Matched, are_same, print_of, put_acting};
+use crate::verdict::Verdict;
 use iam_match::OutOfMemory;
 use std::alloc::Global;
 use std::marker::Model;
 
-/// What the requests of one requester for one resource in one context share, whatever their actions: the policies that
-/// apply, and their statements that match once their action elements do.
+/// What the requests of one requester for one resource in one context share, whatever their actions: what a decision asks
+/// beside the statements, and the statements that match once their action elements do.
 #[derive(Drop)]
 pub struct Shared<'a> {
-    applicable: Applicable<'a>,
+    frame: Frame,
     living: Vec<Living<'a>>,
 }
 
 impl<'a> Model for Shared<'a> {
     ghost use Rattle.std.specs.Prelude.{map};
-    ghost use Rattle.iam_decision.specs.Applicable.{IsNumbered, value_of};
     ghost use Rattle.iam_decision.specs.Living.{SharedValue, living_value};
 
     ghost Value = { SharedValue };
 
-    ghost view = { λ s. record { applicable = value_of s.applicable; living = map living_value s.living.items } };
-
-    ghost invariant = { λ s. IsNumbered (value_of s.applicable) };
+    ghost view = { λ s. record { frame = s.frame; living = map living_value s.living.items } };
 }
 
 impl<'a> Shared<'a> {
-    ghost use Rattle.std.specs.Prelude.{◌≡◌, IfOk, OnOk, map};
+    ghost use Rattle.std.specs.Prelude.{◌≡◌, IfOk, IsTrue, OnOk, map};
     ghost use Rattle.iam_match.specs.Statement.{AccessValue, request_for};
-    ghost use Rattle.iam_decision.specs.Applicable.{IsNumbered, value_of};
-    ghost use Rattle.iam_decision.specs.Decision.{IsDecision, IsVerdict};
+    ghost use Rattle.iam_decision.specs.Applicable.{ApplicableValue};
+    ghost use Rattle.iam_decision.specs.Decision.{IsVerdict};
     ghost use Rattle.iam_decision.specs.Living.{AreFound, IsShared, living_value};
     ghost use Rattle.iam_decision.specs.Matched.{placed};
 
-    pub(crate) fn new(applicable: Applicable<'a>, living: Vec<Living<'a>>) -> Shared<'a>
-        requires { IsNumbered (value_of applicable) }
-        ensures { result ≡ record { applicable = value_of applicable.entry; living = map living_value living.entry.items } }
+    pub(crate) fn new(frame: Frame, living: Vec<Living<'a>>) -> Shared<'a>
+        ensures { result ≡ record { frame = frame; living = map living_value living.entry.items } }
     {
-        Shared { applicable, living }
+        Shared { frame, living }
     }
 
-    /// How many statements match once their action elements do.
-    pub fn statements(&self) -> usize {
-        self.living.len()
+    /// The statements that match once their action elements do: how many, and a number that tells most lists of them apart.
+    pub fn print(&self) -> (usize, u64) {
+        (self.living.len(), print_of(self.living.as_slice()))
     }
 
-    /// The decision on the request for this action. `found` is room for the statements that match.
-    ///
-    /// AWS IAM User Guide, "Policy evaluation logic".
-    pub fn decision(&self, found: &mut Vec<Matched>, action: &str) -> Result<Decision, OutOfMemory>
-        ensures { (access : AccessValue) → IsShared self.now.applicable access self.now
-            → IfOk result (IsDecision self.now.applicable (request_for access action.now)) }
+    /// Whether both are the same, so that they share whatever either does.
+    pub fn equals(&self, other: &Shared<'_>) -> bool
+        ensures { IsTrue result → self.now ≡ other.now }
     {
-        self.find(found, action)?;
-        Ok(decision_of(found.as_slice(), &self.applicable))
+        self.frame == other.frame && are_same(self.living.as_slice(), other.living.as_slice())
     }
 
     /// The verdict on the request for this action. `found` is room for the statements that match.
@@ -66,17 +58,17 @@ impl<'a> Shared<'a> {
         found: &mut Vec<Matched>,
         action: &str,
     ) -> Result<Verdict, OutOfMemory>
-        ensures { (access : AccessValue) → IsShared self.now.applicable access self.now
-            → IfOk result (IsVerdict self.now.applicable (request_for access action.now)) }
+        ensures { (a : ApplicableValue) (access : AccessValue) → IsShared a access self.now
+            → IfOk result (IsVerdict a (request_for access action.now)) }
     {
         self.find(found, action)?;
-        verdict_of(alloc, found.as_slice(), &self.applicable)
+        verdict_of(alloc, found.as_slice(), self.frame)
     }
 
     /// Puts the statements that match the request for this action into `found`, in place of what is there.
     fn find(&self, found: &mut Vec<Matched>, action: &str) -> Result<(), OutOfMemory>
-        ensures { (access : AccessValue) → IsShared self.now.applicable access self.now
-            → OnOk result (AreFound (request_for access action.now) (placed self.now.applicable) found.new.items) }
+        ensures { (a : ApplicableValue) (access : AccessValue) → IsShared a access self.now
+            → OnOk result (AreFound (request_for access action.now) (placed a) found.new.items) }
     {
         put_acting(found, self.living.as_slice(), action)
     }

@@ -1,3 +1,4 @@
+mod SameLemmas
 pub mod ElementLemmas
 pub mod GrammarLemmas
 pub mod ReadingLemmas

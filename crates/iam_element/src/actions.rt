@@ -1,4 +1,4 @@
-ghost use Rattle.std.specs.Prelude.{◌≡◌, codes, false, map, IfOk};
+ghost use Rattle.std.specs.Prelude.{◌≡◌, codes, false, map, IfOk, IsTrue};
 ghost use Rattle.std.specs.List.{filter_map};
 ghost use Rattle.serde_json.specs.Find.{as_str, get};
 ghost use Rattle.serde_json.specs.View.{view};
@@ -30,7 +30,7 @@ impl Model for Actions {
 }
 
 impl Actions {
-    ghost use Rattle.std.specs.Prelude.{◌≡◌, IfOk, Some, map};
+    ghost use Rattle.std.specs.Prelude.{◌≡◌, IfOk, IsTrue, Some, map};
     ghost use Rattle.serde_json.specs.View.{view};
     ghost use Rattle.iam_element.specs.Element.{texts_of};
     ghost use Rattle.iam_element.specs.Reading.{pattern_of};
@@ -47,6 +47,13 @@ impl Actions {
         ensures { result.now ≡ self.now.patterns }
     {
         self.patterns.as_slice()
+    }
+
+    /// Whether both elements are the same.
+    pub fn equals(&self, other: &Actions) -> bool
+        ensures { IsTrue result → self.now ≡ other.now }
+    {
+        self.is_negated == other.is_negated && are_same(self.patterns(), other.patterns())
     }
 
     /// Reads the element.
@@ -82,4 +89,19 @@ fn patterns(alloc: Global, values: &[Value]) -> Result<Vec<Glob>, OutOfMemory>
         }
     }
     Ok(globs)
+}
+
+/// Whether both lists have the same patterns in the same order.
+fn are_same(ones: &[Glob], others: &[Glob]) -> bool
+    ensures { IsTrue result → ones.now ≡ others.now }
+{
+    if ones.len() != others.len() {
+        return false;
+    }
+    for i in 0..ones.len() {
+        if ones[i].signs() != others[i].signs() {
+            return false;
+        }
+    }
+    true
 }

@@ -1,33 +1,41 @@
--- Slots that keep what is right, changed one at a time.
-use Rattle.std.proofs.Common.{◌≡◌, ◌<◌, ℕ, zero, suc, List, [], ◌∷◌, ◌++◌, length, get_or, Option, Some, None, IfSome, sym, ap, ◌∙◌, subst}
-use Rattle.std.proofs.Math.ListN.{set}
-use Rattle.std.proofs.lemmas.Option.{slice_get-get_or}
+-- What is kept stays right where classes and verdicts are added.
+use Rattle.std.proofs.Common.{◌≡◌, ◌<◌, ℕ, zero, suc, List, [], ◌∷◌, ◌++◌, length, Option, Some, refl, arith}
+use Rattle.std.proofs.lemmas.Option.{slice_get_within}
+use Rattle.std.specs.List.{slice_get}
+use Rattle.iam_decision.specs.Living.{SharedValue}
+use Rattle.iam_decision.specs.declared.verdict.Verdict.{Verdict}
 use Rattle.iam_world.specs.World.{WorldValue}
-use Rattle.iam_engine.specs.Memo.{AllRight, IsRight}
-use Rattle.iam_engine.specs.declared.memo.Kept.{Kept}
+use Rattle.iam_engine.specs.Memo.{AreAnswers, ArePairs, HasClass, HasNumber}
+use Rattle.iam_engine.specs.declared.memo.Answer.{Answer}
+use Rattle.iam_engine.specs.declared.memo.Pair.{Pair}
+use Rattle.iam_engine.proofs.SlotLemmas.{all-weaker}
 
--- what a slot keeps is right
-pub right-at : (world : WorldValue) (slots : List (Option Kept)) (i : ℕ) (slot : Option Kept) → i < length slots → slot ≡ get_or slots i slot
-    → AllRight world slots → IfSome slot (IsRight world)
-right-at world slots i None below is all = tt
-right-at world slots i (Some kept) below is all = all i kept (slice_get-get_or slots i (Some kept) below ∙ ap Some (sym is))
+-- what is in a list is in a longer one, and what is behind it is the next
+pub get-more : {X : Type 0} (xs ys : List X) (i : ℕ) (x : X) → slice_get xs i ≡ Some x → slice_get (xs ++ ys) i ≡ Some x
+get-more [] ys i x at = let within = slice_get_within [] i x at in absurd (omega (arith, within))
+get-more (y ∷ xs) ys zero x at = at
+get-more (y ∷ xs) ys (suc i) x at = get-more xs ys i x at
 
--- another slot in place of one
-pub right-set : (world : WorldValue) (slots : List (Option Kept)) (i : ℕ) (slot : Option Kept) → AllRight world slots → IfSome slot (IsRight world)
-    → AllRight world (set slots i slot)
-right-set world [] i slot all one j kept at = all j kept at
-right-set world (s ∷ slots) zero slot all one zero kept at =
-    let P : Option Kept → Type 0 = λ v. IfSome v (IsRight world) in
-    let same : slot ≡ Some kept = cc in
-    subst P same one
-right-set world (s ∷ slots) zero slot all one (suc j) kept at = all (suc j) kept at
-right-set world (s ∷ slots) (suc i) slot all one zero kept at = all zero kept at
-right-set world (s ∷ slots) (suc i) slot all one (suc j) kept at =
-    right-set world slots i slot (λ k x here. all (suc k) x here) one j kept at
+pub get-next : {X : Type 0} (xs : List X) (x : X) → slice_get (xs ++ x ∷ []) (length xs) ≡ Some x
+get-next [] x = refl
+get-next (y ∷ xs) x = get-next xs x
 
--- one more slot, which keeps nothing
-pub right-more : (world : WorldValue) (slots : List (Option Kept)) → AllRight world slots → AllRight world (slots ++ None ∷ [])
-right-more world [] all zero kept at = absurd (let wrong : ⊥ = cc in wrong)
-right-more world [] all (suc i) kept at = absurd (let wrong : ⊥ = cc in wrong)
-right-more world (s ∷ slots) all zero kept at = all zero kept at
-right-more world (s ∷ slots) all (suc i) kept at = right-more world slots (λ k x here. all (suc k) x here) i kept at
+pub pairs-more : (world : WorldValue) (classes more : List SharedValue) (pairs : List (Option Pair)) → ArePairs world classes pairs
+    → ArePairs world (classes ++ more) pairs
+pairs-more world classes more pairs all =
+    all-weaker (λ (p : Pair). HasClass world classes p.principal p.resource p.class) (λ (p : Pair). HasClass world (classes ++ more) p.principal p.resource p.class)
+    pairs (λ p (shared, at, is). (shared, get-more classes more p.class shared at, is)) all
+
+pub answers-more : (world : WorldValue) (classes more : List SharedValue) (verdicts : List Verdict) (answers : List (Option Answer))
+    → AreAnswers world classes verdicts answers → AreAnswers world (classes ++ more) verdicts answers
+answers-more world classes more verdicts answers all =
+    all-weaker (λ (a : Answer). HasNumber world classes verdicts a.class a.action a.number)
+    (λ (a : Answer). HasNumber world (classes ++ more) verdicts a.class a.action a.number) answers
+    (λ a (shared, at, is). (shared, get-more classes more a.class shared at, is)) all
+
+pub answers-behind : (world : WorldValue) (classes : List SharedValue) (verdicts more : List Verdict) (answers : List (Option Answer))
+    → AreAnswers world classes verdicts answers → AreAnswers world classes (verdicts ++ more) answers
+answers-behind world classes verdicts more answers all =
+    all-weaker (λ (a : Answer). HasNumber world classes verdicts a.class a.action a.number)
+    (λ (a : Answer). HasNumber world classes (verdicts ++ more) a.class a.action a.number) answers
+    (λ a (shared, at, (verdict, here, is)). (shared, at, (verdict, get-more verdicts more a.number verdict here, is))) all

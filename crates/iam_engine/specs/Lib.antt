@@ -1,1 +1,4 @@
+pub mod Engine
+pub mod Keys
 pub mod Memo
+pub mod Slots

@@ -1,65 +1,64 @@
-use crate::memo::{Kept, empty_slots, put, take};
-use iam_layers::{Decision, Matched, Shared, Verdict, World};
+ghost use Rattle.std.specs.Prelude.{◌≡◌, ◌<◌, IfOk, Some, length};
+ghost use Rattle.std.specs.List.{slice_get};
+ghost use Rattle.std.specs.Option.{ForSome};
+ghost use Rattle.iam_decision.specs.Living.{SharedValue};
+ghost use Rattle.iam_engine.specs.Keys.{AreKeys};
+ghost use Rattle.iam_engine.specs.Memo.{HasClass, IsNumber, IsRight};
+
+use crate::keys::{Keys, shared_by};
+use crate::memo::Memo;
+use iam_layers::{Decision, Matched, Verdict, World};
 use iam_text::OutOfMemory;
 use std::alloc::Global;
 use std::marker::Model;
 
-/// How many statements and how many slots the engines of a run keep together at most.
-const MOST_STATEMENTS: usize = 2_097_152;
-
-const MOST_SLOTS: u64 = 131_072;
-
 /// Decides the cells of a world, one after the other and in any order. What the requests of a principal for a resource share
-/// is kept, within bounds, for the next such request.
+/// is kept, within bounds, for the next such request, and so are verdicts on requests that share the same.
 #[derive(Drop)]
 pub struct Engine<'a> {
     world: &'a World,
-    // What is kept: the slot of a resource keeps what it shares with one principal.
-    slots: Vec<Option<Kept<'a>>>,
-    // How many further statements may be kept.
-    room: usize,
+    memo: Memo<'a>,
+    // The derived keys that were made last.
+    keys: Option<Keys>,
     // Room for the statements that match a request.
     found: Vec<Matched>,
 }
 
 impl<'a> Model for Engine<'a> {
-    ghost use Rattle.iam_world.specs.World.{WorldValue};
-    ghost use Rattle.iam_engine.specs.Memo.{AllRight};
+    ghost use Rattle.std.specs.Option.{ForSome};
+    ghost use Rattle.iam_engine.specs.Engine.{EngineValue};
+    ghost use Rattle.iam_engine.specs.Keys.{AreKeys};
+    ghost use Rattle.iam_engine.specs.Memo.{IsRight};
 
-    ghost Value = { WorldValue };
+    ghost Value = { EngineValue };
 
-    ghost view = { λ engine. engine.world.now };
+    ghost view = { λ engine. record { world = engine.world.now; verdicts = engine.memo.verdicts.items } };
 
-    ghost invariant = { λ engine. AllRight engine.world.now engine.slots.items };
+    ghost invariant = { λ engine. IsRight engine.world.now engine.memo × ForSome engine.keys (AreKeys engine.world.now) };
 }
 
 impl<'a> Engine<'a> {
-    ghost use Rattle.std.specs.Prelude.{◌≡◌, ◌<◌, IfOk, IfSome, length};
+    ghost use Rattle.std.specs.Prelude.{◌≡◌, ◌<◌, ℕ, IfOk, length};
     ghost use Rattle.iam_world.specs.World.{world_cells};
-    ghost use Rattle.iam_layers.specs.Cell.{IsDecisionAt, IsDecisionOf, IsSharedAt, IsVerdictAt, IsVerdictOf};
+    ghost use Rattle.iam_layers.specs.Cell.{IsDecisionOf, IsVerdictAt, IsVerdictOf};
+    ghost use Rattle.iam_engine.specs.Engine.{IsNumberAt};
 
     /// An engine of this world, one of so many that share the bounds on what is kept.
     pub fn new(alloc: Global, world: &'a World, engines: u32) -> Result<Engine<'a>, OutOfMemory>
-        ensures { IfOk result (λ engine. engine ≡ world.entry.now) }
+        ensures { IfOk result (λ engine. engine.world ≡ world.entry.now) }
     {
-        let engines = engines.max(1);
-        // Where there is one action, no requests share anything.
-        let slots = if world.actions() > 1 {
-            world.resources().min(MOST_SLOTS / engines as u64)
-        } else {
-            0
-        };
+        let memo = Memo::new(alloc, world.actions(), world.resources(), engines)?;
         Ok(Engine {
             world,
-            slots: empty_slots(alloc, slots)?,
-            room: MOST_STATEMENTS / engines as usize,
+            memo,
+            keys: None,
             found: Vec::new(alloc),
         })
     }
 
     /// The world whose cells it decides.
     pub fn world(&self) -> &'a World
-        ensures { result.now ≡ self.now }
+        ensures { result.now ≡ self.now.world }
     {
         self.world
     }
@@ -67,115 +66,92 @@ impl<'a> Engine<'a> {
     /// The verdict on the request of a cell, which has to be below `cells()` of the world, whatever was asked before. After a
     /// refusal the engine is as usable as before.
     pub fn decide(&mut self, alloc: Global, cell: u64) -> Result<Verdict, OutOfMemory>
-        requires { cell < world_cells self.old }
-        ensures verdict { IfOk result (IsVerdictOf self.old cell) }
-        ensures same { self.new ≡ self.old }
+        requires { cell < world_cells self.old.world }
+        ensures verdict { IfOk result (IsVerdictOf self.old.world cell) }
+        ensures same { self.new.world ≡ self.old.world }
     {
         let (p, a, r) = self.world.triple(cell);
-        self.verdict(alloc, p, a, r)
+        let number = self.find(alloc, p, a, r)?;
+        let verdict = self.verdict(number).copy(alloc)?;
+        Ok(verdict)
     }
 
     /// The decision on the request of a cell, as [`Engine::decide`] gives it.
     pub fn decide_brief(&mut self, alloc: Global, cell: u64) -> Result<Decision, OutOfMemory>
-        requires { cell < world_cells self.old }
-        ensures decision { IfOk result (IsDecisionOf self.old cell) }
-        ensures same { self.new ≡ self.old }
+        requires { cell < world_cells self.old.world }
+        ensures decision { IfOk result (IsDecisionOf self.old.world cell) }
+        ensures same { self.new.world ≡ self.old.world }
     {
         let (p, a, r) = self.world.triple(cell);
-        self.decision(alloc, p, a, r)
+        let number = self.find(alloc, p, a, r)?;
+        Ok(self.verdict(number).decision)
     }
 
-    /// The verdict on principal p's request for action a on resource r, each below the number of its kind.
-    pub fn verdict(&mut self, alloc: Global, p: u64, a: u64, r: u64) -> Result<Verdict, OutOfMemory>
-        requires principal { p < length self.old.principals }
-        requires action { a < length self.old.actions }
-        requires resource { r < length self.old.resources }
-        ensures verdict { IfOk result (IsVerdictAt self.old p a r) }
-        ensures same { self.new ≡ self.old }
+    /// The number of the verdict on principal p's request for action a on resource r, each below the number of its kind. It
+    /// is that of the verdict until the next call.
+    pub fn find(&mut self, alloc: Global, p: u64, a: u64, r: u64) -> Result<usize, OutOfMemory>
+        requires principal { p < length self.old.world.principals }
+        requires action { a < length self.old.world.actions }
+        requires resource { r < length self.old.world.resources }
+        ensures number { IfOk result (IsNumberAt self.new p a r) }
+        ensures same { self.new.world ≡ self.old.world }
     {
-        let action = self.world.action_text(a);
-        let shared = self.shared(alloc, p, r)?;
-        let verdict = shared.verdict(alloc, &mut self.found, action)?;
-        self.keep(p, r, shared);
-        Ok(verdict)
+        let class = class_of(alloc, self.world, &mut self.memo, &mut self.keys, p, r)?;
+        number_of(alloc, self.world, &mut self.memo, &mut self.found, class, a)
     }
 
-    /// The decision on principal p's request for action a on resource r, each below the number of its kind.
-    pub fn decision(
-        &mut self,
-        alloc: Global,
-        p: u64,
-        a: u64,
-        r: u64,
-    ) -> Result<Decision, OutOfMemory>
-        requires principal { p < length self.old.principals }
-        requires action { a < length self.old.actions }
-        requires resource { r < length self.old.resources }
-        ensures decision { IfOk result (IsDecisionAt self.old p a r) }
-        ensures same { self.new ≡ self.old }
+    /// The verdict of a number that [`Engine::find`] gave, on the request that it was given for.
+    pub fn verdict(&self, number: usize) -> &Verdict
+        requires { number < length self.now.verdicts }
+        ensures { (p a r : ℕ) → IsNumberAt self.now p a r number → IsVerdictAt self.now.world p a r result.now }
     {
-        let action = self.world.action_text(a);
-        let shared = self.shared(alloc, p, r)?;
-        let decision = shared.decision(&mut self.found, action)?;
-        self.keep(p, r, shared);
-        Ok(decision)
+        &self.memo.verdicts[number]
     }
+}
 
-    /// What the requests of principal p for resource r share: what was kept, which is taken out, or else found anew.
-    fn shared(&mut self, alloc: Global, p: u64, r: u64) -> Result<Shared<'a>, OutOfMemory>
-        requires principal { p < length self.old.principals }
-        requires resource { r < length self.old.resources }
-        ensures shared { IfOk result (IsSharedAt self.old p r) }
-        ensures same { self.new ≡ self.old }
-    {
-        match self.taken(p, r) {
-            Some(shared) => Ok(shared),
-            None => self.world.shared(alloc, p, r),
-        }
+/// The class of principal p and resource r.
+fn class_of<'a>(
+    alloc: Global,
+    world: &'a World,
+    memo: &mut Memo<'a>,
+    keys: &mut Option<Keys>,
+    p: u64,
+    r: u64,
+) -> Result<usize, OutOfMemory>
+    requires principal { p < length world.now.principals }
+    requires resource { r < length world.now.resources }
+    requires right { IsRight world.now memo.old }
+    requires keys { ForSome keys.old (AreKeys world.now) }
+    ensures right { IsRight world.entry.now memo.new }
+    ensures keys { ForSome keys.new (AreKeys world.entry.now) }
+    ensures class { IfOk result (HasClass world.entry.now memo.new.classes.items p r) }
+{
+    if let Some(class) = memo.class_of(p, r) {
+        return Ok(class);
     }
+    let shared = shared_by(alloc, world, keys, p, r)?;
+    memo.class_with(p, r, shared)
+}
 
-    /// Takes out what is kept of principal p and resource r.
-    fn taken(&mut self, p: u64, r: u64) -> Option<Shared<'a>>
-        ensures taken { IfSome result (IsSharedAt self.old p r) }
-        ensures same { self.new ≡ self.old }
-    {
-        let slot = self.slot_of(r);
-        let kept = take(&mut self.slots, slot)?;
-        self.room = self.room.saturating_add(kept.shared.statements());
-        if kept.principal == p && kept.resource == r {
-            Some(kept.shared)
-        } else {
-            None
-        }
+/// The number of the verdict on requests of a class for action a.
+fn number_of(
+    alloc: Global,
+    world: &World,
+    memo: &mut Memo<'_>,
+    found: &mut Vec<Matched>,
+    class: usize,
+    a: u64,
+) -> Result<usize, OutOfMemory>
+    requires action { a < length world.now.actions }
+    requires class { class < length memo.old.classes.items }
+    requires right { IsRight world.now memo.old }
+    ensures right { IsRight world.now memo.new }
+    ensures number { (shared : SharedValue) → slice_get memo.old.classes.items class ≡ Some shared
+        → IfOk result (IsNumber world.now shared memo.new.verdicts.items a) }
+{
+    if let Some(number) = memo.number_of(class, a) {
+        return Ok(number);
     }
-
-    /// Keeps what principal p and resource r share, where there is room.
-    fn keep(&mut self, p: u64, r: u64, shared: Shared<'a>)
-        requires { IsSharedAt self.old p r shared }
-        ensures { self.new ≡ self.old }
-    {
-        let statements = shared.statements();
-        if statements > self.room {
-            return;
-        }
-        self.room -= statements;
-        let slot = self.slot_of(r);
-        put(
-            &mut self.slots,
-            slot,
-            Kept {
-                principal: p,
-                resource: r,
-                shared,
-            },
-        );
-    }
-
-    /// The slot of a resource: where there are fewer than resources, several have the same.
-    fn slot_of(&self, r: u64) -> usize {
-        match r.checked_rem(self.slots.len() as u64) {
-            Some(slot) => slot as usize,
-            None => 0,
-        }
-    }
+    let verdict = memo.classes[class].verdict(alloc, found, world.action_text(a))?;
+    memo.number_with(class, a, verdict)
 }

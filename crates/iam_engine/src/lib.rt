@@ -2,6 +2,8 @@
 #![tactic(auto)]
 
 mod engine;
+mod keys;
 mod memo;
+mod slots;
 
 pub use engine::Engine;

@@ -1,3 +1,3 @@
 mod CellLemmas
-pub mod ContextLemmas
+pub mod DerivedLemmas
 pub mod VerdictLemmas

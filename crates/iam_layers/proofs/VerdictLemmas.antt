@@ -1,15 +1,13 @@
 -- What the requests of a principal for a resource share, put together of what the calls of a world give.
-use Rattle.std.proofs.Common.{◌≡◌, ℕ, List, Option, Some, refl, sym, ap, ◌∙◌, subst}
+use Rattle.std.proofs.Common.{◌≡◌, ℕ, List, Option, Some, sym, ap, ◌∙◌}
 use Rattle.std.specs.List.{slice_get}
 use Rattle.iam_context.specs.Context.{ContextValue}
 use Rattle.iam_decision.specs.Applicable.{ApplicableValue}
-use Rattle.iam_decision.specs.Living.{AreLiving, IsShared, SharedValue}
-use Rattle.iam_decision.specs.Matched.{placed}
 use Rattle.iam_match.specs.Requester.{RequesterValue}
 use Rattle.iam_match.specs.Statement.{AccessValue}
 use Rattle.iam_world.specs.World.{PrincipalValue, ResourceValue, WorldValue}
 use Rattle.iam_layers.specs.Applicable.{applicable_of}
-use Rattle.iam_layers.specs.Cell.{IsAccessAt, IsContextAt, IsDerivedAt, IsPrincipal, IsResource, IsSharedAt}
+use Rattle.iam_layers.specs.Cell.{IsAccessAt, IsContextAt, IsDerivedAt, IsPrincipal, IsResource}
 use Rattle.iam_layers.specs.Derived.{context_of}
 
 one_some : {A : Type 0} (o : Option A) (x y : A) → o ≡ Some x → o ≡ Some y → x ≡ y
@@ -44,10 +42,3 @@ accessed world p r requester arn context derived applicable (p1, a1, e1) (r1, b1
       access_is =
           ap (λ x. asked x arn context) who ∙ ap (λ x. asked p2.requester x context) what ∙ ap (λ x. asked p2.requester r2.arn x) where_;
     }
-
-pub made : (world : WorldValue) (p r : ℕ) (a : ApplicableValue) (access : AccessValue) (s : SharedValue) → IsAccessAt world p r a access
-    → IsShared a access s → IsSharedAt world p r s
-made world p r a access s at is =
-    let P : ApplicableValue → Type 0 = λ x. IsAccessAt world p r x access in
-    let Q : ApplicableValue → Type 0 = λ x. AreLiving access (placed x) s.living in
-    (access, subst P (sym is.applicable) at, record { applicable = refl; living = subst Q (sym is.applicable) is.living })

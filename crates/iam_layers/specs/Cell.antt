@@ -66,7 +66,7 @@ pub record IsAccessAt (world : WorldValue) (p r : ℕ) (applicable : ApplicableV
 -- what the requests of principal p for resource r share
 abbrev pub IsSharedAt : WorldValue → ℕ → ℕ → SharedValue → Type 0
 IsSharedAt world p r shared =
-    (access : AccessValue) × IsAccessAt world p r shared.applicable access × IsShared shared.applicable access shared
+    (applicable : ApplicableValue) × (access : AccessValue) × IsAccessAt world p r applicable access × IsShared applicable access shared
 
 -- the request of principal p for action a on resource r, in its context, and the policies that apply to it
 abbrev pub IsRequestAt : WorldValue → ℕ → ℕ → ℕ → ApplicableValue → RequestValue → Type 0

@@ -1,4 +1,4 @@
-ghost use Rattle.std.specs.Prelude.{◌≡◌, ◌≤◌, ℕ, List, ◌++◌, pos, option_map, IfOk, OnOk};
+ghost use Rattle.std.specs.Prelude.{◌≡◌, ◌≤◌, ◌++◌, pos, string_bytes, option_map, IfOk, OnOk};
 ghost use Rattle.iam_value.specs.Moment.{IsStamp};
 ghost use Rattle.iam_layers.specs.Code.Keys.{moment_keys, requester_keys, username_key, word_of};
 ghost use Rattle.iam_layers.specs.Derived.{derived_of, key};
@@ -72,8 +72,8 @@ fn add_moment(
     add(alloc, keys, "aws:EpochTime", seconds.as_str())
 }
 
-/// The keys of a requester, of an account of a resource and of a moment, which is written so.
-fn keys_with(
+/// The keys that follow from a requester, an account of a resource and a moment, which is written so.
+pub fn keys_with(
     alloc: Global,
     requester: &Requester,
     account: &str,
@@ -89,17 +89,10 @@ fn keys_with(
     Ok(keys)
 }
 
-/// The keys that follow from the requester, the resource's account and the moment.
-pub fn derived_keys(
-    alloc: Global,
-    requester: &Requester,
-    account: &str,
-    moment: u64,
-) -> Result<Derived, OutOfMemory>
+/// The moment as `aws:CurrentTime` says it.
+pub fn stamp_of(alloc: Global, moment: u64) -> Result<String, OutOfMemory>
     requires { moment ≤ 253402300799 }
-    ensures { IfOk result (λ keys. (text : List ℕ) × IsStamp (pos moment) text
-        × (keys.items ≡ derived_of requester.now account.now moment text)) }
+    ensures { IfOk result (λ text. IsStamp (pos moment) (string_bytes text)) }
 {
-    let stamp = stamp(alloc, moment as i64)?;
-    keys_with(alloc, requester, account, moment, stamp.as_str())
+    stamp(alloc, moment as i64)
 }

@@ -1,8 +1,8 @@
 ghost use Rattle.std.specs.Prelude.{◌≡◌, ◌+◌, ◌*◌, ◌≤◌, ◌<◌};
 
 use crate::applicable::{control_of, org_of};
-use crate::derived::derived_keys;
-use iam_context::{Context, ContextFault, Derived, clean_beside_fewer, clean_parts_join};
+use crate::derived::{keys_with, stamp_of};
+use iam_context::{Context, Derived};
 use iam_decision::{Applicable, Shared, Verdict};
 use iam_match::{Access, OutOfMemory, Requester};
 use iam_world::{Principal, Resource, WorldFault, WorldParts};
@@ -13,14 +13,20 @@ use std::marker::Model;
 #[derive(Debug, Drop)]
 pub struct World {
     parts: WorldParts,
+    // The moment, as `aws:CurrentTime` says it.
+    stamp: String,
 }
 
 impl Model for World {
+    ghost use Rattle.std.specs.Prelude.{pos, string_bytes};
+    ghost use Rattle.iam_value.specs.Moment.{IsStamp};
     ghost use Rattle.iam_world.specs.World.{WorldValue};
 
     ghost Value = { WorldValue };
 
     ghost view = { λ w. w.parts };
+
+    ghost invariant = { λ w. IsStamp (pos w.parts.moment) (string_bytes w.stamp) };
 }
 
 /// The number of a cell of a matrix of so many actions and resources.
@@ -32,21 +38,14 @@ fn cell_number(p: u64, a: u64, r: u64, actions: u64, resources: u64) -> u64
     (p * actions + a) * resources + r
 }
 
-/// The one fault of keys that can be joined.
-fn memory_fault(fault: ContextFault) -> OutOfMemory
-    requires { fault ≡ ContextFault.OutOfMemory }
-{
-    let _wanting = fault;
-    OutOfMemory
-}
-
 impl World {
-    ghost use Rattle.std.specs.Prelude.{◌≡◌, ◌≢◌, ℕ, ◌<◌, ◌≤◌, IfOk, IfErr, Some, length};
+    ghost use Rattle.std.specs.Prelude.{◌≡◌, ◌≢◌, ℕ, ◌<◌, ◌≤◌, IfOk, IfErr, IsTrue, Some, length};
     ghost use Rattle.std.specs.List.{slice_get};
     ghost use Rattle.iam_decision.specs.Applicable.{IsNumbered, value_of};
     ghost use Rattle.iam_shape.specs.Few.{HasFewLevels};
     ghost use Rattle.iam_world.specs.Reads.{IsWorld};
     ghost use Rattle.iam_world.specs.WorldFault.{IsFirstWorldFault};
+    ghost use Rattle.iam_context.specs.Context.{ContextValue};
     ghost use Rattle.iam_world.specs.World.{world_cells, world_statements};
     ghost use Rattle.iam_world.specs.Code.Invariants.{HasFewPolicies};
     ghost use Rattle.iam_world.specs.declared.fault.WorldFault.TheVariants as w;
@@ -61,9 +60,16 @@ impl World {
         ensures fault { IfErr result (λ fault. fault ≢ w.OutOfMemory → IsFirstWorldFault bytes.now fault) }
     {
         match WorldParts::read(alloc, bytes) {
-            Ok(parts) => Ok(World { parts }),
+            Ok(parts) => Ok(World::of(alloc, parts)?),
             Err(fault) => Err(fault),
         }
+    }
+
+    fn of(alloc: Global, parts: WorldParts) -> Result<World, OutOfMemory>
+        ensures { IfOk result (λ world. world ≡ parts) }
+    {
+        let stamp = stamp_of(alloc, parts.moment())?;
+        Ok(World { parts, stamp })
     }
 
     /// How many principals there are.
@@ -170,8 +176,24 @@ impl World {
         requires resource { r < length self.now.resources }
         ensures { IfOk result (λ derived. IsDerivedAt self.now p r derived.items) }
     {
-        let account = self.resource(r).account();
-        derived_keys(alloc, self.requester(p), account, self.parts.moment())
+        keys_with(
+            alloc,
+            self.requester(p),
+            self.resource(r).account(),
+            self.parts.moment(),
+            self.stamp.as_str(),
+        )
+    }
+
+    /// Whether the keys that follow from a principal, a resource and the moment are the same for these two resources, whoever
+    /// asks: where both are of one account. Each has to be below the number of resources.
+    pub fn has_same_derived(&self, r: u64, other: u64) -> bool
+        requires resource { r < length self.now.resources }
+        requires other { other < length self.now.resources }
+        ensures { IsTrue result → (p : ℕ) (derived : ContextValue) → IsDerivedAt self.now p r derived
+            → IsDerivedAt self.now p other derived }
+    {
+        self.resource(r).account() == self.resource(other).account()
     }
 
     /// The context of requests of principal p for resource r: the keys that the world, the principal and the resource
@@ -190,18 +212,12 @@ impl World {
         requires derived { IsDerivedAt self.now p r derived.now.items }
         ensures { IfOk result (IsContextAt self.entry.now p r derived.entry.now.items) }
     {
-        // The world's contexts can be joined, so only memory can be wanting.
-        clean_parts_join();
-        clean_beside_fewer();
         let given = [
             self.parts.context(),
             self.principal(p).context(),
             self.resource(r).context(),
         ];
-        match Context::join(alloc, &given, derived) {
-            Ok(context) => Ok(context),
-            Err(fault) => Err(memory_fault(fault)),
-        }
+        Context::of(alloc, given, derived)
     }
 
     /// The policies that apply where principal p asks for resource r, each below the number of its kind.
@@ -219,7 +235,7 @@ impl World {
         let account = principal.requester().account();
         Applicable {
             org: org_of(self.parts.account(account)),
-            control: control_of(self.parts.account(resource.account()), resource),
+            control: control_of(&self.parts, resource.account(), resource),
             resource: resource.policy(),
             identity: principal.identity(),
             boundary: principal.boundary(),
@@ -245,8 +261,10 @@ impl World {
         &self.parts.resources()[r as usize]
     }
 
-    /// What the requests of principal p for resource r share, where these derived keys complete their context.
-    fn shared_in<'a: 'c, 'c>(
+    /// What the requests of principal p for resource r share, where these derived keys complete their context: found by a
+    /// scan of all statements that apply. The derived keys of a principal serve all resources of one account
+    /// ([`World::has_same_derived`]).
+    pub fn shared_with<'a: 'c, 'c>(
         &'a self,
         alloc: Global,
         p: u64,
@@ -275,7 +293,7 @@ impl World {
         ensures { IfOk result (IsSharedAt self.entry.now p r) }
     {
         let derived = self.derived(alloc, p, r)?;
-        self.shared_in(alloc, p, r, &derived)
+        self.shared_with(alloc, p, r, &derived)
     }
 
     /// The verdict on principal p's request for action a on resource r, each below the number of its kind, by a scan of

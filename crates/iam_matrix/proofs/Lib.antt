@@ -1,3 +1,3 @@
 pub mod Offers
-pub mod Rendered
+pub mod Tails
 pub mod Tiles

@@ -33,7 +33,7 @@ impl<'a> Crew for Decisions<'a> {
 
     type Tools = Engine<'a>;
 
-    ghost fits = { λ crew engine. engine ≡ crew.world.now };
+    ghost fits = { λ crew engine. engine.world ≡ crew.world.now };
 
     ghost takes = { λ crew tile. IsTileOf crew.world.now crew.cut.now tile };
 
@@ -69,9 +69,9 @@ fn decisions_of(
     from: u64,
     count: u64,
 ) -> Result<Vec<Decision>, OutOfMemory>
-    requires { from + count ≤ world_cells engine.old }
-    ensures decisions { IfOk result (λ decisions. AreDecisions engine.old from count decisions.items) }
-    ensures same { engine.new ≡ engine.old }
+    requires { from + count ≤ world_cells engine.old.world }
+    ensures decisions { IfOk result (λ decisions. AreDecisions engine.old.world from count decisions.items) }
+    ensures same { engine.new.world ≡ engine.old.world }
 {
     let world = engine.world();
     let mut decisions = Vec::new(alloc);

@@ -15,7 +15,9 @@ pub use cut::{Cut, CutFault};
 pub use decisions::matrix_brief;
 pub use fault::MatrixFault;
 pub use iam_crew::{Gate, Open};
-pub use iam_report::{Format, csv_brief, csv_row, csv_row_brief, csv_text, json_brief, json_text};
+pub use iam_report::{
+    Format, MatrixText, csv_brief, csv_row, csv_row_brief, csv_text, json_brief, json_text,
+};
 pub use report::{first_report, matrix_report};
 pub use search::first;
 pub use verdicts::matrix;

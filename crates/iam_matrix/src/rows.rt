@@ -1,7 +1,8 @@
-ghost use Rattle.std.specs.Prelude.{◌≡◌, ◌+◌, ◌<◌, ◌≤◌, IfOk, string_bytes};
+ghost use Rattle.std.specs.Prelude.{◌≡◌, ◌+◌, ◌<◌, ◌≤◌, List, IfOk, map};
+ghost use Rattle.iam_decision.specs.declared.verdict.Decision.{Decision};
+ghost use Rattle.iam_report.specs.Piece.{bare};
 ghost use Rattle.iam_world.specs.World.{world_cells};
-ghost use Rattle.iam_report.specs.Piece.{IsQuotedOf};
-ghost use Rattle.iam_matrix.specs.Code.Tiles.{AreBriefRows, AreFullRows, AreRowsOf};
+ghost use Rattle.iam_matrix.specs.Code.Tiles.{AreBriefTails, AreDecisions, AreFullTails, AreTailsOf, AreVerdicts};
 
 use crate::cut::Cut;
 use crate::verdicts::end_of;
@@ -9,37 +10,36 @@ use iam_crew::{Crew, Gate};
 use iam_engine::Engine;
 use iam_lanes::{LaneSeat, Lanes};
 use iam_layers::World;
-use iam_report::{Quoted, add_brief_row, add_row, brief_rows, full_rows};
+use iam_report::{Entries, Format, Tile};
 use iam_text::OutOfMemory;
 use std::alloc::Global;
 
-/// Those who make the rows of a world's cells.
+/// Those who make the tails of the rows of a world's cells.
 #[derive(Clone, Copy)]
 pub struct Rows<'a> {
     pub world: &'a World,
     pub cut: &'a Cut,
     pub workers: u32,
-    pub quoted: &'a Quoted,
+    pub format: Format,
     pub brief: bool,
 }
 
 impl<'a> Crew for Rows<'a> {
-    ghost use Rattle.std.specs.Prelude.{◌≡◌, slice_index, string_bytes};
-    ghost use Rattle.iam_report.specs.Piece.{IsQuotedOf};
+    ghost use Rattle.std.specs.Prelude.{◌≡◌, slice_index};
     ghost use Rattle.iam_matrix.specs.Cut.{start_of};
-    ghost use Rattle.iam_matrix.specs.Code.Tiles.{AreRowsOf, IsTileOf};
+    ghost use Rattle.iam_matrix.specs.Code.Tiles.{AreTailsOf, IsTileOf};
 
-    type Output = String;
+    type Output = Tile;
 
     type Tools = Engine<'a>;
 
-    ghost fits = { λ crew engine. engine ≡ crew.world.now };
+    ghost fits = { λ crew engine. engine.world ≡ crew.world.now };
 
-    ghost takes = { λ crew tile. IsTileOf crew.world.now crew.cut.now tile × IsQuotedOf crew.world.now crew.quoted.now };
+    ghost takes = { λ crew tile. IsTileOf crew.world.now crew.cut.now tile };
 
     ghost offers = { λ _ _. ⊥ };
 
-    ghost gives = { λ crew tile output _. AreRowsOf crew.quoted.now.format crew.brief crew.world.now (start_of crew.cut.now tile) (slice_index crew.cut.now tile) (string_bytes output) };
+    ghost gives = { λ crew tile output _. AreTailsOf crew.format crew.brief crew.world.now (start_of crew.cut.now tile) (slice_index crew.cut.now tile) output };
 
     fn tools(&self, alloc: Global) -> Result<Engine<'a>, OutOfMemory> {
         Engine::new(alloc, self.world, self.workers)
@@ -53,78 +53,103 @@ impl<'a> Crew for Rows<'a> {
         gate: &G,
         _seat: &mut LaneSeat,
         tile: u64,
-    ) -> Result<String, OutOfMemory> {
+    ) -> Result<Tile, OutOfMemory> {
         gate.before(tile);
         let (from, count) = self.cut.cells_of(tile);
-        rows_of(alloc, engine, self.quoted, self.brief, from, count)
+        tile_of(alloc, engine, self.format, self.brief, from, count)
     }
 
     ghost lasts = { λ _ _ _ _ _ _ given. given };
 }
 
-/// The rows of so many cells from this one on.
-fn rows_of(
+/// The tails of so many cells from this one on.
+fn tile_of(
     alloc: Global,
     engine: &mut Engine<'_>,
-    quoted: &Quoted,
+    format: Format,
     brief: bool,
     from: u64,
     count: u64,
-) -> Result<String, OutOfMemory>
-    requires cells { from + count ≤ world_cells engine.old }
-    requires quoted { IsQuotedOf engine.old quoted.now }
-    ensures rows { IfOk result (λ text. AreRowsOf quoted.now.format brief engine.old from count (string_bytes text)) }
-    ensures same { engine.new ≡ engine.old }
+) -> Result<Tile, OutOfMemory>
+    requires { from + count ≤ world_cells engine.old.world }
+    ensures tails { IfOk result (λ tile. AreTailsOf format brief engine.old.world from count tile) }
+    ensures same { engine.new.world ≡ engine.old.world }
 {
     if brief {
-        brief_rows_of(alloc, engine, quoted, from, count)
+        brief_tile(alloc, engine, format, from, count)
     } else {
-        full_rows_of(alloc, engine, quoted, from, count)
+        full_tile(alloc, engine, format, from, count)
     }
 }
 
-fn full_rows_of(
+fn full_tile(
     alloc: Global,
     engine: &mut Engine<'_>,
-    quoted: &Quoted,
+    format: Format,
     from: u64,
     count: u64,
-) -> Result<String, OutOfMemory>
-    requires cells { from + count ≤ world_cells engine.old }
-    requires quoted { IsQuotedOf engine.old quoted.now }
-    ensures rows { IfOk result (λ text. AreFullRows quoted.now.format engine.old from count (string_bytes text)) }
-    ensures same { engine.new ≡ engine.old }
+) -> Result<Tile, OutOfMemory>
+    requires { from + count ≤ world_cells engine.old.world }
+    ensures tails { IfOk result (λ tile. AreFullTails format engine.old.world from count tile) }
+    ensures same { engine.new.world ≡ engine.old.world }
 {
-    full_rows();
-    let world = engine.world();
-    let mut text = String::new(alloc);
-    for cell in from..end_of(world, from, count) {
-        let (p, a, r) = world.triple(cell);
-        let verdict = engine.verdict(alloc, p, a, r)?;
-        add_row(quoted, &mut text, cell, p, a, r, &verdict)?;
-    }
-    Ok(text)
+    let entries = full_entries(alloc, engine, from, count)?;
+    entries.tile(alloc, format, false)
 }
 
-fn brief_rows_of(
+fn brief_tile(
     alloc: Global,
     engine: &mut Engine<'_>,
-    quoted: &Quoted,
+    format: Format,
     from: u64,
     count: u64,
-) -> Result<String, OutOfMemory>
-    requires cells { from + count ≤ world_cells engine.old }
-    requires quoted { IsQuotedOf engine.old quoted.now }
-    ensures rows { IfOk result (λ text. AreBriefRows quoted.now.format engine.old from count (string_bytes text)) }
-    ensures same { engine.new ≡ engine.old }
+) -> Result<Tile, OutOfMemory>
+    requires { from + count ≤ world_cells engine.old.world }
+    ensures tails { IfOk result (λ tile. AreBriefTails format engine.old.world from count tile) }
+    ensures same { engine.new.world ≡ engine.old.world }
 {
-    brief_rows();
+    let entries = brief_entries(alloc, engine, from, count)?;
+    entries.tile(alloc, format, true)
+}
+
+/// The verdicts of so many cells from this one on.
+fn full_entries(
+    alloc: Global,
+    engine: &mut Engine<'_>,
+    from: u64,
+    count: u64,
+) -> Result<Entries, OutOfMemory>
+    requires { from + count ≤ world_cells engine.old.world }
+    ensures entries { IfOk result (λ entries. AreVerdicts engine.old.world from count entries) }
+    ensures same { engine.new.world ≡ engine.old.world }
+{
     let world = engine.world();
-    let mut text = String::new(alloc);
+    let mut entries = Entries::new(alloc, count as usize)?;
     for cell in from..end_of(world, from, count) {
         let (p, a, r) = world.triple(cell);
-        let decision = engine.decision(alloc, p, a, r)?;
-        add_brief_row(quoted, &mut text, cell, p, a, r, decision)?;
+        let number = engine.find(alloc, p, a, r)?;
+        entries.push(alloc, engine.verdict(number))?;
     }
-    Ok(text)
+    Ok(entries)
+}
+
+/// The decisions of so many cells from this one on.
+fn brief_entries(
+    alloc: Global,
+    engine: &mut Engine<'_>,
+    from: u64,
+    count: u64,
+) -> Result<Entries, OutOfMemory>
+    requires { from + count ≤ world_cells engine.old.world }
+    ensures entries { IfOk result (λ entries. (decisions : List Decision) × AreDecisions engine.old.world from count decisions × (entries ≡ map bare decisions)) }
+    ensures same { engine.new.world ≡ engine.old.world }
+{
+    let world = engine.world();
+    let mut entries = Entries::new(alloc, count as usize)?;
+    for cell in from..end_of(world, from, count) {
+        let (p, a, r) = world.triple(cell);
+        let number = engine.find(alloc, p, a, r)?;
+        entries.push_decision(alloc, engine.verdict(number).decision)?;
+    }
+    Ok(entries)
 }

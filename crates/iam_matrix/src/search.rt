@@ -34,7 +34,7 @@ impl<'a> Crew for Search<'a> {
 
     type Tools = Engine<'a>;
 
-    ghost fits = { λ crew engine. engine ≡ crew.world.now };
+    ghost fits = { λ crew engine. engine.world ≡ crew.world.now };
 
     ghost takes = { λ crew tile. IsTileOf crew.world.now crew.cut.now tile };
 
@@ -93,9 +93,9 @@ fn first_in(
     from: u64,
     count: u64,
 ) -> Result<Option<u64>, OutOfMemory>
-    requires { from + count ≤ world_cells engine.old }
-    ensures first { IfOk result (IsFirstIn engine.old from count) }
-    ensures same { engine.new ≡ engine.old }
+    requires { from + count ≤ world_cells engine.old.world }
+    ensures first { IfOk result (IsFirstIn engine.old.world from count) }
+    ensures same { engine.new.world ≡ engine.old.world }
 {
     let world = engine.world();
     for cell in from..end_of(world, from, count) {

@@ -32,7 +32,7 @@ impl<'a> Crew for Verdicts<'a> {
 
     type Tools = Engine<'a>;
 
-    ghost fits = { λ crew engine. engine ≡ crew.world.now };
+    ghost fits = { λ crew engine. engine.world ≡ crew.world.now };
 
     ghost takes = { λ crew tile. IsTileOf crew.world.now crew.cut.now tile };
 
@@ -78,9 +78,9 @@ fn verdicts_of(
     from: u64,
     count: u64,
 ) -> Result<Vec<Verdict>, OutOfMemory>
-    requires { from + count ≤ world_cells engine.old }
-    ensures verdicts { IfOk result (λ verdicts. AreVerdicts engine.old from count verdicts.items) }
-    ensures same { engine.new ≡ engine.old }
+    requires { from + count ≤ world_cells engine.old.world }
+    ensures verdicts { IfOk result (λ verdicts. AreVerdicts engine.old.world from count verdicts.items) }
+    ensures same { engine.new.world ≡ engine.old.world }
 {
     let world = engine.world();
     let mut verdicts = Vec::new(alloc);

@@ -1,4 +1,7 @@
+mod Buffered
+mod Cells
 mod Fields
+mod Picks
 mod Plain
 mod Rendered
 mod Reports

@@ -9,10 +9,9 @@ use Rattle.serde_json.specs.View.{items_of}
 use Rattle.serde_json.specs.Written.{compact_text, items_text}
 use Rattle.iam_decision.specs.declared.verdict.Decision.{Decision}
 use Rattle.iam_decision.specs.declared.verdict.Verdict.{Verdict}
-use Rattle.iam_report.specs.Code.Parts.{brief_parts, full_parts, json_back, json_front, marked, quoted_texts}
-use Rattle.iam_report.specs.Piece.{brief_row, comma_before, full_row}
+use Rattle.iam_report.specs.Piece.{back_of, brief_row, brief_tail, comma_before, front_of, full_row, full_tail, pieces_of, row_text}
 use Rattle.iam_report.specs.Report.{CellTexts, brief_line, csv_line, full_line, words_of}
-use Rattle.iam_report.specs.Words.{decision_word, layer_word, place_text}
+use Rattle.iam_report.specs.Words.{decision_word, layer_word, marked, place_text}
 use Rattle.iam_report.specs.declared.quoted.Format.{Format}
 use Rattle.iam_report.specs.declared.quoted.Format.TheVariants.{Csv, Json}
 use Rattle.iam_report.proofs.Plain.{are_plain, escape_plain, field_plain, plain_decimal, plain_decision, plain_joined, plain_layer, plain_place}
@@ -44,9 +43,17 @@ line_of_five : (a b c d e : List ℕ) → csv_line (a ∷ b ∷ c ∷ d ∷ e �
 unfolding fields_text is_blank
 line_of_five a b c d e = simp (append_assoc, append-nil)
 
-full_csv : (cell : ℕ) (texts : CellTexts) (verdict : Verdict) → full_parts Csv cell (quoted_texts Csv texts) verdict ≡ full_line cell texts verdict
-unfolding full_parts
+-- the pieces of a line
+line_parts : (n p a r b : List ℕ) → n ++ ((codes "," ++ (p ++ codes ",")) ++ ((a ++ codes ",") ++ (r ++ b)))
+    ≡ n ++ (codes "," ++ (p ++ (codes "," ++ (a ++ (codes "," ++ (r ++ b))))))
+line_parts n p a r b = simp append_assoc
+
+full_csv : (cell : ℕ) (texts : CellTexts) (verdict : Verdict) → row_text Csv cell (pieces_of Csv texts) (full_tail Csv verdict) ≡ full_line cell texts verdict
+unfolding back_of
 full_csv cell texts verdict =
+    let parts = line_parts (decimal cell) (field_text default_writer texts.principal) (field_text default_writer texts.action) (field_text default_writer texts.resource)
+    (codes "," ++ (decision_word verdict.decision ++ (codes "," ++ (marked place_text (codes "") (codes " ") verdict.statements
+    ++ (codes "," ++ (marked layer_word (codes "") (codes " ") verdict.lacks ++ codes "\n")))))) in
     let number = field_plain (decimal cell) (plain_decimal cell) in
     let word = field_plain (decision_word verdict.decision) (plain_decision verdict.decision) in
     let statements = field_plain (join_by place_text (codes " ") verdict.statements) (plain_joined place_text plain_place verdict.statements) in
@@ -56,9 +63,11 @@ full_csv cell texts verdict =
     let line = line_of_seven (decimal cell) texts.principal texts.action texts.resource (decision_word verdict.decision) (join_by place_text (codes " ") verdict.statements)
     (join_by layer_word (codes " ") verdict.lacks) in cc
 
-brief_csv : (cell : ℕ) (texts : CellTexts) (decision : Decision) → brief_parts Csv cell (quoted_texts Csv texts) decision ≡ brief_line cell texts decision
-unfolding brief_parts
+brief_csv : (cell : ℕ) (texts : CellTexts) (decision : Decision) → row_text Csv cell (pieces_of Csv texts) (brief_tail Csv decision) ≡ brief_line cell texts decision
+unfolding back_of
 brief_csv cell texts decision =
+    let parts = line_parts (decimal cell) (field_text default_writer texts.principal) (field_text default_writer texts.action) (field_text default_writer texts.resource)
+    (codes "," ++ (decision_word decision ++ codes "\n")) in
     let number = field_plain (decimal cell) (plain_decimal cell) in
     let word = field_plain (decision_word decision) (plain_decision decision) in
     let line = line_of_five (decimal cell) texts.principal texts.action texts.resource (decision_word decision) in cc
@@ -118,15 +127,25 @@ object_of_five : (action cell decision principal resource : Data) (word : List �
 unfolding escape_byte
 object_of_five action cell decision principal resource word d = rw d (simp append_assoc)
 
--- what stands behind nine texts
-behind_nine : (a b c d e f g h i rest : List ℕ) → (a ++ (b ++ (c ++ (d ++ (e ++ (f ++ (g ++ (h ++ i)))))))) ++ rest ≡ a ++ (b ++ (c ++ (d ++ (e ++ (f ++ (g ++ (h ++ (i ++ rest))))))))
-behind_nine a b c d e f g h i rest = simp append_assoc
+-- the pieces of an object of seven members, and of five
+parts_of_seven : (c a n w l p r s : List ℕ) → c ++ ((codes "{\"action\":" ++ (a ++ codes ",\"cell\":"))
+    ++ (n ++ ((codes ",\"decision\":\"" ++ (w ++ (codes "\",\"lacks\":[" ++ (l ++ codes "],\"principal\":"))))
+    ++ (p ++ ((codes ",\"resource\":" ++ r) ++ (codes ",\"statements\":[" ++ (s ++ codes "]}")))))))
+    ≡ c ++ (codes "{\"action\":" ++ (a ++ (codes ",\"cell\":" ++ (n ++ (codes ",\"decision\":\"" ++ (w ++ (codes "\",\"lacks\":[" ++ (l
+    ++ (codes "],\"principal\":" ++ (p ++ (codes ",\"resource\":" ++ (r ++ (codes ",\"statements\":[" ++ (s ++ codes "]}"))))))))))))))
+parts_of_seven c a n w l p r s = simp append_assoc
 
-full_json : (cell : ℕ) (texts : CellTexts) (verdict : Verdict) → full_parts Json cell (quoted_texts Json texts) verdict ≡ full_row Json cell texts verdict
-unfolding full_parts json_front json_back
+parts_of_five : (c a n w p r : List ℕ) → c ++ ((codes "{\"action\":" ++ (a ++ codes ",\"cell\":"))
+    ++ (n ++ ((codes ",\"decision\":\"" ++ (w ++ codes "\",\"principal\":")) ++ (p ++ ((codes ",\"resource\":" ++ r) ++ codes "}")))))
+    ≡ c ++ (codes "{\"action\":" ++ (a ++ (codes ",\"cell\":" ++ (n ++ (codes ",\"decision\":\"" ++ (w ++ (codes "\",\"principal\":"
+    ++ (p ++ (codes ",\"resource\":" ++ (r ++ codes "}"))))))))))
+parts_of_five c a n w p r = simp append_assoc
+
+full_json : (cell : ℕ) (texts : CellTexts) (verdict : Verdict) → row_text Json cell (pieces_of Json texts) (full_tail Json verdict) ≡ full_row Json cell texts verdict
+unfolding front_of back_of
 full_json cell texts verdict =
-    behind_nine (comma_before cell) (codes "{\"action\":") (compact_text (string texts.action)) (codes ",\"cell\":") (decimal cell) (codes ",\"decision\":\"") (decision_word verdict.decision)
-    (codes "\",\"lacks\":[") (marked layer_word (codes "\"") (codes ",") verdict.lacks) (json_back (quoted_texts Json texts) verdict)
+    parts_of_seven (comma_before cell) (compact_text (string texts.action)) (decimal cell) (decision_word verdict.decision) (marked layer_word (codes "\"") (codes ",") verdict.lacks)
+    (compact_text (string texts.principal)) (compact_text (string texts.resource)) (marked place_text (codes "\"") (codes ",") verdict.statements)
     ∙ ap (λ t. comma_before cell ++ t)
     (sym
     (object_of_seven (string texts.action) (number (unsigned cell)) (string (decision_word verdict.decision)) (words_of layer_word verdict.lacks) (string texts.principal) (string texts.resource)
@@ -134,18 +153,19 @@ full_json cell texts verdict =
     (word_text (decision_word verdict.decision) (plain_decision verdict.decision)) (words_text layer_word plain_layer verdict.lacks)
     (words_text place_text plain_place verdict.statements)))
 
-brief_json : (cell : ℕ) (texts : CellTexts) (decision : Decision) → brief_parts Json cell (quoted_texts Json texts) decision ≡ brief_row Json cell texts decision
-unfolding brief_parts
+brief_json : (cell : ℕ) (texts : CellTexts) (decision : Decision) → row_text Json cell (pieces_of Json texts) (brief_tail Json decision) ≡ brief_row Json cell texts decision
+unfolding front_of back_of
 brief_json cell texts decision =
-    ap (λ t. comma_before cell ++ t)
+    parts_of_five (comma_before cell) (compact_text (string texts.action)) (decimal cell) (decision_word decision) (compact_text (string texts.principal)) (compact_text (string texts.resource))
+    ∙ ap (λ t. comma_before cell ++ t)
     (sym
     (object_of_five (string texts.action) (number (unsigned cell)) (string (decision_word decision)) (string texts.principal) (string texts.resource) _
     (word_text (decision_word decision) (plain_decision decision))))
 
-pub full_rendered : (format : Format) (cell : ℕ) (texts : CellTexts) (verdict : Verdict) → full_parts format cell (quoted_texts format texts) verdict ≡ full_row format cell texts verdict
+pub full_rendered : (format : Format) (cell : ℕ) (texts : CellTexts) (verdict : Verdict) → row_text format cell (pieces_of format texts) (full_tail format verdict) ≡ full_row format cell texts verdict
 full_rendered Csv cell texts verdict = full_csv cell texts verdict
 full_rendered Json cell texts verdict = full_json cell texts verdict
 
-pub brief_rendered : (format : Format) (cell : ℕ) (texts : CellTexts) (decision : Decision) → brief_parts format cell (quoted_texts format texts) decision ≡ brief_row format cell texts decision
+pub brief_rendered : (format : Format) (cell : ℕ) (texts : CellTexts) (decision : Decision) → row_text format cell (pieces_of format texts) (brief_tail format decision) ≡ brief_row format cell texts decision
 brief_rendered Csv cell texts decision = brief_csv cell texts decision
 brief_rendered Json cell texts decision = brief_json cell texts decision

@@ -8,11 +8,11 @@ use Rattle.serde_json.specs.Written.{comma_if, compact_text, items_text}
 use Rattle.iam_decision.specs.declared.verdict.Decision.{Decision}
 use Rattle.iam_decision.specs.declared.verdict.Verdict.{Verdict}
 use Rattle.iam_world.specs.World.{WorldValue}
-use Rattle.iam_report.specs.Piece.{AddsRows, IsBriefReport, IsReport, brief_row, closing_text, comma_before, full_row, opening_text}
+use Rattle.iam_report.specs.Piece.{IsBriefReport, IsReport, brief_row, closing_text, comma_before, full_row, opening_text}
 use Rattle.iam_report.specs.Report.{AreRowsFrom, CellTexts, IsCellTexts, brief_object, full_object, json_text}
 use Rattle.iam_report.specs.declared.quoted.Format.{Format}
 use Rattle.iam_report.specs.declared.quoted.Format.TheVariants.{Csv, Json}
-use Rattle.iam_report.proofs.Rows.{both_rows, no_rows, one_row}
+use Rattle.iam_report.proofs.Rows.{AddsRows, both_rows, no_rows, one_row}
 
 -- the rows without the first
 other_rows : {A B : Type 0} (world : WorldValue) (row : ℕ → CellTexts → A → B) (from : ℕ) (x : A) (xs : List A) (r : B) (rows : List B)

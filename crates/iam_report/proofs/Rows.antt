@@ -1,14 +1,11 @@
 -- Rows of cells, one behind the other.
-use Rattle.std.proofs.Common.{◌≡◌, ℕ, suc, zero, ◌+◌, ◌-◌, ◌*◌, ◌/◌, ◌<◌, List, [], ◌∷◌, ◌++◌, length, get_or, take, Some, refl, sym, ap, ◌∙◌, subst, ⊎_elim, arith, append_assoc, append-nil, length-append}
+use Rattle.std.proofs.Common.{◌≡◌, ℕ, suc, zero, ◌+◌, ◌-◌, ◌*◌, ◌/◌, ◌<◌, List, [], ◌∷◌, ◌++◌, length, Some, refl, sym, ap, ◌∙◌, subst, ⊎_elim, arith, append_assoc, append-nil, length-append}
 use Rattle.std.specs.List.{concat, slice_get}
 use Rattle.std.proofs.lemmas.Bool.{cases_lt}
-use Rattle.std.proofs.lemmas.List.{length-take, take_more}
 use Rattle.std.proofs.lemmas.List.Folds.{concat-append}
-use Rattle.std.proofs.lemmas.Option.{get_or_from_slice_get, slice_get-get_or}
 use Rattle.std.proofs.Math.Nat.{mul-add-div_right, div-eq_of_lt}
 use Rattle.iam_world.specs.World.{ResourceValue, WorldValue}
 use Rattle.iam_layers.specs.Cell.{IsCell, principal_text}
-use Rattle.iam_report.specs.Piece.{AddsRows}
 use Rattle.iam_report.specs.Report.{AreRowsFrom, CellTexts, HasTexts, IsCellTexts}
 
 -- a place in rows of n places has one row and one number there
@@ -115,7 +112,22 @@ both_rows {A} {B} world row from xs ys rows others first second = record {
 
 -- ---- what a text gains
 
-adds_one : {A : Type 0} (world : WorldValue) (row : ℕ → CellTexts → A → List ℕ) (from : ℕ) (texts : CellTexts) (entry : A) (old new : List ℕ) → IsCellTexts world from texts
+-- the text gained the rows of these entries, whose cells are there and follow one another from this one
+pub record AddsRows {A : Type 0} (world : WorldValue) (row : ℕ → CellTexts → A → List ℕ) (from : ℕ) (entries : List A) (old new : List ℕ) : Type 0 where
+  pub rows : List (List ℕ)
+  pub are : AreRowsFrom world row from entries rows
+  pub there : (i : ℕ) → i < length entries → (texts : CellTexts) × IsCellTexts world (from + i) texts
+  pub text : new ≡ old ++ concat rows
+
+pub adds_none : {A : Type 0} (world : WorldValue) (row : ℕ → CellTexts → A → List ℕ) (from : ℕ) (text : List ℕ) → AddsRows world row from [] text text
+adds_none world row from text = record {
+  rows = [];
+  are = no_rows world row from;
+  there = λ i h. absurd (omega arith);
+  text = sym (append-nil text);
+}
+
+pub adds_one : {A : Type 0} (world : WorldValue) (row : ℕ → CellTexts → A → List ℕ) (from : ℕ) (texts : CellTexts) (entry : A) (old new : List ℕ) → IsCellTexts world from texts
     → new ≡ old ++ row from texts entry → AddsRows world row from (entry ∷ []) old new
 adds_one world row from texts entry old new is e = record {
   rows = row from texts entry ∷ [];
@@ -142,24 +154,3 @@ adds_both world row from xs ys start old new first second = record {
       second.text ∙ ap (λ t. t ++ concat second.rows) first.text ∙ append_assoc start (concat first.rows) (concat second.rows)
       ∙ ap (λ t. start ++ t) (sym (concat-append first.rows second.rows));
 }
-
-pub adds_more : {A : Type 0} (world : WorldValue) (row : ℕ → CellTexts → A → List ℕ) (from cell p a r : ℕ) (entries : List A) (entry : A) (start old new : List ℕ)
-    → cell ≡ from + length entries → IsCell world cell p a r → AddsRows world row from entries start old
-    → ((texts : CellTexts) → HasTexts world p a r texts → new ≡ old ++ row cell texts entry) → AddsRows world row from (entries ++ entry ∷ []) start new
-adds_more world row from cell p a r entries entry start old new next is before adds =
-    let t = texts_there world cell p a r is in
-    let last : AddsRows world row cell (entry ∷ []) old new = adds_one world row cell t.0 entry old new (p, a, r, is, t.1) (adds t.0 t.1) in
-    adds_both world row from entries (entry ∷ []) start old new before (subst (λ c. AddsRows world row c (entry ∷ []) old new) next last)
-
--- an element does not depend on the default
-pub any_default : {A : Type 0} (xs : List A) (i : ℕ) (d e : A) → i < length xs → get_or xs i d ≡ get_or xs i e
-any_default xs i d e inside = sym (get_or_from_slice_get xs i (get_or xs i d) e (slice_get-get_or xs i d inside))
-
--- the step of a loop over the entries of all cells
-pub adds_next : {A : Type 0} (world : WorldValue) (row : ℕ → CellTexts → A → List ℕ) (p a r : ℕ) (all : List A) (entry : A) (cell : ℕ) (start old new : List ℕ)
-    → cell < length all → entry ≡ get_or all cell entry → IsCell world cell p a r → AddsRows world row 0 (take cell all) start old
-    → ((texts : CellTexts) → HasTexts world p a r texts → new ≡ old ++ row cell texts entry) → AddsRows world row 0 (take (cell + 1) all) start new
-adds_next world row p a r all entry cell start old new inside at is before adds =
-    let next : cell ≡ 0 + length (take cell all) = omega (arith, length-take cell all) in
-    let list : take (cell + 1) all ≡ take cell all ++ entry ∷ [] = take_more all cell entry inside ∙ ap (λ x. take cell all ++ x ∷ []) (sym at) in
-    subst (λ l. AddsRows world row 0 l start new) (sym list) (adds_more world row 0 cell p a r (take cell all) entry start old new next is before adds)

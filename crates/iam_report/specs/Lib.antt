@@ -2,4 +2,5 @@ pub mod Code
 pub mod CsvRow
 pub mod Piece
 pub mod Report
+pub mod Streams
 pub mod Words

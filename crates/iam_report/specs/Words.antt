@@ -1,5 +1,6 @@
 -- The words of reports.
 use Rattle.std.specs.Prelude.{ℕ, List, ◌++◌, codes, decimal}
+use Rattle.std.specs.List.{join_by}
 use Rattle.iam_decision.specs.declared.place.Layer.{Layer}
 use Rattle.iam_decision.specs.declared.place.Layer.TheVariants.{Org, Control, Resource, Identity, Boundary, Session}
 use Rattle.iam_decision.specs.declared.place.Place.{Place}
@@ -33,3 +34,7 @@ numbers_text Session level policy statement = decimal policy ++ (codes "/" ++ de
 abbrev pub place_text : Place → List ℕ
 place_text place =
     layer_word place.layer ++ (codes "/" ++ numbers_text place.layer place.level place.policy place.statement)
+
+-- words between marks, joined by what stands between
+unfoldable pub marked : {A : Type 0} → (A → List ℕ) → List ℕ → List ℕ → List A → List ℕ
+marked word mark between xs = join_by (λ x. mark ++ (word x ++ mark)) between xs

@@ -1,20 +1,30 @@
 //! Reports of a world's matrix, as CSV and as JSON, each in full or in brief.
 //!
-//! `csv_text` and its like give a whole report; `csv_row` the header and one row. Where many make a report, each
-//! appends rows by `add_row` to a text of its own, from one `Quoted`; these texts in the order of their cells, between
-//! `opening` and `closing`, are the report, as the laws of this crate say.
+//! `csv_text` and its like give a whole report; `csv_row` the header and one row. Where many make a report, each puts the
+//! verdicts of some cells into `Entries` and makes them a `Tile`; a `MatrixText` of one `Quoted` and of the tiles in the
+//! order of their cells is the report, as the laws of this crate say, and is written without taking memory.
 #![tactic(auto)]
 
 mod cell;
+mod entries;
+mod guess;
 mod laws;
+mod matrix;
+mod output;
 mod piece;
+mod position;
 mod quoted;
-mod row;
+mod tail;
 mod text;
+mod tile;
 mod words;
 
 pub use cell::{csv_row, csv_row_brief};
-pub use laws::{brief_reports, brief_rows, full_reports, full_rows};
-pub use piece::{add_brief_row, add_row, closing, opening};
+pub use entries::Entries;
+pub use laws::{brief_texts, full_texts};
+pub use matrix::MatrixText;
+pub use output::{OutputFault, buffer, write_text};
+pub use piece::opening;
 pub use quoted::{Format, Quoted};
 pub use text::{csv_brief, csv_text, json_brief, json_text};
+pub use tile::Tile;

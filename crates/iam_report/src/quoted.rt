@@ -4,7 +4,7 @@ ghost use Rattle.csv.specs.Writing.{default_writer, field_text};
 ghost use Rattle.serde_json.specs.Data.{string};
 ghost use Rattle.serde_json.specs.Written.{compact_text};
 ghost use Rattle.iam_layers.specs.Cell.{principal_text};
-ghost use Rattle.iam_report.specs.Piece.{IsQuotedOf, quote_of};
+ghost use Rattle.iam_report.specs.Piece.{IsQuotedOf, action_piece, principal_piece, quote_of, resource_piece};
 
 use csv::Writer;
 use iam_layers::World;
@@ -21,7 +21,8 @@ pub enum Format {
     Json,
 }
 
-/// The texts of a world's principals, actions and resources as they stand in rows, each quoted once for the whole report.
+/// The texts of a world's principals, actions and resources as they stand in rows, with what stands beside them in each;
+/// each is quoted once for the whole report.
 #[derive(Debug, Drop)]
 pub struct Quoted {
     pub(crate) format: Format,
@@ -58,42 +59,77 @@ fn json_string(alloc: Global, text: &str) -> Result<String, OutOfMemory>
 }
 
 /// A text as it stands in a row. `OutOfMemory` comes where it finds no memory.
-pub fn quote(alloc: Global, format: Format, text: &str) -> Result<Text, OutOfMemory>
-    ensures { IfOk result (λ quoted. quoted ≡ quote_of format text.now) }
+fn quote(alloc: Global, format: Format, text: &str) -> Result<String, OutOfMemory>
+    ensures { IfOk result (λ quoted. string_bytes quoted ≡ quote_of format text.now) }
 {
-    let quoted = match format {
-        Format::Csv => csv_field(alloc, text)?,
-        Format::Json => json_string(alloc, text)?,
+    match format {
+        Format::Csv => csv_field(alloc, text),
+        Format::Json => json_string(alloc, text),
+    }
+}
+
+/// The text of a principal, with what stands beside it in each row.
+pub fn principal_piece(alloc: Global, format: Format, text: &str) -> Result<Text, OutOfMemory>
+    ensures { IfOk result (λ piece. piece ≡ principal_piece format text.now) }
+{
+    let quoted = quote(alloc, format, text)?;
+    let piece = match format {
+        Format::Csv => format!(in alloc; ",{quoted},")?,
+        Format::Json => quoted,
     };
-    Ok(Text::from_string(quoted))
+    Ok(Text::from_string(piece))
+}
+
+/// The text of an action, with what stands beside it in each row.
+pub fn action_piece(alloc: Global, format: Format, text: &str) -> Result<Text, OutOfMemory>
+    ensures { IfOk result (λ piece. piece ≡ action_piece format text.now) }
+{
+    let quoted = quote(alloc, format, text)?;
+    let piece = match format {
+        Format::Csv => format!(in alloc; "{quoted},")?,
+        Format::Json => format!(in alloc; "{{\"action\":{quoted},\"cell\":")?,
+    };
+    Ok(Text::from_string(piece))
+}
+
+/// The text of a resource, with what stands beside it in each row.
+pub fn resource_piece(alloc: Global, format: Format, text: &str) -> Result<Text, OutOfMemory>
+    ensures { IfOk result (λ piece. piece ≡ resource_piece format text.now) }
+{
+    let quoted = quote(alloc, format, text)?;
+    let piece = match format {
+        Format::Csv => quoted,
+        Format::Json => format!(in alloc; ",\"resource\":{quoted}")?,
+    };
+    Ok(Text::from_string(piece))
 }
 
 fn principals(alloc: Global, world: &World, format: Format) -> Result<Items<Text>, OutOfMemory>
-    ensures { IfOk result (λ texts. texts ≡ map (λ principal. quote_of format (principal_text principal)) world.now.principals) }
+    ensures { IfOk result (λ texts. texts ≡ map (λ principal. principal_piece format (principal_text principal)) world.now.principals) }
 {
     let mut texts = Vec::new(alloc);
     for p in 0..world.principals() {
-        texts.push(quote(alloc, format, world.principal_text(p))?)?;
+        texts.push(principal_piece(alloc, format, world.principal_text(p))?)?;
     }
     Ok(Items::from_vec(texts))
 }
 
 fn actions(alloc: Global, world: &World, format: Format) -> Result<Items<Text>, OutOfMemory>
-    ensures { IfOk result (λ texts. texts ≡ map (quote_of format) world.now.actions) }
+    ensures { IfOk result (λ texts. texts ≡ map (action_piece format) world.now.actions) }
 {
     let mut texts = Vec::new(alloc);
     for a in 0..world.actions() {
-        texts.push(quote(alloc, format, world.action_text(a))?)?;
+        texts.push(action_piece(alloc, format, world.action_text(a))?)?;
     }
     Ok(Items::from_vec(texts))
 }
 
 fn resources(alloc: Global, world: &World, format: Format) -> Result<Items<Text>, OutOfMemory>
-    ensures { IfOk result (λ texts. texts ≡ map (λ resource. quote_of format resource.arn) world.now.resources) }
+    ensures { IfOk result (λ texts. texts ≡ map (λ resource. resource_piece format resource.arn) world.now.resources) }
 {
     let mut texts = Vec::new(alloc);
     for r in 0..world.resources() {
-        texts.push(quote(alloc, format, world.resource_text(r))?)?;
+        texts.push(resource_piece(alloc, format, world.resource_text(r))?)?;
     }
     Ok(Items::from_vec(texts))
 }

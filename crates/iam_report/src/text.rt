@@ -1,53 +1,69 @@
 // Whole reports.
-ghost use Rattle.std.specs.Prelude.{◌≡◌, IfOk, OnOk, false, length, string_bytes, true};
+ghost use Rattle.std.specs.Prelude.{◌≡◌, ◌<◌, ◌≤◌, ℕ, IfOk, false, length, map, true};
 ghost use Rattle.iam_world.specs.World.{world_cells};
-ghost use Rattle.iam_report.specs.Piece.{AddsRows, IsBriefReport, IsQuotedOf, IsReport, brief_row, full_row};
+ghost use Rattle.iam_report.specs.Piece.{IsBriefReport, IsReport, IsTextOf, bare, text_of};
 ghost use Rattle.iam_report.specs.Report.{IsBriefCsvReport, IsBriefJsonReport, IsCsvReport, IsJsonReport};
 
-use crate::piece::{add_brief_row, add_row, closing, opening};
+use crate::entries::Entries;
+use crate::laws::{brief_texts, full_texts};
+use crate::matrix::MatrixText;
+use crate::output::buffer;
 use crate::quoted::{Format, Quoted};
 use iam_layers::{Decision, Verdict, World};
 use iam_text::OutOfMemory;
 use std::alloc::Global;
 
-/// Appends the rows of all cells.
-fn add_rows(
-    quoted: &Quoted,
-    text: &mut String,
-    world: &World,
-    verdicts: &[Verdict],
-) -> Result<(), OutOfMemory>
-    requires quoted { IsQuotedOf world.now quoted.now }
-    requires cells { length verdicts.now ≡ world_cells world.now }
-    ensures { OnOk result (AddsRows world.now (full_row quoted.now.format) 0 verdicts.now (string_bytes text.old) (string_bytes text.new)) }
+/// The text of a report.
+fn written(alloc: Global, matrix: &MatrixText) -> Result<Vec<u8>, OutOfMemory>
+    ensures { IfOk result (λ text. text.items ≡ text_of matrix.now) }
 {
-    for (cell, verdict) in verdicts.iter().enumerate() {
-        let (p, a, r) = world.triple(cell as u64);
-        add_row(quoted, text, cell as u64, p, a, r, verdict)?;
+    let mut kept = buffer(alloc)?;
+    let mut text = Vec::new(alloc);
+    match matrix.write_to(&mut text, &mut kept) {
+        Ok(()) => Ok(text),
+        Err(_) => Err(OutOfMemory),
     }
-    Ok(())
 }
 
-/// Appends the brief rows of all cells.
-fn add_brief_rows(
-    quoted: &Quoted,
-    text: &mut String,
-    world: &World,
-    decisions: &[Decision],
-) -> Result<(), OutOfMemory>
-    requires quoted { IsQuotedOf world.now quoted.now }
-    requires cells { length decisions.now ≡ world_cells world.now }
-    ensures { OnOk result (AddsRows world.now (brief_row quoted.now.format) 0 decisions.now (string_bytes text.old) (string_bytes text.new)) }
+fn full_entries(alloc: Global, verdicts: &[Verdict]) -> Result<Entries, OutOfMemory>
+    ensures { IfOk result (λ entries. entries ≡ verdicts.now) }
 {
-    for (cell, decision) in decisions.iter().enumerate() {
-        let (p, a, r) = world.triple(cell as u64);
-        add_brief_row(quoted, text, cell as u64, p, a, r, *decision)?;
+    let mut entries = Entries::new(alloc, verdicts.len())?;
+    for verdict in verdicts {
+        entries.push(alloc, verdict)?;
     }
-    Ok(())
+    Ok(entries)
 }
 
-/// The report of all cells.
+fn brief_entries(alloc: Global, decisions: &[Decision]) -> Result<Entries, OutOfMemory>
+    ensures { IfOk result (λ entries. entries ≡ map bare decisions.now) }
+{
+    let mut entries = Entries::new(alloc, decisions.len())?;
+    for decision in decisions {
+        entries.push_decision(alloc, *decision)?;
+    }
+    Ok(entries)
+}
+
+/// The report with the rows of these entries, one for each cell of the world.
 fn report(
+    alloc: Global,
+    world: &World,
+    format: Format,
+    brief: bool,
+    entries: Entries,
+) -> Result<Vec<u8>, OutOfMemory>
+    requires { length entries ≡ world_cells world.now }
+    ensures { IfOk result (λ text. IsTextOf world.now format brief entries text.items) }
+{
+    let _cells = world.cells();
+    let quoted = Quoted::of(alloc, world, format)?;
+    let mut tiles = Vec::new(alloc);
+    tiles.push(entries.tile(alloc, format, brief)?)?;
+    written(alloc, &MatrixText::of(quoted, brief, tiles))
+}
+
+fn full_report(
     alloc: Global,
     world: &World,
     format: Format,
@@ -56,14 +72,11 @@ fn report(
     requires { length verdicts.now ≡ world_cells world.now }
     ensures { IfOk result (λ text. IsReport format world.now verdicts.now text.items) }
 {
-    let quoted = Quoted::of(alloc, world, format)?;
-    let mut text = String::from_str(alloc, opening(format, false))?;
-    add_rows(&quoted, &mut text, world, verdicts)?;
-    text.push_str(closing(format))?;
-    Ok(text.into_bytes())
+    full_texts();
+    let entries = full_entries(alloc, verdicts)?;
+    report(alloc, world, format, false, entries)
 }
 
-/// The brief report of all cells.
 fn brief_report(
     alloc: Global,
     world: &World,
@@ -73,11 +86,9 @@ fn brief_report(
     requires { length decisions.now ≡ world_cells world.now }
     ensures { IfOk result (λ text. IsBriefReport format world.now decisions.now text.items) }
 {
-    let quoted = Quoted::of(alloc, world, format)?;
-    let mut text = String::from_str(alloc, opening(format, true))?;
-    add_brief_rows(&quoted, &mut text, world, decisions)?;
-    text.push_str(closing(format))?;
-    Ok(text.into_bytes())
+    brief_texts();
+    let entries = brief_entries(alloc, decisions)?;
+    report(alloc, world, format, true, entries)
 }
 
 /// The report of all cells as CSV, from one verdict a cell: a header and a row a cell, fields joined by commas and put
@@ -86,7 +97,7 @@ pub fn csv_text(alloc: Global, world: &World, verdicts: &[Verdict]) -> Result<Ve
     requires { length verdicts.now ≡ world_cells world.now }
     ensures { IfOk result (λ text. IsCsvReport world.now verdicts.now text.items) }
 {
-    report(alloc, world, Format::Csv, verdicts)
+    full_report(alloc, world, Format::Csv, verdicts)
 }
 
 /// The report of all cells as JSON, from one verdict a cell: a list of objects without spaces, and a line feed.
@@ -95,7 +106,7 @@ pub fn json_text(alloc: Global, world: &World, verdicts: &[Verdict]) -> Result<V
     requires { length verdicts.now ≡ world_cells world.now }
     ensures { IfOk result (λ text. IsJsonReport world.now verdicts.now text.items) }
 {
-    report(alloc, world, Format::Json, verdicts)
+    full_report(alloc, world, Format::Json, verdicts)
 }
 
 /// The report of all cells as CSV without statements and lacks, from one decision a cell. `OutOfMemory` comes where the

@@ -67,12 +67,11 @@ pub struct Places<'a> {
 
 impl Display for Places<'_> {
     ghost use Rattle.std.specs.Prelude.{Some};
-    ghost use Rattle.iam_report.specs.Code.Parts.{marked};
-    ghost use Rattle.iam_report.specs.Words.{place_text};
+    ghost use Rattle.iam_report.specs.Words.{marked, place_text};
 
     ghost output = { λ all. Some (marked place_text all.mark.now all.between.now all.places.now) };
 
-    #[tactic(auto, unfolding(crate::specs::Code::Parts::marked))]
+    #[tactic(auto, unfolding(crate::specs::Words::marked))]
     fn fmt<W: Write>(&self, f: &mut Formatter<W>) -> Result<(), fmt::Error> {
         let Places {
             places,
@@ -102,12 +101,11 @@ pub struct Layers<'a> {
 
 impl Display for Layers<'_> {
     ghost use Rattle.std.specs.Prelude.{Some};
-    ghost use Rattle.iam_report.specs.Code.Parts.{marked};
-    ghost use Rattle.iam_report.specs.Words.{layer_word};
+    ghost use Rattle.iam_report.specs.Words.{layer_word, marked};
 
     ghost output = { λ all. Some (marked layer_word all.mark.now all.between.now all.layers.now) };
 
-    #[tactic(auto, unfolding(crate::specs::Code::Parts::marked))]
+    #[tactic(auto, unfolding(crate::specs::Words::marked))]
     fn fmt<W: Write>(&self, f: &mut Formatter<W>) -> Result<(), fmt::Error> {
         let Layers {
             layers,

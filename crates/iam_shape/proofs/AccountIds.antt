@@ -1,11 +1,15 @@
 -- The ids of the accounts that were walked.
-use Rattle.std.proofs.Common.{◌≡◌, ℕ, List, [], ◌∷◌, map, take, refl, sym, ap, ◌∙◌}
+use Rattle.std.proofs.Common.{◌≡◌, ℕ, List, [], ◌∷◌, map, take, Bool, true, false, ◌&&◌, not, cond, Option, Some, None, refl, sym, ap, ◌∙◌}
 use Rattle.std.specs.List.{AllZip, filter_map, cons_option}
 use Rattle.std.proofs.lemmas.List.{take-map}
 use Rattle.serde_json.specs.Data.{Data}
-use Rattle.iam_shape.specs.Shape.{text_at}
+use Rattle.std.specs.Option.{option_map_or}
+use Rattle.iam_json.specs.Look.{is_one_of}
+use Rattle.iam_shape.specs.Shape.{account_checks, first_bad, is_new_id, text_at}
 use Rattle.iam_shape.specs.View.{AccountView, IsAccountView}
+use Rattle.iam_text.specs.Characters.{is_account}
 use Rattle.iam_shape.specs.declared.path.Name.TheVariants.{Id}
+use Rattle.iam_shape.specs.declared.path.Path.{Path}
 
 -- accounts that say these things have these ids
 said-ids : (ds : List Data) (accounts : List AccountView) → AllZip IsAccountView ds accounts → filter_map (text_at Id) ds ≡ map (λ account. account.id) accounts
@@ -19,3 +23,19 @@ said-ids (d ∷ ds) (a ∷ as') said =
 pub earlier-ids : {V : Type 0} (view : V → Data) (vs : List V) (i : ℕ) (accounts : List AccountView) → AllZip IsAccountView (map view (take i vs)) accounts
     → map (λ account. account.id) accounts ≡ filter_map (text_at Id) (take i (map view vs))
 earlier-ids view vs i accounts said = sym (said-ids (map view (take i vs)) accounts said) ∙ ap (filter_map (text_at Id)) (sym (take-map view i vs))
+
+-- an account without a fault has a new id
+pub fresh-id : (ids : List (List ℕ)) (i : ℕ) (d : Data) (id : List ℕ) → first_bad (account_checks ids i d) ≡ None → text_at Id d ≡ Some id → is_one_of ids id ≡ false
+fresh-id ids i d id good is =
+    let tested : option_map_or (is_new_id ids) (text_at Id d) false ≡ true = second _ _ _ _ _ good in
+    other (is_account id) (is_one_of ids id) (ap (λ o. option_map_or (is_new_id ids) o false) (sym is) ∙ tested)
+  where
+    second : (one two : Bool) (p q : Path) (rest : Option Path) → cond one (cond two rest (Some q)) (Some p) ≡ None → two ≡ true
+    second true true p q rest e = refl
+    second true false p q rest e = cc
+    second false two p q rest e = cc
+
+    other : (a b : Bool) → (a && not b) ≡ true → b ≡ false
+    other true false e = refl
+    other true true e = cc
+    other false b e = cc

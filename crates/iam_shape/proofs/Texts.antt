@@ -1,53 +1,65 @@
--- A set of texts, and one text more.
-use Rattle.std.proofs.Common.{◌≡◌, ℕ, List, [], ◌∷◌, ◌++◌, Bool, true, false, ◌||◌, cond, String, string_bytes, refl, sym, ap, ◌∙◌}
-use Rattle.std.specs.BTreeSet.{BTreeSet, contains_text, UpdatesBy}
+-- A map of texts, and one text more.
+use Rattle.std.proofs.Common.{◌≡◌, ℕ, ◌+◌, List, [], ◌∷◌, ◌++◌, Bool, true, false, ◌||◌, cond, length, Option, Some, None, is_some, String, string_bytes, refl, sym, ap, ◌∙◌, arith}
 use Rattle.std.specs.Bool.{Decides}
-use Rattle.std.specs.Cmp.Lexicographic.{slice_cmp}
-use Rattle.std.specs.List.{list_any}
-use Rattle.std.specs.Ordering.{nat_cmp}
+use Rattle.std.specs.HashMap.{UpdatesBy, get_by_text}
+use Rattle.std.specs.List.{list_any, position_from}
+use Rattle.std.specs.Option.{option_or}
 use Rattle.std.specs.Str.{bytes_eq}
-use Rattle.std.specs.String.{string_cmp}
+use Rattle.std.specs.String.{string_eq}
 use Rattle.std.specs.declared.alloc.Global.{Global}
-use Rattle.std.proofs.lemmas.Map.Text.{btree_set_updates_text}
+use Rattle.std.proofs.lemmas.Map.Text.{hash_map_updates_text}
 use Rattle.std.proofs.lemmas.Slice.Eq.{bytes_eq-Decides}
-use Rattle.iam_shape.specs.Code.Texts.{HasTexts}
+use Rattle.iam_shape.specs.Code.Texts.{HasTexts, Places}
 
-same-way : (a b : List ℕ) → bytes_eq a b ≡ bytes_eq b a
-same-way a b = go (bytes_eq a b) (bytes_eq b a) (bytes_eq-Decides a b) (bytes_eq-Decides b a)
+-- a text has a place where it is one of the texts
+pub has-place : (test : List ℕ → Bool) (i : ℕ) (texts : List (List ℕ)) → is_some (position_from test i texts) ≡ list_any test texts
+has-place test i [] = refl
+has-place test i (t ∷ texts) = step (test t) (has-place test (i + 1) texts)
   where
-    go : (x y : Bool) → Decides x (a ≡ b) → Decides y (b ≡ a) → x ≡ y
-    go true true p q = refl
-    go false false p q = refl
-    go true false p q = sym (q.1 (sym (p.0 refl)))
-    go false true p q = p.1 (sym (q.0 refl))
+    step : (b : Bool) → is_some (position_from test (i + 1) texts) ≡ list_any test texts
+        → is_some (cond b (Some i) (position_from test (i + 1) texts)) ≡ (b || list_any test texts)
+    step true later = refl
+    step false later = later
 
--- what the set has with one text more
-kept : (id : String Global) (old new : BTreeSet (String Global)) (text : List ℕ) → string_bytes id ≡ text
-    → UpdatesBy string_cmp (λ k. slice_cmp nat_cmp (string_bytes id) (string_bytes k)) old new true
-    → (other : List ℕ) → contains_text new other ≡ (bytes_eq other text || contains_text old other)
-kept id old new text is updates other =
-    btree_set_updates_text (string_bytes id) old new true updates other
-    ∙ ap (λ t. cond (bytes_eq t other) true (contains_text old other)) is
-    ∙ ap (λ b. cond b true (contains_text old other)) (same-way text other)
-    ∙ either (bytes_eq other text)
+-- the places with one text more
+place-more : (test : List ℕ → Bool) (i : ℕ) (texts : List (List ℕ)) (text : List ℕ)
+    → position_from test i (texts ++ (text ∷ [])) ≡ option_or (position_from test i texts) (cond (test text) (Some (i + length texts)) None)
+place-more test i [] text = ap (λ n. cond (test text) (Some n) None) (omega arith)
+place-more test i (t ∷ texts) text =
+    step (test t) (place-more test (i + 1) texts text ∙ ap (λ n. option_or (position_from test (i + 1) texts) (cond (test text) (Some n) None)) (omega arith))
   where
-    either : (b : Bool) → cond b true (contains_text old other) ≡ (b || contains_text old other)
-    either true = refl
-    either false = refl
+    step : (b : Bool)
+        → position_from test (i + 1) (texts ++ (text ∷ [])) ≡ option_or (position_from test (i + 1) texts) (cond (test text) (Some (i + length (t ∷ texts))) None)
+        → cond b (Some i) (position_from test (i + 1) (texts ++ (text ∷ [])))
+        ≡ option_or (cond b (Some i) (position_from test (i + 1) texts)) (cond (test text) (Some (i + length (t ∷ texts))) None)
+    step true later = refl
+    step false later = later
 
--- one more text in a list
-list_any-more : (p : List ℕ → Bool) (xs : List (List ℕ)) (x : List ℕ) → list_any p (xs ++ (x ∷ [])) ≡ (p x || list_any p xs)
-list_any-more p [] x = refl
-list_any-more p (y ∷ ys) x = ap (λ b. p y || b) (list_any-more p ys x) ∙ swap (p y) (p x) (list_any p ys)
+-- the map with a new text has one text more
+pub has_more : (id : String Global) (old new : Places) (text : List ℕ) (number : ℕ) → string_bytes id ≡ text
+    → UpdatesBy string_eq (λ k. bytes_eq (string_bytes id) (string_bytes k)) old new (Some number)
+    → (texts : List (List ℕ)) → HasTexts old texts → number ≡ length texts → list_any (bytes_eq text) texts ≡ false → HasTexts new (texts ++ (text ∷ []))
+has_more id old new text number is updates texts has last fresh other =
+    hash_map_updates_text (string_bytes id) old new (Some number) updates other
+    ∙ ap (λ t. cond (bytes_eq t other) (Some number) (get_by_text old other)) is
+    ∙ either (bytes_eq text other) (bytes_eq other text) (bytes_eq-Decides text other) (bytes_eq-Decides other text)
+    ∙ sym (place-more (bytes_eq other) 0 texts text)
   where
-    swap : (a b c : Bool) → (a || (b || c)) ≡ (b || (a || c))
-    swap true true c = refl
-    swap true false c = refl
-    swap false b c = refl
+    nowhere : (o : Option ℕ) → is_some o ≡ false → o ≡ None
+    nowhere None e = refl
+    nowhere (Some n) e = cc
 
--- the set with one text more has one text more
-pub has_more : (id : String Global) (old new : BTreeSet (String Global)) (text : List ℕ) → string_bytes id ≡ text
-    → UpdatesBy string_cmp (λ k. slice_cmp nat_cmp (string_bytes id) (string_bytes k)) old new true
-    → (texts : List (List ℕ)) → HasTexts old texts → HasTexts new (texts ++ (text ∷ []))
-has_more id old new text is updates texts has other =
-    kept id old new text is updates other ∙ ap (λ b. bytes_eq other text || b) (has other) ∙ sym (list_any-more (bytes_eq other) texts text)
+    or-none : (o : Option ℕ) → o ≡ option_or o None
+    or-none None = refl
+    or-none (Some n) = refl
+
+    either : (here there : Bool) → Decides here (text ≡ other) → Decides there (other ≡ text)
+        → cond here (Some number) (get_by_text old other) ≡ option_or (position_from (bytes_eq other) 0 texts) (cond there (Some (0 + length texts)) None)
+    either true true p q =
+        let none : position_from (bytes_eq other) 0 texts ≡ None =
+        nowhere (position_from (bytes_eq other) 0 texts)
+        (has-place (bytes_eq other) 0 texts ∙ ap (λ t. list_any (bytes_eq t) texts) (sym (p.0 refl)) ∙ fresh) in
+        rw none (ap (λ n. Some n) (last ∙ omega arith))
+    either false false p q = has other ∙ or-none (position_from (bytes_eq other) 0 texts)
+    either true false p q = let wrong : false ≡ true = q.1 (sym (p.0 refl)) in cc
+    either false true p q = let wrong : false ≡ true = p.1 (sym (q.0 refl)) in cc

@@ -1,6 +1,7 @@
-ghost use Rattle.std.specs.Prelude.{◌≡◌, ◌≢◌, ℕ, List, [], ◌∷◌, ◌++◌, None, map, IfOk, IfErr, OnOk};
+ghost use Rattle.std.specs.Prelude.{◌≡◌, ◌≢◌, ℕ, List, [], ◌∷◌, ◌++◌, None, false, length, map, IfOk, IfErr, OnOk};
 ghost use Rattle.std.specs.List.{AllZip};
 ghost use Rattle.serde_json.specs.View.{view};
+ghost use Rattle.iam_json.specs.Look.{is_one_of};
 ghost use Rattle.iam_shape.specs.Code.Texts.{HasTexts};
 ghost use Rattle.iam_shape.specs.Lent.{account_of};
 ghost use Rattle.iam_shape.specs.Code.Walk.{IsShapeFault, Walks, account_front};
@@ -17,27 +18,32 @@ use iam_json::has_unknown;
 use iam_text::{OutOfMemory, is_account};
 use serde_json::Value;
 use std::alloc::Global;
-use std::collections::BTreeSet;
+use std::collections::HashMap;
 
-/// Adds a text.
-fn keep(alloc: Global, texts: &mut BTreeSet<String>, text: &str) -> Result<(), OutOfMemory>
-    ensures { OnOk result ((before : List (List ℕ)) → HasTexts texts.old before
-        → HasTexts texts.new (before ++ text.now ∷ [])) }
+/// Adds the id of an account with this number, which is none of the earlier ones.
+fn keep(
+    alloc: Global,
+    ids: &mut HashMap<String, usize>,
+    id: &str,
+    number: usize,
+) -> Result<(), OutOfMemory>
+    ensures { OnOk result ((earlier : List (List ℕ)) → HasTexts ids.old earlier → number ≡ length earlier
+        → is_one_of earlier id.now ≡ false → HasTexts ids.new (earlier ++ id.now ∷ [])) }
 {
-    texts.insert(String::from_str(alloc, text)?)?;
+    ids.insert(String::from_str(alloc, id)?, number)?;
     Ok(())
 }
 
 /// Whether it is the id of an account, and none of these.
-fn is_new_id(ids: &BTreeSet<String>, text: &str) -> bool
+fn is_new_id(ids: &HashMap<String, usize>, text: &str) -> bool
     ensures { (earlier : List (List ℕ)) → HasTexts ids.now earlier → result ≡ is_new_id earlier text.now }
 {
-    is_account(text) && !ids.contains(text)
+    is_account(text) && !ids.contains_key(text)
 }
 
 /// The id of an account behind those that have these ids, and whether it manages its organisation.
 fn walk_front<'v>(
-    ids: &BTreeSet<String>,
+    ids: &HashMap<String, usize>,
     i: usize,
     account: &'v Value,
 ) -> Result<(&'v str, bool), Path>
@@ -74,7 +80,7 @@ fn has_only_members(account: &Value) -> bool
 
 /// Walks an account behind those that have these ids.
 fn walk_account<'v>(
-    ids: &BTreeSet<String>,
+    ids: &HashMap<String, usize>,
     i: usize,
     account: &'v Value,
 ) -> Result<AccountView<'v>, Path>
@@ -94,7 +100,7 @@ fn walk_account<'v>(
     })
 }
 
-/// Walks the accounts, and gathers their ids.
+/// Walks the accounts, and gathers their numbers by their ids.
 pub fn walk_accounts(alloc: Global, accounts: &[Value]) -> Result<Accounts<'_>, ShapeFault>
     ensures ok { IfOk result (λ found. (first_bad (all_account_checks (map view accounts.entry.now)) ≡ None)
         × AllZip IsAccountView (map view accounts.entry.now) (map account_of found.views.items)) }
@@ -102,10 +108,10 @@ pub fn walk_accounts(alloc: Global, accounts: &[Value]) -> Result<Accounts<'_>, 
         → IsShapeFault (all_account_checks (map view accounts.entry.now)) fault) }
 {
     let mut views = Vec::new(alloc);
-    let mut ids = BTreeSet::new(alloc);
+    let mut ids = HashMap::new(alloc);
     for (i, account) in accounts.iter().enumerate() {
         let view = walk_account(&ids, i, account)?;
-        keep(alloc, &mut ids, view.id)?;
+        keep(alloc, &mut ids, view.id, i)?;
         views.push(view)?;
     }
     Ok(Accounts { views, ids })

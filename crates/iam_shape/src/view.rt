@@ -4,7 +4,7 @@ ghost use Rattle.iam_shape.specs.Lent.{account_of};
 
 use crate::levels::Levels;
 use serde_json::Value;
-use std::collections::BTreeSet;
+use std::collections::HashMap;
 
 /// What an account of a document says.
 #[derive(Clone, Copy)]
@@ -50,13 +50,13 @@ pub struct ResourceView<'v> {
     pub control: Levels<'v>,
 }
 
-/// What the accounts of a document say, with the set of their ids.
+/// What the accounts of a document say, with their numbers by their ids.
 #[derive(Drop)]
 pub struct Accounts<'v> {
     /// The accounts in the order of the document.
     pub views: Vec<AccountView<'v>>,
-    /// Their ids.
-    pub ids: BTreeSet<String>,
+    /// The number of each by its id.
+    pub ids: HashMap<String, usize>,
     ghost known: { HasTexts ids (map (λ account. account.id) (map account_of views.items)) },
 }
 

@@ -1,4 +1,5 @@
-use iam_app::{Options, RunFault, Task, fault_line, run, status};
+use iam_app::{Options, OutOfMemory, RunFault, Task, fault_line, run, status};
+use std::alloc::Global;
 use std::io;
 use std::io::{ErrorKind, Read, Write};
 use std::process::Abort;
@@ -148,6 +149,7 @@ impl Write for Narrow {
 /// How a run ends whose writer has this room, which it uses up as far as the report goes.
 fn fills(
     rt: &(impl Abort + AllocGlobal + Threads + Sync),
+    task: Task,
     room: usize,
     full: Full,
     flushes: bool,
@@ -160,7 +162,8 @@ fn fills(
         full,
         flushes,
     };
-    let outcome = run(rt, rt.alloc(), &FIRST, &mut reader, &mut writer);
+    let options = Options { task, ..FIRST };
+    let outcome = run(rt, rt.alloc(), &options, &mut reader, &mut writer);
     let report = REPORT.as_bytes();
     assert_eq!(rt; writer.taken.as_slice(), &report[..room.min(report.len())]);
     ends_by(rt, &outcome, line)
@@ -168,18 +171,30 @@ fn fills(
 
 #[test]
 fn a_writer_that_fails_at_each_write(rt: HostRuntime) -> Result<(), Fail> {
-    for full in [Full::Fails, Full::TakesNothing] {
+    for (task, full) in [
+        (FIRST.task, Full::Fails),
+        (FIRST.task, Full::TakesNothing),
+        (Task::Matrix, Full::Fails),
+        (Task::Matrix, Full::TakesNothing),
+    ] {
         for room in 0..REPORT.len() {
-            fills(&rt, room, full, true, "fault 4 Write")?;
+            fills(&rt, task, room, full, true, "fault 4 Write")?;
         }
-        fills(&rt, REPORT.len(), full, true, "")?;
+        fills(&rt, task, REPORT.len(), full, true, "")?;
     }
     Ok(())
 }
 
 #[test]
 fn a_flush_that_fails(rt: HostRuntime) -> Result<(), Fail> {
-    fills(&rt, REPORT.len(), Full::Fails, false, "fault 4 Write")
+    fills(
+        &rt,
+        FIRST.task,
+        REPORT.len(),
+        Full::Fails,
+        false,
+        "fault 4 Write",
+    )
 }
 
 /// What a run of the task writes where the flush works or fails.
@@ -214,6 +229,51 @@ fn each_report_is_whole_before_the_flush(rt: HostRuntime) -> Result<(), Fail> {
         assert_eq!(rt; written(&rt, task, false)?.as_slice(), whole.as_slice());
     }
     Ok(())
+}
+
+/// A world in which each of so many resources has a statement of its own, and the report of its cells.
+fn many(alloc: Global, resources: u32) -> Result<(String, String), OutOfMemory> {
+    let mut statements = String::new(alloc);
+    let mut arns = String::new(alloc);
+    let mut report = String::from_str(
+        alloc,
+        "cell,principal,action,resource,decision,statements,lacks\n",
+    )?;
+    for i in 0..resources {
+        let comma = if i == 0 { "" } else { "," };
+        let statement = format!(in alloc;
+            "{comma}{{\"Effect\":\"Allow\",\"Action\":\"s3:*\",\"Resource\":\"arn:aws:s3:::b/{i}\"}}"
+        )?;
+        statements.push_str(statement.as_str())?;
+        let arn = format!(in alloc;
+            "{comma}{{\"arn\":\"arn:aws:s3:::b/{i}\",\"account\":\"111122223333\"}}"
+        )?;
+        arns.push_str(arn.as_str())?;
+        let row = format!(in alloc;
+            "{i},arn:aws:iam::111122223333:user/ann,s3:GetObject,arn:aws:s3:::b/{i},allowed,identity/0/{i},\n"
+        )?;
+        report.push_str(row.as_str())?;
+    }
+    let world = format!(in alloc;
+        "{{\"moment\":0,\"accounts\":[{{\"id\":\"111122223333\"}}],\"principals\":[{{\"user\":\"arn:aws:iam::111122223333:user/ann\",\"identity\":[{{\"Version\":\"2012-10-17\",\"Statement\":[{statements}]}}]}}],\"actions\":[\"s3:GetObject\"],\"resources\":[{arns}]}}"
+    )?;
+    Ok((world, report))
+}
+
+/// So many tails that the table by which equal ones are found grows, and rows that are longer together than the buffer.
+#[test]
+fn a_report_whose_tails_all_differ(rt: HostRuntime) -> Result<(), Fail> {
+    let (world, report) = many(rt.alloc(), 1000)?;
+    let mut reader = world.as_bytes();
+    let mut writer = Vec::new(rt.alloc());
+    let options = Options {
+        task: Task::Matrix,
+        tile: Some(600),
+        ..FIRST
+    };
+    let outcome = run(&rt, rt.alloc(), &options, &mut reader, &mut writer);
+    assert_eq!(rt; writer.as_slice(), report.as_bytes());
+    ends_by(&rt, &outcome, "")
 }
 
 #[test]

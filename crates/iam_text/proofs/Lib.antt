@@ -1,4 +1,6 @@
 pub mod ArnLemmas
+pub mod AsciiLemmas
+pub mod BackLemmas
 pub mod DraftLemmas
 pub mod FormLemmas
 pub mod GivenLemmas

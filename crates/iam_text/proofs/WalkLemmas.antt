@@ -7,9 +7,9 @@ use Rattle.std.proofs.lemmas.Str.{encodes-chars, chars-nil}
 use Rattle.std.specs.List.{AllZip, concat}
 use Rattle.std.specs.Str.{chars, IsUtf8, encode_utf8_all}
 use Rattle.iam_text.specs.Glob.{Fits, Matches, MatchesFold, folded, sign_by}
-use Rattle.iam_text.specs.Code.Walk.{Covers, Stops, Later, Walks, Reaches, IsFront, Settles, signs_left}
+use Rattle.iam_text.specs.Code.Walk.{Covers, Stops, Later, Walks, Reaches, Found, whole, star, off, found_in, IsFront, Settles, signs_left}
 use Rattle.iam_text.specs.declared.walk.Front.{Front}
-use Rattle.iam_text.specs.declared.walk.Front.TheVariants.{Whole, Star, Off}
+use Rattle.iam_text.specs.declared.walk.Front.TheVariants as front
 use Rattle.iam_text.specs.declared.sign.Sign.{Sign}
 use Rattle.iam_text.specs.declared.sign.Sign.TheVariants.{Given, One, Any}
 
@@ -203,21 +203,21 @@ along_more f signs text i rest all utf8 some a w =
     walks_none f (d ∷ rest) w = absurd w
 
 -- a place found at this text settles the question of the whole text
-pub settles_found : (f : ℕ → ℕ) (signs : List Sign) (text : List ℕ) (P : Type 0) (found : Front) → IsFront f signs text found
-    → found ≢ Off → P ↔ Later (Walks f signs) text → Settles f P found
-settles_found f signs text P Whole front on same = same.1 (later_here (Walks f signs) text front)
-settles_found f signs text P (Star signs' text') front on same = (
-  λ p. reaches_later f signs text signs'.now (chars text'.now) front (same.0 p),
-  λ w. same.1 (later_here (Walks f signs) text (reaches_walks f signs text signs'.now (chars text'.now) front w)),
+pub settles_found : (f : ℕ → ℕ) (signs : List Sign) (text : List ℕ) (P : Type 0) (found : Found) → IsFront f signs text found
+    → found ≢ off → P ↔ Later (Walks f signs) text → Settles f P found
+settles_found f signs text P whole front on same = same.1 (later_here (Walks f signs) text front)
+settles_found f signs text P (star signs' text') front on same = (
+  λ p. reaches_later f signs text signs' text' front (same.0 p),
+  λ w. same.1 (later_here (Walks f signs) text (reaches_walks f signs text signs' text' front w)),
 )
-settles_found f signs text P Off front on same = absurd (on refl)
+settles_found f signs text P off front on same = absurd (on refl)
 
 -- a front leaves fewer signs than it was given
-pub front_fewer : (f : ℕ → ℕ) (signs : List Sign) (text : List ℕ) (found : Front) → IsFront f signs text found → signs_left found ≤ length signs
-front_fewer f signs text Whole front = omega arith
-front_fewer f signs text (Star signs' text') front =
-    let fewer : length signs'.now < length signs = reaches_fewer f signs text signs'.now (chars text'.now) front in omega arith
-front_fewer f signs text Off front = omega arith
+pub front_fewer : (f : ℕ → ℕ) (signs : List Sign) (text : List ℕ) (found : Found) → IsFront f signs text found → signs_left found ≤ length signs
+front_fewer f signs text whole front = omega arith
+front_fewer f signs text (star signs' text') front =
+    let fewer : length signs' < length signs = reaches_fewer f signs text signs' text' front in omega arith
+front_fewer f signs text off front = omega arith
 
 -- the signs do not match at the end of the text, so not at all
 pub later_none : (f : ℕ → ℕ) (P : List ℕ → Type 0) (Q : Type 0) (text : List ℕ) → ¬ P text → Stops f One text → Q ↔ Later P text → ¬ Q
@@ -225,19 +225,24 @@ later_none f P Q [] not_here stops same q = not_here (same.0 q)
 later_none f P Q (d ∷ text) not_here stops same q = stops text (d, tt, refl)
 
 -- what a front tells of the signs and the text themselves
-pub settles_front : (f : ℕ → ℕ) (signs : List Sign) (text : List ℕ) (found : Front) → IsFront f signs text found → Settles f (Walks f signs text) found
-settles_front f signs text Whole front = front
-settles_front f signs text (Star signs' text') front = (
-  λ w. reaches_later f signs text signs'.now (chars text'.now) front (later_here (Walks f signs) text w),
-  λ w. reaches_walks f signs text signs'.now (chars text'.now) front w,
+pub settles_front : (f : ℕ → ℕ) (signs : List Sign) (text : List ℕ) (found : Found) → IsFront f signs text found → Settles f (Walks f signs text) found
+settles_front f signs text whole front = front
+settles_front f signs text (star signs' text') front = (
+  λ w. reaches_later f signs text signs' text' front (later_here (Walks f signs) text w),
+  λ w. reaches_walks f signs text signs' text' front w,
 )
-settles_front f signs text Off front = front
+settles_front f signs text off front = front
 
 -- an equivalent question is settled by the same place
-pub settles_same : (f : ℕ → ℕ) (P Q : Type 0) (found : Front) → P ↔ Q → Settles f Q found → Settles f P found
-settles_same f P Q Whole same s = same.1 s
-settles_same f P Q (Star signs text) same s = (λ p. s.0 (same.0 p), λ w. same.1 (s.1 w))
-settles_same f P Q Off same s = λ p. s (same.0 p)
+pub settles_same : (f : ℕ → ℕ) (P Q : Type 0) (found : Found) → P ↔ Q → Settles f Q found → Settles f P found
+settles_same f P Q whole same s = same.1 s
+settles_same f P Q (star signs text) same s = (λ p. s.0 (same.0 p), λ w. same.1 (s.1 w))
+settles_same f P Q off same s = λ p. s (same.0 p)
+
+-- no signs match the end of each text
+pub later_end : (f : ℕ → ℕ) (text : List ℕ) → Later (Walks f []) text
+later_end f [] = tt
+later_end f (d ∷ text) = inr (later_end f text)
 
 -- the walk is the match, with regard to case
 pub kept_matches : (signs : List Sign) (text : List ℕ) → Walks (λ c. c) signs text ↔ Matches signs text
@@ -251,3 +256,15 @@ kept_matches signs text =
 -- the walk over folded characters is the match without regard to case
 pub folded_matches : (signs : List Sign) (text : List ℕ) → Walks folded signs text ↔ MatchesFold signs text
 folded_matches signs text = (λ w. walks_matches folded signs text w, λ m. matches_walks folded signs text m)
+
+-- what was found is not off
+pub not_off : (found : Front) → found ≢ front.Off → found_in found ≢ off
+not_off front.Whole on e = cc
+not_off (front.Star signs text) on e = cc
+not_off front.Off on e = on refl
+
+-- no signs are left, and they match the end of each text
+pub later_all : (f : ℕ → ℕ) (signs : List Sign) (text : List ℕ) → (length signs == 0) ≡ true → Later (Walks f signs) text
+later_all f [] text empty = later_end f text
+later_all f (sign ∷ signs) text empty =
+    let none : length (sign ∷ signs) ≡ 0 = eqb-true (length (sign ∷ signs)) 0 empty in absurd (omega arith)

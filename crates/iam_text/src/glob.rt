@@ -4,8 +4,9 @@ ghost use Rattle.iam_text.specs.declared.sign.Sign.{Sign};
 ghost use Rattle.iam_text.specs.Glob.{wild_sign, plain_sign, Equals, EqualsFold, Matches, MatchesFold};
 
 use crate::OutOfMemory;
+use crate::case::Case;
 use crate::sign::Sign;
-use crate::walk::{Case, equals, matches};
+use crate::walk::{equals, matches};
 use std::alloc::Global;
 use std::marker::Model;
 
@@ -28,7 +29,10 @@ impl Glob {
     pub fn read(alloc: Global, text: &str) -> Result<Glob, OutOfMemory>
         ensures { IfOk result (λ g. g ≡ map wild_sign (chars text.now)) }
     {
-        let signs = text.chars().map(Sign::wild).collect(alloc)?;
+        let mut signs = Vec::with_capacity(alloc, text.len())?;
+        for character in text.chars() {
+            signs.push(Sign::wild(character))?;
+        }
         Ok(Glob { signs })
     }
 
@@ -36,7 +40,10 @@ impl Glob {
     pub fn plain(alloc: Global, text: &str) -> Result<Glob, OutOfMemory>
         ensures { IfOk result (λ g. g ≡ map plain_sign (chars text.now)) }
     {
-        let signs = text.chars().map(Sign::Given).collect(alloc)?;
+        let mut signs = Vec::with_capacity(alloc, text.len())?;
+        for character in text.chars() {
+            signs.push(Sign::Given(character))?;
+        }
         Ok(Glob { signs })
     }
 

@@ -3,6 +3,8 @@
 
 mod action;
 mod arn;
+mod ascii;
+mod case;
 mod characters;
 mod draft;
 mod form;

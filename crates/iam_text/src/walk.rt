@@ -1,17 +1,11 @@
 ghost use Rattle.std.specs.Prelude.{◌≡◌, ◌↔◌, ◌≤◌, IsTrue, IfSome, IfNone, length, map};
 ghost use Rattle.std.specs.Str.{chars};
 ghost use Rattle.iam_text.specs.Glob.{Equals, sign_by};
-ghost use Rattle.iam_text.specs.Code.Walk.{AreGiven, char_in, Covers, GoesOn, Stops, Walks, IsFront, Settles, Later, signs_left};
+ghost use Rattle.iam_text.specs.Code.Walk.{AreGiven, char_in, ComesBack, GoesOn, Stops, StopsBack, Walks, found_in, IsFront, Settles, Later, signs_left};
 
+use crate::ascii;
+use crate::case::{Case, covers};
 use crate::sign::Sign;
-
-/// How two characters are compared.
-#[derive(Clone, Copy)]
-pub enum Case {
-    Kept,
-    /// ASCII letters without regard to case.
-    Folded,
-}
 
 /// How far the front of a pattern was walked along a text.
 #[derive(Clone, Copy)]
@@ -24,27 +18,8 @@ pub enum Front<'a> {
     Off,
 }
 
-fn read(character: char, case: Case) -> char
-    ensures { result ≡ char_in case character }
-{
-    match case {
-        Case::Kept => character,
-        Case::Folded => character.to_ascii_lowercase(),
-    }
-}
-
-/// Whether the sign stands for this one character.
-fn covers(sign: Sign, character: char, case: Case) -> bool
-    ensures { IsTrue result ↔ Covers (char_in case) sign character }
-{
-    match sign {
-        Sign::Given(given) => read(given, case) == read(character, case),
-        Sign::One => true,
-        Sign::Any => false,
-    }
-}
-
 /// What is left of the text behind its first character, where the sign stands for that one.
+#[inline(always)]
 fn behind_one<'a>(sign: Sign, text: &'a str, case: Case) -> Option<&'a str>
     ensures some { IfSome result (λ rest. GoesOn (char_in case) sign (chars text.entry.now) (chars rest.now)) }
     ensures none { IfNone result (Stops (char_in case) sign (chars text.entry.now)) }
@@ -62,9 +37,76 @@ fn behind_one<'a>(sign: Sign, text: &'a str, case: Case) -> Option<&'a str>
     }
 }
 
+/// What is left of the text before its last character, where the sign stands for that one.
+#[inline(always)]
+fn before_one<'a>(sign: Sign, text: &'a str, case: Case) -> Option<&'a str>
+    ensures some { IfSome result (λ rest. ComesBack (char_in case) sign (chars text.entry.now) (chars rest.now)) }
+    ensures none { IfNone result (StopsBack (char_in case) sign (chars text.entry.now)) }
+{
+    let mut rest = text.chars();
+    match rest.next_back() {
+        Some(last) => {
+            let before = rest.as_str();
+            if covers(sign, last, case) {
+                Some(before)
+            } else {
+                None
+            }
+        }
+        None => None,
+    }
+}
+
+/// Walks the signs behind the last `Any` from the end, each of which stands for one character: the signs and the text
+/// that are left, or `None` where they do not fit.
+#[inline(always)]
+fn walk_back<'a>(signs: &'a [Sign], text: &'a str, case: Case) -> Option<(&'a [Sign], &'a str)>
+    ensures some { IfSome result (λ p. Walks (char_in case) signs.entry.now (chars text.entry.now) ↔ Walks (char_in case) p.0.now (chars p.1.now)) }
+    ensures none { IfNone result (¬ Walks (char_in case) signs.entry.now (chars text.entry.now)) }
+{
+    let mut signs = signs;
+    let mut text = text;
+    while let Some((last, before)) = signs.split_last() {
+        if let Sign::Any = *last {
+            return Some((signs, text));
+        }
+        match before_one(*last, text, case) {
+            Some(rest) => {
+                signs = before;
+                text = rest;
+            }
+            None => return None,
+        }
+    }
+    Some((signs, text))
+}
+
+/// Walks the signs before the first `Any` as long as the text has ASCII characters: the signs and the text that are left,
+/// or `None` where they do not fit.
+#[inline(always)]
+fn walk_ascii<'a>(signs: &'a [Sign], text: &'a str, case: Case) -> Option<(&'a [Sign], &'a str)>
+    ensures some { IfSome result (λ p. Walks (char_in case) signs.entry.now (chars text.entry.now) ↔ Walks (char_in case) p.0.now (chars p.1.now)) }
+    ensures none { IfNone result (¬ Walks (char_in case) signs.entry.now (chars text.entry.now)) }
+{
+    let bytes = text.as_bytes();
+    for (i, sign) in signs.iter().enumerate() {
+        if let Sign::Any = *sign {
+            return Some((&signs[i..], &text[i..]));
+        }
+        if !ascii::is_ascii_at(bytes, i) {
+            return Some((&signs[i..], &text[i..]));
+        }
+        if !ascii::covers_at(*sign, bytes, i, case) {
+            return None;
+        }
+    }
+    Some((&[], &text[signs.len()..]))
+}
+
 /// Walks the signs before the first `Any`, each of which stands for one character.
+#[inline(always)]
 fn walk_front<'a>(signs: &'a [Sign], text: &'a str, case: Case) -> Front<'a>
-    ensures { IsFront (char_in case) signs.entry.now (chars text.entry.now) result }
+    ensures { IsFront (char_in case) signs.entry.now (chars text.entry.now) (found_in result) }
 {
     let mut text = text;
     for (i, sign) in signs.iter().enumerate() {
@@ -85,8 +127,8 @@ fn walk_front<'a>(signs: &'a [Sign], text: &'a str, case: Case) -> Front<'a>
 
 /// The first place in the text from which the front of the signs can be walked.
 fn first_place<'a>(signs: &'a [Sign], text: &'a str, case: Case) -> Front<'a>
-    ensures settles { Settles (char_in case) (Later (Walks (char_in case) signs.entry.now) (chars text.entry.now)) result }
-    ensures fewer { signs_left result ≤ length signs.entry.now }
+    ensures settles { Settles (char_in case) (Later (Walks (char_in case) signs.entry.now) (chars text.entry.now)) (found_in result) }
+    ensures fewer { signs_left (found_in result) ≤ length signs.entry.now }
 {
     let mut text = text;
     loop {
@@ -101,18 +143,58 @@ fn first_place<'a>(signs: &'a [Sign], text: &'a str, case: Case) -> Front<'a>
     }
 }
 
-/// Whether the signs match the whole text.
+/// Whether the signs match some end of the text.
 ///
 /// Each `Any` gives up its text for good once the signs up to the next `Any` fit somewhere, so at each
 /// position a character is compared at most once with each sign (the count is not proved).
-pub fn matches(signs: &[Sign], text: &str, case: Case) -> bool
-    ensures { IsTrue result ↔ Walks (char_in case) signs.now (chars text.now) }
+fn match_end(signs: &[Sign], text: &str, case: Case) -> bool
+    ensures { IsTrue result ↔ Later (Walks (char_in case) signs.now) (chars text.now) }
 {
-    let mut place = walk_front(signs, text, case);
+    let mut place = Front::Star(signs, text);
     while let Front::Star(signs, text) = place {
         place = first_place(signs, text, case);
     }
     matches!(place, Front::Whole)
+}
+
+/// Whether the signs match some end of the text. One of ASCII characters alone, as most are, is walked byte by byte.
+fn end_matches(signs: &[Sign], text: &str, case: Case) -> bool
+    ensures { IsTrue result ↔ Later (Walks (char_in case) signs.now) (chars text.now) }
+{
+    if signs.is_empty() {
+        true
+    } else if text.is_ascii() {
+        ascii::match_end(signs, text.as_bytes(), case)
+    } else {
+        match_end(signs, text, case)
+    }
+}
+
+/// Whether the signs match the whole text.
+#[inline(always)]
+fn walk(signs: &[Sign], text: &str, case: Case) -> bool
+    ensures { IsTrue result ↔ Walks (char_in case) signs.now (chars text.now) }
+{
+    match walk_front(signs, text, case) {
+        Front::Whole => true,
+        Front::Star(signs, text) => end_matches(signs, text, case),
+        Front::Off => false,
+    }
+}
+
+/// Whether the signs match the whole text. What stands behind the last `Any` is walked first, from the end, since most
+/// patterns that do not match are refused there or at the ASCII characters with which the text begins.
+#[inline(always)]
+pub fn matches(signs: &[Sign], text: &str, case: Case) -> bool
+    ensures { IsTrue result ↔ Walks (char_in case) signs.now (chars text.now) }
+{
+    match walk_back(signs, text, case) {
+        Some((signs, text)) => match walk_ascii(signs, text, case) {
+            Some((signs, text)) => walk(signs, text, case),
+            None => false,
+        },
+        None => false,
+    }
 }
 
 /// Whether each sign is a given character.
@@ -126,5 +208,5 @@ fn are_given(signs: &[Sign]) -> bool
 pub fn equals(signs: &[Sign], text: &str, case: Case) -> bool
     ensures { IsTrue result ↔ Equals (map (sign_by (char_in case)) signs.now) (map (char_in case) (chars text.now)) }
 {
-    are_given(signs) && matches(signs, text, case)
+    matches(signs, text, case) && are_given(signs)
 }

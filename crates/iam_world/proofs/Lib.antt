@@ -3,6 +3,7 @@ pub mod Counts
 pub mod DocumentLemmas
 pub mod FaultSet
 pub mod Firsts
+pub mod Numbers
 pub mod Owners
 pub mod Unique
 pub mod Walks

@@ -1,18 +1,18 @@
 -- The first principal or resource of an account that the world does not have.
-use Rattle.std.proofs.Common.{◌≡◌, ℕ, List, [], ◌∷◌, map, Bool, true, false, not, Option, Some, None, option_map, refl, sym, ap, ◌∙◌, subst}
-use Rattle.std.specs.BTreeSet.{BTreeSet, contains_text}
+use Rattle.std.proofs.Common.{◌≡◌, ℕ, List, [], ◌∷◌, map, Bool, true, false, not, Option, Some, None, is_some, option_map, refl, sym, ap, ◌∙◌, subst}
 use Rattle.std.specs.List.{AllByRecursion, AllZip, position_from}
-use Rattle.std.specs.Prelude.{IsTrue, String}
-use Rattle.std.specs.declared.alloc.Global.{Global}
+use Rattle.std.specs.Prelude.{IsTrue}
 use Rattle.iam_match.specs.Requester.{RequesterValue, IsRequesterOf}
 use Rattle.iam_world.specs.Code.ViewFault.{FindsFirst}
-use Rattle.iam_shape.specs.Code.Texts.{HasTexts}
+use Rattle.iam_shape.specs.Code.Texts.{HasTexts, Places, has_text}
 use Rattle.iam_shape.specs.View.{PrincipalView, ResourceView, WorldView}
 use Rattle.iam_shape.specs.First.{IsFirstAt, placed}
 use Rattle.iam_world.specs.WorldFault.{IsOfUnknownAccount, IsRequesterAt, Owner, of_principal, of_resource, has_account, owners}
 use Rattle.iam_shape.specs.declared.path.Name.TheVariants.{Principals, Resources}
 use Rattle.iam_shape.specs.declared.path.Path.{Path}
 use Rattle.iam_shape.specs.declared.path.Path.TheVariants.{Item}
+use Rattle.std.specs.Str.{bytes_eq}
+use Rattle.iam_world.proofs.Numbers.{has-place}
 use Rattle.iam_world.proofs.Firsts.{first_here, first_later, found_by, none-append}
 
 not-true : (b : Bool) → not b ≡ true → b ≡ false
@@ -23,12 +23,15 @@ not-false : (b : Bool) → not b ≡ false → b ≡ true
 not-false true e = refl
 not-false false e = cc
 
-module _ (world : WorldView) (ids : BTreeSet (String Global)) (has : HasTexts ids (map (λ account. account.id) world.accounts)) where
-  unknown : (id : List ℕ) → not (contains_text ids id) ≡ true → ¬ IsTrue (has_account world id)
-  unknown id e known = let wrong : false ≡ true = sym (not-true (contains_text ids id) e) ∙ has id ∙ known in cc
+module _ (world : WorldView) (ids : Places) (has : HasTexts ids (map (λ account. account.id) world.accounts)) where
+  told : (id : List ℕ) → has_text ids id ≡ has_account world id
+  told id = ap is_some (has id) ∙ has-place (bytes_eq id) 0 (map (λ account. account.id) world.accounts)
 
-  known : (id : List ℕ) → not (contains_text ids id) ≡ false → IsTrue (has_account world id)
-  known id e = sym (has id) ∙ not-false (contains_text ids id) e
+  unknown : (id : List ℕ) → not (has_text ids id) ≡ true → ¬ IsTrue (has_account world id)
+  unknown id e known = let wrong : false ≡ true = sym (not-true (has_text ids id) e) ∙ told id ∙ known in cc
+
+  known : (id : List ℕ) → not (has_text ids id) ≡ false → IsTrue (has_account world id)
+  known id e = sym (told id) ∙ not-false (has_text ids id) e
 
   abbrev User : Owner → RequesterValue → Type 0
   User owner r = (principal : PrincipalView) × (owner ≡ of_principal principal) × IsRequesterAt principal r
@@ -43,15 +46,15 @@ module _ (world : WorldView) (ids : BTreeSet (String Global)) (has : HasTexts id
   pub first_user : ((arn : List ℕ) (session : Option (List ℕ)) (r other : RequesterValue) → IsRequesterOf arn session r → IsRequesterOf arn session other → r ≡ other)
       → (rs : List RequesterValue) → AllZip IsRequesterAt world.principals rs
       → FindsFirst (IsOfUnknownAccount world) (placed (Item Principals) 0 (map of_principal world.principals))
-      (option_map (Item Principals) (position_from (λ r. not (contains_text ids r.account)) 0 rs))
+      (option_map (Item Principals) (position_from (λ r. not (has_text ids r.account)) 0 rs))
   first_user one rs zip =
-      found_by User (IsOfUnknownAccount world) (λ r. not (contains_text ids r.account)) holds fails (Item Principals) 0 (map of_principal world.principals) rs
+      found_by User (IsOfUnknownAccount world) (λ r. not (has_text ids r.account)) holds fails (Item Principals) 0 (map of_principal world.principals) rs
       (users world.principals rs zip)
     where
-      holds : (owner : Owner) (r : RequesterValue) → User owner r → not (contains_text ids r.account) ≡ true → IsOfUnknownAccount world owner
+      holds : (owner : Owner) (r : RequesterValue) → User owner r → not (has_text ids r.account) ≡ true → IsOfUnknownAccount world owner
       holds owner r (p, is, at) e = subst (IsOfUnknownAccount world) (sym is) (r.account, (r, at, refl), unknown r.account e)
 
-      fails : (owner : Owner) (r : RequesterValue) → User owner r → not (contains_text ids r.account) ≡ false → ¬ IsOfUnknownAccount world owner
+      fails : (owner : Owner) (r : RequesterValue) → User owner r → not (has_text ids r.account) ≡ false → ¬ IsOfUnknownAccount world owner
       fails owner r (p, is, at) e off =
           let at_p = subst (IsOfUnknownAccount world) is off in
           let same : at_p.1.0 ≡ r = one p.arn p.session at_p.1.0 r at_p.1.1 at in
@@ -61,20 +64,20 @@ module _ (world : WorldView) (ids : BTreeSet (String Global)) (has : HasTexts id
   -- the first resource of an unknown account, where the code holds the resources as `vs`
   pub first_resource : {V : Type 0} (f : V → ResourceView) (vs : List V) → map f vs ≡ world.resources
       → FindsFirst (IsOfUnknownAccount world) (placed (Item Resources) 0 (map of_resource world.resources))
-      (option_map (Item Resources) (position_from (λ v. not (contains_text ids (f v).account)) 0 vs))
+      (option_map (Item Resources) (position_from (λ v. not (has_text ids (f v).account)) 0 vs))
   first_resource {V} f vs are =
-      subst (λ rs. FindsFirst (IsOfUnknownAccount world) (placed (Item Resources) 0 (map of_resource rs)) (option_map (Item Resources) (position_from (λ v. not (contains_text ids (f v).account)) 0 vs))) are
-      (found_by (λ owner v. owner ≡ of_resource (f v)) (IsOfUnknownAccount world) (λ v. not (contains_text ids (f v).account)) holds fails (Item Resources) 0
+      subst (λ rs. FindsFirst (IsOfUnknownAccount world) (placed (Item Resources) 0 (map of_resource rs)) (option_map (Item Resources) (position_from (λ v. not (has_text ids (f v).account)) 0 vs))) are
+      (found_by (λ owner v. owner ≡ of_resource (f v)) (IsOfUnknownAccount world) (λ v. not (has_text ids (f v).account)) holds fails (Item Resources) 0
       (map of_resource (map f vs)) vs (each vs))
     where
       each : (vs : List V) → AllZip (λ owner v. owner ≡ of_resource (f v)) (map of_resource (map f vs)) vs
       each [] = tt
       each (v ∷ vs) = (refl, each vs)
 
-      holds : (owner : Owner) (v : V) → owner ≡ of_resource (f v) → not (contains_text ids (f v).account) ≡ true → IsOfUnknownAccount world owner
+      holds : (owner : Owner) (v : V) → owner ≡ of_resource (f v) → not (has_text ids (f v).account) ≡ true → IsOfUnknownAccount world owner
       holds owner v is e = subst (IsOfUnknownAccount world) (sym is) ((f v).account, refl, unknown (f v).account e)
 
-      fails : (owner : Owner) (v : V) → owner ≡ of_resource (f v) → not (contains_text ids (f v).account) ≡ false → ¬ IsOfUnknownAccount world owner
+      fails : (owner : Owner) (v : V) → owner ≡ of_resource (f v) → not (has_text ids (f v).account) ≡ false → ¬ IsOfUnknownAccount world owner
       fails owner v is e off =
           let at_v = subst (IsOfUnknownAccount world) is off in
           at_v.2 (subst (λ id. IsTrue (has_account world id)) (sym at_v.1) (known (f v).account e))

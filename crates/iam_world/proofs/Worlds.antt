@@ -8,6 +8,7 @@ use Rattle.iam_match.specs.Requester.{RequesterValue}
 use Rattle.iam_policy.specs.declared.fault.Kind.{Kind}
 use Rattle.iam_policy.specs.declared.fault.Kind.TheVariants as kind
 use Rattle.iam_policy.specs.Reading.{Reads, PolicyValue}
+use Rattle.iam_shape.specs.Code.Texts.{HasTexts, Places}
 use Rattle.iam_shape.specs.Few.{HasFewDocuments, HasFewLevels, HasFewLists}
 use Rattle.iam_shape.specs.View.{AccountView, PrincipalView, ResourceView, WorldView}
 use Rattle.iam_world_context.specs.Code.Contexts.{AllClean, AreClean}
@@ -15,7 +16,7 @@ use Rattle.iam_world.specs.Code.Invariants.{CanJoin, HasFewPolicies, IsSized}
 use Rattle.iam_world.specs.Code.Made.{bare_account, bare_resource, made_account, made_principal, made_resource}
 use Rattle.iam_world_context.specs.Part.{part_of}
 use Rattle.iam_world.specs.Reads.{ReadsAccount, ReadsOptional, ReadsPrincipal, ReadsResource, ReadsWorld}
-use Rattle.iam_world.specs.World.{PrincipalValue, ResourceValue, WorldValue, world_cells}
+use Rattle.iam_world.specs.World.{AccountValue, PrincipalValue, ResourceValue, WorldValue, world_cells}
 use Rattle.iam_world_context.specs.Contexts.{principal_parts, resource_parts}
 use Rattle.iam_world.specs.WorldFault.{IsOverLimits, IsRequesterAt, cell_count, statement_count}
 use Rattle.iam_world.proofs.Counts.{statements-are}
@@ -168,11 +169,18 @@ can_join view world reads clean =
 
 -- ---- the whole
 
+same_ids : (vs : List AccountView) (accounts : List AccountValue) → AllZip ReadsAccount vs accounts → map (λ account. account.id) accounts ≡ map (λ account. account.id) vs
+same_ids [] [] zip = refl
+same_ids [] (a ∷ accounts) zip = absurd zip
+same_ids (v ∷ vs) [] zip = absurd zip
+same_ids (v ∷ vs) (a ∷ accounts) zip = ap (λ id. id ∷ map (λ (account : AccountValue). account.id) accounts) zip.0.id ∙ ap (λ rest. v.id ∷ rest) (same_ids vs accounts zip.1)
+
 -- a world that is read of a document within the limits is within them
-pub sized : (view : WorldView) (world : WorldValue) (cells statements : ℕ) → ReadsWorld view world → HasFewLists view → view.moment ≤ 253402300799
+pub sized : (view : WorldView) (world : WorldValue) (cells statements : ℕ) (numbers : Places) → ReadsWorld view world → HasFewLists view → view.moment ≤ 253402300799
     → cells ≡ cell_count view → statements ≡ statement_count view → (¬ IsOverLimits view)
-    → AllClean (part_of view.context) (principal_parts view) (resource_parts view) → IsSized world cells statements
-sized view world cells statements reads small moment cells_is statements_is within clean = record {
+    → AllClean (part_of view.context) (principal_parts view) (resource_parts view) → HasTexts numbers (map (λ account. account.id) view.accounts)
+    → IsSized world cells statements numbers
+sized view world cells statements numbers reads small moment cells_is statements_is within clean numbered = record {
   cells_are = cells_is ∙ cells-are view world reads;
   statements_are = statements_is ∙ statements-are view world reads;
   few_cells = at_most cells 16777216 (λ many. within (inl (subst (λ n. 16777216 < n) cells_is many)));
@@ -183,6 +191,7 @@ sized view world cells statements reads small moment cells_is statements_is with
       few_levels kind.Control (λ v. v.control) (λ r. r.control) ReadsResource (λ v r read. read.control) view.resources world.resources small.resources reads.resources;
   moment = subst (λ n. n ≤ 253402300799) (sym reads.moment) moment;
   contexts = can_join view world reads clean;
+  numbered = subst (HasTexts numbers) (sym (same_ids view.accounts world.accounts reads.accounts)) numbered;
 }
   where
     at_most : (n m : ℕ) → (¬ (m < n)) → n ≤ m

@@ -1,8 +1,8 @@
 ghost use Rattle.std.specs.Prelude.{◌≡◌, ◌≢◌, ◌||◌, ◌==◌, map, not, IfOk, IfErr, OnOk, MatchOption, option_map};
-ghost use Rattle.std.specs.BTreeSet.{contains_text};
 ghost use Rattle.std.specs.Char.{is_ascii_alphanumeric};
 ghost use Rattle.std.specs.List.{AllZip, list_all, position_from};
 ghost use Rattle.iam_world.specs.Code.ViewFault.{FindsFirst, IsClearBelow, IsFaultAt, IsFirstViewFault};
+ghost use Rattle.iam_shape.specs.Code.Texts.{has_text};
 ghost use Rattle.iam_shape.specs.Lent.{principal_of};
 ghost use Rattle.iam_shape.specs.LentWorld.{world_of};
 ghost use Rattle.iam_shape.specs.First.{IsFirstAt, placed};
@@ -93,21 +93,19 @@ fn first_no_resource(resources: &[ResourceView<'_>]) -> Option<usize>
 }
 
 fn first_unknown_user(requesters: &[Requester], accounts: &Accounts<'_>) -> Option<usize>
-    ensures { result ≡ position_from (λ requester. not (contains_text accounts.now.ids requester.account)) 0
+    ensures { result ≡ position_from (λ requester. not (has_text accounts.now.ids requester.account)) 0
         requesters.now }
 {
-    requesters
-        .iter()
-        .position(|requester| !accounts.ids.contains(requester.account()))
+    requesters.iter().position(|requester| !accounts.ids.contains_key(requester.account()))
 }
 
 fn first_unknown_owner(resources: &[ResourceView<'_>], accounts: &Accounts<'_>) -> Option<usize>
-    ensures { result ≡ position_from (λ resource. not (contains_text accounts.now.ids resource.account.now)) 0
+    ensures { result ≡ position_from (λ resource. not (has_text accounts.now.ids resource.account.now)) 0
         resources.now }
 {
     resources
         .iter()
-        .position(|resource| !accounts.ids.contains(resource.account))
+        .position(|resource| !accounts.ids.contains_key(resource.account))
 }
 
 fn at(list: Name, number: Option<usize>) -> Option<Path>

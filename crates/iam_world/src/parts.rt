@@ -34,7 +34,6 @@ impl Model for Account {
 
 impl Account {
     ghost use Rattle.std.specs.Prelude.{◌≡◌, map, IfOk};
-    ghost use Rattle.std.specs.Str.{bytes_eq};
     ghost use Rattle.iam_shape.specs.Lent.{account_of};
     ghost use Rattle.iam_world.specs.Code.Made.{bare_account, made_account};
 
@@ -58,13 +57,6 @@ impl Account {
             management: self.management,
             org,
         }
-    }
-
-    /// Whether it has this id.
-    pub fn has_id(&self, id: &str) -> bool
-        ensures { result ≡ bytes_eq self.now.id id.now }
-    {
-        self.id.as_str() == id
     }
 
     /// Whether it manages its organisation.

@@ -6,6 +6,7 @@ ghost use Rattle.serde_json.specs.View.{view};
 ghost use Rattle.iam_world.specs.Code.ViewFault.{IsFirstViewFault, ViewHasFault};
 ghost use Rattle.iam_world_context.specs.Code.Contexts.{HasContexts};
 ghost use Rattle.iam_world.specs.Code.Documents.{HasPolicies};
+ghost use Rattle.iam_shape.specs.Code.Texts.{HasTexts};
 ghost use Rattle.iam_shape.specs.Few.{HasFewLists};
 ghost use Rattle.iam_shape.specs.Lent.{principal_of};
 ghost use Rattle.iam_shape.specs.LentWorld.{world_of};
@@ -26,6 +27,7 @@ use iam_text::OutOfMemory;
 use iam_world_context::{Contexts, read_contexts};
 use serde_json::Value;
 use std::alloc::Global;
+use std::collections::HashMap;
 use std::marker::Model;
 
 /// How many bytes a world document may have.
@@ -36,6 +38,8 @@ const MOST_BYTES: usize = 8_388_608;
 pub struct WorldParts {
     moment: u64,
     accounts: Vec<Account>,
+    // The number of each account by its id.
+    numbers: HashMap<String, usize>,
     principals: Vec<Principal>,
     actions: Vec<String>,
     resources: Vec<Resource>,
@@ -67,7 +71,7 @@ impl Model for WorldParts {
       actions = map string_bytes w.actions.items;
       resources = w.resources.items;
       context = w.context.items;
-    }) w.cells w.statements };
+    }) w.cells w.statements w.numbers };
 }
 
 /// The JSON value of bytes.
@@ -93,44 +97,59 @@ fn parse_fault(memory: bool) -> WorldFault
     }
 }
 
+/// The number of each account by its id.
+fn numbers_of(world: WorldView<'_>) -> HashMap<String, usize>
+    ensures { HasTexts result (map (λ account. account.id) (world_of world.entry).accounts) }
+{
+    let accounts = world.accounts;
+    accounts.ids
+}
+
 /// The world of a document without a fault, and of what was read of it.
 fn build(
     alloc: Global,
-    world: &WorldView<'_>,
+    world: WorldView<'_>,
     requesters: Vec<Requester>,
     contexts: Contexts,
     policies: Policies,
     sizes: (u64, usize),
 ) -> Result<WorldParts, OutOfMemory>
-    requires requesters { AllZip IsRequesterAt (map principal_of world.now.principals.items) requesters.items }
-    requires contexts { HasContexts (world_of world.now) contexts }
-    requires policies { HasPolicies world.now policies }
-    requires small { HasFewLists (world_of world.now) }
-    requires moment { world.now.moment ≤ 253402300799 }
-    requires cells { sizes.0 ≡ cell_count (world_of world.now) }
-    requires statements { sizes.1 ≡ statement_count (world_of world.now) }
-    requires within { ¬ IsOverLimits (world_of world.now) }
-    ensures { IfOk result (ReadsWorld (world_of world.now)) }
+    requires requesters { AllZip IsRequesterAt (map principal_of world.principals.items) requesters.items }
+    requires contexts { HasContexts (world_of world) contexts }
+    requires policies { HasPolicies world policies }
+    requires small { HasFewLists (world_of world) }
+    requires moment { world.moment ≤ 253402300799 }
+    requires cells { sizes.0 ≡ cell_count (world_of world) }
+    requires statements { sizes.1 ≡ statement_count (world_of world) }
+    requires within { ¬ IsOverLimits (world_of world) }
+    ensures { IfOk result (ReadsWorld (world_of world.entry)) }
 {
+    let accounts = accounts(alloc, world.accounts.views.as_slice(), policies.org)?;
+    let principals = principals(
+        alloc,
+        requesters,
+        policies.identity,
+        policies.boundary,
+        policies.session,
+        contexts.principals,
+    )?;
+    let actions = read_actions(alloc, world.actions.as_slice())?;
+    let resources = resources(
+        alloc,
+        world.resources.as_slice(),
+        policies.resource,
+        policies.control,
+        contexts.resources,
+    )?;
+    let moment = world.moment;
+    let numbers = numbers_of(world);
     Ok(WorldParts {
-        moment: world.moment,
-        accounts: accounts(alloc, world.accounts.views.as_slice(), policies.org)?,
-        principals: principals(
-            alloc,
-            requesters,
-            policies.identity,
-            policies.boundary,
-            policies.session,
-            contexts.principals,
-        )?,
-        actions: read_actions(alloc, world.actions.as_slice())?,
-        resources: resources(
-            alloc,
-            world.resources.as_slice(),
-            policies.resource,
-            policies.control,
-            contexts.resources,
-        )?,
+        moment,
+        accounts,
+        numbers,
+        principals,
+        actions,
+        resources,
         context: contexts.world,
         cells: sizes.0,
         statements: sizes.1,
@@ -138,29 +157,37 @@ fn build(
 }
 
 /// The world that a document of the right shape says, or its first fault.
-fn read_view(alloc: Global, world: &WorldView<'_>) -> Result<WorldParts, WorldFault>
-    requires small { HasFewLists (world_of world.now) }
-    requires moment { world.now.moment ≤ 253402300799 }
-    ensures ok { IfOk result (λ parts. ReadsWorld (world_of world.now) parts
-        × ((fault : WorldFault) → ¬ ViewHasFault (world_of world.now) fault)) }
-    ensures fault { IfErr result (λ fault. fault ≢ w.OutOfMemory → IsFirstViewFault (world_of world.now) fault) }
+fn read_view(alloc: Global, world: WorldView<'_>) -> Result<WorldParts, WorldFault>
+    requires small { HasFewLists (world_of world) }
+    requires moment { world.moment ≤ 253402300799 }
+    ensures ok { IfOk result (λ parts. ReadsWorld (world_of world.entry) parts
+        × ((fault : WorldFault) → ¬ ViewHasFault (world_of world.entry) fault)) }
+    ensures fault { IfErr result (λ fault. fault ≢ w.OutOfMemory → IsFirstViewFault (world_of world.entry) fault) }
 {
-    let requesters = check_names(alloc, world)?;
-    let contexts = read_contexts(alloc, world)?;
+    let requesters = check_names(alloc, &world)?;
+    let contexts = read_contexts(alloc, &world)?;
     let mut budget = Budget::new();
-    let policies = read_documents(alloc, world, &mut budget)?;
-    match sizes(world, &budget) {
+    let policies = read_documents(alloc, &world, &mut budget)?;
+    match sizes(&world, &budget) {
         Some(sizes) => Ok(build(alloc, world, requesters, contexts, policies, sizes)?),
         None => Err(WorldFault::TooLarge),
     }
 }
 
-/// The account with this id.
-fn find_account<'a>(accounts: &'a [Account], id: &str) -> Option<&'a Account>
+/// The account with this id, where these are the numbers of the accounts.
+fn find_account<'a>(
+    accounts: &'a [Account],
+    numbers: &HashMap<String, usize>,
+    id: &str,
+) -> Option<&'a Account>
+    requires { HasTexts numbers.now (map (λ account. account.id) accounts.now) }
     ensures { option_map (λ account. account.now) result
         ≡ find (λ account. bytes_eq account.id id.now) accounts.entry.now }
 {
-    accounts.iter().find(|account| account.has_id(id))
+    match numbers.get(id) {
+        Some(number) => accounts.get(*number),
+        None => None,
+    }
 }
 
 impl WorldParts {
@@ -187,7 +214,7 @@ impl WorldParts {
         let world = walk(alloc, &value)?;
         one_view();
         few_documents();
-        read_view(alloc, &world)
+        read_view(alloc, world)
     }
 
     /// The moment, in seconds from 1970-01-01T00:00:00Z, at most 253,402,300,799: the end of the year 9999.
@@ -253,6 +280,6 @@ impl WorldParts {
         ensures value { option_map (λ account. account.now) result ≡ account_with id.now self.now }
         ensures few { IfSome result (λ account. HasFewLevels account.now.org) }
     {
-        find_account(self.accounts.as_slice(), id)
+        find_account(self.accounts.as_slice(), &self.numbers, id)
     }
 }

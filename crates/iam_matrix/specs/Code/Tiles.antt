@@ -1,14 +1,14 @@
 -- What the workers make of a tile, and of tiles that follow one another.
-use Rattle.std.specs.Prelude.{◌≡◌, ℕ, ◌+◌, ◌<◌, ◌≤◌, List, [], ◌∷◌, ⊤, Bool, Option, Some, None, MatchBool, length, sum}
+use Rattle.std.specs.Prelude.{◌≡◌, ℕ, ◌+◌, ◌<◌, ◌≤◌, List, [], ◌∷◌, ⊤, Bool, Option, Some, None, MatchBool, length, map, sum}
 use Rattle.iam_decision.specs.declared.verdict.Decision.{Decision}
 use Rattle.iam_decision.specs.declared.verdict.Decision.TheVariants.{Allowed}
 use Rattle.iam_decision.specs.declared.verdict.Verdict.{Verdict}
-use Rattle.iam_report.specs.Piece.{AddsRows, brief_row, full_row}
+use Rattle.iam_report.specs.Piece.{brief_tail, full_tail}
 use Rattle.iam_report.specs.declared.quoted.Format.{Format}
+use Rattle.iam_report.specs.declared.tail.Tail.{Tail}
 use Rattle.iam_world.specs.World.{WorldValue, world_cells}
 use Rattle.iam_lanes.specs.LaneRule.{no_cell}
 use Rattle.iam_layers.specs.Cell.{IsDecisionOf, IsVerdictOf}
-use Rattle.iam_report.specs.Report.{CellTexts}
 use Rattle.iam_matrix.specs.Matrix.{AreEntriesFrom, IsDenied}
 
 -- the cut has this tile, and is one of the world's cells
@@ -27,20 +27,19 @@ AreVerdicts world from count verdicts = AreEntries (IsVerdictOf world) from coun
 abbrev pub AreDecisions : WorldValue → ℕ → ℕ → List Decision → Type 0
 AreDecisions world from count decisions = AreEntries (IsDecisionOf world) from count decisions
 
--- the rows of the entries of these cells
-abbrev pub AreRows : {X : Type 0} → (ℕ → X → Type 0) → (ℕ → CellTexts → X → List ℕ) → WorldValue → ℕ → ℕ → List ℕ → Type 0
-AreRows {X} Is row world from count text =
-    (entries : List X) × AreEntries Is from count entries × AddsRows world row from entries [] text
+-- the tails of the rows of the entries of these cells
+abbrev pub AreTails : {X : Type 0} → (ℕ → X → Type 0) → (X → Tail) → ℕ → ℕ → List Tail → Type 0
+AreTails {X} Is tail from count tails = (entries : List X) × AreEntries Is from count entries × (tails ≡ map tail entries)
 
-abbrev pub AreFullRows : Format → WorldValue → ℕ → ℕ → List ℕ → Type 0
-AreFullRows format world from count text = AreRows (IsVerdictOf world) (full_row format) world from count text
+abbrev pub AreFullTails : Format → WorldValue → ℕ → ℕ → List Tail → Type 0
+AreFullTails format world from count tails = AreTails (IsVerdictOf world) (full_tail format) from count tails
 
-abbrev pub AreBriefRows : Format → WorldValue → ℕ → ℕ → List ℕ → Type 0
-AreBriefRows format world from count text = AreRows (IsDecisionOf world) (brief_row format) world from count text
+abbrev pub AreBriefTails : Format → WorldValue → ℕ → ℕ → List Tail → Type 0
+AreBriefTails format world from count tails = AreTails (IsDecisionOf world) (brief_tail format) from count tails
 
-abbrev pub AreRowsOf : Format → Bool → WorldValue → ℕ → ℕ → List ℕ → Type 0
-AreRowsOf format brief world from count text =
-    MatchBool brief (AreBriefRows format world from count text) (AreFullRows format world from count text)
+abbrev pub AreTailsOf : Format → Bool → WorldValue → ℕ → ℕ → List Tail → Type 0
+AreTailsOf format brief world from count tails =
+    MatchBool brief (AreBriefTails format world from count tails) (AreFullTails format world from count tails)
 
 -- a cell that is allowed, and below all numbers that are no cells
 pub record IsAllowedCell (world : WorldValue) (cell : ℕ) : Type 0 where

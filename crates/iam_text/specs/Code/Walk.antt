@@ -1,13 +1,15 @@
 -- The walk that the matcher takes, beside the definition that it meets (`Glob`).
-use Rattle.std.specs.Prelude.{◌≡◌, ◌↔◌, ℕ, suc, List, [], ◌∷◌, ⊤, ◌⊎◌, length, All}
+use Rattle.std.specs.Prelude.{◌≡◌, ◌↔◌, ℕ, zero, suc, List, [], ◌∷◌, ◌++◌, ⊤, ◌⊎◌, length, All}
 use Rattle.std.specs.Str.{chars}
 use Rattle.iam_text.specs.Glob.{folded}
 use Rattle.iam_text.specs.declared.sign.Sign.{Sign}
 use Rattle.iam_text.specs.declared.sign.Sign.TheVariants.{Given, One, Any}
-use Rattle.iam_text.specs.declared.walk.Case.{Case}
-use Rattle.iam_text.specs.declared.walk.Case.TheVariants.{Kept, Folded}
+use Rattle.iam_text.specs.declared.case.Case.{Case}
+use Rattle.iam_text.specs.declared.case.Case.TheVariants.{Kept, Folded}
 use Rattle.iam_text.specs.declared.walk.Front.{Front}
-use Rattle.iam_text.specs.declared.walk.Front.TheVariants.{Whole, Star, Off}
+use Rattle.iam_text.specs.declared.walk.Front.TheVariants as front
+use Rattle.iam_text.specs.declared.ascii.Place.{Place}
+use Rattle.iam_text.specs.declared.ascii.Place.TheVariants as place
 
 -- a character as it is compared
 abbrev pub char_in : Case → ℕ → ℕ
@@ -27,6 +29,14 @@ GoesOn f sign text rest = (d : ℕ) × Covers f sign d × (text ≡ d ∷ rest)
 -- the text does not begin with a character that the sign stands for
 abbrev pub Stops : (ℕ → ℕ) → Sign → List ℕ → Type 0
 Stops f sign text = (rest : List ℕ) → ¬ GoesOn f sign text rest
+
+-- the sign stands for the last character of the text, and this is before it
+abbrev pub ComesBack : (ℕ → ℕ) → Sign → List ℕ → List ℕ → Type 0
+ComesBack f sign text rest = (d : ℕ) × Covers f sign d × (text ≡ rest ++ (d ∷ []))
+
+-- the text does not end with a character that the sign stands for
+abbrev pub StopsBack : (ℕ → ℕ) → Sign → List ℕ → Type 0
+StopsBack f sign text = (rest : List ℕ) → ¬ ComesBack f sign text rest
 
 -- the fact holds of the text, or of what is left of it after some characters
 abbrev pub Later : (List ℕ → Type 0) → List ℕ → Type 0
@@ -52,23 +62,49 @@ Reaches f (One ∷ signs) [] signs' text' = ⊥
 Reaches f (One ∷ signs) (d ∷ text) signs' text' = Reaches f signs text signs' text'
 Reaches f (Any ∷ signs) text signs' text' = (signs ≡ signs') × (text ≡ text')
 
+-- how far the front of a pattern was walked along a text: signs and text ended together, the signs before the first `Any`
+-- fit, and these signs and this text are left, or they do not fit
+pub data Found : Type 0 where
+  whole : Found
+  star : List Sign → List ℕ → Found
+  off : Found
+
+-- what was found along a text, and along one of ASCII characters
+abbrev pub found_in : Front → Found
+found_in front.Whole = whole
+found_in (front.Star signs text) = star signs.now (chars text.now)
+found_in front.Off = off
+
+abbrev pub found_at : Place → Found
+found_at place.Whole = whole
+found_at (place.Star signs text) = star signs.now text.now
+found_at place.Off = off
+
 -- what a walk of the front tells of signs and a text
-abbrev pub IsFront : (ℕ → ℕ) → List Sign → List ℕ → Front → Type 0
-IsFront f signs text Whole = Walks f signs text
-IsFront f signs text (Star signs' text') = Reaches f signs text signs'.now (chars text'.now)
-IsFront f signs text Off = ¬ Walks f signs text
+abbrev pub IsFront : (ℕ → ℕ) → List Sign → List ℕ → Found → Type 0
+IsFront f signs text whole = Walks f signs text
+IsFront f signs text (star signs' text') = Reaches f signs text signs' text'
+IsFront f signs text off = ¬ Walks f signs text
 
 -- what a walk settles of a question: yes, no, or as the signs behind an `Any` match some end of the text
-abbrev pub Settles : (ℕ → ℕ) → Type 0 → Front → Type 0
-Settles f P Whole = P
-Settles f P (Star signs text) = P ↔ Later (Walks f signs.now) (chars text.now)
-Settles f P Off = ¬ P
+abbrev pub Settles : (ℕ → ℕ) → Type 0 → Found → Type 0
+Settles f P whole = P
+Settles f P (star signs text) = P ↔ Later (Walks f signs) text
+Settles f P off = ¬ P
 
 -- how many signs, and one for the `Any` before them, are still to be placed: fewer with each turn of the matcher
-abbrev pub signs_left : Front → ℕ
-signs_left Whole = 0
-signs_left (Star signs text) = suc (length signs.now)
-signs_left Off = 0
+abbrev pub signs_left : Found → ℕ
+signs_left whole = 0
+signs_left (star signs text) = suc (length signs)
+signs_left off = 0
+
+-- so many signs stand before the first `Any`
+abbrev pub Begins : List Sign → ℕ → Type 0
+Begins signs zero = ⊤
+Begins [] (suc n) = ⊥
+Begins (Given c ∷ signs) (suc n) = Begins signs n
+Begins (One ∷ signs) (suc n) = Begins signs n
+Begins (Any ∷ signs) (suc n) = ⊥
 
 -- a given character
 abbrev pub IsGiven : Sign → Type 0

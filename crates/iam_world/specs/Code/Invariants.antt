@@ -1,9 +1,10 @@
 -- What a `WorldParts` keeps of its value, so that its calls need not test it again.
-use Rattle.std.specs.Prelude.{◌≡◌, ℕ, ◌<◌, ◌≤◌, ◌^◌, List, [], ◌++◌, length}
+use Rattle.std.specs.Prelude.{◌≡◌, ℕ, ◌<◌, ◌≤◌, ◌^◌, List, [], ◌++◌, length, map}
 use Rattle.std.specs.List.{AllByRecursion, flat_map, sum_by}
 use Rattle.iam_context.specs.Context.{keys_of}
 use Rattle.iam_context.specs.ContextFault.{IsClean}
 use Rattle.iam_policy.specs.Reading.{PolicyValue}
+use Rattle.iam_shape.specs.Code.Texts.{HasTexts, Places}
 use Rattle.iam_shape.specs.Few.{HasFewLevels}
 use Rattle.iam_world.specs.World.{PrincipalValue, WorldValue, world_cells, world_statements}
 
@@ -24,8 +25,8 @@ pub record CanJoin (world : WorldValue) : Type 0 where
       AllByRecursion (λ r. IsClean (keys_of world.context ++ flat_map (λ p. keys_of p.context) world.principals) r.context)
       world.resources
 
--- the world is within the limits, and has so many cells and statements
-pub record IsSized (world : WorldValue) (cells statements : ℕ) : Type 0 where
+-- the world is within the limits, has so many cells and statements, and its accounts have these numbers
+pub record IsSized (world : WorldValue) (cells statements : ℕ) (numbers : Places) : Type 0 where
   pub cells_are : cells ≡ world_cells world
   pub statements_are : statements ≡ world_statements world
   pub few_cells : cells ≤ 16777216
@@ -35,3 +36,4 @@ pub record IsSized (world : WorldValue) (cells statements : ℕ) : Type 0 where
   pub controls : AllByRecursion (λ resource. HasFewLevels resource.control) world.resources
   pub moment : world.moment ≤ 253402300799
   pub contexts : CanJoin world
+  pub numbered : HasTexts numbers (map (λ account. account.id) world.accounts)

@@ -3,7 +3,7 @@ use Rattle.std.proofs.KnownBytes.{Appends-kept}
 use Rattle.std.proofs.lemmas.List.{take_all}
 use Rattle.std.specs.Io.KnownBytes.{Appends, Keeps}
 use Rattle.iam_app.specs.Code.Pieces.{report_text}
-use Rattle.iam_app.specs.Streams.{AppendsBeginning}
+use Rattle.iam_report.specs.Streams.{AppendsBeginning}
 use Rattle.iam_app.proofs.output.write_report.Goals as goal
 
 -- what holds whatever the outcome

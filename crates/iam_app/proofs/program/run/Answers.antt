@@ -1,15 +1,9 @@
-use Rattle.std.proofs.Common.{List, ℕ, subst}
 use Rattle.std.proofs.lemmas.Result.{err_from_is_err_and}
-use Rattle.iam_app.specs.Output.{IsRefusal}
 use Rattle.iam_app.proofs.Refusals.{refuses}
 use Rattle.iam_app.proofs.program.run.Goals as goal
 
 pub returns-in_err-report-clause-fault : goal.returns-in_err-report-clause-fault
 returns-in_err-report-clause-fault g c =
     let p = err_from_is_err_and c.from_residual.result c.from_residual.ensures.1 in
-    let P : List ℕ → Type 0 = λ bytes. IsRefusal c.args.options.now bytes c.in_err-report.field-0.0 in
     rw (p.1, p.2)
-    (
-    refuses c.args.options.now _ _ c.in-Ok.bytes.items c.in-Ok.ensures.ok c.in-Ok.ensures.fits c.in_err-report.field-0.0
-    (subst P c.as_slice.ensures.value c.in_err-report.ensures.fault)
-    )
+    (refuses c.args.options.now _ _ c.in-Ok.bytes.items c.in-Ok.ensures.ok c.in-Ok.ensures.fits c.in_err-report.field-0.0 c.in_err-report.ensures.fault)

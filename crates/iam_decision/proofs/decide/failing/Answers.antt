@@ -1,6 +1,5 @@
 use Rattle.std.proofs.Common.{List, take, ◌+◌, sym, ◌∙◌, ap, subst}
 use Rattle.iam_decision.specs.Matched.{Selects}
-use Rattle.iam_decision.specs.Applicable.{value_of}
 use Rattle.iam_decision.specs.Code.Found.{AllowsIn, GrantsIn}
 use Rattle.iam_decision.specs.Decision.{Fails}
 use Rattle.iam_decision.specs.declared.place.Layer.{Layer}
@@ -11,7 +10,7 @@ use Rattle.iam_decision.proofs.decide.failing.Goals.{then-fails+in_ok-push, else
 
 pub loop-layer-preserved : goal.loop-layer-preserved
 loop-layer-preserved c =
-    let P = Fails (AllowsIn c.args.found.now) (GrantsIn c.args.found.now) (value_of c.args.applicable.now) in
+    let P = Fails (AllowsIn c.args.found.now) (GrantsIn c.args.found.now) c.args.frame in
     let Q : List Layer → Type 0 = λ failing. Selects P (take (c.loop-layer.layer-index + 1) c.args.layers.now) failing in
     elim c.if-fails.branch [
       | then-fails+in_ok-push w ↦

@@ -6,6 +6,6 @@ use Rattle.iam_matrix.proofs.decisions.decisions_of.Given as goal
 abbrev pub invariant-loop-cell : goal.invariant-loop-cell
 invariant-loop-cell l = record {
   least : l.from ≤ l.cell;
-  same : l.engine ≡ l.initial.engine;
-  so_far : AreDecisions l.initial.engine l.from (l.cell - l.from) l.decisions.items;
+  same : l.engine.world ≡ l.initial.engine.world;
+  so_far : AreDecisions l.initial.engine.world l.from (l.cell - l.from) l.decisions.items;
 }

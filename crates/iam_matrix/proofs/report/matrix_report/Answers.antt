@@ -1,30 +1,35 @@
-use Rattle.std.proofs.Common.{ℕ, List, String, Global, length, string_bytes, ◌++◌, sym, ap, ◌∙◌, subst}
+use Rattle.std.proofs.Common.{◌≡◌, ℕ, List, length, ap, ◌∙◌, subst, sym, arith}
 use Rattle.std.specs.List.{flat_map}
-use Rattle.iam_report.specs.Piece.{opening_text}
+use Rattle.iam_report.specs.Piece.{MatrixValue, text_of}
 use Rattle.iam_report.specs.declared.quoted.Format.{Format}
+use Rattle.iam_report.specs.declared.tail.Tail.{Tail}
 use Rattle.iam_matrix.specs.Report.{IsMatrixReport}
-use Rattle.iam_matrix.specs.Code.Tiles.{AreRowsOf, Chain}
-use Rattle.iam_matrix.proofs.Rendered.{report}
+use Rattle.iam_matrix.specs.Code.Tiles.{AreTailsOf, Chain}
+use Rattle.iam_matrix.proofs.Tails.{count-tails, report}
 use Rattle.iam_matrix.proofs.Tiles.{chain-all}
 use Rattle.iam_matrix.proofs.report.matrix_report.Goals as goal
+
+pub of-requires-2 : goal.of-requires-2
+of-requires-2 g c =
+    let gathered = c.in_ok-gathered.ensures in
+    let outputs = c.in_ok-gathered.gathered.outputs.items in
+    let chained = chain-all (λ from n output. AreTailsOf c.args.format c.args.brief c.args.world.now from n output) c.args.cut.now outputs
+    (gathered.count ∙ ap (λ (ls : List ℕ). length ls) c.lengths.ensures.value) gathered.given in
+    omega (arith, count-tails c.args.format c.args.brief c.args.world.now c.args.cut.now outputs chained, c.requires, c.cells-cells.ensures.value, c.cells-cells.ensures.few)
 
 pub returns-clause-ok : goal.returns-clause-ok
 returns-clause-ok g c =
     let world = c.args.world.now in
     let lengths = c.args.cut.now in
-    let format = c.args.format in
     let brief = c.args.brief in
+    let quoted = c.in_ok-quoted.quoted in
     let gathered = c.in_ok-gathered.ensures in
     let outputs = c.in_ok-gathered.gathered.outputs.items in
-    let bytes : String Global → List ℕ = λ text. string_bytes text in
-    let chained = chain-all (λ from n output. AreRowsOf c.in_ok-quoted.quoted.format brief world from n (bytes output)) lengths outputs
+    let chained = chain-all (λ from n output. AreTailsOf c.args.format brief world from n output) lengths outputs
     (gathered.count ∙ ap (λ (ls : List ℕ). length ls) c.lengths.ensures.value) gathered.given in
-    let F : Format → Type 0 = λ f. Chain (λ from n output. AreRowsOf f brief world from n (bytes output)) 0 lengths outputs in
-    let whole = report bytes format brief world lengths outputs
-    (c.full_rows.ensures.none world format) (c.full_rows.ensures.both world format) (c.full_rows.ensures.behind world format)
-    (c.brief_rows.ensures.none world format) (c.brief_rows.ensures.both world format) (c.brief_rows.ensures.behind world format)
-    (c.full_reports.ensures world format) (c.brief_reports.ensures world format) c.requires (subst F c.in_ok-quoted.ensures.format chained) in
-    let rows = flat_map bytes outputs in
-    let same = c.in_ok-enclosed.ensures ∙ ap (λ front. (front ++ rows) ++ c.closing.result.now) c.opening.ensures ∙ ap (λ back. (opening_text format brief ++ rows) ++ back) c.closing.ensures in
-    let P : List ℕ → Type 0 = λ text. IsMatrixReport format brief world text in
-    subst P (sym same) whole
+    let same = c.in_ok-quoted.ensures.format in
+    let F : Format → Type 0 = λ f. Chain (λ from n (output : List Tail). AreTailsOf f brief world from n output) 0 lengths outputs in
+    let whole = report brief world quoted lengths outputs (c.full_texts.ensures world) (c.brief_texts.ensures world) c.in_ok-quoted.ensures.texts c.requires (subst F (sym same) chained) in
+    let P : Format → Type 0 = λ f. IsMatrixReport f brief world (text_of (record { quoted = quoted; brief = brief; tails = flat_map (λ (tile : List Tail). tile) outputs })) in
+    let Q : MatrixValue → Type 0 = λ matrix. IsMatrixReport c.args.format brief world (text_of matrix) in
+    subst Q (sym c.of-2.ensures) (subst P same whole)

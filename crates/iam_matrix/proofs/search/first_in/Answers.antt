@@ -14,7 +14,7 @@ decide_brief-requires c =
 
 pub returns-then-is_allowed-clause-first : goal.returns-then-is_allowed-clause-first
 returns-then-is_allowed-clause-first c =
-    let world = c.args.engine.now in
+    let world = c.args.engine.now.world in
     let so_far = c.loop-cell.invariant in
     let cell = c.loop-cell.cell in
     let decision = c.in_ok-decide_brief.field-0 in
@@ -31,7 +31,7 @@ returns-then-is_allowed-clause-first c =
 
 pub loop-cell-preserved : goal.loop-cell-preserved
 loop-cell-preserved c =
-    let world = c.args.engine.now in
+    let world = c.args.engine.now.world in
     let so_far = c.loop-cell.invariant in
     let decision = c.in_ok-decide_brief.field-0 in
     let W : WorldValue → Type 0 = λ w. IsDecisionOf w c.loop-cell.cell decision in

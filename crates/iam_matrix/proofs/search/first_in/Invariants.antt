@@ -6,6 +6,6 @@ use Rattle.iam_matrix.proofs.search.first_in.Given as goal
 abbrev pub invariant-loop-cell : goal.invariant-loop-cell
 invariant-loop-cell l = record {
   least : l.from ≤ l.cell;
-  same : l.engine ≡ l.initial.engine;
-  denied : (cell : ℕ) → l.from ≤ cell → cell < l.cell → IsDenied l.initial.engine cell;
+  same : l.engine.world ≡ l.initial.engine.world;
+  denied : (cell : ℕ) → l.from ≤ cell → cell < l.cell → IsDenied l.initial.engine.world cell;
 }

@@ -8,7 +8,7 @@ use Rattle.iam_matrix.proofs.verdicts.verdicts_of.Goals as goal
 
 pub loop-cell-init : goal.loop-cell-init
 loop-cell-init c =
-    let world = c.args.engine.now in
+    let world = c.args.engine.now.world in
     let from = c.args.from in
     let P : ℕ → Type 0 = λ n. AreVerdicts world from n [] in
     let Q : List Verdict → Type 0 = λ es. AreVerdicts world from (from - from) es in
@@ -26,7 +26,7 @@ decide-requires c =
 
 pub loop-cell-preserved : goal.loop-cell-preserved
 loop-cell-preserved c =
-    let world = c.args.engine.now in
+    let world = c.args.engine.now.world in
     let from = c.args.from in
     let cell = c.loop-cell.cell in
     let so_far = c.loop-cell.invariant in

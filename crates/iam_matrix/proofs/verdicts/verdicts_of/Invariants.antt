@@ -6,6 +6,6 @@ use Rattle.iam_matrix.proofs.verdicts.verdicts_of.Given as goal
 abbrev pub invariant-loop-cell : goal.invariant-loop-cell
 invariant-loop-cell l = record {
   least : l.from ≤ l.cell;
-  same : l.engine ≡ l.initial.engine;
-  so_far : AreVerdicts l.initial.engine l.from (l.cell - l.from) l.verdicts.items;
+  same : l.engine.world ≡ l.initial.engine.world;
+  so_far : AreVerdicts l.initial.engine.world l.from (l.cell - l.from) l.verdicts.items;
 }

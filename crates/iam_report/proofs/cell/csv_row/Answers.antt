@@ -1,20 +1,14 @@
-use Rattle.std.proofs.Common.{List, ℕ, ◌≡◌, ◌++◌, ◌∙◌, ap, subst, Vec, Global}
-use Rattle.iam_report.specs.CsvRow.{IsCsvRow}
-use Rattle.iam_report.specs.Code.Parts.{full_parts, texts_of}
-use Rattle.iam_report.specs.Report.{CellTexts, csv_line, full_header, full_line}
+use Rattle.std.proofs.Common.{◌++◌, ◌∙◌, List, ℕ, ap}
+use Rattle.std.proofs.lemmas.Result.{IfOk-weaker}
+use Rattle.iam_report.specs.Report.{csv_line, full_header}
 use Rattle.iam_report.specs.declared.quoted.Format.TheVariants.{Csv}
 use Rattle.iam_report.proofs.Rendered.{full_rendered}
 use Rattle.iam_report.proofs.cell.csv_row.Goals as goal
 
 pub returns : goal.returns
-returns c p a r is =
-    let cell = c.args.cell in
-    let entry = c.args.verdict.now in
-    let texts = c.in_ok-fields.ensures in
-    let row : CellTexts → List ℕ = λ t. full_parts Csv cell t entry in
-    let lent : CellTexts = texts_of c.texts.result in
-    let parts : row lent ≡ full_line cell texts.0 entry = ap row (c.texts.ensures ∙ texts.2) ∙ full_rendered Csv cell texts.0 entry in
-    let whole : c.into_bytes.result.items ≡ csv_line full_header ++ full_line cell texts.0 entry =
-    ap (λ (v : Vec ℕ Global). v.items) c.into_bytes.ensures.value ∙ c.in_ok-add_full.ensures ∙ ap (λ t. t ++ row lent) (c.in_ok-text.ensures.ok ∙ c.opening.ensures) ∙ ap (λ t. csv_line full_header ++ t) parts in
-    let P : ℕ × ℕ × ℕ → Type 0 = λ t. IsCsvRow c.args.world.now cell t.0 t.1 t.2 entry c.into_bytes.result.items in
-    subst P (c.triple-p.ensures.only p a r is) (texts.0, texts.1, whole)
+returns c =
+    IfOk-weaker c.row.result _ _
+    (λ text rows p a r is.
+    let row = rows p a r is in
+    (row.0, row.1, row.2 ∙ ap (λ (t : List ℕ). csv_line full_header ++ t) (full_rendered Csv c.args.cell row.0 c.args.verdict.now)))
+    c.row.ensures

@@ -1,4 +1,4 @@
-use Rattle.std.proofs.Common.{◌≡◌, map, take, drop}
+use Rattle.std.proofs.Common.{◌≡◌, length, map, take, drop}
 use Rattle.std.specs.List.{AllZip}
 use Rattle.serde_json.specs.View.{view}
 use Rattle.iam_shape.specs.Code.Texts.{HasTexts}
@@ -7,9 +7,10 @@ use Rattle.iam_shape.specs.Shape.{all_account_checks, each, first_bad, nth_accou
 use Rattle.iam_shape.specs.View.{IsAccountView}
 use Rattle.iam_shape.proofs.accounts.walk_accounts.Given as goal
 
--- what is left decides, what was found is said by what was walked, and the set has its ids
+-- what is left decides, what was found is said by what was walked, and the map has its ids
 abbrev pub invariant-loop-i : goal.invariant-loop-i
 invariant-loop-i l = record {
+  count : length l.views.items ≡ l.i;
   left : first_bad (all_account_checks (map view l.accounts))
       ≡ first_bad (each (nth_account_checks (map view l.accounts)) l.i (map view (drop l.i l.accounts)));
   said : AllZip IsAccountView (map view (take l.i l.accounts)) (map account_of l.views.items);

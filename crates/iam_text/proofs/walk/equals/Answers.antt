@@ -4,17 +4,17 @@ use Rattle.iam_text.specs.Code.Walk.{char_in}
 use Rattle.iam_text.proofs.GivenLemmas.{equal_given, equal_walks, given_walks}
 use Rattle.iam_text.proofs.walk.equals.Goals as goal
 
-pub returns-then-are_given : goal.returns-then-are_given
-returns-then-are_given c =
+pub returns-then-matches : goal.returns-then-matches
+returns-then-matches c =
     let f = char_in c.args.case in
     let text = chars c.args.text.now in (
-      λ t. given_walks f c.args.signs.now text (c.are_given.ensures.0 c.if-are_given.true) (c.matches.ensures.0 t),
-      λ e. c.matches.ensures.1 (equal_walks f c.args.signs.now text e),
+      λ t. given_walks f c.args.signs.now text (c.are_given.ensures.0 t) (c.matches.ensures.0 c.if-matches.true),
+      λ e. c.are_given.ensures.1 (equal_given f c.args.signs.now (map f text) e),
     )
 
-pub returns-else-are_given : goal.returns-else-are_given
-returns-else-are_given c =
+pub returns-else-matches : goal.returns-else-matches
+returns-else-matches c =
     let f = char_in c.args.case in (
       λ t. absurd (let wrong : ⊥ = cc in wrong),
-      λ e. let given = c.are_given.ensures.1 (equal_given f c.args.signs.now (map f (chars c.args.text.now)) e) in absurd (let wrong : ⊥ = cc in wrong),
+      λ e. let walks = c.matches.ensures.1 (equal_walks f c.args.signs.now (chars c.args.text.now) e) in absurd (let wrong : ⊥ = cc in wrong),
     )

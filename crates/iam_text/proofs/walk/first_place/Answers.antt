@@ -1,6 +1,6 @@
 use Rattle.std.specs.Str.{chars}
-use Rattle.iam_text.specs.Code.Walk.{char_in, Walks, Later}
-use Rattle.iam_text.proofs.WalkLemmas.{settles_found, front_fewer, later_none}
+use Rattle.iam_text.specs.Code.Walk.{char_in, Walks, Later, found_in}
+use Rattle.iam_text.proofs.WalkLemmas.{settles_found, front_fewer, later_none, not_off}
 use Rattle.iam_text.proofs.walk.first_place.Goals as goal
 
 pub returns-in_default : goal.returns-in_default
@@ -8,8 +8,8 @@ returns-in_default c = record {
   settles =
       settles_found (char_in c.args.case) c.args.signs.now (chars c.loop-found.text.now)
       (Later (Walks (char_in c.args.case) c.args.signs.now) (chars c.args.text.now))
-      c.walk_front.result c.walk_front.ensures c.in_default.not-Off c.loop-found.invariant.1;
-  fewer = front_fewer (char_in c.args.case) c.args.signs.now (chars c.loop-found.text.now) c.walk_front.result c.walk_front.ensures;
+      (found_in c.walk_front.result) c.walk_front.ensures (not_off c.walk_front.result c.in_default.not-Off) c.loop-found.invariant.1;
+  fewer = front_fewer (char_in c.args.case) c.args.signs.now (chars c.loop-found.text.now) (found_in c.walk_front.result) c.walk_front.ensures;
 }
 
 pub returns-in-None-clause-settles : goal.returns-in-None-clause-settles

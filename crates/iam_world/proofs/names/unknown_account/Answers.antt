@@ -1,7 +1,7 @@
 use Rattle.std.proofs.Common.{◌≡◌, ◌∙◌, List, map, not, option_map, refl, sym, ap, subst}
-use Rattle.std.specs.BTreeSet.{contains_text}
 use Rattle.std.specs.List.{position_from}
 use Rattle.iam_world.specs.Code.ViewFault.{FindsFirst}
+use Rattle.iam_shape.specs.Code.Texts.{has_text}
 use Rattle.iam_shape.specs.Lent.{resource_of}
 use Rattle.iam_shape.specs.LentWorld.{world_of}
 use Rattle.iam_shape.specs.First.{placed}
@@ -31,7 +31,7 @@ returns-in-None c =
     let resources = placed (Item Resources) 0 (map of_resource world.resources) in
     let none = ap (option_map (Item Principals)) (sym c.first_unknown_user.ensures) ∙ sym c.at.ensures ∙ c.in-None.is in
     let owners : List ResourceView = c.args.world.now.resources.items in
-    let test = λ (r : ResourceView). not (contains_text ids r.account.now) in
+    let test = λ (r : ResourceView). not (has_text ids r.account.now) in
     let last : option_map (Item Resources) (position_from test 0 owners) ≡ c.at-in-None.result =
     ap (λ (rs : List ResourceView). option_map (Item Resources) (position_from test 0 rs)) (sym c.as_slice.ensures.value)
     ∙ ap (option_map (Item Resources)) (sym c.first_unknown_owner.ensures) ∙ sym c.at-in-None.ensures in

@@ -8,16 +8,16 @@ use Rattle.iam_world.proofs.Worlds.{reads_accounts, reads_principals, reads_reso
 use Rattle.iam_world.proofs.world.build.Goals as goal
 
 -- the world that is built is read of the view
-read : (c : goal.In_ok-resources) → ReadsWorld (world_of c.args.world.now) (record {
-  moment = c.args.world.now.moment;
-  accounts = c.in_ok-accounts.field-0.items;
-  principals = c.in_ok-principals.field-0.items;
-  actions = map string_bytes c.in_ok-read_actions.field-0.items;
-  resources = c.in_ok-resources.field-0.items;
+read : (c : goal.After-numbers_of-numbers) → ReadsWorld (world_of c.args.world) (record {
+  moment = c.args.world.moment;
+  accounts = c.in_ok-accounts.accounts.items;
+  principals = c.in_ok-principals.principals.items;
+  actions = map string_bytes c.in_ok-actions.actions.items;
+  resources = c.in_ok-resources.resources.items;
   context = c.args.contexts.world.items;
 })
 read c =
-    let lent = c.args.world.now in
+    let lent = c.args.world in
     let policies = c.args.policies in
     let contexts = c.args.contexts in
     let A : List AccountValue → Type 0 = AllZip ReadsAccount (map account_of lent.accounts.views.items) in
@@ -33,7 +33,7 @@ read c =
           (reads_principals (λ part. part.items) (map principal_of lent.principals.items) c.args.requesters.items policies.identity.items policies.boundary.items
           policies.session.items contexts.principals.items c.requires.requesters c.requires.policies.identity c.requires.policies.boundary c.requires.policies.session
           c.requires.contexts.principals);
-      actions = rw c.as_slice-2.ensures.value at c.in_ok-read_actions.ensures;
+      actions = rw c.as_slice-2.ensures.value at c.in_ok-actions.ensures;
       resources =
           subst R (sym (rw c.as_slice-3.ensures.value at c.in_ok-resources.ensures))
           (reads_resources (λ levels. map (λ level. level.items) levels.items) (λ part. part.items) (map resource_of lent.resources.items) policies.resource.items
@@ -43,8 +43,8 @@ read c =
 
 pub invariant_of-result : goal.invariant_of-result
 invariant_of-result c =
-    sized (world_of c.args.world.now) _ c.args.sizes.0 c.args.sizes.1 (read c) c.requires.small c.requires.moment c.requires.cells c.requires.statements
-    c.requires.within c.requires.contexts.clean
+    sized (world_of c.args.world) _ c.args.sizes.0 c.args.sizes.1 c.numbers_of-numbers.result (read c) c.requires.small c.requires.moment c.requires.cells c.requires.statements
+    c.requires.within c.requires.contexts.clean c.numbers_of-numbers.ensures
 
 pub returns : goal.returns
 returns c = read c

@@ -6,7 +6,7 @@ use Rattle.iam_layers.proofs.world.World.decide_plain.Goals as goal
 pub returns : goal.returns
 returns c =
     let action = c.action_text.result.now in
-    let (access, at, own) = c.in_ok-shared.ensures in
+    let (applicable, access, at, own) = c.in_ok-shared.ensures in
     IfOk-weaker c.verdict.result _ _
-    (λ verdict holds. (c.in_ok-shared.shared.applicable, request_for access action, (access, action, at, c.action_text.ensures, refl), holds))
-    (c.verdict.ensures access own)
+    (λ verdict holds. (applicable, request_for access action, (access, action, at, c.action_text.ensures, refl), holds))
+    (c.verdict.ensures applicable access own)

@@ -1,6 +1,6 @@
 use Rattle.std.proofs.Common.{rules}
 use Rattle.std.proofs.lemmas.Grind.{put_two}
-use Rattle.iam_report.specs.Code.Parts.{marked}
+use Rattle.iam_report.specs.Words.{marked}
 use Rattle.iam_report.specs.Words.{layer_word}
 use Rattle.iam_report.proofs.Rendered.{all_marked}
 use Rattle.iam_report.proofs.words.LayersDisplay.fmt.Goals as goal

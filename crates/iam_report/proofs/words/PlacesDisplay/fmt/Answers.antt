@@ -1,6 +1,6 @@
 use Rattle.std.proofs.Common.{rules, refl}
 use Rattle.std.proofs.lemmas.Grind.{put_two}
-use Rattle.iam_report.specs.Code.Parts.{marked}
+use Rattle.iam_report.specs.Words.{marked}
 use Rattle.iam_report.specs.Words.{place_text}
 use Rattle.iam_report.proofs.Rendered.{all_marked}
 use Rattle.iam_report.proofs.words.PlacesDisplay.fmt.Goals as goal

@@ -1,0 +1,45 @@
+ghost use Rattle.std.specs.Prelude.{IfOk, IfSome};
+ghost use Rattle.iam_engine.specs.Slots.{AreEmpty, Gains, Keeps};
+
+use iam_text::OutOfMemory;
+use std::alloc::Global;
+
+/// So many slots, which keep nothing.
+pub fn empty_slots<T: Copy>(alloc: Global, count: u64) -> Result<Vec<Option<T>>, OutOfMemory>
+    ensures { IfOk result (λ slots. AreEmpty slots.items) }
+{
+    let mut slots = Vec::new(alloc);
+    'slots: for _ in 0..count {
+        slots.push(None)?;
+    }
+    Ok(slots)
+}
+
+/// What a slot keeps.
+pub fn kept<T: Copy>(slots: &[Option<T>], slot: u64) -> Option<T>
+    ensures { IfSome result (Keeps slots.now slot) }
+{
+    match slots.get(slot as usize) {
+        Some(kept) => *kept,
+        None => None,
+    }
+}
+
+/// Puts this into a slot, if there is such a slot.
+pub fn keep<T: Copy>(slots: &mut Vec<Option<T>>, slot: u64, kept: T)
+    ensures { Gains slots.old.items slots.new.items kept }
+{
+    let slot = slot as usize;
+    if slot < slots.len() {
+        slots[slot] = Some(kept);
+    }
+}
+
+/// Empties all slots.
+pub fn empty<T: Copy>(slots: &mut [Option<T>])
+    ensures { AreEmpty slots.new }
+{
+    for slot in 0..slots.len() {
+        slots[slot] = None;
+    }
+}

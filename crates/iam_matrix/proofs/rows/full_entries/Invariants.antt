@@ -1,0 +1,11 @@
+use Rattle.std.proofs.Common.{◌≡◌, ◌-◌, ◌≤◌}
+use Rattle.iam_matrix.specs.Code.Tiles.{AreVerdicts}
+use Rattle.iam_matrix.proofs.rows.full_entries.Given as goal
+
+-- the cells so far
+abbrev pub invariant-loop-cell : goal.invariant-loop-cell
+invariant-loop-cell l = record {
+  least : l.from ≤ l.cell;
+  same : l.engine.world ≡ l.world;
+  so_far : AreVerdicts l.world l.from (l.cell - l.from) l.entries;
+}

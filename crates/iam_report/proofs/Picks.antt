@@ -1,0 +1,43 @@
+-- Items that are kept once, and lists of their numbers.
+use Rattle.std.proofs.Common.{◌≡◌, ℕ, ◌<◌, List, [], ◌∷◌, ◌++◌, All, Some, get_or, length, map, refl, ap, ◌∙◌, arith}
+use Rattle.std.proofs.lemmas.List.{get_or-map, get_or_append_left, length-append, map-append}
+use Rattle.std.proofs.lemmas.List.Elements.{All-head, All-push, All-tail, All-weaker}
+use Rattle.std.proofs.lemmas.Option.{get_or_from_slice_get, slice_get_within}
+use Rattle.std.specs.List.{slice_get}
+use Rattle.iam_report.specs.Code.Numbered.{picked}
+
+-- numbers that have an item
+abbrev pub Within : {A : Type 0} → List A → List ℕ → Type 0
+Within items numbers = All (λ n. n < length items) numbers
+
+-- further items change nothing
+picked_more : {A : Type 0} (none : A) (items more : List A) (numbers : List ℕ) → Within items numbers → picked none (items ++ more) numbers ≡ picked none items numbers
+picked_more none items more [] w = refl
+picked_more none items more (n ∷ numbers) w =
+    ap (λ x. x ∷ picked none (items ++ more) numbers) (get_or_append_left items more none n (All-head (λ k. k < length items) n numbers w))
+    ∙ ap (λ xs. get_or items n none ∷ xs) (picked_more none items more numbers (All-tail (λ k. k < length items) n numbers w))
+
+pub within_more : {A : Type 0} (items more new : List A) (numbers : List ℕ) → new ≡ items ++ more → Within items numbers → Within new numbers
+within_more items more new numbers e w =
+    All-weaker (λ k. k < length items) (λ k. k < length new) (λ k below. omega (arith, below, ap length e, length-append items more)) numbers w
+
+-- one more number
+pub picked_next : {A : Type 0} (none : A) (items more new : List A) (numbers : List ℕ) (n : ℕ) (x : A) → new ≡ items ++ more → Within items numbers → slice_get new n ≡ Some x
+    → picked none new (numbers ++ n ∷ []) ≡ picked none items numbers ++ x ∷ []
+picked_next none items more new numbers n x e w at =
+    map-append (λ k. get_or new k none) numbers (n ∷ [])
+    ∙ ap (λ xs. xs ++ get_or new n none ∷ []) (ap (λ l. picked none l numbers) e ∙ picked_more none items more numbers w)
+    ∙ ap (λ y. picked none items numbers ++ y ∷ []) (get_or_from_slice_get new n x none at)
+
+pub within_next : {A : Type 0} (items more new : List A) (numbers : List ℕ) (n : ℕ) (x : A) → new ≡ items ++ more → Within items numbers → slice_get new n ≡ Some x
+    → Within new (numbers ++ n ∷ [])
+within_next items more new numbers n x e w at =
+    All-push (λ k. k < length new) numbers n (within_more items more new numbers e w) (slice_get_within new n x at)
+
+-- the images of the items
+pub picked_images : {A B : Type 0} (f : A → B) (none : A) (other : B) (items : List A) (numbers : List ℕ) → Within items numbers
+    → picked other (map f items) numbers ≡ map f (picked none items numbers)
+picked_images f none other items [] w = refl
+picked_images f none other items (n ∷ numbers) w =
+    ap (λ y. y ∷ picked other (map f items) numbers) (get_or-map f items n none other (All-head (λ k. k < length items) n numbers w))
+    ∙ ap (λ ys. f (get_or items n none) ∷ ys) (picked_images f none other items numbers (All-tail (λ k. k < length items) n numbers w))

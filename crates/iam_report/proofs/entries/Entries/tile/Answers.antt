@@ -1,0 +1,15 @@
+use Rattle.std.proofs.Common.{List, ◌∙◌, ap, map}
+use Rattle.iam_decision.specs.declared.verdict.Verdict.{Verdict}
+use Rattle.iam_report.specs.Code.Numbered.{no_tail, no_verdict, picked}
+use Rattle.iam_report.specs.Piece.{tail_of}
+use Rattle.iam_report.specs.declared.tail.Tail.{Tail}
+use Rattle.iam_report.proofs.Picks.{picked_images}
+use Rattle.iam_report.proofs.entries.Entries.tile.Goals as goal
+
+pub returns : goal.returns
+returns c =
+    let entries = c.self.inside in
+    let f : Verdict → Tail = tail_of c.args.format c.args.brief in
+    ap (λ (tails : List Tail). picked no_tail tails entries.numbers.items) (c.in_ok-tails.ensures ∙ ap (map f) c.as_slice.ensures.value)
+    ∙ picked_images f no_verdict no_tail entries.distinct.items entries.numbers.items c.self.invariant
+    ∙ ap (map f) c.self.view_is

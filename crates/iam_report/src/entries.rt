@@ -1,0 +1,201 @@
+// Verdicts one behind the other, of which equal ones are kept once.
+ghost use Rattle.std.specs.Prelude.{◌≡◌, ◌++◌, ◌∷◌, [], IfOk, IfSome, IsTrue, List, OnOk, Some, map, slice_get, take};
+ghost use Rattle.iam_report.specs.Piece.{bare, tail_of};
+ghost use Rattle.iam_decision.specs.declared.verdict.Verdict.{Verdict};
+
+use crate::guess::{Guesses, STEPS, hash_of};
+use crate::quoted::Format;
+use crate::tail::Tail;
+use crate::tile::Tile;
+use iam_layers::{Decision, Layer, Place, Verdict};
+use iam_text::{Items, OutOfMemory};
+use std::alloc::Global;
+use std::marker::Model;
+
+/// Verdicts one behind the other. A contract sees their list; each is kept as a small number, and equal ones mostly
+/// have the same.
+#[derive(Debug, Drop)]
+pub struct Entries {
+    distinct: Vec<Verdict>,
+    // The number of each in `distinct`.
+    numbers: Vec<u32>,
+    guesses: Guesses,
+}
+
+impl Model for Entries {
+    ghost use Rattle.std.specs.Prelude.{◌<◌, All, List, length};
+    ghost use Rattle.iam_decision.specs.declared.verdict.Verdict.{Verdict};
+    ghost use Rattle.iam_report.specs.Code.Numbered.{no_verdict, picked};
+
+    ghost Value = { List Verdict };
+
+    ghost view = { λ entries. picked no_verdict entries.distinct.items entries.numbers.items };
+
+    ghost invariant = { λ entries. All (λ n. n < length entries.distinct.items) entries.numbers.items };
+}
+
+/// A decision as a verdict without places and layers.
+pub fn bare(alloc: Global, decision: Decision) -> Verdict
+    ensures { result ≡ bare decision }
+{
+    Verdict {
+        decision,
+        statements: Items::from_vec(Vec::new(alloc)),
+        lacks: Items::from_vec(Vec::new(alloc)),
+    }
+}
+
+impl Entries {
+    /// None yet, with room for so many.
+    pub fn new(alloc: Global, room: usize) -> Result<Entries, OutOfMemory>
+        ensures { IfOk result (λ entries. entries ≡ []) }
+    {
+        Ok(Entries {
+            distinct: Vec::new(alloc),
+            numbers: Vec::with_capacity(alloc, room)?,
+            guesses: Guesses::new(alloc),
+        })
+    }
+
+    /// Puts a verdict behind the others. It is copied where no equal one is found.
+    pub fn push(&mut self, alloc: Global, verdict: &Verdict) -> Result<(), OutOfMemory>
+        ensures { OnOk result (self.new ≡ self.old ++ verdict.now ∷ []) }
+    {
+        let last = self.numbers.as_slice().last().copied();
+        let number = number_of(alloc, &mut self.distinct, &mut self.guesses, last, verdict)?;
+        self.numbers.push(number)?;
+        Ok(())
+    }
+
+    /// Puts a decision behind the others, as a verdict without places and layers.
+    pub fn push_decision(&mut self, alloc: Global, decision: Decision) -> Result<(), OutOfMemory>
+        ensures { OnOk result (self.new ≡ self.old ++ bare decision ∷ []) }
+    {
+        self.push(alloc, &bare(alloc, decision))
+    }
+
+    /// The tails of their rows, in full or in brief.
+    pub fn tile(self, alloc: Global, format: Format, brief: bool) -> Result<Tile, OutOfMemory>
+        ensures { IfOk result (λ tile. tile ≡ map (tail_of format brief) self) }
+    {
+        let Entries {
+            distinct,
+            numbers,
+            guesses: _,
+        } = self;
+        let tails = tails_of(alloc, format, brief, distinct.as_slice())?;
+        Ok(Tile { tails, numbers })
+    }
+}
+
+/// The tails of these verdicts.
+fn tails_of(
+    alloc: Global,
+    format: Format,
+    brief: bool,
+    verdicts: &[Verdict],
+) -> Result<Vec<Tail>, OutOfMemory>
+    ensures { IfOk result (λ tails. tails.items ≡ map (tail_of format brief) verdicts.now) }
+{
+    let mut tails = Vec::with_capacity(alloc, verdicts.len())?;
+    for verdict in verdicts {
+        tails.push(Tail::of(alloc, format, brief, verdict)?)?;
+    }
+    Ok(tails)
+}
+
+/// The number of a verdict, which is put behind the others where none of them is found to be equal.
+fn number_of(
+    alloc: Global,
+    distinct: &mut Vec<Verdict>,
+    guesses: &mut Guesses,
+    last: Option<u32>,
+    verdict: &Verdict,
+) -> Result<u32, OutOfMemory>
+    ensures kept { (more : List Verdict) × (distinct.new.items ≡ distinct.old.items ++ more) }
+    ensures found { IfOk result (λ number. slice_get distinct.new.items number ≡ Some verdict.now) }
+{
+    if let Some(number) = last {
+        if is_at(distinct.as_slice(), number, verdict) {
+            return Ok(number);
+        }
+    }
+    let hash = hash_of(verdict);
+    if let Some(number) = seek(guesses, distinct.as_slice(), hash, verdict) {
+        return Ok(number);
+    }
+    add(alloc, distinct, guesses, hash, verdict)
+}
+
+/// The number of an equal verdict, where one is found.
+fn seek(guesses: &Guesses, distinct: &[Verdict], hash: u64, verdict: &Verdict) -> Option<u32>
+    ensures { IfSome result (λ number. slice_get distinct.now number ≡ Some verdict.now) }
+{
+    for step in 0..STEPS {
+        let number = guesses.at(hash, step)?;
+        if is_at(distinct, number, verdict) {
+            return Some(number);
+        }
+    }
+    None
+}
+
+/// Puts a copy of a verdict behind the others; its number.
+fn add(
+    alloc: Global,
+    distinct: &mut Vec<Verdict>,
+    guesses: &mut Guesses,
+    hash: u64,
+    verdict: &Verdict,
+) -> Result<u32, OutOfMemory>
+    ensures kept { (more : List Verdict) × (distinct.new.items ≡ distinct.old.items ++ more) }
+    ensures found { IfOk result (λ number. slice_get distinct.new.items number ≡ Some verdict.now) }
+{
+    let Ok(number) = u32::try_from(distinct.len()) else {
+        return Err(OutOfMemory);
+    };
+    let copy = copy_of(alloc, verdict)?;
+    distinct.push(copy)?;
+    guesses.keep(alloc, distinct.as_slice(), hash, number)?;
+    Ok(number)
+}
+
+/// Whether the verdict of this number is equal.
+fn is_at(distinct: &[Verdict], number: u32, verdict: &Verdict) -> bool
+    ensures { IsTrue result → slice_get distinct.now number ≡ Some verdict.now }
+{
+    match distinct.get(number as usize) {
+        Some(other) => is_same(other, verdict),
+        None => false,
+    }
+}
+
+fn is_same(a: &Verdict, b: &Verdict) -> bool
+    ensures { IsTrue result → a.now ≡ b.now }
+{
+    a.decision == b.decision
+        && same_places(a.statements.as_slice(), b.statements.as_slice())
+        && same_layers(a.lacks.as_slice(), b.lacks.as_slice())
+}
+
+fn same_places(a: &[Place], b: &[Place]) -> bool
+    ensures { IsTrue result → a.now ≡ b.now }
+{
+    a == b
+}
+
+fn same_layers(a: &[Layer], b: &[Layer]) -> bool
+    ensures { IsTrue result → a.now ≡ b.now }
+{
+    a == b
+}
+
+fn copy_of(alloc: Global, verdict: &Verdict) -> Result<Verdict, OutOfMemory>
+    ensures { IfOk result (λ copy. copy ≡ verdict.now) }
+{
+    Ok(Verdict {
+        decision: verdict.decision,
+        statements: Items::from_vec(Vec::from_slice(alloc, verdict.statements.as_slice())?),
+        lacks: Items::from_vec(Vec::from_slice(alloc, verdict.lacks.as_slice())?),
+    })
+}

@@ -1,0 +1,99 @@
+// Where a verdict may be found again: a table of numbers by hashes. It is a guess, and nothing is claimed of it.
+use iam_layers::Verdict;
+use iam_text::OutOfMemory;
+use std::alloc::Global;
+
+/// So many slots are looked at for one verdict.
+pub const STEPS: u64 = 16;
+
+const LEAST_SLOTS: usize = 16;
+
+/// A number mixed into a hash.
+fn mix(hash: u64, value: u64) -> u64 {
+    (hash.rotate_left(5) ^ value).wrapping_mul(0x517c_c1b7_2722_0a95)
+}
+
+/// The hash of a verdict.
+pub fn hash_of(verdict: &Verdict) -> u64 {
+    let mut hash = verdict.decision as u64;
+    for place in verdict.statements.as_slice() {
+        hash = mix(
+            hash,
+            place.layer as u64 ^ u64::from(place.level).rotate_left(8),
+        );
+        hash = mix(
+            hash,
+            u64::from(place.policy).rotate_left(32) ^ u64::from(place.statement),
+        );
+    }
+    for layer in verdict.lacks.as_slice() {
+        hash = mix(hash, *layer as u64);
+    }
+    mix(hash, 0)
+}
+
+/// Numbers by hashes; 0 stands in a slot without one, and else the number and 1.
+#[derive(Debug, Drop)]
+pub struct Guesses {
+    slots: Vec<u32>,
+}
+
+impl Guesses {
+    pub fn new(alloc: Global) -> Guesses {
+        Guesses {
+            slots: Vec::new(alloc),
+        }
+    }
+
+    /// The slot to look at in this step. Their number is a power of two.
+    fn slot(&self, hash: u64, step: u64) -> usize {
+        let mask = (self.slots.len() as u64).wrapping_sub(1);
+        ((hash >> 20).wrapping_add(step) & mask) as usize
+    }
+
+    /// The number to look at in this step, where there is one.
+    pub fn at(&self, hash: u64, step: u64) -> Option<u32> {
+        let slot = *self.slots.get(self.slot(hash, step))?;
+        slot.checked_sub(1)
+    }
+
+    /// Keeps the number of a verdict that was put behind these, and has room for as many again.
+    pub fn keep(
+        &mut self,
+        alloc: Global,
+        verdicts: &[Verdict],
+        hash: u64,
+        number: u32,
+    ) -> Result<(), OutOfMemory> {
+        if verdicts.len() <= self.slots.len() / 2 {
+            self.set(hash, number);
+            return Ok(());
+        }
+        let slots = self.slots.len().saturating_mul(2).max(LEAST_SLOTS);
+        self.slots = zeros(alloc, slots)?;
+        for (i, verdict) in (0..u32::MAX).zip(verdicts) {
+            self.set(hash_of(verdict), i);
+        }
+        Ok(())
+    }
+
+    /// Keeps a number in the first free slot of the steps, or else in the first.
+    fn set(&mut self, hash: u64, number: u32) {
+        let mut slot = self.slot(hash, 0);
+        for step in 0..STEPS {
+            if self.at(hash, step).is_none() {
+                slot = self.slot(hash, step);
+                break;
+            }
+        }
+        if let Some(place) = self.slots.get_mut(slot) {
+            *place = number.saturating_add(1);
+        }
+    }
+}
+
+fn zeros(alloc: Global, count: usize) -> Result<Vec<u32>, OutOfMemory> {
+    let mut zeros = Vec::with_capacity(alloc, count)?;
+    zeros.resize(count, 0)?;
+    Ok(zeros)
+}

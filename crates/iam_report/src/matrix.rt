@@ -1,0 +1,200 @@
+// Reports of all cells that are kept as numbers, and written without taking memory.
+ghost use Rattle.std.specs.Prelude.{◌≡◌, ◌++◌, ◌+◌, ◌≤◌, [], List, OnErr, OnOk, get_or, length};
+ghost use Rattle.std.specs.Io.KnownBytes.{Appends};
+ghost use Rattle.std.specs.List.{flat_map};
+ghost use Rattle.iam_report.specs.Code.Buffer.{IsWithin, PutsRows, Passes};
+ghost use Rattle.iam_report.specs.Piece.{first_position, row_at, rows_text, text_of};
+ghost use Rattle.iam_report.specs.Streams.{AppendsBeginning};
+ghost use Rattle.iam_report.specs.declared.tail.Tail.{Tail};
+
+use crate::output::{OutputFault, put, put_all, write_text};
+use crate::piece::{closing, comma_before, opening};
+use crate::position::Position;
+use crate::quoted::{Format, Quoted};
+use crate::tail::Tail;
+use crate::tile::Tile;
+use iam_text::Text;
+use itoa::Buffer;
+use std::io::Write;
+use std::marker::Model;
+
+/// The report of all cells of a matrix, in full or in brief. A contract sees what it is put together from; what is kept
+/// is small: the texts of the world once, each different tail of a row once a tile, and a number for each cell.
+#[derive(Debug, Drop)]
+pub struct MatrixText {
+    quoted: Quoted,
+    brief: bool,
+    tiles: Vec<Tile>,
+}
+
+impl Model for MatrixText {
+    ghost use Rattle.std.specs.Prelude.{◌≤◌, length};
+    ghost use Rattle.std.specs.List.{flat_map};
+    ghost use Rattle.iam_report.specs.Piece.{MatrixValue};
+
+    ghost Value = { MatrixValue };
+
+    ghost view = { λ matrix. record { quoted = matrix.quoted; brief = matrix.brief; tails = flat_map (λ tile. tile) matrix.tiles.items } };
+
+    ghost invariant = { λ matrix. length (flat_map (λ tile. tile) matrix.tiles.items) ≤ 16777216 };
+}
+
+/// Text i, or the empty text where there is none.
+fn text_at(texts: &[Text], i: u64) -> &str
+    ensures { result.now ≡ get_or texts.entry.now i [] }
+{
+    match texts.get(i as usize) {
+        Some(text) => text.as_str(),
+        None => "",
+    }
+}
+
+/// Puts the row at a position, with this tail.
+fn put_row<W: Write>(
+    writer: &mut W,
+    kept: &mut Vec<u8>,
+    quoted: &Quoted,
+    at: Position,
+    tail: &Tail,
+) -> Result<(), OutputFault>
+    ensures ok { OnOk result (Passes (W.contents writer.old) (W.contents writer.new) kept.old.items kept.new.items (row_at quoted.now at tail.now)) }
+    ensures err { OnErr result (AppendsBeginning (W.contents writer.old) (W.contents writer.new) (kept.old.items ++ row_at quoted.now at tail.now)) }
+{
+    let mut buffer = Buffer::new();
+    let cell = buffer.format(at.cell);
+    let principal = text_at(quoted.principals.as_slice(), at.principal);
+    let action = text_at(quoted.actions.as_slice(), at.action);
+    let resource = text_at(quoted.resources.as_slice(), at.resource);
+    let front = tail.front.as_str();
+    let back = tail.back.as_str();
+    match quoted.format {
+        Format::Csv => put_line(writer, kept, cell, principal, action, resource, back),
+        Format::Json => {
+            let comma = comma_before(at.cell);
+            put_object(
+                writer, kept, comma, action, cell, front, principal, resource, back,
+            )
+        }
+    }
+}
+
+/// Puts the pieces of a line.
+fn put_line<'a, W: Write>(
+    writer: &mut W,
+    kept: &mut Vec<u8>,
+    cell: &'a str,
+    principal: &'a str,
+    action: &'a str,
+    resource: &'a str,
+    back: &'a str,
+) -> Result<(), OutputFault>
+    ensures ok { OnOk result (Passes (W.contents writer.old) (W.contents writer.new) kept.old.items kept.new.items (cell.now ++ (principal.now ++ (action.now ++ (resource.now ++ back.now))))) }
+    ensures err { OnErr result (AppendsBeginning (W.contents writer.old) (W.contents writer.new) (kept.old.items ++ (cell.now ++ (principal.now ++ (action.now ++ (resource.now ++ back.now)))))) }
+{
+    put_all(writer, kept, &[cell, principal, action, resource, back])
+}
+
+/// Puts the pieces of an object.
+fn put_object<'a, W: Write>(
+    writer: &mut W,
+    kept: &mut Vec<u8>,
+    comma: &'a str,
+    action: &'a str,
+    cell: &'a str,
+    front: &'a str,
+    principal: &'a str,
+    resource: &'a str,
+    back: &'a str,
+) -> Result<(), OutputFault>
+    ensures ok { OnOk result (Passes (W.contents writer.old) (W.contents writer.new) kept.old.items kept.new.items (comma.now ++ (action.now ++ (cell.now ++ (front.now ++ (principal.now ++ (resource.now ++ back.now))))))) }
+    ensures err { OnErr result (AppendsBeginning (W.contents writer.old) (W.contents writer.new) (kept.old.items ++ (comma.now ++ (action.now ++ (cell.now ++ (front.now ++ (principal.now ++ (resource.now ++ back.now)))))))) }
+{
+    put_all(
+        writer,
+        kept,
+        &[comma, action, cell, front, principal, resource, back],
+    )
+}
+
+/// Puts the rows of a tile from this position on, and moves it behind the last.
+fn put_tile<W: Write>(
+    writer: &mut W,
+    kept: &mut Vec<u8>,
+    quoted: &Quoted,
+    tile: &Tile,
+    at: &mut Position,
+) -> Result<(), OutputFault>
+    requires within { IsWithin at.old }
+    requires few { at.old.cell + length tile.now ≤ 16777216 }
+    ensures ok { OnOk result (PutsRows quoted.now tile.now at.old at.new (W.contents writer.old) (W.contents writer.new) kept.old.items kept.new.items) }
+    ensures err { OnErr result ((more : List Tail) → AppendsBeginning (W.contents writer.old) (W.contents writer.new) (kept.old.items ++ rows_text quoted.now at.old (tile.now ++ more))) }
+    ensures within { OnOk result (IsWithin at.new) }
+    ensures cell { OnOk result (at.new.cell ≡ at.old.cell + length tile.now) }
+{
+    let actions = quoted.actions.as_slice().len() as u64;
+    let resources = quoted.resources.as_slice().len() as u64;
+    for i in 0..tile.cells() {
+        if let Err(fault) = put_row(writer, kept, quoted, *at, tile.tail(i)) {
+            return Err(fault);
+        }
+        *at = at.next(actions, resources);
+    }
+    Ok(())
+}
+
+/// Puts the rows of all tiles.
+fn put_tiles<W: Write>(
+    writer: &mut W,
+    kept: &mut Vec<u8>,
+    quoted: &Quoted,
+    tiles: &[Tile],
+) -> Result<(), OutputFault>
+    requires { length (flat_map (λ tile. tile) tiles.now) ≤ 16777216 }
+    ensures ok { OnOk result (Passes (W.contents writer.old) (W.contents writer.new) kept.old.items kept.new.items (rows_text quoted.now first_position (flat_map (λ tile. tile) tiles.now))) }
+    ensures err { OnErr result (AppendsBeginning (W.contents writer.old) (W.contents writer.new) (kept.old.items ++ rows_text quoted.now first_position (flat_map (λ tile. tile) tiles.now))) }
+{
+    let mut at = Position::first();
+    for tile in tiles {
+        if let Err(fault) = put_tile(writer, kept, quoted, tile, &mut at) {
+            return Err(fault);
+        }
+    }
+    Ok(())
+}
+
+impl MatrixText {
+    /// The report with these texts and tails, those of all cells in their order. A world has at most 16,777,216 cells.
+    pub fn of(quoted: Quoted, brief: bool, tiles: Vec<Tile>) -> MatrixText
+        requires { length (flat_map (λ tile. tile) tiles.items) ≤ 16777216 }
+        ensures { result ≡ record { quoted = quoted; brief = brief; tails = flat_map (λ tile. tile) tiles.items } }
+    {
+        MatrixText {
+            quoted,
+            brief,
+            tiles,
+        }
+    }
+
+    /// Writes the text by way of an empty buffer, without a flush. No memory is taken. After a fault the writer gained a
+    /// beginning of the text.
+    pub fn write_to<W: Write>(&self, writer: &mut W, kept: &mut Vec<u8>) -> Result<(), OutputFault>
+        requires { kept.old.items ≡ [] }
+        ensures ok { OnOk result (Appends (W.contents writer.old) (W.contents writer.new) (text_of self.now)) }
+        ensures err { OnErr result (AppendsBeginning (W.contents writer.old) (W.contents writer.new) (text_of self.now)) }
+    {
+        let format = self.quoted.format;
+        if let Err(fault) = put(writer, kept, opening(format, self.brief)) {
+            return Err(fault);
+        }
+        if let Err(fault) = put_tiles(writer, kept, &self.quoted, self.tiles.as_slice()) {
+            return Err(fault);
+        }
+        if let Err(fault) = put(writer, kept, closing(format)) {
+            return Err(fault);
+        }
+        if let Err(fault) = write_text(writer, kept.as_slice()) {
+            return Err(fault);
+        }
+        Ok(())
+    }
+}

@@ -1,0 +1,105 @@
+// Texts written at once, or by way of a buffer.
+ghost use Rattle.std.specs.Prelude.{◌≡◌, ◌++◌, ◌+◌, ◌≤◌, [], IfOk, OnErr, OnOk, length, vec_capacity, vec_len};
+ghost use Rattle.std.specs.Io.KnownBytes.{Appends};
+ghost use Rattle.std.specs.List.{flat_map};
+ghost use Rattle.iam_report.specs.Code.Buffer.{Passes};
+ghost use Rattle.iam_report.specs.Streams.{AppendsBeginning};
+
+use iam_text::OutOfMemory;
+use std::alloc::Global;
+use std::io::Write;
+
+/// A write or the flush failed, or a write took no bytes.
+#[derive(Clone, Copy, Debug, PartialEq, Eq)]
+pub struct OutputFault;
+
+/// How many bytes a buffer has room for.
+const ROOM: usize = 65_536;
+
+/// An empty buffer. `OutOfMemory` comes where there is no memory for it.
+pub fn buffer(alloc: Global) -> Result<Vec<u8>, OutOfMemory>
+    ensures { IfOk result (λ kept. kept.items ≡ []) }
+{
+    Vec::with_capacity(alloc, ROOM)
+}
+
+/// Writes the whole text. After a fault the writer gained a beginning of it.
+pub fn write_text<W: Write>(writer: &mut W, text: &[u8]) -> Result<(), OutputFault>
+    ensures ok { OnOk result (Appends (W.contents writer.old) (W.contents writer.new) text.now) }
+    ensures err { OnErr result (AppendsBeginning (W.contents writer.old) (W.contents writer.new) text.now) }
+{
+    let mut done = 0;
+    while done < text.len() {
+        let Ok(count) = writer.write(&text[done..]) else {
+            return Err(OutputFault);
+        };
+        if count == 0 {
+            return Err(OutputFault);
+        }
+        done += count;
+    }
+    Ok(())
+}
+
+/// Keeps a text for which there is room.
+fn keep(kept: &mut Vec<u8>, text: &str)
+    requires { vec_len kept.old + length text.now ≤ vec_capacity kept.old }
+    ensures { kept.new.items ≡ kept.old.items ++ text.now }
+{
+    match kept.extend_from_slice(text.as_bytes()) {
+        Ok(()) => (),
+        Err(_) => unreachable!(),
+    }
+}
+
+/// Writes what is kept, and keeps this text, or writes it too where it is longer than the buffer.
+fn put_behind<W: Write>(writer: &mut W, kept: &mut Vec<u8>, text: &str) -> Result<(), OutputFault>
+    ensures ok { OnOk result (Passes (W.contents writer.old) (W.contents writer.new) kept.old.items kept.new.items text.now) }
+    ensures err { OnErr result (AppendsBeginning (W.contents writer.old) (W.contents writer.new) (kept.old.items ++ text.now)) }
+{
+    if let Err(fault) = write_text(writer, kept.as_slice()) {
+        return Err(fault);
+    }
+    kept.clear();
+    if text.len() <= kept.capacity() - kept.len() {
+        keep(kept, text);
+        return Ok(());
+    }
+    if let Err(fault) = write_text(writer, text.as_bytes()) {
+        return Err(fault);
+    }
+    Ok(())
+}
+
+/// Puts a text behind what is kept, which is written first where there is no room for it. No memory is taken. After a
+/// fault the writer gained a beginning of what was kept and this text.
+pub fn put<W: Write>(writer: &mut W, kept: &mut Vec<u8>, text: &str) -> Result<(), OutputFault>
+    ensures ok { OnOk result (Passes (W.contents writer.old) (W.contents writer.new) kept.old.items kept.new.items text.now) }
+    ensures err { OnErr result (AppendsBeginning (W.contents writer.old) (W.contents writer.new) (kept.old.items ++ text.now)) }
+{
+    if text.len() <= kept.capacity() - kept.len() {
+        keep(kept, text);
+        return Ok(());
+    }
+    if let Err(fault) = put_behind(writer, kept, text) {
+        return Err(fault);
+    }
+    Ok(())
+}
+
+/// Puts texts behind what is kept, one after the other, as one text.
+pub fn put_all<W: Write>(
+    writer: &mut W,
+    kept: &mut Vec<u8>,
+    texts: &[&str],
+) -> Result<(), OutputFault>
+    ensures ok { OnOk result (Passes (W.contents writer.old) (W.contents writer.new) kept.old.items kept.new.items (flat_map (λ text. text.now) texts.now)) }
+    ensures err { OnErr result (AppendsBeginning (W.contents writer.old) (W.contents writer.new) (kept.old.items ++ flat_map (λ text. text.now) texts.now)) }
+{
+    for text in texts {
+        if let Err(fault) = put(writer, kept, text) {
+            return Err(fault);
+        }
+    }
+    Ok(())
+}

@@ -1,0 +1,61 @@
+ghost use Rattle.std.specs.Prelude.{◌≡◌, ◌+◌, ◌<◌, ◌^◌};
+ghost use Rattle.iam_report.specs.Piece.{first_position, next_of};
+
+/// A cell of a matrix: its number, and those of its principal, its action and its resource.
+#[derive(Clone, Copy, Debug, PartialEq, Eq)]
+pub struct Position {
+    pub cell: u64,
+    pub principal: u64,
+    pub action: u64,
+    pub resource: u64,
+}
+
+impl Position {
+    /// The first cell.
+    pub fn first() -> Position
+        ensures { result ≡ first_position }
+    {
+        Position {
+            cell: 0,
+            principal: 0,
+            action: 0,
+            resource: 0,
+        }
+    }
+
+    /// The cell behind this one, where there are so many actions and resources: resources are counted up first, then
+    /// actions, then principals. The numbers have to be below the greatest.
+    pub fn next(self, actions: u64, resources: u64) -> Position
+        requires cell { self.cell + 1 < 2 ^ 64 }
+        requires principal { self.principal + 1 < 2 ^ 64 }
+        requires action { self.action + 1 < 2 ^ 64 }
+        requires resource { self.resource + 1 < 2 ^ 64 }
+        ensures { result ≡ next_of actions resources self }
+    {
+        let cell = self.cell + 1;
+        if self.resource + 1 < resources {
+            let resource = self.resource + 1;
+            return Position {
+                cell,
+                resource,
+                ..self
+            };
+        }
+        let resource = 0;
+        if self.action + 1 < actions {
+            let action = self.action + 1;
+            return Position {
+                cell,
+                action,
+                resource,
+                ..self
+            };
+        }
+        Position {
+            cell,
+            principal: self.principal + 1,
+            action: 0,
+            resource,
+        }
+    }
+}

@@ -1,0 +1,5 @@
+use Rattle.iam_text.specs.Code.Walk.{Begins}
+use Rattle.iam_text.proofs.ascii.front_len.Given as goal
+
+abbrev pub invariant-loop-i : goal.invariant-loop-i
+invariant-loop-i l = Begins l.signs l.i

@@ -1,0 +1,116 @@
+ghost use Rattle.std.specs.Prelude.{◌≡◌, ◌↔◌, ◌≤◌, ◌<◌, IsTrue, length, slice_index};
+ghost use Rattle.iam_text.specs.Code.Walk.{Begins, Covers, char_in, Walks, found_at, IsFront, Settles, Later, signs_left};
+
+use crate::case::{Case, covers};
+use crate::sign::Sign;
+
+/// How far the front of a pattern was walked along a text of ASCII characters.
+#[derive(Clone, Copy)]
+pub enum Place<'a> {
+    /// The signs and the text ended together.
+    Whole,
+    /// The signs before the first `Any` fit: the signs behind it, and the text that is left.
+    Star(&'a [Sign], &'a [u8]),
+    /// They do not fit.
+    Off,
+}
+
+/// Whether the text has an `i`th byte, and it is an ASCII character.
+#[inline(always)]
+pub fn is_ascii_at(text: &[u8], i: usize) -> bool
+    ensures { IsTrue result ↔ ((i < length text.now) × (slice_index text.now i < 128)) }
+{
+    i < text.len() && text[i] < 128
+}
+
+/// Whether the text has an `i`th character, and the sign stands for it.
+#[inline(always)]
+pub fn covers_at(sign: Sign, text: &[u8], i: usize, case: Case) -> bool
+    ensures { IsTrue result ↔ ((i < length text.now) × Covers (char_in case) sign (slice_index text.now i)) }
+{
+    i < text.len() && covers(sign, char::from(text[i]), case)
+}
+
+/// How many signs stand before the first `Any`.
+fn front_len(signs: &[Sign]) -> usize
+    ensures within { result ≤ length signs.now }
+    ensures begins { Begins signs.now result }
+{
+    for (i, sign) in signs.iter().enumerate() {
+        if let Sign::Any = *sign {
+            return i;
+        }
+    }
+    signs.len()
+}
+
+/// Walks the signs before the first `Any`, each of which stands for one character.
+#[inline(always)]
+fn walk_front<'a>(signs: &'a [Sign], text: &'a [u8], case: Case) -> Place<'a>
+    ensures { IsFront (char_in case) signs.entry.now text.entry.now (found_at result) }
+{
+    for (i, sign) in signs.iter().enumerate() {
+        if let Sign::Any = *sign {
+            return Place::Star(&signs[i + 1..], &text[i..]);
+        }
+        if !covers_at(*sign, text, i, case) {
+            return Place::Off;
+        }
+    }
+    if signs.len() == text.len() {
+        Place::Whole
+    } else {
+        Place::Off
+    }
+}
+
+/// Walks the signs before the first `Any`, of which there are so many: the last of them first, which often does not fit.
+#[inline(always)]
+fn try_front<'a>(signs: &'a [Sign], len: usize, text: &'a [u8], case: Case) -> Place<'a>
+    requires within { len ≤ length signs.now }
+    requires begins { Begins signs.now len }
+    ensures { IsFront (char_in case) signs.entry.now text.entry.now (found_at result) }
+{
+    if len > 0 && !covers_at(signs[len - 1], text, len - 1, case) {
+        Place::Off
+    } else {
+        walk_front(signs, text, case)
+    }
+}
+
+/// The first place in the text from which the front of the signs can be walked.
+#[inline(always)]
+fn first_place<'a>(signs: &'a [Sign], text: &'a [u8], case: Case) -> Place<'a>
+    ensures settles { Settles (char_in case) (Later (Walks (char_in case) signs.entry.now) text.entry.now) (found_at result) }
+    ensures fewer { signs_left (found_at result) ≤ length signs.entry.now }
+{
+    let len = front_len(signs);
+    let mut text = text;
+    loop {
+        match try_front(signs, len, text, case) {
+            Place::Off => {}
+            found => return found,
+        }
+        match text.split_first() {
+            Some((_, rest)) => text = rest,
+            None => return Place::Off,
+        }
+    }
+}
+
+/// Whether the signs match some end of the text.
+///
+/// Each `Any` gives up its text for good once the signs up to the next `Any` fit somewhere, so at each
+/// position a character is compared at most once with each sign (the count is not proved).
+pub fn match_end(signs: &[Sign], text: &[u8], case: Case) -> bool
+    ensures { IsTrue result ↔ Later (Walks (char_in case) signs.now) text.now }
+{
+    let mut place = Place::Star(signs, text);
+    while let Place::Star(signs, text) = place {
+        if signs.is_empty() {
+            return true;
+        }
+        place = first_place(signs, text, case);
+    }
+    matches!(place, Place::Whole)
+}
