@@ -3,12 +3,14 @@
 import csv
 import io
 import json
+import multiprocessing
 import os
 import subprocess
 
 TOOLS = os.path.dirname(os.path.dirname(os.path.abspath(__file__)))
 EXAMPLES = os.path.join(os.path.dirname(TOOLS), "examples")
 DATA = os.path.join(TOOLS, "tests", "data")
+ROWS = os.path.join(os.path.dirname(TOOLS), "crates", "iam_rows", "data")
 IAMSIM = os.path.abspath(os.environ["IAMSIM"])
 
 
@@ -64,3 +66,21 @@ def small_world(*documents, context=None, resources=None, actions=("s3:GetObject
     resources = resources or [{"arn": "arn:aws:s3:::b/k", "account": "111122223333"}]
     made = {"moment": 0, "accounts": [{"id": "111122223333"}], "principals": [user], "actions": list(actions), "resources": resources}
     return {**made, "context": context} if context else made
+
+
+def answer(words, given=b"", seconds=60, program=IAMSIM, **more):
+    """Status, standard output and standard error of the program; a signal that ended it is its number below 0."""
+    ran = subprocess.run([program, *words], input=given, capture_output=True, timeout=seconds, **more)
+    return ran.returncode, ran.stdout, ran.stderr
+
+
+def on_all_processors(work, jobs):
+    """What `work` gives of each job, in their order."""
+    with multiprocessing.Pool() as pool:
+        return pool.map(work, jobs, chunksize=1)
+
+
+def row_world(name):
+    """The text of a world that rows of the program name."""
+    with open(os.path.join(ROWS, "worlds.json")) as it:
+        return json.dumps(json.load(it)[name], separators=(",", ":")).encode()

@@ -1,3 +1,7 @@
+mod GrantLemmas
+mod LawLemmas
 mod LivingLemmas
 mod ScanLemmas
+mod SomeLemmas
+mod StandingLemmas
 mod VerdictLemmas

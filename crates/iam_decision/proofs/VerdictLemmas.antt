@@ -1,5 +1,5 @@
 -- What holds of the statements that were found holds of the matched statements of the applicable policies.
-use Rattle.std.proofs.Common.{◌≡◌, ◌⊎◌, inl, inr, ◌↔◌, ℕ, suc, zero, ◌<◌, ◌≤◌, List, [], ◌∷◌, map, length, refl, sym, ap, ◌∙◌, subst, arith}
+use Rattle.std.proofs.Common.{◌≡◌, inl, inr, ◌↔◌, ℕ, ◌≤◌, List, [], ◌∷◌, map, refl, sym, ap, ◌∙◌, subst}
 use Rattle.std.specs.List.{Any}
 use Rattle.iam_policy.specs.declared.effect.Effect.TheVariants.{Allow, Deny}
 use Rattle.iam_match.specs.Principal.{grant_of, rank}
@@ -20,22 +20,7 @@ use Rattle.iam_decision.specs.declared.place.Place.{Place}
 use Rattle.iam_decision.specs.declared.living.Matched.{Matched}
 use Rattle.iam_decision.specs.declared.verdict.Decision.{Decision}
 use Rattle.iam_decision.specs.declared.verdict.Decision.TheVariants.{Allowed, ExplicitDeny, ImplicitDeny}
-
--- `Any`, element by element
-abbrev SomeOf : {X : Type 0} → (X → Type 0) → List X → Type 0
-SomeOf P [] = ⊥
-SomeOf P (x ∷ xs) = P x ⊎ SomeOf P xs
-
-some-from_any : {X : Type 0} (P : X → Type 0) (xs : List X) → Any P xs → SomeOf P xs
-some-from_any P [] (k, x, below, at, p) = absurd (omega arith)
-some-from_any P (y ∷ xs) (zero, x, below, at, p) = inl (subst P (sym at) p)
-some-from_any P (y ∷ xs) (suc k, x, below, at, p) = inr (some-from_any P xs (k, x, (let b : k < length xs = omega arith in b), at, p))
-
-any-from_some : {X : Type 0} (P : X → Type 0) (xs : List X) → SomeOf P xs → Any P xs
-any-from_some P [] h = absurd h
-any-from_some P (y ∷ xs) (inl p) = (0, y, omega arith, refl, p)
-any-from_some P (y ∷ xs) (inr h) =
-    let rest = any-from_some P xs h in (suc rest.0, rest.1, (let b : rest.0 < length xs = rest.2 in omega arith), rest.3, rest.4)
+use Rattle.iam_decision.proofs.SomeLemmas.{SomeOf, any-from_some, some-from_any}
 
 -- chosen elements, seen through f, have what the elements of the list have that pass
 some-chosen : {X Y : Type 0} (P R : X → Type 0) (S : Y → Type 0) (f : X → Y) (on : (x : X) → R x → P x × S (f x)) (xs chosen : List X)

@@ -1,5 +1,7 @@
 pub mod Applicable
 pub mod Code
 pub mod Decision
+pub mod Laws
 pub mod Living
 pub mod Matched
+pub mod Ruling

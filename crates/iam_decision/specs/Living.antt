@@ -1,10 +1,11 @@
 -- The statements of the applicable policies that match a request once their action elements do, and those that match: what
 -- a decision needs of them. No action is looked at for the former, so requests for many actions share them.
-use Rattle.std.specs.Prelude.{◌≡◌, List, map}
+use Rattle.std.specs.Prelude.{◌≡◌, ◌↔◌, ℕ, Bool, IsTrue, List, Some, map}
+use Rattle.std.specs.List.{slice_get}
 use Rattle.iam_element.specs.Reading.{ActionElement}
 use Rattle.iam_match.specs.Principal.{grant_of}
 use Rattle.iam_match.specs.Requester.{RequesterValue}
-use Rattle.iam_match.specs.Statement.{AccessValue, RequestValue, RestMatches}
+use Rattle.iam_match.specs.Statement.{AccessValue, ActionMatches, RequestValue, RestMatches}
 use Rattle.iam_decision.specs.Applicable.{ApplicableValue, frame_of}
 use Rattle.iam_decision.specs.Matched.{IsMatched, Placed, Selects, placed}
 use Rattle.iam_decision.specs.declared.frame.Frame.{Frame}
@@ -54,3 +55,9 @@ pub record SharedValue : Type 0 where
 pub record IsShared (a : ApplicableValue) (access : AccessValue) (shared : SharedValue) : Type 0 where
   pub frame : shared.frame ≡ frame_of a
   pub living : AreLiving access (placed a) shared.living
+
+-- each of these says whether the action element of the living statement at its place matches the action
+abbrev pub AreActs : List ℕ → List LivingValue → List Bool → Type 0
+AreActs action living acts =
+    (i : ℕ) (statement : LivingValue) (act : Bool) → slice_get living i ≡ Some statement → slice_get acts i ≡ Some act
+    → IsTrue act ↔ ActionMatches statement.action action

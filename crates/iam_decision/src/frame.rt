@@ -15,3 +15,12 @@ pub struct Frame {
     /// Whether the policy of the resource must grant also in the same account.
     pub sealed: bool,
 }
+
+impl Frame {
+    /// A number that tells most frames of one requester apart.
+    pub fn print(&self) -> u64 {
+        let account = if self.same_account { 1 } else { 0 };
+        let sealed = if self.sealed { 2 } else { 0 };
+        (self.control as u64) << 2 | sealed | account
+    }
+}

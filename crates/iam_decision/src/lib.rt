@@ -4,14 +4,24 @@
 mod applicable;
 mod decide;
 mod frame;
+mod laws;
 mod living;
 mod place;
+mod ruling;
 mod scan;
 mod shared;
 mod verdict;
 
 pub use applicable::Applicable;
-pub use living::Matched;
+pub use frame::Frame;
+pub use laws::{
+    allowed_is_granted, both_accounts_allow, boundary_and_session_bind, deny_wins,
+    direct_grant_names_itself, each_level_allows, further_allow_takes_nothing,
+    further_deny_allows_no_more, further_limits_allow_no_more, one_decision, order_is_free,
+    sealed_resource_grants,
+};
+pub use living::{Living, Matched};
 pub use place::{Layer, Place};
+pub use ruling::Ruling;
 pub use shared::Shared;
 pub use verdict::{Decision, Verdict};

@@ -1,10 +1,11 @@
-ghost use Rattle.std.specs.Prelude.{◌≡◌, IsTrue, OnOk, map};
-ghost use Rattle.iam_decision.specs.Living.{living_value};
+ghost use Rattle.std.specs.Prelude.{◌≡◌, List, ℕ, IfOk, IsTrue, OnOk, length, map};
+ghost use Rattle.iam_decision.specs.Living.{AreActs, living_value};
 ghost use Rattle.iam_decision.specs.Code.Scan.{AreActing};
 
 use crate::place::Place;
 use iam_match::{Grant, OutOfMemory, action_matches};
 use iam_policy::{Actions, Effect};
+use std::alloc::Global;
 
 /// A statement that matches a request: where it stands, its effect, and what its principals grant the requester.
 #[derive(Clone, Copy, Debug, PartialEq, Eq)]
@@ -21,18 +22,32 @@ pub struct Living<'a> {
     pub action: &'a Actions,
 }
 
-/// Puts into `found`, in place of what is there, those of the living statements whose action element matches the action.
+/// Of each of the living statements whether its action element matches the action.
+pub fn acts_of(alloc: Global, living: &[Living<'_>], action: &str) -> Result<Vec<bool>, OutOfMemory>
+    ensures count { IfOk result (λ acts. length acts.items ≡ length living.now) }
+    ensures acts { IfOk result (λ acts. AreActs action.now (map living_value living.now) acts.items) }
+{
+    let mut acts = Vec::with_capacity(alloc, living.len())?;
+    for statement in living {
+        acts.push(action_matches(statement.action, action))?;
+    }
+    Ok(acts)
+}
+
+/// Puts into `found`, in place of what is there, those of the living statements whose action elements match an action.
 pub fn put_acting(
     found: &mut Vec<Matched>,
     living: &[Living<'_>],
-    action: &str,
+    acts: &[bool],
 ) -> Result<(), OutOfMemory>
-    ensures { OnOk result (AreActing action.now (map living_value living.now) found.new.items) }
+    requires { length acts.now ≡ length living.now }
+    ensures { (action : List ℕ) → AreActs action (map living_value living.now) acts.now
+        → OnOk result (AreActing action (map living_value living.now) found.new.items) }
 {
     found.clear();
-    for statement in living {
-        if action_matches(statement.action, action) {
-            found.push(statement.matched)?;
+    for i in 0..living.len() {
+        if acts[i] {
+            found.push(living[i].matched)?;
         }
     }
     Ok(())
@@ -58,19 +73,4 @@ pub fn are_same(ones: &[Living<'_>], others: &[Living<'_>]) -> bool
         }
     }
     true
-}
-
-/// A number that tells most lists of statements apart.
-pub fn print_of(living: &[Living<'_>]) -> u64 {
-    let mut print: u64 = 0;
-    for statement in living {
-        let place = statement.matched.place;
-        let numbers = (place.level as u64) << 42
-            | (place.policy as u64) << 21
-            | place.statement as u64;
-        print = (print ^ numbers)
-            .wrapping_mul(0x9e37_79b9_7f4a_7c15)
-            .rotate_left(23);
-    }
-    print
 }

@@ -27,3 +27,16 @@ pub struct Place {
     /// Its number in the policy.
     pub statement: u32,
 }
+
+impl Place {
+    /// A number that tells most lists of places apart, where the last of them is this one and those before it have this number.
+    pub fn print(&self, before: u64) -> u64 {
+        let numbers = (self.layer as u64) << 60
+            | (self.level as u64) << 42
+            | (self.policy as u64) << 21
+            | self.statement as u64;
+        (before ^ numbers)
+            .wrapping_mul(0x9e37_79b9_7f4a_7c15)
+            .rotate_left(23)
+    }
+}

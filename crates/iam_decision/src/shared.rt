@@ -1,6 +1,6 @@
 use crate::decide::verdict_of;
 use crate::frame::Frame;
-use crate::living::{Living, Matched, are_same, print_of, put_acting};
+use crate::living::{Living, Matched, acts_of, are_same, put_acting};
 use crate::verdict::Verdict;
 use iam_match::OutOfMemory;
 use std::alloc::Global;
@@ -24,11 +24,11 @@ impl<'a> Model for Shared<'a> {
 }
 
 impl<'a> Shared<'a> {
-    ghost use Rattle.std.specs.Prelude.{◌≡◌, IfOk, IsTrue, OnOk, map};
+    ghost use Rattle.std.specs.Prelude.{◌≡◌, ℕ, List, IfOk, IsTrue, OnOk, length, map};
     ghost use Rattle.iam_match.specs.Statement.{AccessValue, request_for};
     ghost use Rattle.iam_decision.specs.Applicable.{ApplicableValue};
     ghost use Rattle.iam_decision.specs.Decision.{IsVerdict};
-    ghost use Rattle.iam_decision.specs.Living.{AreFound, IsShared, living_value};
+    ghost use Rattle.iam_decision.specs.Living.{AreActs, AreFound, IsShared, living_value};
     ghost use Rattle.iam_decision.specs.Matched.{placed};
 
     pub(crate) fn new(frame: Frame, living: Vec<Living<'a>>) -> Shared<'a>
@@ -37,9 +37,27 @@ impl<'a> Shared<'a> {
         Shared { frame, living }
     }
 
-    /// The statements that match once their action elements do: how many, and a number that tells most lists of them apart.
-    pub fn print(&self) -> (usize, u64) {
-        (self.living.len(), print_of(self.living.as_slice()))
+    /// What a decision asks beside the statements.
+    pub fn frame(&self) -> Frame
+        ensures { result ≡ self.now.frame }
+    {
+        self.frame
+    }
+
+    /// The statements that match once their action elements do.
+    pub fn living(&self) -> &[Living<'a>]
+        ensures { map living_value result.now ≡ self.now.living }
+    {
+        self.living.as_slice()
+    }
+
+    /// A number that tells most of what is shared apart.
+    pub fn print(&self) -> u64 {
+        let mut print = self.frame.print();
+        for statement in self.living.as_slice() {
+            print = statement.matched.place.print(print);
+        }
+        print
     }
 
     /// Whether both are the same, so that they share whatever either does.
@@ -49,27 +67,26 @@ impl<'a> Shared<'a> {
         self.frame == other.frame && are_same(self.living.as_slice(), other.living.as_slice())
     }
 
-    /// The verdict on the request for this action. `found` is room for the statements that match.
+    /// The verdict on the request for this action.
     ///
     /// AWS IAM User Guide, "Policy evaluation logic"; the deciding statements and the lacks are our choices.
-    pub fn verdict(
-        &self,
-        alloc: Global,
-        found: &mut Vec<Matched>,
-        action: &str,
-    ) -> Result<Verdict, OutOfMemory>
+    pub fn verdict(&self, alloc: Global, action: &str) -> Result<Verdict, OutOfMemory>
         ensures { (a : ApplicableValue) (access : AccessValue) → IsShared a access self.now
             → IfOk result (IsVerdict a (request_for access action.now)) }
     {
-        self.find(found, action)?;
+        let acts = acts_of(alloc, self.living.as_slice(), action)?;
+        let mut found = Vec::new(alloc);
+        self.find(&mut found, acts.as_slice())?;
         verdict_of(alloc, found.as_slice(), self.frame)
     }
 
-    /// Puts the statements that match the request for this action into `found`, in place of what is there.
-    fn find(&self, found: &mut Vec<Matched>, action: &str) -> Result<(), OutOfMemory>
-        ensures { (a : ApplicableValue) (access : AccessValue) → IsShared a access self.now
-            → OnOk result (AreFound (request_for access action.now) (placed a) found.new.items) }
+    /// Puts the statements that match the request for an action into `found`, in place of what is there, where of each of the
+    /// living ones it is known whether its action element matches.
+    pub fn find(&self, found: &mut Vec<Matched>, acts: &[bool]) -> Result<(), OutOfMemory>
+        requires { length acts.now ≡ length self.now.living }
+        ensures { (a : ApplicableValue) (access : AccessValue) (action : List ℕ) → IsShared a access self.now
+            → AreActs action self.now.living acts.now → OnOk result (AreFound (request_for access action) (placed a) found.new.items) }
     {
-        put_acting(found, self.living.as_slice(), action)
+        put_acting(found, self.living.as_slice(), acts)
     }
 }

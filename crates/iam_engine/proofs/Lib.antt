@@ -1,2 +1,4 @@
+mod ListLemmas
 mod SlotLemmas
+mod ElementLemmas
 mod MemoLemmas

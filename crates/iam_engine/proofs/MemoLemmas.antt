@@ -1,41 +1,52 @@
--- What is kept stays right where classes and verdicts are added.
-use Rattle.std.proofs.Common.{◌≡◌, ◌<◌, ℕ, zero, suc, List, [], ◌∷◌, ◌++◌, length, Option, Some, refl, arith}
+-- What is kept stays right where classes, verdicts and action elements are added.
+use Rattle.std.proofs.Common.{◌≡◌, inl, inr, List, [], ◌∷◌, ◌++◌, Option, Some, sym, subst, arith}
 use Rattle.std.proofs.lemmas.Option.{slice_get_within}
 use Rattle.std.specs.List.{slice_get}
-use Rattle.iam_decision.specs.Living.{SharedValue}
-use Rattle.iam_decision.specs.declared.verdict.Verdict.{Verdict}
+use Rattle.iam_decision.specs.Ruling.{RulingValue}
 use Rattle.iam_world.specs.World.{WorldValue}
-use Rattle.iam_engine.specs.Memo.{AreAnswers, ArePairs, HasClass, HasNumber}
+use Rattle.iam_engine.specs.Elements.{AreRows}
+use Rattle.iam_engine.specs.Memo.{AreAnswers, ArePairs, HasClass, HasNumber, HaveRows}
+use Rattle.iam_engine.specs.declared.elements.Element.{Element}
 use Rattle.iam_engine.specs.declared.memo.Answer.{Answer}
+use Rattle.iam_engine.specs.declared.memo.Class.{Class}
 use Rattle.iam_engine.specs.declared.memo.Pair.{Pair}
+use Rattle.iam_engine.proofs.ElementLemmas.{rows-grow}
+use Rattle.iam_engine.proofs.ListLemmas.{get-back, get-more}
 use Rattle.iam_engine.proofs.SlotLemmas.{all-weaker}
 
--- what is in a list is in a longer one, and what is behind it is the next
-pub get-more : {X : Type 0} (xs ys : List X) (i : ℕ) (x : X) → slice_get xs i ≡ Some x → slice_get (xs ++ ys) i ≡ Some x
-get-more [] ys i x at = let within = slice_get_within [] i x at in absurd (omega (arith, within))
-get-more (y ∷ xs) ys zero x at = at
-get-more (y ∷ xs) ys (suc i) x at = get-more xs ys i x at
-
-pub get-next : {X : Type 0} (xs : List X) (x : X) → slice_get (xs ++ x ∷ []) (length xs) ≡ Some x
-get-next [] x = refl
-get-next (y ∷ xs) x = get-next xs x
-
-pub pairs-more : (world : WorldValue) (classes more : List SharedValue) (pairs : List (Option Pair)) → ArePairs world classes pairs
+pub pairs-more : (world : WorldValue) (classes more : List Class) (pairs : List (Option Pair)) → ArePairs world classes pairs
     → ArePairs world (classes ++ more) pairs
 pairs-more world classes more pairs all =
     all-weaker (λ (p : Pair). HasClass world classes p.principal p.resource p.class) (λ (p : Pair). HasClass world (classes ++ more) p.principal p.resource p.class)
-    pairs (λ p (shared, at, is). (shared, get-more classes more p.class shared at, is)) all
+    pairs (λ p (class, at, is). (class, get-more classes more p.class class at, is)) all
 
-pub answers-more : (world : WorldValue) (classes more : List SharedValue) (verdicts : List Verdict) (answers : List (Option Answer))
-    → AreAnswers world classes verdicts answers → AreAnswers world (classes ++ more) verdicts answers
-answers-more world classes more verdicts answers all =
-    all-weaker (λ (a : Answer). HasNumber world classes verdicts a.class a.action a.number)
-    (λ (a : Answer). HasNumber world (classes ++ more) verdicts a.class a.action a.number) answers
-    (λ a (shared, at, is). (shared, get-more classes more a.class shared at, is)) all
+pub answers-more : (world : WorldValue) (classes more : List Class) (rulings : List RulingValue) (answers : List (Option Answer))
+    → AreAnswers world classes rulings answers → AreAnswers world (classes ++ more) rulings answers
+answers-more world classes more rulings answers all =
+    all-weaker (λ (a : Answer). HasNumber world classes rulings a.class a.action a.number)
+    (λ (a : Answer). HasNumber world (classes ++ more) rulings a.class a.action a.number) answers
+    (λ a (class, at, is). (class, get-more classes more a.class class at, is)) all
 
-pub answers-behind : (world : WorldValue) (classes : List SharedValue) (verdicts more : List Verdict) (answers : List (Option Answer))
-    → AreAnswers world classes verdicts answers → AreAnswers world classes (verdicts ++ more) answers
-answers-behind world classes verdicts more answers all =
-    all-weaker (λ (a : Answer). HasNumber world classes verdicts a.class a.action a.number)
-    (λ (a : Answer). HasNumber world classes (verdicts ++ more) a.class a.action a.number) answers
-    (λ a (shared, at, (verdict, here, is)). (shared, at, (verdict, get-more verdicts more a.number verdict here, is))) all
+pub answers-behind : (world : WorldValue) (classes : List Class) (rulings more : List RulingValue) (answers : List (Option Answer))
+    → AreAnswers world classes rulings answers → AreAnswers world classes (rulings ++ more) answers
+answers-behind world classes rulings more answers all =
+    all-weaker (λ (a : Answer). HasNumber world classes rulings a.class a.action a.number)
+    (λ (a : Answer). HasNumber world classes (rulings ++ more) a.class a.action a.number) answers
+    (λ a (class, at, (ruling, here, is)). (class, at, (ruling, get-more rulings more a.number ruling here, is))) all
+
+pub class-rows-grow : (elements more : List Element) (classes : List Class) → HaveRows elements classes → HaveRows (elements ++ more) classes
+class-rows-grow elements more classes all n class at = rows-grow elements more class.shared.living class.rows.items (all n class at)
+
+pub class-rows-more : (elements : List Element) (classes : List Class) (class : Class) → AreRows elements class.shared.living class.rows.items
+    → HaveRows elements classes → HaveRows elements (classes ++ class ∷ [])
+class-rows-more elements classes class is all n other at =
+    elim (get-back classes class n other at) [
+      | inl before ↦ all n other before
+      | inr (last, same) ↦ let R : Class → Type 0 = λ c. AreRows elements c.shared.living c.rows.items in subst R (sym same) is
+    ]
+
+pub no-rows : (elements : List Element) (classes : List Class) → classes ≡ [] → HaveRows elements classes
+no-rows elements classes none n class at =
+    let H : List Class → Type 0 = λ cs. slice_get cs n ≡ Some class in
+    let within = slice_get_within [] n class (subst H none at) in
+    absurd (omega (arith, within))

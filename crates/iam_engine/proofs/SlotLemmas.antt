@@ -1,7 +1,6 @@
 -- Slots, changed one at a time.
-use Rattle.std.proofs.Common.{◌≡◌, ◌⊎◌, inl, inr, ◌<◌, ◌+◌, ℕ, zero, suc, List, [], ◌∷◌, ◌++◌, length, get_or, Option, Some, None, IfSome, refl, sym, ap, ◌∙◌, subst, arith}
+use Rattle.std.proofs.Common.{◌≡◌, inl, inr, ◌<◌, ◌+◌, ℕ, zero, suc, List, [], ◌∷◌, ◌++◌, Option, Some, None, sym, subst, arith}
 use Rattle.std.proofs.Math.ListN.{set}
-use Rattle.std.specs.List.{slice_get}
 use Rattle.iam_engine.specs.Slots.{AllAre, AreEmpty, Gains, Keeps}
 
 pub gains-set : {T : Type 0} (slots : List (Option T)) (i : ℕ) (kept : T) → Gains slots (set slots i (Some kept)) kept

@@ -1,4 +1,5 @@
 pub mod Engine
+pub mod Elements
 pub mod Keys
 pub mod Memo
 pub mod Slots

@@ -5,18 +5,29 @@ use Rattle.std.specs.List.{slice_get}
 use Rattle.iam_match.specs.Statement.{AccessValue, request_for}
 use Rattle.iam_decision.specs.Applicable.{ApplicableValue}
 use Rattle.iam_decision.specs.Decision.{IsVerdict}
-use Rattle.iam_decision.specs.Living.{IsShared, SharedValue}
+use Rattle.iam_decision.specs.Living.{AreFound, IsShared, SharedValue}
+use Rattle.iam_decision.specs.Matched.{placed}
+use Rattle.iam_decision.specs.Ruling.{IsRuling, RulingValue}
+use Rattle.iam_decision.specs.declared.frame.Frame.{Frame}
+use Rattle.iam_decision.specs.declared.living.Matched.{Matched}
 use Rattle.iam_decision.specs.declared.verdict.Verdict.{Verdict}
 use Rattle.iam_layers.specs.Cell.{IsAction, IsSharedAt}
 use Rattle.iam_world.specs.World.{WorldValue}
+use Rattle.iam_engine.specs.Elements.{AreElements, AreRows}
 use Rattle.iam_engine.specs.Slots.{AllAre}
+use Rattle.iam_engine.specs.declared.elements.Element.{Element}
 use Rattle.iam_engine.specs.declared.memo.Answer.{Answer}
+use Rattle.iam_engine.specs.declared.memo.Class.{Class}
 use Rattle.iam_engine.specs.declared.memo.Memo.{Memo}
 use Rattle.iam_engine.specs.declared.memo.Pair.{Pair}
 
+-- requests of the class share this
+abbrev pub HasShared : List Class → SharedValue → ℕ → Type 0
+HasShared classes shared n = (class : Class) × (slice_get classes n ≡ Some class) × (class.shared ≡ shared)
+
 -- requests of principal p for resource r share what requests of the class share
-abbrev pub HasClass : WorldValue → List SharedValue → ℕ → ℕ → ℕ → Type 0
-HasClass world classes p r class = (shared : SharedValue) × (slice_get classes class ≡ Some shared) × IsSharedAt world p r shared
+abbrev pub HasClass : WorldValue → List Class → ℕ → ℕ → ℕ → Type 0
+HasClass world classes p r n = (class : Class) × (slice_get classes n ≡ Some class) × IsSharedAt world p r class.shared
 
 -- this is the verdict on every request for action a that shares this
 abbrev pub IsAnswer : WorldValue → SharedValue → ℕ → Verdict → Type 0
@@ -25,25 +36,42 @@ IsAnswer world shared a verdict =
     → IsVerdict applicable (request_for access action) verdict
 
 -- the verdict of this number is the one on requests for action a that share this
-abbrev pub IsNumber : WorldValue → SharedValue → List Verdict → ℕ → ℕ → Type 0
-IsNumber world shared verdicts a number =
-    (verdict : Verdict) × (slice_get verdicts number ≡ Some verdict) × IsAnswer world shared a verdict
+abbrev pub IsNumber : WorldValue → SharedValue → List RulingValue → ℕ → ℕ → Type 0
+IsNumber world shared rulings a number =
+    (ruling : RulingValue) × (slice_get rulings number ≡ Some ruling) × IsAnswer world shared a ruling.verdict
 
 -- the same of requests of the class
-abbrev pub HasNumber : WorldValue → List SharedValue → List Verdict → ℕ → ℕ → ℕ → Type 0
-HasNumber world classes verdicts class a number =
-    (shared : SharedValue) × (slice_get classes class ≡ Some shared) × IsNumber world shared verdicts a number
+abbrev pub HasNumber : WorldValue → List Class → List RulingValue → ℕ → ℕ → ℕ → Type 0
+HasNumber world classes rulings n a number =
+    (class : Class) × (slice_get classes n ≡ Some class) × IsNumber world class.shared rulings a number
+
+-- the verdict of this number follows from this
+abbrev pub HasRuling : List RulingValue → Frame → List Matched → ℕ → Type 0
+HasRuling rulings frame found number = (ruling : RulingValue) × (slice_get rulings number ≡ Some ruling) × IsRuling frame found ruling
+
+-- what is asked of requests that share this, and which statements match those of them that are for the action
+abbrev pub Finds : SharedValue → List ℕ → Frame → List Matched → Type 0
+Finds shared action frame found =
+    (applicable : ApplicableValue) (access : AccessValue) → IsShared applicable access shared
+    → (frame ≡ shared.frame) × AreFound (request_for access action) (placed applicable) found
 
 -- each pair is of its class
-abbrev pub ArePairs : WorldValue → List SharedValue → List (Option Pair) → Type 0
+abbrev pub ArePairs : WorldValue → List Class → List (Option Pair) → Type 0
 ArePairs world classes pairs = AllAre (λ pair. HasClass world classes pair.principal pair.resource pair.class) pairs
 
 -- each answer is the one on the requests of its class for its action
-abbrev pub AreAnswers : WorldValue → List SharedValue → List Verdict → List (Option Answer) → Type 0
-AreAnswers world classes verdicts answers =
-    AllAre (λ answer. HasNumber world classes verdicts answer.class answer.action answer.number) answers
+abbrev pub AreAnswers : WorldValue → List Class → List RulingValue → List (Option Answer) → Type 0
+AreAnswers world classes rulings answers =
+    AllAre (λ answer. HasNumber world classes rulings answer.class answer.action answer.number) answers
+
+-- the kept elements of each class are those of its statements
+abbrev pub HaveRows : List Element → List Class → Type 0
+HaveRows elements classes =
+    (n : ℕ) (class : Class) → slice_get classes n ≡ Some class → AreRows elements class.shared.living class.rows.items
 
 -- everything that is kept is right
 pub record IsRight (world : WorldValue) (memo : Memo) : Type 0 where
   pub pairs : ArePairs world memo.classes.items memo.pairs.items
-  pub answers : AreAnswers world memo.classes.items memo.verdicts.items memo.answers.items
+  pub answers : AreAnswers world memo.classes.items memo.rulings.items memo.answers.items
+  pub elements : AreElements world memo.elements.elements.items
+  pub rows : HaveRows memo.elements.elements.items memo.classes.items

@@ -1,13 +1,13 @@
 ghost use Rattle.std.specs.Prelude.{◌≡◌, ◌<◌, IfOk, Some, length};
 ghost use Rattle.std.specs.List.{slice_get};
 ghost use Rattle.std.specs.Option.{ForSome};
-ghost use Rattle.iam_decision.specs.Living.{SharedValue};
 ghost use Rattle.iam_engine.specs.Keys.{AreKeys};
 ghost use Rattle.iam_engine.specs.Memo.{HasClass, IsNumber, IsRight};
+ghost use Rattle.iam_engine.specs.declared.memo.Class.{Class};
 
 use crate::keys::{Keys, shared_by};
-use crate::memo::Memo;
-use iam_layers::{Decision, Matched, Verdict, World};
+use crate::memo::{Memo, Room};
+use iam_layers::{Decision, Verdict, World};
 use iam_text::OutOfMemory;
 use std::alloc::Global;
 use std::marker::Model;
@@ -20,8 +20,7 @@ pub struct Engine<'a> {
     memo: Memo<'a>,
     // The derived keys that were made last.
     keys: Option<Keys>,
-    // Room for the statements that match a request.
-    found: Vec<Matched>,
+    room: Room,
 }
 
 impl<'a> Model for Engine<'a> {
@@ -32,7 +31,7 @@ impl<'a> Model for Engine<'a> {
 
     ghost Value = { EngineValue };
 
-    ghost view = { λ engine. record { world = engine.world.now; verdicts = engine.memo.verdicts.items } };
+    ghost view = { λ engine. record { world = engine.world.now; rulings = engine.memo.rulings.items } };
 
     ghost invariant = { λ engine. IsRight engine.world.now engine.memo × ForSome engine.keys (AreKeys engine.world.now) };
 }
@@ -52,7 +51,10 @@ impl<'a> Engine<'a> {
             world,
             memo,
             keys: None,
-            found: Vec::new(alloc),
+            room: Room {
+                found: Vec::new(alloc),
+                acts: Vec::new(alloc),
+            },
         })
     }
 
@@ -97,15 +99,15 @@ impl<'a> Engine<'a> {
         ensures same { self.new.world ≡ self.old.world }
     {
         let class = class_of(alloc, self.world, &mut self.memo, &mut self.keys, p, r)?;
-        number_of(alloc, self.world, &mut self.memo, &mut self.found, class, a)
+        number_of(alloc, self.world, &mut self.memo, &mut self.room, class, a)
     }
 
     /// The verdict of a number that [`Engine::find`] gave, on the request that it was given for.
     pub fn verdict(&self, number: usize) -> &Verdict
-        requires { number < length self.now.verdicts }
+        requires { number < length self.now.rulings }
         ensures { (p a r : ℕ) → IsNumberAt self.now p a r number → IsVerdictAt self.now.world p a r result.now }
     {
-        &self.memo.verdicts[number]
+        self.memo.rulings[number].verdict()
     }
 }
 
@@ -130,7 +132,7 @@ fn class_of<'a>(
         return Ok(class);
     }
     let shared = shared_by(alloc, world, keys, p, r)?;
-    memo.class_with(p, r, shared)
+    memo.class_with(alloc, world, p, r, shared)
 }
 
 /// The number of the verdict on requests of a class for action a.
@@ -138,7 +140,7 @@ fn number_of(
     alloc: Global,
     world: &World,
     memo: &mut Memo<'_>,
-    found: &mut Vec<Matched>,
+    room: &mut Room,
     class: usize,
     a: u64,
 ) -> Result<usize, OutOfMemory>
@@ -146,12 +148,14 @@ fn number_of(
     requires class { class < length memo.old.classes.items }
     requires right { IsRight world.now memo.old }
     ensures right { IsRight world.now memo.new }
-    ensures number { (shared : SharedValue) → slice_get memo.old.classes.items class ≡ Some shared
-        → IfOk result (IsNumber world.now shared memo.new.verdicts.items a) }
+    ensures number { (class_is : Class) → slice_get memo.old.classes.items class ≡ Some class_is
+        → IfOk result (IsNumber world.now class_is.shared memo.new.rulings.items a) }
 {
     if let Some(number) = memo.number_of(class, a) {
         return Ok(number);
     }
-    let verdict = memo.classes[class].verdict(alloc, found, world.action_text(a))?;
-    memo.number_with(class, a, verdict)
+    let frame = memo.find(room, class, a, world.action_text(a))?;
+    let number = memo.ruling(alloc, frame, room.found.as_slice())?;
+    memo.keep_number(class, a, number);
+    Ok(number)
 }

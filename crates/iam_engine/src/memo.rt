@@ -1,16 +1,18 @@
-ghost use Rattle.std.specs.Prelude.{◌≡◌, IfOk, IfSome, Some};
+ghost use Rattle.std.specs.Prelude.{◌≡◌, ◌<◌, IfOk, IfSome, Some, length};
 ghost use Rattle.std.specs.List.{slice_get};
-ghost use Rattle.iam_decision.specs.Living.{SharedValue};
-ghost use Rattle.iam_layers.specs.Cell.{IsSharedAt};
+ghost use Rattle.iam_layers.specs.Cell.{IsAction, IsSharedAt};
 ghost use Rattle.iam_world.specs.World.{WorldValue};
-ghost use Rattle.iam_engine.specs.Memo.{HasClass, HasNumber, IsAnswer, IsRight};
+ghost use Rattle.iam_engine.specs.Memo.{HasClass, HasNumber, HasRuling, HasShared, IsNumber, IsRight, Finds};
+ghost use Rattle.iam_engine.specs.declared.memo.Class.{Class};
 
-use crate::slots::{empty, empty_slots, keep, kept};
-use iam_layers::{Shared, Verdict};
+use crate::elements::Elements;
+use crate::slots::{empty, empty_slots, keep, kept, slot_of};
+use iam_layers::{Frame, Matched, Ruling, Shared, World};
 use iam_text::OutOfMemory;
 use std::alloc::Global;
 
-/// How many statements, how many pairs, how many answers and how many verdicts the engines of a run keep together at most.
+/// How many statements, how many pairs, how many answers and how many verdicts the engines of a run keep together at most;
+/// of pairs and answers up to twice as many.
 const MOST_STATEMENTS: usize = 2_097_152;
 
 const MOST_PAIRS: u64 = 131_072;
@@ -19,8 +21,22 @@ const MOST_ANSWERS: u64 = 131_072;
 
 const MOST_VERDICTS: usize = 262_144;
 
-/// The classes that were found last, by the prints of what they share.
-const PRINTS: u64 = 1_024;
+/// The classes and the verdicts that were found last, by the prints of what they hang on.
+const PRINTS: u64 = 4_096;
+
+/// Requests that share the same: what they share, and which of the kept action elements are those of its statements.
+#[derive(Drop)]
+pub struct Class<'a> {
+    pub shared: Shared<'a>,
+    pub rows: Vec<Option<usize>>,
+}
+
+/// Room for the statements that match a request, and for which action elements match an action.
+#[derive(Drop)]
+pub struct Room {
+    pub found: Vec<Matched>,
+    pub acts: Vec<bool>,
+}
 
 /// The class of a principal and a resource.
 #[derive(Clone, Copy)]
@@ -41,25 +57,18 @@ pub struct Answer {
 /// What is kept: requests that share the same are a class, and of some classes and actions the verdict is known.
 #[derive(Drop)]
 pub struct Memo<'a> {
-    // What the requests of each class share.
-    pub classes: Vec<Shared<'a>>,
-    pub verdicts: Vec<Verdict>,
+    pub classes: Vec<Class<'a>>,
+    pub rulings: Vec<Ruling>,
+    pub elements: Elements<'a>,
     pub pairs: Vec<Option<Pair>>,
     pub answers: Vec<Option<Answer>>,
-    // By a print the class that was last found with it: a hint.
-    prints: Vec<Option<usize>>,
+    // By a print the class, and the ruling, that was last found with it: a hint.
+    class_prints: Vec<Option<usize>>,
+    ruling_prints: Vec<Option<usize>>,
     // How many further statements may be kept, and how many when nothing is.
     room: usize,
     most_statements: usize,
     most_verdicts: usize,
-}
-
-/// A slot for these two numbers among so many: where there are fewer than pairs of numbers, several have the same.
-fn slot_of(one: u64, other: u64, slots: usize) -> u64 {
-    one.wrapping_mul(31)
-        .wrapping_add(other)
-        .checked_rem(slots as u64)
-        .unwrap_or(0)
 }
 
 impl<'a> Memo<'a> {
@@ -82,10 +91,12 @@ impl<'a> Memo<'a> {
         let most_statements = MOST_STATEMENTS / memos as usize;
         Ok(Memo {
             classes: Vec::new(alloc),
-            verdicts: Vec::new(alloc),
+            rulings: Vec::new(alloc),
+            elements: Elements::new(alloc, actions, memos)?,
             pairs: empty_slots(alloc, pairs)?,
             answers: empty_slots(alloc, MOST_ANSWERS / memos as u64)?,
-            prints: empty_slots(alloc, PRINTS)?,
+            class_prints: empty_slots(alloc, PRINTS)?,
+            ruling_prints: empty_slots(alloc, PRINTS)?,
             room: most_statements,
             most_statements,
             most_verdicts: MOST_VERDICTS / memos as usize,
@@ -105,12 +116,18 @@ impl<'a> Memo<'a> {
     }
 
     /// Puts the pair of principal p and resource r, which share this, into a class.
-    pub fn class_with(&mut self, p: u64, r: u64, shared: Shared<'a>) -> Result<usize, OutOfMemory>
-        ensures right { (world : WorldValue) → IsRight world self.old → IsSharedAt world p r shared.entry → IsRight world self.new }
-        ensures class { (world : WorldValue) → IsRight world self.old → IsSharedAt world p r shared.entry
-            → IfOk result (HasClass world self.new.classes.items p r) }
+    pub fn class_with(
+        &mut self,
+        alloc: Global,
+        world: &World,
+        p: u64,
+        r: u64,
+        shared: Shared<'a>,
+    ) -> Result<usize, OutOfMemory>
+        ensures right { IsRight world.now self.old → IsSharedAt world.now p r shared.entry → IsRight world.now self.new }
+        ensures class { IsSharedAt world.now p r shared.entry → IfOk result (HasClass world.now self.new.classes.items p r) }
     {
-        let class = self.class_sharing(shared)?;
+        let class = self.class_sharing(alloc, world, shared)?;
         let slot = slot_of(0, r, self.pairs.len());
         let pair = Pair {
             principal: p,
@@ -123,24 +140,33 @@ impl<'a> Memo<'a> {
 
     /// The class of requests that share this: one that is there, or a new one. Where there is no room for a new one,
     /// everything that was kept is let go.
-    fn class_sharing(&mut self, shared: Shared<'a>) -> Result<usize, OutOfMemory>
-        ensures right { (world : WorldValue) → IsRight world self.old → IsRight world self.new }
-        ensures class { IfOk result (λ class. slice_get self.new.classes.items class ≡ Some shared.entry) }
+    fn class_sharing(
+        &mut self,
+        alloc: Global,
+        world: &World,
+        shared: Shared<'a>,
+    ) -> Result<usize, OutOfMemory>
+        ensures right { IsRight world.now self.old → IsRight world.now self.new }
+        ensures class { IfOk result (HasShared self.new.classes.items shared.entry) }
     {
-        let (statements, print) = shared.print();
+        let print = shared.print();
         if let Some(class) = self.class_printed(print, &shared) {
             return Ok(class);
         }
-        self.make_room(statements);
-        self.add(print, shared)
+        // A class without statements takes room too.
+        self.make_room(shared.living().len().saturating_add(1));
+        self.add(alloc, world, print, shared)
     }
 
     /// The class that was last found with this print, if its requests share just this.
     fn class_printed(&self, print: u64, shared: &Shared<'_>) -> Option<usize>
-        ensures { IfSome result (λ class. slice_get self.now.classes.items class ≡ Some shared.now) }
+        ensures { IfSome result (HasShared self.now.classes.items shared.now) }
     {
-        let class = kept(self.prints.as_slice(), print % PRINTS)?;
-        if class < self.classes.len() && self.classes[class].equals(shared) {
+        let class = kept(
+            self.class_prints.as_slice(),
+            slot_of(0, print, PRINTS as usize),
+        )?;
+        if class < self.classes.len() && self.classes[class].shared.equals(shared) {
             Some(class)
         } else {
             None
@@ -158,13 +184,24 @@ impl<'a> Memo<'a> {
     }
 
     /// Adds the class of requests that share this.
-    fn add(&mut self, print: u64, shared: Shared<'a>) -> Result<usize, OutOfMemory>
-        ensures right { (world : WorldValue) → IsRight world self.old → IsRight world self.new }
-        ensures class { IfOk result (λ class. slice_get self.new.classes.items class ≡ Some shared.entry) }
+    fn add(
+        &mut self,
+        alloc: Global,
+        world: &World,
+        print: u64,
+        shared: Shared<'a>,
+    ) -> Result<usize, OutOfMemory>
+        ensures right { IsRight world.now self.old → IsRight world.now self.new }
+        ensures class { IfOk result (HasShared self.new.classes.items shared.entry) }
     {
+        let rows = self.elements.rows(alloc, world, shared.living())?;
         let class = self.classes.len();
-        self.classes.push(shared)?;
-        keep(&mut self.prints, print % PRINTS, class);
+        self.classes.push(Class { shared, rows })?;
+        keep(
+            &mut self.class_prints,
+            slot_of(0, print, PRINTS as usize),
+            class,
+        );
         Ok(class)
     }
 
@@ -175,14 +212,15 @@ impl<'a> Memo<'a> {
         empty(&mut self.pairs);
         empty(&mut self.answers);
         self.classes.clear();
-        self.verdicts.clear();
+        self.rulings.clear();
+        self.elements.clear();
         self.room = self.most_statements;
     }
 
     /// The number of the verdict on requests of the class for action a, where it is known.
     pub fn number_of(&self, class: usize, a: u64) -> Option<usize>
         ensures { (world : WorldValue) → IsRight world self.now
-            → IfSome result (HasNumber world self.now.classes.items self.now.verdicts.items class a) }
+            → IfSome result (HasNumber world self.now.classes.items self.now.rulings.items class a) }
     {
         let answer = kept(
             self.answers.as_slice(),
@@ -195,20 +233,12 @@ impl<'a> Memo<'a> {
         }
     }
 
-    /// Keeps the verdict on requests of the class for action a; its number.
-    pub fn number_with(
-        &mut self,
-        class: usize,
-        a: u64,
-        verdict: Verdict,
-    ) -> Result<usize, OutOfMemory>
-        ensures right { (world : WorldValue) (shared : SharedValue) → IsRight world self.old → slice_get self.old.classes.items class ≡ Some shared
-            → IsAnswer world shared a verdict → IsRight world self.new }
-        ensures number { IfOk result (λ number. slice_get self.new.verdicts.items number ≡ Some verdict) }
+    /// Keeps the number of the verdict on requests of the class for action a.
+    pub fn keep_number(&mut self, class: usize, a: u64, number: usize)
+        ensures right { (world : WorldValue) → IsRight world self.old → HasNumber world self.old.classes.items self.old.rulings.items class a number
+            → IsRight world self.new }
+        ensures same { self.new.rulings ≡ self.old.rulings }
     {
-        self.bound_verdicts();
-        let number = self.verdicts.len();
-        self.verdicts.push(verdict)?;
         let slot = slot_of(a, class as u64, self.answers.len());
         let answer = Answer {
             class,
@@ -216,17 +246,73 @@ impl<'a> Memo<'a> {
             number,
         };
         keep(&mut self.answers, slot, answer);
+    }
+
+    /// Puts the statements that match requests of the class for action a, which has this text, into the room; what is asked
+    /// beside them.
+    pub fn find(
+        &self,
+        room: &mut Room,
+        class: usize,
+        a: u64,
+        text: &str,
+    ) -> Result<Frame, OutOfMemory>
+        requires { class < length self.now.classes.items }
+        ensures { (world : WorldValue) (class_is : Class) → IsRight world self.now → slice_get self.now.classes.items class ≡ Some class_is
+            → IsAction world a text.now → IfOk result (λ frame. Finds class_is.shared text.now frame room.new.found.items) }
+    {
+        let class = &self.classes[class];
+        let rows = class.rows.as_slice();
+        let living = class.shared.living();
+        self.elements
+            .put_acts(&mut room.acts, living, rows, a, text)?;
+        class.shared.find(&mut room.found, room.acts.as_slice())?;
+        Ok(class.shared.frame())
+    }
+
+    /// The number of the verdict that follows from this; it is made where it is not kept.
+    pub fn ruling(
+        &mut self,
+        alloc: Global,
+        frame: Frame,
+        found: &[Matched],
+    ) -> Result<usize, OutOfMemory>
+        ensures right { (world : WorldValue) → IsRight world self.old → IsRight world self.new }
+        ensures same { self.new.classes ≡ self.old.classes }
+        ensures number { IfOk result (HasRuling self.new.rulings.items frame found.now) }
+    {
+        let slot = slot_of(0, Ruling::print(frame, found), PRINTS as usize);
+        if let Some(number) = self.ruling_at(slot, frame, found) {
+            return Ok(number);
+        }
+        self.bound_rulings();
+        let number = self.rulings.len();
+        let ruling = Ruling::of(alloc, frame, found)?;
+        self.rulings.push(ruling)?;
+        keep(&mut self.ruling_prints, slot, number);
         Ok(number)
     }
 
+    /// The ruling that a slot has, if it follows from just this.
+    fn ruling_at(&self, slot: u64, frame: Frame, found: &[Matched]) -> Option<usize>
+        ensures { IfSome result (HasRuling self.now.rulings.items frame found.now) }
+    {
+        let number = kept(self.ruling_prints.as_slice(), slot)?;
+        if number < self.rulings.len() && self.rulings[number].is_on(frame, found) {
+            Some(number)
+        } else {
+            None
+        }
+    }
+
     /// Lets go the verdicts and the answers where there are too many.
-    fn bound_verdicts(&mut self)
+    fn bound_rulings(&mut self)
         ensures right { (world : WorldValue) → IsRight world self.old → IsRight world self.new }
         ensures same { self.new.classes ≡ self.old.classes }
     {
-        if self.verdicts.len() >= self.most_verdicts {
+        if self.rulings.len() >= self.most_verdicts {
             empty(&mut self.answers);
-            self.verdicts.clear();
+            self.rulings.clear();
         }
     }
 }

@@ -4,12 +4,22 @@ ghost use Rattle.iam_engine.specs.Slots.{AreEmpty, Gains, Keeps};
 use iam_text::OutOfMemory;
 use std::alloc::Global;
 
-/// So many slots, which keep nothing.
+/// A slot for these two numbers among so many, a power of two: where there are fewer than pairs of numbers, several have
+/// the same.
+pub fn slot_of(one: u64, other: u64, slots: usize) -> u64 {
+    let mask = (slots as u64).wrapping_sub(1);
+    one.wrapping_mul(31).wrapping_add(other) & mask
+}
+
+/// More slots than a world has cells are never wanted.
+const MOST_SLOTS: u64 = 16_777_216;
+
+/// At least so many slots, a power of two, which keep nothing.
 pub fn empty_slots<T: Copy>(alloc: Global, count: u64) -> Result<Vec<Option<T>>, OutOfMemory>
     ensures { IfOk result (λ slots. AreEmpty slots.items) }
 {
     let mut slots = Vec::new(alloc);
-    'slots: for _ in 0..count {
+    'slots: for _ in 0..count.min(MOST_SLOTS).next_power_of_two() {
         slots.push(None)?;
     }
     Ok(slots)

@@ -1,3 +1,4 @@
 mod CellLemmas
 pub mod DerivedLemmas
+mod ManagementLemmas
 pub mod VerdictLemmas

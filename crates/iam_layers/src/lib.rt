@@ -6,8 +6,12 @@
 
 mod applicable;
 mod derived;
+mod laws;
 mod world;
 
-pub use iam_decision::{Applicable, Decision, Layer, Matched, Place, Shared, Verdict};
+pub use iam_decision::{
+    Applicable, Decision, Frame, Layer, Living, Matched, Place, Ruling, Shared, Verdict,
+};
 pub use iam_world::{Name, Path, WorldFault};
+pub use laws::management_is_not_bound;
 pub use world::World;

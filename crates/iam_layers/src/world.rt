@@ -313,6 +313,6 @@ impl World {
         ensures { IfOk result (IsVerdictAt self.now p a r) }
     {
         let shared = self.shared(alloc, p, r)?;
-        shared.verdict(alloc, &mut Vec::new(alloc), self.action_text(a))
+        shared.verdict(alloc, self.action_text(a))
     }
 }

@@ -107,7 +107,7 @@ pub fn walk_accounts(alloc: Global, accounts: &[Value]) -> Result<Accounts<'_>, 
     ensures path { IfErr result (λ fault. fault ≢ s.OutOfMemory
         → IsShapeFault (all_account_checks (map view accounts.entry.now)) fault) }
 {
-    let mut views = Vec::new(alloc);
+    let mut views = Vec::with_capacity(alloc, accounts.len())?;
     let mut ids = HashMap::new(alloc);
     for (i, account) in accounts.iter().enumerate() {
         let view = walk_account(&ids, i, account)?;

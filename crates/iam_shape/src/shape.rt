@@ -87,7 +87,7 @@ fn walk_list<'v, P: Part<'v>>(alloc: Global, values: &'v [Value]) -> Result<Vec<
     ensures path { IfErr result (λ fault. fault ≢ s.OutOfMemory
         → IsShapeFault (each P.checks 0 (map view values.entry.now)) fault) }
 {
-    let mut found = Vec::new(alloc);
+    let mut found = Vec::with_capacity(alloc, values.len())?;
     for (i, value) in values.iter().enumerate() {
         match P::walk(i, value) {
             Ok(part) => found.push(part)?,

@@ -1,4 +1,4 @@
-//! Tests of the calls that no command of the program reaches.
+//! Tests of calls that no command of the program reaches: texts, values, contexts, policies and matching.
 #![tactic(auto)]
 
 #[cfg(test)]
@@ -6,23 +6,9 @@ mod contexts;
 #[cfg(test)]
 mod drafts;
 #[cfg(test)]
-mod engine;
-#[cfg(test)]
-mod lanes;
-#[cfg(test)]
 mod matching;
 #[cfg(test)]
-mod matrix;
-#[cfg(test)]
-mod options;
-#[cfg(test)]
 mod policy;
-#[cfg(test)]
-mod report;
-#[cfg(test)]
-mod sharing;
-#[cfg(test)]
-mod streams;
 #[cfg(test)]
 mod text;
 #[cfg(test)]

@@ -1,14 +1,15 @@
 -- What a text begins with, and that its draft is the only one.
-use Rattle.std.proofs.Common.{◌≡◌, ◌≢◌, ℕ, ◌<◌, List, [], ◌∷◌, ◌++◌, Bool, true, false, ◌==◌, not, length, replicate, Some, None, refl, sym, ap, ◌∙◌, subst, arith, codes, inl, inr, ◌⊎◌, length-append, IsTrue, ◌||◌}
+use Rattle.std.proofs.Common.{◌≡◌, ◌≢◌, ℕ, ◌<◌, List, [], ◌∷◌, ◌++◌, Bool, true, false, ◌==◌, not, length, replicate, Some, None, refl, sym, ap, ◌∙◌, subst, arith, codes, inl, inr, ◌⊎◌, length-append, IsTrue, ◌||◌, map}
 use Rattle.std.proofs.lemmas.List.{append-nil, append_assoc}
-use Rattle.std.proofs.lemmas.Str.{length-encode, len_utf8_bounds}
+use Rattle.std.proofs.lemmas.Str.{chars_from_encodes, length-encode, len_utf8_bounds}
 use Rattle.std.specs.Char.{encode_utf8}
 use Rattle.std.specs.List.{list_all}
+use Rattle.std.specs.Str.{IsUtf8, chars, encode_utf8_all}
 use Rattle.iam_text.specs.declared.draft.Piece.{Piece}
 use Rattle.iam_text.specs.declared.draft.Piece.TheVariants.{Plain, Escaped, Variable}
 use Rattle.iam_text.specs.declared.sign.Sign.{Sign}
-use Rattle.iam_text.specs.Draft.{BeginsWith, IsDraft, IsWritten, is_key, is_key_character, sign_of}
-use Rattle.iam_text.specs.Code.Forms.{HasClosed, HasDefault, HasForm, IsClosed, IsQuoted}
+use Rattle.iam_text.specs.Draft.{BeginsWith, IsApart, IsDraft, IsWritten, is_key, is_key_character, plain_draft, sign_of}
+use Rattle.iam_text.specs.Code.Forms.{HasClosed, HasDefault, HasForm, IsClosed, IsCutAtForm, IsQuoted, NoneBegins}
 use Rattle.iam_text.proofs.FormLemmas.{all-absent, and-both, closed-avoids, default-cut, key-all, literal-no_key, one_character, run-unique, spaces-unique}
 
 -- each piece is written with one character at least
@@ -220,7 +221,7 @@ pub record Along (wild : Bool) (text : List ℕ) (pieces : List Piece) (rest : L
 pub along-none : (wild : Bool) (text : List ℕ) → Along wild text [] text
 along-none wild text = record { on = λ tail draft. draft; back = λ all draft. (all, draft) }
 
-pub along-more : (wild : Bool) (text : List ℕ) (pieces : List Piece) (rest behind : List ℕ) (piece : Piece) → Along wild text pieces rest
+along-more : (wild : Bool) (text : List ℕ) (pieces : List Piece) (rest behind : List ℕ) (piece : Piece) → Along wild text pieces rest
     → BeginsWith wild rest piece behind → Along wild text (pieces ++ piece ∷ []) behind
 along-more wild text pieces rest behind piece a begins = record {
   on = λ tail draft.
@@ -236,17 +237,73 @@ along-more wild text pieces rest behind piece a begins = record {
         let P : List ℕ → Type 0 = λ b. IsDraft wild b tail in
         (tail, subst P (sym one.1) draft)
 
--- at the end of the text
-pub along-end : (wild : Bool) (text : List ℕ) (pieces : List Piece) (rest : List ℕ) → Along wild text pieces rest → rest ≡ [] → IsDraft wild text pieces
-along-end wild text pieces rest a none =
-    let P : List Piece → Type 0 = λ all. IsDraft wild text all in
-    subst P (append-nil pieces) (a.on [] none)
+-- what stands before a `${`, or before the end, is characters, of which none begins it
+pub none-here : (c : ℕ) (cs rest : List ℕ) → NoneBegins (encode_utf8_all (c ∷ cs)) rest → IsApart (encode_utf8 c) (encode_utf8_all cs ++ rest)
+none-here c cs rest none one more e =
+    let found : (encode_utf8 c ++ encode_utf8_all cs) ++ rest ≡ [] ++ (codes "${" ++ more) =
+    append_assoc (encode_utf8 c) (encode_utf8_all cs) rest ∙ ap (λ x. x ++ (encode_utf8_all cs ++ rest)) one ∙ ap (λ t. 36 ∷ t) e in
+    omega (arith, none [] more found, length-append (encode_utf8 c) (encode_utf8_all cs), ap length one)
 
--- where no piece begins what is left of it
-pub along-off : (wild : Bool) (text : List ℕ) (pieces : List Piece) (rest : List ℕ) → Along wild text pieces rest → rest ≢ []
-    → ((piece : Piece) (behind : List ℕ) → ¬ BeginsWith wild rest piece behind) → (all : List Piece) → ¬ IsDraft wild text all
-along-off wild text pieces rest a some off all draft = let left = a.back all draft in go left.0 left.1
+pub none-behind : (c : ℕ) (cs rest : List ℕ) → NoneBegins (encode_utf8_all (c ∷ cs)) rest → NoneBegins (encode_utf8_all cs) rest
+none-behind c cs rest none before behind e =
+    let later =
+    none (encode_utf8 c ++ before) behind
+    (append_assoc (encode_utf8 c) (encode_utf8_all cs) rest ∙ ap (λ t. encode_utf8 c ++ t) e ∙ sym (append_assoc (encode_utf8 c) before (codes "${" ++ behind))) in
+    omega (arith, later, length-append (encode_utf8 c) (encode_utf8_all cs), length-append (encode_utf8 c) before)
+
+along-characters : (wild : Bool) (text : List ℕ) (pieces : List Piece) (cs rest : List ℕ) → NoneBegins (encode_utf8_all cs) rest
+    → Along wild text pieces (encode_utf8_all cs ++ rest) → Along wild text (pieces ++ plain_draft (map (sign_of wild) cs)) rest
+along-characters wild text pieces [] rest none a =
+    let P : List Piece → Type 0 = λ done. Along wild text done rest in
+    subst P (sym (append-nil pieces)) a
+along-characters wild text pieces (c ∷ cs) rest none a =
+    let P : List Piece → Type 0 = λ done. Along wild text done rest in
+    let Q : List ℕ → Type 0 = λ t. Along wild text pieces t in
+    let left = encode_utf8_all cs ++ rest in
+    let begins : BeginsWith wild (encode_utf8 c ++ left) (Plain (sign_of wild c)) left =
+    record { part = encode_utf8 c; written = (c, refl, refl); joined = refl; apart = none-here c cs rest none } in
+    let more =
+    along-more wild text pieces (encode_utf8 c ++ left) left (Plain (sign_of wild c)) (subst Q (append_assoc (encode_utf8 c) (encode_utf8_all cs) rest) a) begins in
+    subst P (append_assoc pieces (Plain (sign_of wild c) ∷ []) (plain_draft (map (sign_of wild) cs)))
+    (along-characters wild text (pieces ++ Plain (sign_of wild c) ∷ []) cs rest (none-behind c cs rest none) more)
+
+-- the characters before a `${`, or before the end, are pieces
+along-front : (wild : Bool) (text : List ℕ) (pieces : List Piece) (front rest : List ℕ) → IsUtf8 front → NoneBegins front rest
+    → Along wild text pieces (front ++ rest) → Along wild text (pieces ++ plain_draft (map (sign_of wild) (chars front))) rest
+along-front wild text pieces front rest (cs, (scalars, is)) none a =
+    let P : List ℕ → Type 0 = λ t. NoneBegins t rest → Along wild text pieces (t ++ rest) → Along wild text (pieces ++ plain_draft (map (sign_of wild) cs)) rest in
+    let Q : List ℕ → Type 0 = λ ds. Along wild text (pieces ++ plain_draft (map (sign_of wild) ds)) rest in
+    subst Q (chars_from_encodes cs front (cs, (scalars, is)) is) (subst P is (along-characters wild text pieces cs rest) none a)
+
+-- up to the first `${`
+pub along-cut : (wild : Bool) (text : List ℕ) (pieces grown : List Piece) (rest front inside : List ℕ) → Along wild text pieces rest → IsUtf8 front
+    → IsCutAtForm rest front inside → grown ≡ pieces ++ plain_draft (map (sign_of wild) (chars front)) → Along wild text grown (codes "${" ++ inside)
+along-cut wild text pieces grown rest front inside a utf8 (joined, none) is =
+    let P : List ℕ → Type 0 = λ t. Along wild text pieces t in
+    let Q : List Piece → Type 0 = λ done. Along wild text done (codes "${" ++ inside) in
+    subst Q (sym is) (along-front wild text pieces front (codes "${" ++ inside) utf8 none (subst P joined a))
+
+-- over a form that stands behind a `${`
+pub along-form : (wild : Bool) (text : List ℕ) (pieces grown : List Piece) (inside behind : List ℕ) (piece : Piece)
+    → Along wild text pieces (codes "${" ++ inside) → HasForm piece inside behind → grown ≡ pieces ++ piece ∷ [] → Along wild text grown behind
+along-form wild text pieces grown inside behind piece a has is =
+    let Q : List Piece → Type 0 = λ done. Along wild text done behind in
+    subst Q (sym is) (along-more wild text pieces (codes "${" ++ inside) behind piece a (begins-from_form wild piece (codes "${" ++ inside) inside behind refl has))
+
+-- to the end of the text, where no further `${` stands
+pub along-end : (wild : Bool) (text : List ℕ) (pieces grown : List Piece) (rest : List ℕ) → Along wild text pieces rest → IsUtf8 rest
+    → NoneBegins rest [] → grown ≡ pieces ++ plain_draft (map (sign_of wild) (chars rest)) → IsDraft wild text grown
+along-end wild text pieces grown rest a utf8 none is =
+    let P : List ℕ → Type 0 = λ t. Along wild text pieces t in
+    let Q : List Piece → Type 0 = λ all. IsDraft wild text all in
+    let whole = along-front wild text pieces rest [] utf8 none (subst P (sym (append-nil rest)) a) in
+    subst Q (append-nil _ ∙ sym is) (whole.on [] refl)
+
+-- where no form stands behind a `${`
+pub along-off : (wild : Bool) (text : List ℕ) (pieces : List Piece) (inside : List ℕ) → Along wild text pieces (codes "${" ++ inside)
+    → ((piece : Piece) (behind : List ℕ) → ¬ HasForm piece inside behind) → (all : List Piece) → ¬ IsDraft wild text all
+along-off wild text pieces inside a off all draft = let left = a.back all draft in go left.0 left.1
   where
-    go : (tail : List Piece) → IsDraft wild rest tail → ⊥
-    go [] none = some none
-    go (p ∷ tail) (behind, begins, more) = off p behind begins
+    go : (tail : List Piece) → IsDraft wild (codes "${" ++ inside) tail → ⊥
+    go [] none = let no : ⊥ = cc in no
+    go (p ∷ tail) (behind, begins, more) = off p behind (form-from_begins wild p (codes "${" ++ inside) inside behind refl begins)

@@ -1,15 +1,18 @@
 -- What a text begins with is determined.
-use Rattle.std.proofs.Common.{◌≡◌, ◌≢◌, ℕ, ◌<◌, ◌≤◌, zero, suc, List, [], ◌∷◌, ◌++◌, Bool, true, false, ◌&&◌, ◌||◌, ◌==◌, not, length, drop, replicate, Option, Some, None, refl, sym, ap, ◌∙◌, subst, arith, IsTrue, eqb-true, eq-eqb, get_or, inl, inr, ◌⊎◌, MatchOption, nat_lt}
+use Rattle.std.proofs.Common.{◌≡◌, ◌≢◌, ℕ, ◌<◌, ◌≤◌, zero, suc, List, [], ◌∷◌, ◌++◌, Bool, true, false, ◌&&◌, ◌||◌, ◌==◌, not, length, drop, replicate, Option, Some, None, refl, sym, ap, ◌∙◌, subst, arith, IsTrue, eqb-true, eq-eqb, get_or, inl, inr, ◌⊎◌, MatchOption, nat_lt, codes, take, ◌+◌}
 use Rattle.std.proofs.lemmas.Bool.{cases_lt}
-use Rattle.std.proofs.lemmas.List.{append-nil, append_cancel_left}
+use Rattle.std.proofs.lemmas.List.{append-nil, append_cancel_left, drop_at}
 use Rattle.std.proofs.lemmas.Str.{cons_from_encodes}
+use Rattle.std.proofs.lemmas.Str.Pattern.{split_text_parts}
 use Rattle.std.specs.Str.{encode_utf8_all}
 use Rattle.std.specs.Char.{encode_utf8}
 use Rattle.std.specs.List.{list_all}
+use Rattle.std.specs.Str.Pattern.{FindsText}
 use Rattle.iam_text.specs.declared.draft.Piece.{Piece}
 use Rattle.iam_text.specs.declared.draft.Piece.TheVariants.{Plain, Escaped, Variable}
 use Rattle.iam_text.specs.Draft.{is_key, is_key_character}
-use Rattle.iam_text.specs.Code.Forms.{HasDefault, IsClosed, IsQuoted}
+use Rattle.iam_text.specs.Code.Forms.{HasDefault, IsClosed, IsCutAtForm, IsQuoted, NoneBegins}
+use denote.Ref.{Bor}
 
 pub and-both : (a b : Bool) → (a && b) ≡ true → (a ≡ true) × (b ≡ true)
 and-both true b e = (refl, e)
@@ -173,3 +176,21 @@ default-cut (Variable key (Some default)) text rest (behind, is, joined, quoted)
 pub match-weaker : {X : Type 0} (r : Option X) (P P' : Type 0) (Q Q' : X → Type 0) → (P → P') → ((x : X) → Q x → Q' x) → MatchOption r P Q → MatchOption r P' Q'
 match-weaker None P P' Q Q' none some m = none m
 match-weaker (Some x) P P' Q Q' none some m = some x m
+
+-- the first `${` of a text
+pub first-form : (text : List ℕ) (r : Option (Bor (List ℕ) × Bor (List ℕ)))
+    → MatchOption r (FindsText (codes "${") text None)
+    (λ x. (i : ℕ) × (j : ℕ) × FindsText (codes "${") text (Some (i, j)) × (x.0.now ≡ take i text) × (x.1.now ≡ drop j text) × (i ≤ j)
+    × (length x.0.now ≡ i) × (length x.1.now + j ≡ length text))
+    → MatchOption r (NoneBegins text []) (λ x. IsCutAtForm text x.0.now x.1.now)
+first-form text None h = λ before behind e. absurd (split_text_parts (codes "${") text None h before behind (sym (append-nil text) ∙ e))
+first-form text (Some x) h =
+    let parts = split_text_parts (codes "${") text (Some x) h in
+    (parts, λ before behind e. go before behind (parts ∙ e) (cases_lt (length before) (length x.0.now)))
+  where
+    go : (before behind : List ℕ) → text ≡ before ++ (codes "${" ++ behind) → (length before < length x.0.now) ⊎ (length x.0.now ≤ length before)
+        → length x.0.now ≤ length before
+    go before behind is (inr later) = later
+    go before behind is (inl earlier) =
+        absurd (h.2.0 (length before) (omega (arith, earlier, h.6)) behind
+        (ap (drop (length before)) is ∙ drop_at before (codes "${" ++ behind) (length before) refl))

@@ -2,9 +2,10 @@
 use Rattle.std.proofs.Common.{◌≡◌, ◌≢◌, ℕ, ◌<◌, ◌≤◌, zero, suc, List, [], ◌∷◌, ◌++◌, Bool, true, false, ◌&&◌, ◌||◌, ◌==◌, not, length, replicate, Some, None, refl, sym, ap, ◌∙◌, subst, arith, codes, IsTrue, inl, inr, ◌⊎◌, eqb-true, cond, get_or, drop, ◌+◌, length-append, nat_lt, ◌↔◌, map}
 use Rattle.std.proofs.lemmas.Bool.{lt-ltb}
 use Rattle.std.proofs.lemmas.List.{append-nil, append_assoc, drop_at, get_or_at}
+use Rattle.std.proofs.lemmas.List.Folds.{list_any-append}
 use Rattle.std.proofs.lemmas.Str.{inside_one, IsUtf8-drop, IsUtf8-past_char, chars_from_encodes, IsCharBoundary-after_ascii}
 use Rattle.std.specs.Char.{encode_utf8}
-use Rattle.std.specs.List.{list_all}
+use Rattle.std.specs.List.{list_all, list_any}
 use Rattle.std.specs.Option.{option_map_or}
 use Rattle.std.specs.Str.{IsUtf8, chars, encode_utf8_all}
 use Rattle.std.specs.Str.Iter.{HasSubslice}
@@ -12,9 +13,9 @@ use Rattle.iam_text.specs.declared.draft.Piece.{Piece}
 use Rattle.iam_text.specs.declared.draft.Piece.TheVariants.{Plain, Escaped, Variable}
 use Rattle.iam_text.specs.Draft.{BeginsWith, IsDraft, is_key, is_key_character, plain_draft, sign_of}
 use Rattle.iam_text.specs.declared.sign.Sign.{Sign}
-use Rattle.iam_text.specs.Code.Forms.{HasForm, IsQuoted}
+use Rattle.iam_text.specs.Code.Forms.{HasForm, IsCutAtForm, IsQuoted, NoneBegins}
 use Rattle.iam_text.specs.Variables.{State, outside, dollar, opened, escaped, key, spaces, default, closing, is_draft, is_draft_from, is_end, step}
-use Rattle.iam_text.proofs.DraftLemmas.{begins-from_form, begins-shorter, form-from_begins, piece-cases}
+use Rattle.iam_text.proofs.DraftLemmas.{begins-from_form, begins-shorter, form-from_begins, none-behind, none-here, piece-cases}
 use Rattle.iam_text.proofs.FormLemmas.{all-absent, and-both, default-cut, key-all, literal-no_key}
 
 -- one character on
@@ -290,14 +291,38 @@ pieces-of (suc n) wild (c ∷ text) short utf8 holds =
 pub draft_tested : (wild : Bool) (text : List ℕ) → IsUtf8 text → IsTrue (is_draft text) ↔ ((pieces : List Piece) × IsDraft wild text pieces)
 draft_tested wild text utf8 = (λ holds. pieces-of (length text) wild text (omega arith) utf8 holds, λ d. drafted wild text d.0 d.1)
 
--- where no piece begins what is left, the text does not pass
-pub no-piece : (text rest : List ℕ) → is_draft text ≡ is_draft rest → rest ≢ [] → IsUtf8 rest
-    → ((wild : Bool) (piece : Piece) (behind : List ℕ) → ¬ BeginsWith wild rest piece behind) → false ≡ is_draft text
-no-piece text rest same some utf8 off = go (is_draft rest) refl
+-- where no form stands behind a `${`, the text does not pass
+pub no-form : (text inside : List ℕ) → is_draft text ≡ is_draft (codes "${" ++ inside) → ((piece : Piece) (rest : List ℕ) → ¬ HasForm piece inside rest)
+    → false ≡ is_draft text
+no-form text inside same off = go (is_draft_from opened inside) refl
   where
-    go : (b : Bool) → is_draft rest ≡ b → false ≡ is_draft text
-    go true e = let first = first-piece true rest some utf8 e in absurd (off true first.0 first.1 first.2)
+    go : (b : Bool) → is_draft_from opened inside ≡ b → false ≡ is_draft text
+    go true e = let form = form-ends inside e in absurd (off form.0 form.1 form.2)
     go false e = sym (same ∙ e)
+
+-- over the characters before a `${`, or before the end
+run-characters : (cs rest : List ℕ) → NoneBegins (encode_utf8_all cs) rest → is_draft (encode_utf8_all cs ++ rest) ≡ is_draft rest
+run-characters [] rest none = refl
+run-characters (c ∷ cs) rest none =
+    ap is_draft (append_assoc (encode_utf8 c) (encode_utf8_all cs) rest) ∙ run-character c (encode_utf8_all cs ++ rest) (none-here c cs rest none)
+    ∙ run-characters cs rest (none-behind c cs rest none)
+
+run-front : (front rest : List ℕ) → IsUtf8 front → NoneBegins front rest → is_draft (front ++ rest) ≡ is_draft rest
+run-front front rest (cs, (scalars, is)) =
+    let P : List ℕ → Type 0 = λ t. NoneBegins t rest → is_draft (t ++ rest) ≡ is_draft rest in
+    subst P is (run-characters cs rest)
+
+-- a text without `${` passes
+pub run-all : (text : List ℕ) → IsUtf8 text → NoneBegins text [] → is_draft text ≡ true
+run-all text utf8 none = ap is_draft (sym (append-nil text)) ∙ run-front text [] utf8 none
+
+-- up to the first `${`
+pub run-cut : (text front inside : List ℕ) → IsUtf8 front → IsCutAtForm text front inside → is_draft text ≡ is_draft (codes "${" ++ inside)
+run-cut text front inside utf8 (joined, none) = ap is_draft joined ∙ run-front front (codes "${" ++ inside) utf8 none
+
+-- over a form that stands behind a `${`
+pub run-inside : (piece : Piece) (inside rest : List ℕ) → HasForm piece inside rest → is_draft (codes "${" ++ inside) ≡ is_draft rest
+run-inside piece inside rest has = run-form piece inside rest has
 
 -- in a text without `${` each character is a piece
 plain-characters : (wild : Bool) (cs : List ℕ) → ¬ HasSubslice (encode_utf8_all cs) (codes "${") → IsDraft wild (encode_utf8_all cs) (plain_draft (map (sign_of wild) cs))
@@ -320,3 +345,12 @@ plain-drafted wild text (cs, (scalars, is)) off =
     let Q : List ℕ → Type 0 = λ t. IsDraft wild t (plain_draft (map (sign_of wild) cs)) in
     let R : List ℕ → Type 0 = λ ds. IsDraft wild text (plain_draft (map (sign_of wild) ds)) in
     subst R (chars_from_encodes cs text (cs, (scalars, is)) is) (subst Q is (plain-characters wild cs (subst P (sym is) off)))
+
+-- a text without `$` has no `${`
+pub no-dollar : (text : List ℕ) → list_any (λ c. c == 36) text ≡ false → ¬ HasSubslice text (codes "${")
+no-dollar text none (front, inside, is) =
+    some (list_any (λ c. c == 36) front) (sym (ap (list_any (λ c. c == 36)) is ∙ list_any-append (λ c. c == 36) front (codes "${" ++ inside)) ∙ none)
+  where
+    some : (b : Bool) → (b || true) ≡ false → ⊥
+    some true e = let no : ⊥ = cc in no
+    some false e = let no : ⊥ = cc in no

@@ -1,5 +1,5 @@
 -- Drafts in a document of a version.
-use Rattle.std.proofs.Common.{◌≡◌, ◌↔◌, ℕ, List, [], ◌∷◌, Bool, true, IsTrue, refl, sym, ap, ◌∙◌, map}
+use Rattle.std.proofs.Common.{◌≡◌, ◌↔◌, ℕ, List, Bool, true, IsTrue, refl, sym, ◌∙◌, map}
 use Rattle.std.specs.Str.{chars, IsUtf8}
 use Rattle.iam_text.specs.declared.draft.Piece.{Piece}
 use Rattle.iam_text.specs.declared.version.Version.{Version}
@@ -29,8 +29,3 @@ draft_told_in told version text utf8 is wild =
 pub passes : (version : Version) (wild : Bool) (text : List ℕ) (pieces : List Piece) → IsDraftIn version wild text pieces → is_draft_in version text ≡ true
 passes V2012 wild text pieces d = drafted wild text pieces d
 passes V2008 wild text pieces d = refl
-
--- the characters of a text, one by one
-pub map-plain : {X Y Z : Type 0} (g : Y → Z) (f : X → Y) (xs : List X) → map (λ x. g (f x)) xs ≡ map g (map f xs)
-map-plain g f [] = refl
-map-plain g f (x ∷ xs) = ap (λ zs. g (f x) ∷ zs) (map-plain g f xs)

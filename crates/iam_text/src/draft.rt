@@ -1,4 +1,5 @@
-ghost use Rattle.std.specs.Prelude.{◌≡◌, ◌↔◌, List, Bool, false, IsTrue, IfOk, map};
+ghost use Rattle.std.specs.Prelude.{◌≡◌, ◌↔◌, ◌==◌, ◌++◌, List, Bool, false, IsTrue, IfOk, OnOk, map};
+ghost use Rattle.std.specs.List.{list_any};
 ghost use Rattle.std.specs.Str.{chars};
 ghost use Rattle.iam_text.specs.declared.draft.Piece.{Piece};
 ghost use Rattle.iam_text.specs.Draft.{IsDraftIn, plain_draft, sign_of};
@@ -6,8 +7,8 @@ ghost use Rattle.iam_text.specs.Code.Forms.{piece_of};
 ghost use Rattle.iam_text.specs.Variables.{is_draft, is_draft_in};
 
 use crate::OutOfMemory;
-use crate::form::{Form, first_form};
-use crate::sign::Sign;
+use crate::form::{Form, cut_form, form_behind};
+use crate::sign::{Sign, sign_of};
 use crate::text::Text;
 use crate::version::Version;
 use std::alloc::Global;
@@ -54,15 +55,18 @@ impl Draft {
     {
         let mut pieces = Vec::new(alloc);
         let mut rest = text;
-        while !rest.is_empty() {
-            match first_form(rest) {
+        while let Some((front, inside)) = cut_form(rest) {
+            add_characters(&mut pieces, front, wild)?;
+            match form_behind(inside) {
                 Some((form, behind)) => {
-                    pieces.push(piece_of(alloc, form, wild)?)?;
+                    pieces.push(piece_of(alloc, form)?)?;
                     rest = behind;
                 }
                 None => return Ok(None),
             }
         }
+        add_characters(&mut pieces, rest, wild)?;
+        pieces.shrink_to_fit();
         Ok(Some(Draft { pieces }))
     }
 
@@ -70,9 +74,9 @@ impl Draft {
     pub fn literal(alloc: Global, text: &str, wild: bool) -> Result<Draft, OutOfMemory>
         ensures { IfOk result (λ draft. draft ≡ plain_draft (map (sign_of wild) (chars text.now))) }
     {
-        Ok(Draft {
-            pieces: characters(alloc, text, wild)?,
-        })
+        let mut pieces = Vec::new(alloc);
+        add_characters(&mut pieces, text, wild)?;
+        Ok(Draft { pieces })
     }
 
     /// The pieces, in order.
@@ -98,9 +102,16 @@ pub fn is_plain(text: &str, version: Version) -> bool
     ensures other { result ≡ false → version ≡ Version.V2012 }
 {
     match version {
-        Version::V2012 => !text.contains("${"),
+        Version::V2012 => !has_dollar(text.as_bytes()) || !text.contains("${"),
         Version::V2008 => true,
     }
+}
+
+/// Whether the text has a `$`.
+fn has_dollar(text: &[u8]) -> bool
+    ensures { result ≡ list_any (λ c. c == 36) text.now }
+{
+    text.contains(&b'$')
 }
 
 /// Whether each `${` of the text begins a form.
@@ -108,8 +119,8 @@ fn has_forms(text: &str) -> bool
     ensures { result ≡ is_draft text.now }
 {
     let mut rest = text;
-    while !rest.is_empty() {
-        match first_form(rest) {
+    while let Some((_, inside)) = cut_form(rest) {
+        match form_behind(inside) {
             Some((_, behind)) => rest = behind,
             None => return false,
         }
@@ -117,36 +128,27 @@ fn has_forms(text: &str) -> bool
     true
 }
 
-/// The characters of the text, each a piece.
-fn characters(alloc: Global, text: &str, wild: bool) -> Result<Vec<Piece>, OutOfMemory>
-    ensures { IfOk result (λ pieces. pieces.items ≡ map (λ c. Piece.Plain (sign_of wild c)) (chars text.now)) }
+/// Adds the characters of the text, each a piece.
+fn add_characters(pieces: &mut Vec<Piece>, text: &str, wild: bool) -> Result<(), OutOfMemory>
+    ensures { OnOk result (pieces.new.items ≡ pieces.old.items ++ plain_draft (map (sign_of wild) (chars text.now))) }
 {
-    text.chars()
-        .map(|character| Piece::Plain(sign(character, wild)))
-        .collect(alloc)
+    pieces.reserve(text.len())?;
+    for character in text.chars() {
+        pieces.push(Piece::Plain(sign_of(character, wild)))?;
+    }
+    Ok(())
 }
 
 /// The piece of a form.
-fn piece_of(alloc: Global, form: Form<'_>, wild: bool) -> Result<Piece, OutOfMemory>
-    ensures { IfOk result (λ piece. piece ≡ piece_of wild form.entry) }
+fn piece_of(alloc: Global, form: Form<'_>) -> Result<Piece, OutOfMemory>
+    ensures { IfOk result (λ piece. piece ≡ piece_of form.entry) }
 {
     match form {
-        Form::Character(character) => Ok(Piece::Plain(sign(character, wild))),
         Form::Literal(character) => Ok(Piece::Escaped(character)),
         Form::Named(key, Some(default)) => Ok(Piece::Variable(
             Text::read(alloc, key)?,
             Some(Text::read(alloc, default)?),
         )),
         Form::Named(key, None) => Ok(Piece::Variable(Text::read(alloc, key)?, None)),
-    }
-}
-
-fn sign(character: char, wild: bool) -> Sign
-    ensures { result ≡ sign_of wild character }
-{
-    if wild {
-        Sign::wild(character)
-    } else {
-        Sign::Given(character)
     }
 }

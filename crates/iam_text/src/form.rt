@@ -1,47 +1,29 @@
-ghost use Rattle.std.specs.Prelude.{◌≡◌, ◌≢◌, ℕ, List, [], ◌∷◌, ◌++◌, Bool, encode_utf8, replicate, MatchOption};
+ghost use Rattle.std.specs.Prelude.{◌≡◌, ◌≢◌, ℕ, List, [], ◌∷◌, ◌++◌, replicate, MatchOption};
 ghost use Rattle.std.specs.List.{list_all};
 ghost use Rattle.iam_text.specs.declared.draft.Piece.{Piece};
-ghost use Rattle.iam_text.specs.Draft.{BeginsWith, is_key, is_key_character};
-ghost use Rattle.iam_text.specs.Code.Forms.{HasClosed, HasDefault, HasForm, IsClosed, IsQuoted, piece_of};
+ghost use Rattle.iam_text.specs.Draft.{is_key, is_key_character};
+ghost use Rattle.iam_text.specs.Code.Forms.{HasClosed, HasDefault, HasForm, IsClosed, IsCutAtForm, IsQuoted, NoneBegins, piece_of};
 
-/// What a text that may hold variables begins with.
+/// What a `${` begins.
 #[derive(Clone, Copy)]
 pub enum Form<'a> {
-    /// A character that begins no variable.
-    Character(char),
     /// `${*}`, `${?}` or `${$}`.
     Literal(char),
     /// A variable by its key and its default.
     Named(&'a str, Option<&'a str>),
 }
 
-/// What the text begins with, and what is left behind it; `None` for the empty text, and where a `${` stands that
-/// begins no form.
-pub fn first_form(text: &str) -> Option<(Form<'_>, &str)>
-    ensures { MatchOption result ((wild : Bool) (piece : Piece) (rest : List ℕ) → ¬ BeginsWith wild text.entry.now piece rest)
-        (λ p. (wild : Bool) → BeginsWith wild text.entry.now (piece_of wild p.0) p.1.now) }
+/// What stands before the first `${` of the text, and what behind it.
+pub fn cut_form(text: &str) -> Option<(&str, &str)>
+    ensures { MatchOption result (NoneBegins text.entry.now []) (λ p. IsCutAtForm text.entry.now p.0.now p.1.now) }
 {
-    match text.strip_prefix("${") {
-        Some(inside) => form_behind(inside),
-        None => {
-            let (first, rest) = first_character(text)?;
-            Some((Form::Character(first), rest))
-        }
-    }
-}
-
-fn first_character(text: &str) -> Option<(char, &str)>
-    ensures { MatchOption result (text.entry.now ≡ []) (λ p. text.entry.now ≡ encode_utf8 p.0 ++ p.1.now) }
-{
-    let mut rest = text.chars();
-    let first = rest.next()?;
-    Some((first, rest.as_str()))
+    text.split_once("${")
 }
 
 /// The form whose `${` stands before the text, and what is left behind its `}`.
-fn form_behind(text: &str) -> Option<(Form<'_>, &str)>
+pub fn form_behind(text: &str) -> Option<(Form<'_>, &str)>
     ensures { MatchOption result ((piece : Piece) (rest : List ℕ) → ¬ HasForm piece text.entry.now rest)
-        (λ p. (wild : Bool) → HasForm (piece_of wild p.0) text.entry.now p.1.now) }
+        (λ p. HasForm (piece_of p.0) text.entry.now p.1.now) }
 {
     match without_default(text) {
         Some(found) => Some(found),
@@ -52,7 +34,7 @@ fn form_behind(text: &str) -> Option<(Form<'_>, &str)>
 /// The form without a default whose `${` stands before the text, and what is left behind its `}`.
 fn without_default(text: &str) -> Option<(Form<'_>, &str)>
     ensures { MatchOption result ((piece : Piece) (rest : List ℕ) → ¬ HasClosed piece text.entry.now rest)
-        (λ p. (wild : Bool) → HasClosed (piece_of wild p.0) text.entry.now p.1.now) }
+        (λ p. HasClosed (piece_of p.0) text.entry.now p.1.now) }
 {
     let (inside, rest) = text.split_once('}')?;
     let form = closed(inside)?;
@@ -61,7 +43,7 @@ fn without_default(text: &str) -> Option<(Form<'_>, &str)>
 
 /// The form that has this between its `${` and its `}`, and no default.
 fn closed(inside: &str) -> Option<Form<'_>>
-    ensures { MatchOption result ((piece : Piece) → ¬ IsClosed piece inside.entry.now) (λ form. (wild : Bool) → IsClosed (piece_of wild form) inside.entry.now) }
+    ensures { MatchOption result ((piece : Piece) → ¬ IsClosed piece inside.entry.now) (λ form. IsClosed (piece_of form) inside.entry.now) }
 {
     if inside == "*" {
         Some(Form::Literal('*'))
@@ -79,7 +61,7 @@ fn closed(inside: &str) -> Option<Form<'_>>
 /// The variable with a default whose `${` stands before the text, and what is left behind its `}`.
 fn with_default(text: &str) -> Option<(Form<'_>, &str)>
     ensures { MatchOption result ((piece : Piece) (rest : List ℕ) → ¬ HasDefault piece text.entry.now rest)
-        (λ p. (wild : Bool) → HasDefault (piece_of wild p.0) text.entry.now p.1.now) }
+        (λ p. HasDefault (piece_of p.0) text.entry.now p.1.now) }
 {
     let (key, rest) = text.split_once(',')?;
     if !is_key(key) {

@@ -1,11 +1,12 @@
 ghost use Rattle.std.specs.Prelude.{◌≡◌, ◌↔◌, List, IsTrue, IfOk, map};
 ghost use Rattle.std.specs.Str.{chars};
 ghost use Rattle.iam_text.specs.declared.sign.Sign.{Sign};
+ghost use Rattle.iam_text.specs.Draft.{sign_of};
 ghost use Rattle.iam_text.specs.Glob.{wild_sign, plain_sign, Equals, EqualsFold, Matches, MatchesFold};
 
 use crate::OutOfMemory;
 use crate::case::Case;
-use crate::sign::Sign;
+use crate::sign::{Sign, sign_of};
 use crate::walk::{equals, matches};
 use std::alloc::Global;
 use std::marker::Model;
@@ -29,10 +30,7 @@ impl Glob {
     pub fn read(alloc: Global, text: &str) -> Result<Glob, OutOfMemory>
         ensures { IfOk result (λ g. g ≡ map wild_sign (chars text.now)) }
     {
-        let mut signs = Vec::with_capacity(alloc, text.len())?;
-        for character in text.chars() {
-            signs.push(Sign::wild(character))?;
-        }
+        let signs = read_signs(alloc, text, true)?;
         Ok(Glob { signs })
     }
 
@@ -40,10 +38,7 @@ impl Glob {
     pub fn plain(alloc: Global, text: &str) -> Result<Glob, OutOfMemory>
         ensures { IfOk result (λ g. g ≡ map plain_sign (chars text.now)) }
     {
-        let mut signs = Vec::with_capacity(alloc, text.len())?;
-        for character in text.chars() {
-            signs.push(Sign::Given(character))?;
-        }
+        let signs = read_signs(alloc, text, false)?;
         Ok(Glob { signs })
     }
 
@@ -75,6 +70,7 @@ impl Glob {
     {
         matches(self.signs.as_slice(), text, Case::Folded)
     }
+
     /// Whether the pattern is the text itself, without a wildcard, with regard to case.
     pub fn equals(&self, text: &str) -> bool
         ensures { IsTrue result ↔ Equals self.now (chars text.now) }
@@ -88,6 +84,29 @@ impl Glob {
     {
         equals(self.signs.as_slice(), text, Case::Folded)
     }
+}
+
+/// The signs of the characters. A text of ASCII characters alone, as most are, is read byte by byte.
+fn read_signs(alloc: Global, text: &str, wild: bool) -> Result<Vec<Sign>, OutOfMemory>
+    ensures { IfOk result (λ signs. signs.items ≡ map (sign_of wild) (chars text.now)) }
+{
+    if text.is_ascii() {
+        read_ascii(alloc, text.as_bytes(), wild)
+    } else {
+        text.chars()
+            .map(|character| sign_of(character, wild))
+            .collect(alloc)
+    }
+}
+
+fn read_ascii(alloc: Global, text: &[u8], wild: bool) -> Result<Vec<Sign>, OutOfMemory>
+    ensures { IfOk result (λ signs. signs.items ≡ map (sign_of wild) text.now) }
+{
+    let mut signs = Vec::with_capacity(alloc, text.len())?;
+    for &byte in text {
+        signs.push_reserved(sign_of(char::from(byte), wild));
+    }
+    Ok(signs)
 }
 
 /// Whether the signs match the whole text, with regard to case.

@@ -1,4 +1,5 @@
 ghost use Rattle.std.specs.Prelude.{◌≡◌};
+ghost use Rattle.iam_text.specs.Draft.{sign_of};
 
 /// One sign of a pattern.
 #[derive(Clone, Copy, Debug, PartialEq, Eq)]
@@ -23,5 +24,17 @@ impl Sign {
             '?' => Sign::One,
             given => Sign::Given(given),
         }
+    }
+}
+
+/// The sign of a character, by whether wildcards stand there.
+#[inline(always)]
+pub fn sign_of(character: char, wild: bool) -> Sign
+    ensures { result ≡ sign_of wild character }
+{
+    if wild {
+        Sign::wild(character)
+    } else {
+        Sign::Given(character)
     }
 }

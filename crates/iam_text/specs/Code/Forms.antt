@@ -1,17 +1,24 @@
--- How the code reads what a text begins with, beside the definition that it meets (`Draft`).
-use Rattle.std.specs.Prelude.{◌≡◌, ◌⊎◌, ℕ, List, [], ◌∷◌, ◌++◌, Bool, ◌||◌, not, ◌==◌, Some, None, IsTrue, option_map, replicate}
+-- How the code reads the forms of a text, beside the definition that it meets (`Draft`).
+use Rattle.std.specs.Prelude.{◌≡◌, ◌≤◌, ◌⊎◌, ℕ, List, [], ◌∷◌, ◌++◌, ◌||◌, not, ◌==◌, Some, None, IsTrue, codes, length, option_map, replicate}
 use Rattle.std.specs.List.{list_all}
 use Rattle.iam_text.specs.declared.form.Form.{Form}
-use Rattle.iam_text.specs.declared.form.Form.TheVariants.{Character, Literal, Named}
+use Rattle.iam_text.specs.declared.form.Form.TheVariants.{Literal, Named}
 use Rattle.iam_text.specs.declared.draft.Piece.{Piece}
 use Rattle.iam_text.specs.declared.draft.Piece.TheVariants.{Plain, Escaped, Variable}
-use Rattle.iam_text.specs.Draft.{is_key, sign_of}
+use Rattle.iam_text.specs.Draft.{is_key}
+
+-- no `${` begins in the front of a text, which the rest follows
+abbrev pub NoneBegins : List ℕ → List ℕ → Type 0
+NoneBegins front rest = (before behind : List ℕ) → front ++ rest ≡ before ++ (codes "${" ++ behind) → length front ≤ length before
+
+-- the text is cut at its first `${`, into what stands before it and behind it
+abbrev pub IsCutAtForm : List ℕ → List ℕ → List ℕ → Type 0
+IsCutAtForm text front inside = (text ≡ front ++ (codes "${" ++ inside)) × NoneBegins front (codes "${" ++ inside)
 
 -- the piece of a form
-abbrev pub piece_of : Bool → Form → Piece
-piece_of wild (Character c) = Plain (sign_of wild c)
-piece_of wild (Literal c) = Escaped c
-piece_of wild (Named key default) = Variable key.now (option_map (λ d. d.now) default)
+abbrev pub piece_of : Form → Piece
+piece_of (Literal c) = Escaped c
+piece_of (Named key default) = Variable key.now (option_map (λ d. d.now) default)
 
 -- what stands between `${` and `}` is this piece, which has no default
 abbrev pub IsClosed : Piece → List ℕ → Type 0

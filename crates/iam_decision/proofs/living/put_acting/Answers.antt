@@ -1,32 +1,27 @@
-use Rattle.std.proofs.Common.{◌≡◌, ◌<◌, ◌+◌, List, map, take, length, sym, ◌∙◌, ap, subst, arith}
-use Rattle.std.proofs.lemmas.List.{length-map}
+use Rattle.std.proofs.Common.{◌+◌, ◌++◌, ◌∷◌, [], List, map, take, sym, ◌∙◌, ap, subst}
 use Rattle.iam_decision.specs.Code.Scan.{AreActing}
-use Rattle.iam_decision.specs.Living.{LivingValue, living_value}
+use Rattle.iam_decision.specs.Living.{living_value}
+use Rattle.iam_decision.specs.declared.living.Living.{Living}
 use Rattle.iam_decision.specs.declared.living.Matched.{Matched}
-use Rattle.iam_decision.proofs.ScanLemmas.{acting_more, acting_skip, at_map}
+use Rattle.iam_decision.proofs.LivingLemmas.{acting-next, there-is}
 use Rattle.iam_decision.proofs.living.put_acting.Goals as goal
-use Rattle.iam_decision.proofs.living.put_acting.Goals.{then-action_matches+in_ok-push, else-action_matches}
+use Rattle.iam_decision.proofs.living.put_acting.Goals.{then-acts-i+in_ok-push, else-acts-i}
 
-pub loop-statement-preserved : goal.loop-statement-preserved
-loop-statement-preserved c =
-    let action = c.args.action.now in
-    let xs : List LivingValue = map living_value c.args.living.now in
-    let i = c.loop-statement.statement-index in
-    let x : LivingValue = living_value c.statement-item.result in
-    let found = c.loop-statement.found.items in
-    let long : length xs ≡ length c.args.living.now = length-map c.args.living.now living_value in
-    let inside : i < length c.args.living.now = c.loop-statement-test.true in
-    let below : i < length xs = omega arith in
-    let is = at_map living_value c.args.living.now i c.statement-item.result inside c.statement-item.is in
-    let Q : List Matched → Type 0 = λ items. AreActing action (take (i + 1) xs) items in
-    elim c.if-action_matches.branch [
-      | then-action_matches+in_ok-push w ↦
-          subst Q (sym (ap (λ v. v.items) w.found-is ∙ w.in_ok-push.ensures.items))
-          (acting_more action xs i x found below is c.loop-statement.invariant (c.action_matches.ensures.0 w.if-action_matches.true))
-      | else-action_matches w ↦
-          subst Q (sym (ap (λ v. v.items) w.found-is))
-          (
-          acting_skip action xs i x found below is c.loop-statement.invariant
-          (λ acts. let holds = c.action_matches.ensures.1 acts in let wrong : ⊥ = cc in wrong)
-          )
+pub loop-i-preserved : goal.loop-i-preserved
+loop-i-preserved c = λ action acting.
+    let living = c.args.living.now in
+    let acts = c.args.acts.now in
+    let i = c.loop-i.i in
+    let found = c.loop-i.found.items in
+    let Q : List Matched → Type 0 = λ items. AreActing action (take (i + 1) (map living_value living)) items in
+    elim c.if-acts-i.branch [
+      | then-acts-i+in_ok-push w ↦
+          let y = w.index-living-i.result in
+          let next = acting-next action living acts i y found c.loop-i-test.true c.requires w.index-living-i.is acting (c.loop-i.invariant action acting) in
+          let R : Living → Type 0 = λ z. Q (found ++ z.matched ∷ []) in
+          subst Q (sym (ap (λ v. v.items) w.found-is ∙ w.in_ok-push.ensures.items)) (subst R w.index-living-i.is (next.0 w.if-acts-i.true))
+      | else-acts-i w ↦
+          let (y, is) = there-is living i c.loop-i-test.true in
+          let next = acting-next action living acts i y found c.loop-i-test.true c.requires is acting (c.loop-i.invariant action acting) in
+          subst Q (sym (ap (λ v. v.items) w.found-is)) (next.1 w.if-acts-i.false)
     ]

@@ -23,7 +23,7 @@ loop-cell-init c =
 pub verdict-requires : goal.verdict-requires
 verdict-requires c =
     let (verdict, there, is) = c.in_ok-number.ensures.number in
-    slice_get_within c.find.new.self.verdicts c.in_ok-number.number verdict there
+    slice_get_within c.find.new.self.rulings c.in_ok-number.number verdict there
 
 pub loop-cell-preserved : goal.loop-cell-preserved
 loop-cell-preserved c =

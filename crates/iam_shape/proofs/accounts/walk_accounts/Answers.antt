@@ -20,7 +20,7 @@ returns-in_err-view-clause-path c =
     let ids = filter_map (text_at Id) (take i (map view vs)) in
     let known : HasTexts c.loop-i.ids ids =
     subst (HasTexts c.loop-i.ids) (earlier-ids view vs i (map account_of c.loop-i.views.items) c.loop-i.invariant.said) c.loop-i.invariant.known in
-    let p = err_from_is_err_and c.from_residual.result c.from_residual.ensures.1 in
+    let p = err_from_is_err_and c.from_residual-in_err-view.result c.from_residual-in_err-view.ensures.1 in
     rw (p.1, p.2)
     (
     λ other.

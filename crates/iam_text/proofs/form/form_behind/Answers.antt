@@ -6,5 +6,5 @@ pub returns-in-None : goal.returns-in-None
 returns-in-None c =
     match-weaker c.with_default.result _ _ _ _
     (λ none piece rest has. elim has [ inl closed ↦ c.in-None.ensures piece rest closed | inr default ↦ none piece rest default ])
-    (λ p has wild. inr (has wild))
+    (λ p has. inr has)
     c.with_default.ensures

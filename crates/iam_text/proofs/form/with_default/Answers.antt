@@ -39,6 +39,6 @@ returns-in_err-default c =
     )
 
 pub returns : goal.returns
-returns c = λ wild.
+returns c =
     let cut = split_parts 44 c.args.text.now (Some (c.in_ok-key.key, c.in_ok-key.rest)) c.in_ok-key.ensures.cases (omega arith) in
     (c.in_ok-key.rest.now, sym c.if-not-is_key.ensures, cut.0, c.in_ok-default.ensures)

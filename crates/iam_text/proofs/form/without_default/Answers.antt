@@ -25,6 +25,6 @@ returns-in_err-form c =
     )
 
 pub returns : goal.returns
-returns c = λ wild.
+returns c =
     let cut = split_parts 125 c.args.text.now (Some (c.in_ok-inside.inside, c.in_ok-inside.rest)) c.in_ok-inside.ensures.cases (omega arith) in
-    (c.in_ok-inside.inside.now, c.in_ok-form.ensures wild, cut.0)
+    (c.in_ok-inside.inside.now, c.in_ok-form.ensures, cut.0)

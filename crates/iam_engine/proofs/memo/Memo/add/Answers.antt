@@ -1,26 +1,72 @@
-use Rattle.std.proofs.Common.{◌≡◌, ℕ, List, [], ◌∷◌, ◌++◌, Some, length, sym, subst, arith}
+use Rattle.std.proofs.Common.{◌≡◌, ℕ, List, [], ◌∷◌, ◌++◌, Some, length, refl, sym, subst, arith}
 use Rattle.std.specs.List.{slice_get}
-use Rattle.iam_decision.specs.Living.{SharedValue}
-use Rattle.iam_engine.specs.Memo.{AreAnswers, ArePairs}
-use Rattle.iam_engine.proofs.MemoLemmas.{answers-more, get-next, pairs-more}
+use Rattle.iam_decision.specs.Living.{LivingValue}
+use Rattle.iam_engine.specs.Elements.{AreRows}
+use Rattle.iam_engine.specs.Memo.{AreAnswers, ArePairs, HasShared, HaveRows}
+use Rattle.iam_engine.specs.declared.elements.Element.{Element}
+use Rattle.iam_engine.specs.declared.memo.Class.{Class}
+use Rattle.iam_engine.proofs.ListLemmas.{get-next}
+use Rattle.iam_engine.proofs.MemoLemmas.{answers-more, class-rows-grow, class-rows-more, pairs-more}
 use Rattle.iam_engine.proofs.memo.Memo.add.Goals as goal
 
-pub returns-clause-right : goal.returns-clause-right
-returns-clause-right c = λ world right.
+pub returns-in_err-rows-clause-right : goal.returns-in_err-rows-clause-right
+returns-in_err-rows-clause-right c = λ right.
     let memo = c.args.self.now in
-    let more = c.args.shared ∷ [] in
-    let P : List SharedValue → Type 0 = λ classes. ArePairs world classes memo.pairs.items in
-    let Q : List SharedValue → Type 0 = λ classes. AreAnswers world classes memo.verdicts.items memo.answers.items in
+    let (more, grown) = c.in_err-rows.ensures.more in
+    let H : List Element → Type 0 = λ elements. HaveRows elements memo.classes.items in
     record {
-      pairs = subst P (sym c.in_ok-push.ensures.items) (pairs-more world memo.classes.items more memo.pairs.items right.pairs);
+      pairs = right.pairs;
+      answers = right.answers;
+      elements = c.in_err-rows.ensures.right right.elements;
+      rows = subst H (sym grown) (class-rows-grow memo.elements.elements.items more memo.classes.items right.rows);
+    }
+
+pub returns-clause-right : goal.returns-clause-right
+returns-clause-right c = λ right.
+    let world = c.args.world.now in
+    let memo = c.args.self.now in
+    let elements = c.rows.new.self.elements.items in
+    let class : Class = record { shared = c.args.shared; rows = c.in_ok-rows.rows } in
+    let (more, grown) = c.in_ok-rows.ensures.more in
+    let P : List Class → Type 0 = λ classes. ArePairs world classes memo.pairs.items in
+    let Q : List Class → Type 0 = λ classes. AreAnswers world classes memo.rulings.items memo.answers.items in
+    let R : List Class → Type 0 = λ classes. HaveRows elements classes in
+    let H : List Element → Type 0 = λ e. HaveRows e memo.classes.items in
+    let L : List LivingValue → Type 0 = λ living. AreRows elements living class.rows.items in
+    let before = subst H (sym grown) (class-rows-grow memo.elements.elements.items more memo.classes.items right.rows) in
+    let own = subst L c.living.ensures c.in_ok-rows.ensures.rows in
+    record {
+      pairs = subst P (sym c.in_ok-push.ensures.items) (pairs-more world memo.classes.items (class ∷ []) memo.pairs.items right.pairs);
       answers =
-          subst Q (sym c.in_ok-push.ensures.items) (answers-more world memo.classes.items more memo.verdicts.items memo.answers.items right.answers);
+          subst Q (sym c.in_ok-push.ensures.items)
+          (answers-more world memo.classes.items (class ∷ []) memo.rulings.items memo.answers.items right.answers);
+      elements = c.in_ok-rows.ensures.right right.elements;
+      rows = subst R (sym c.in_ok-push.ensures.items) (class-rows-more elements memo.classes.items class own before);
     }
 
 pub returns-clause-class : goal.returns-clause-class
 returns-clause-class c =
     let classes = c.args.self.now.classes.items in
-    let P : List SharedValue → Type 0 = λ cs. slice_get cs c.len-class.result ≡ Some c.args.shared in
-    let N : ℕ → Type 0 = λ n. slice_get (classes ++ c.args.shared ∷ []) n ≡ Some c.args.shared in
+    let class : Class = record { shared = c.args.shared; rows = c.in_ok-rows.rows } in
+    let S : List Class → Type 0 = λ cs. HasShared cs c.args.shared c.len-class.result in
+    let N : ℕ → Type 0 = λ n. slice_get (classes ++ class ∷ []) n ≡ Some class in
     let is : length classes ≡ c.len-class.result = omega (arith, c.len-class.ensures) in
-    subst P (sym c.in_ok-push.ensures.items) (subst N is (get-next classes c.args.shared))
+    subst S (sym c.in_ok-push.ensures.items) (class, subst N is (get-next classes class), refl)
+
+pub returns-in_err-push-clause-right : goal.returns-in_err-push-clause-right
+returns-in_err-push-clause-right c = λ right.
+    let world = c.args.world.now in
+    let memo = c.args.self.now in
+    let elements = c.rows.new.self.elements.items in
+    let (more, grown) = c.in_ok-rows.ensures.more in
+    let P : List Class → Type 0 = λ classes. ArePairs world classes memo.pairs.items in
+    let Q : List Class → Type 0 = λ classes. AreAnswers world classes memo.rulings.items memo.answers.items in
+    let R : List Class → Type 0 = λ classes. HaveRows elements classes in
+    let H : List Element → Type 0 = λ e. HaveRows e memo.classes.items in
+    let before = subst H (sym grown) (class-rows-grow memo.elements.elements.items more memo.classes.items right.rows) in
+    record {
+      pairs = subst P (sym c.in_err-push.ensures.items) right.pairs;
+      answers = subst Q (sym c.in_err-push.ensures.items) right.answers;
+      elements = c.in_ok-rows.ensures.right right.elements;
+      rows = subst R (sym c.in_err-push.ensures.items) before;
+    }

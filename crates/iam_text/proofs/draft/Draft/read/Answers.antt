@@ -1,38 +1,36 @@
-use Rattle.std.proofs.Common.{◌≡◌, ◌≢◌, ◌==◌, ◌++◌, ◌∷◌, [], List, ap, eqb-true, true, length, rules, subst, sym}
-use Rattle.std.proofs.lemmas.List.{nil_from_length}
-use Rattle.iam_text.specs.declared.draft.Piece.{Piece}
+use Rattle.std.proofs.Common.{◌≡◌, ◌∙◌, ◌++◌, ◌∷◌, [], ap, rules}
+use Rattle.std.specs.Str.{IsUtf8}
 use Rattle.iam_text.specs.Code.Forms.{piece_of}
-use Rattle.iam_text.proofs.DraftLemmas.{Along, along-end, along-more, along-off, begins-shorter}
+use Rattle.iam_text.proofs.DraftLemmas.{along-cut, along-end, along-form, along-off}
 use Rattle.iam_text.proofs.draft.Draft.read.Goals as goal
 
-pub loop-rest-smaller : goal.loop-rest-smaller
-loop-rest-smaller c = begins-shorter c.args.wild c.loop-rest.rest.now _ c.in-Some.behind.now (c.in-Some.ensures c.args.wild)
-
-pub loop-rest-preserved : goal.loop-rest-preserved
-loop-rest-preserved c =
-    let piece = piece_of c.args.wild c.in-Some.form in
-    let P : List Piece → Type 0 = λ done. Along c.args.wild c.args.text.now done c.in-Some.behind.now in
-    let made : c.in_ok-piece_of-in-Some.field-0 ≡ piece = c.in_ok-piece_of-in-Some.ensures in
-    let pushed : c.push.new.self.items ≡ c.loop-rest.pieces.items ++ c.in_ok-piece_of-in-Some.field-0 ∷ [] = c.in_ok-push-in-Some.ensures.items in
-    let grown : c.push.new.self.items ≡ c.loop-rest.pieces.items ++ piece ∷ [] = rw made at pushed in (
+pub loop-front-preserved : goal.loop-front-preserved
+loop-front-preserved c =
+    let wild = c.args.wild in
+    let text = c.args.text.now in
+    let inside = c.in-Some.inside.now in
+    let front : IsUtf8 c.in-Some.front.now = search rules in
+    let added = c.add_characters.new.pieces.items in
+    let cut = along-cut wild text c.loop-front.pieces.items added c.loop-front.rest.now c.in-Some.front.now inside c.loop-front.invariant.1 front c.in-Some.ensures c.in_ok-add_characters.ensures in
+    let piece = piece_of c.in-Some-form_behind.form in
+    let grown : c.push.new.self.items ≡ added ++ piece ∷ [] =
+    c.in_ok-push-in-Some-form_behind.ensures.items ∙ ap (λ p. added ++ p ∷ []) c.in_ok-piece_of-in-Some-form_behind.ensures in (
       search rules,
-      subst P (sym grown)
-          (
-          along-more c.args.wild c.args.text.now c.loop-rest.pieces.items c.loop-rest.rest.now c.in-Some.behind.now piece c.loop-rest.invariant.1
-          (c.in-Some.ensures c.args.wild)
-          ),
+      along-form wild text added c.push.new.self.items inside c.in-Some-form_behind.behind.now piece cut c.in-Some-form_behind.ensures grown,
     )
 
 pub returns-in-None : goal.returns-in-None
 returns-in-None c =
-    let some : c.loop-rest.rest.now ≢ [] = λ none.
-    let empty : (length c.loop-rest.rest.now == 0) ≡ true = ap (λ r. length r == 0) none in
-    let no : ⊥ = cc in
-    no in
-    along-off c.args.wild c.args.text.now c.loop-rest.pieces.items c.loop-rest.rest.now c.loop-rest.invariant.1 some (c.in-None.ensures c.args.wild)
+    let wild = c.args.wild in
+    let text = c.args.text.now in
+    let inside = c.in-Some.inside.now in
+    let front : IsUtf8 c.in-Some.front.now = search rules in
+    let added = c.add_characters.new.pieces.items in
+    along-off wild text added inside
+    (along-cut wild text c.loop-front.pieces.items added c.loop-front.rest.now c.in-Some.front.now inside c.loop-front.invariant.1 front c.in-Some.ensures c.in_ok-add_characters.ensures)
+    c.in-None.ensures
 
 pub returns : goal.returns
 returns c =
-    let empty : (length c.loop-rest.rest.now == 0) ≡ true = cc in
-    let none : c.loop-rest.rest.now ≡ [] = nil_from_length c.loop-rest.rest.now (eqb-true (length c.loop-rest.rest.now) 0 empty) in
-    along-end c.args.wild c.args.text.now c.loop-rest.pieces.items c.loop-rest.rest.now c.loop-rest.invariant.1 none
+    along-end c.args.wild c.args.text.now c.loop-front.pieces.items c.shrink_to_fit.new.self.items c.loop-front.rest.now c.loop-front.invariant.1
+    c.loop-front.invariant.0 c.in_default.ensures (c.shrink_to_fit.ensures.items ∙ c.in_ok-add_characters-2.ensures)

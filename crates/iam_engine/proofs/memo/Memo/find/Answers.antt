@@ -1,0 +1,31 @@
+use Rattle.std.proofs.Common.{◌≡◌, ℕ, Bool, List, Option, Some, map, sym, ◌∙◌, ap, subst}
+use Rattle.std.proofs.lemmas.Option.{slice_get-get_or}
+use Rattle.std.specs.List.{slice_get}
+use Rattle.iam_decision.specs.Living.{AreActs, IsShared, LivingValue, living_value}
+use Rattle.iam_engine.specs.Elements.{AreRows}
+use Rattle.iam_engine.specs.declared.memo.Class.{Class}
+use Rattle.iam_engine.proofs.ListLemmas.{some-same}
+use Rattle.iam_engine.proofs.memo.Memo.find.Goals as goal
+
+pub returns : goal.returns
+returns c = λ world class_is right at asked applicable access shared.
+    let memo = c.args.self.now in
+    let classes = memo.classes.items in
+    let elements = memo.elements.elements.items in
+    let class = c.index-class.result.now in
+    let text = c.args.text.now in
+    let living : List LivingValue = map living_value c.living-living.result.now in
+    let there : slice_get classes c.args.class ≡ Some class =
+    slice_get-get_or classes c.args.class class c.requires ∙ ap Some (sym c.index-class.ensures) in
+    let own : class ≡ class_is = some-same class class_is (sym there ∙ at) in
+    let L : List LivingValue → Type 0 = λ l. AreRows elements l class.rows.items in
+    let R : List (Option ℕ) → Type 0 = λ r. AreRows elements living r in
+    let rows = subst R (sym c.as_slice-rows.ensures.value) (subst L (sym c.living-living.ensures) (right.rows c.args.class class there)) in
+    let acts = c.in_ok-put_acts.ensures.acts world right.elements rows asked in
+    let A : List LivingValue → Type 0 = λ l. AreActs text l c.put_acts.new.acts.items in
+    let B : List Bool → Type 0 = λ a. AreActs text class.shared.living a in
+    let S : Class → Type 0 = λ k. IsShared applicable access k.shared in
+    let acting = subst B (sym c.as_slice.ensures.value) (subst A c.living-living.ensures acts) in (
+      c.frame.ensures ∙ ap (λ (k : Class). k.shared.frame) own,
+      c.in_ok-find.ensures applicable access text (subst S (sym own) shared) acting,
+    )

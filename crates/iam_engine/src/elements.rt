@@ -1,0 +1,199 @@
+// Action elements, and which actions of a world they match.
+ghost use Rattle.std.specs.Prelude.{◌≡◌, ◌++◌, ◌↔◌, ℕ, List, IfOk, IfSome, IsTrue, OnOk, length, map};
+ghost use Rattle.iam_decision.specs.Living.{AreActs, living_value};
+ghost use Rattle.iam_layers.specs.Cell.{IsAction};
+ghost use Rattle.iam_match.specs.Statement.{ActionMatches};
+ghost use Rattle.iam_world.specs.World.{WorldValue};
+ghost use Rattle.iam_engine.specs.Elements.{AreElements, AreRows, HasElement, IsElement};
+ghost use Rattle.iam_element.specs.Reading.{ActionElement};
+ghost use Rattle.iam_engine.specs.declared.elements.Element.{Element};
+
+use crate::slots::{empty, empty_slots, keep, kept, slot_of};
+use iam_layers::{Living, World};
+use iam_match::action_matches;
+use iam_policy::Actions;
+use iam_text::{OutOfMemory, Sign};
+use std::alloc::Global;
+
+/// How many answers are kept at most by the engines of a run.
+const MOST_ACTS: u64 = 16_777_216;
+
+/// The elements that were found last, by their prints.
+const PRINTS: u64 = 8_192;
+
+/// An action element, and of each action of a world whether it matches.
+#[derive(Drop)]
+pub struct Element<'a> {
+    pub action: &'a Actions,
+    pub acts: Vec<bool>,
+}
+
+/// Action elements of statements, with what they match. Where there is no room for another, it is not kept.
+#[derive(Drop)]
+pub struct Elements<'a> {
+    pub elements: Vec<Element<'a>>,
+    // By a print the element that was last found with it: a hint.
+    prints: Vec<Option<usize>>,
+    // How many elements there is room for.
+    most: usize,
+}
+
+impl<'a> Elements<'a> {
+    /// None yet; for one of so many engines that share the bound, in a world of so many actions.
+    pub fn new(alloc: Global, actions: u64, engines: u32) -> Result<Elements<'a>, OutOfMemory>
+        ensures { IfOk result (λ elements. (world : WorldValue) → AreElements world elements.elements.items) }
+    {
+        let most = MOST_ACTS / engines.max(1) as u64 / actions.max(1);
+        Ok(Elements {
+            elements: Vec::new(alloc),
+            prints: empty_slots(alloc, PRINTS)?,
+            most: most as usize,
+        })
+    }
+
+    /// The element of each of the living statements, where it is kept.
+    pub fn rows(
+        &mut self,
+        alloc: Global,
+        world: &World,
+        living: &[Living<'a>],
+    ) -> Result<Vec<Option<usize>>, OutOfMemory>
+        ensures right { AreElements world.now self.old.elements.items → AreElements world.now self.new.elements.items }
+        ensures more { (more : List Element) × (self.new.elements.items ≡ self.old.elements.items ++ more) }
+        ensures rows { IfOk result (λ rows. AreRows self.new.elements.items (map living_value living.now) rows.items) }
+    {
+        let mut rows = Vec::with_capacity(alloc, living.len())?;
+        for statement in living {
+            let number = self.number(alloc, world, statement)?;
+            rows.push(number)?;
+        }
+        Ok(rows)
+    }
+
+    /// The element of a living statement, where it is kept.
+    fn number(
+        &mut self,
+        alloc: Global,
+        world: &World,
+        statement: &Living<'a>,
+    ) -> Result<Option<usize>, OutOfMemory>
+        ensures right { AreElements world.now self.old.elements.items → AreElements world.now self.new.elements.items }
+        ensures more { (more : List Element) × (self.new.elements.items ≡ self.old.elements.items ++ more) }
+        ensures number { IfOk result (λ number. IfSome number (λ n. HasElement self.new.elements.items n (living_value statement.now).action)) }
+    {
+        let slot = slot_of(0, print_of(statement.action), PRINTS as usize);
+        if let Some(number) = self.known(slot, statement.action) {
+            return Ok(Some(number));
+        }
+        if self.elements.len() >= self.most {
+            return Ok(None);
+        }
+        let number = self.elements.len();
+        let element = element_of(alloc, world, statement.action)?;
+        self.elements.push(element)?;
+        keep(&mut self.prints, slot, number);
+        Ok(Some(number))
+    }
+
+    /// The element that a slot has, where it is this one.
+    fn known(&self, slot: u64, action: &Actions) -> Option<usize>
+        ensures { IfSome result (λ n. HasElement self.now.elements.items n action.now) }
+    {
+        let number = kept(self.prints.as_slice(), slot)?;
+        if number < self.elements.len() && self.elements[number].action.equals(action) {
+            Some(number)
+        } else {
+            None
+        }
+    }
+
+    /// Lets go everything that is kept.
+    pub fn clear(&mut self)
+        ensures { (world : WorldValue) → AreElements world self.new.elements.items }
+    {
+        empty(&mut self.prints);
+        self.elements.clear();
+    }
+
+    /// Puts into `acts`, in place of what is there, of each of the living statements whether its action element matches
+    /// action a, which has this text.
+    pub fn put_acts(
+        &self,
+        acts: &mut Vec<bool>,
+        living: &[Living<'_>],
+        rows: &[Option<usize>],
+        a: u64,
+        text: &str,
+    ) -> Result<(), OutOfMemory>
+        ensures count { OnOk result (length acts.new.items ≡ length living.now) }
+        ensures acts { (world : WorldValue) → AreElements world self.now.elements.items → AreRows self.now.elements.items (map living_value living.now) rows.now
+            → IsAction world a text.now → OnOk result (AreActs text.now (map living_value living.now) acts.new.items) }
+    {
+        acts.clear();
+        for i in 0..living.len() {
+            let row = kept(rows, i as u64);
+            acts.push(self.acts(row, living[i].action, a, text))?;
+        }
+        Ok(())
+    }
+
+    /// Whether an action element, which is that of the number where there is one, matches action a, which has this text.
+    fn acts(&self, row: Option<usize>, action: &Actions, a: u64, text: &str) -> bool
+        ensures { (world : WorldValue) → AreElements world self.now.elements.items
+            → IfSome row (λ n. HasElement self.now.elements.items n action.now) → IsAction world a text.now
+            → IsTrue result ↔ ActionMatches action.now text.now }
+    {
+        match self.act_of(row, a) {
+            Some(acts) => acts,
+            None => action_matches(action, text),
+        }
+    }
+
+    /// Whether the element of the number matches action a, where both are kept.
+    fn act_of(&self, row: Option<usize>, a: u64) -> Option<bool>
+        ensures { (world : WorldValue) (action : ActionElement) (text : List ℕ) → AreElements world self.now.elements.items
+            → IfSome row (λ n. HasElement self.now.elements.items n action) → IsAction world a text
+            → IfSome result (λ act. IsTrue act ↔ ActionMatches action text) }
+    {
+        let number = row?;
+        let element = self.elements.get(number)?;
+        let act = *element.acts.get(a as usize)?;
+        Some(act)
+    }
+}
+
+/// An action element with what it matches.
+fn element_of<'a>(
+    alloc: Global,
+    world: &World,
+    action: &'a Actions,
+) -> Result<Element<'a>, OutOfMemory>
+    ensures { IfOk result (λ element. IsElement world.now element × (element.action.now ≡ action.entry.now)) }
+{
+    let mut acts = Vec::with_capacity(alloc, world.actions() as usize)?;
+    for a in 0..world.actions() {
+        acts.push(action_matches(action, world.action_text(a)))?;
+    }
+    Ok(Element { action, acts })
+}
+
+/// A number that tells most action elements apart.
+fn print_of(action: &Actions) -> u64 {
+    let mut print: u64 = if action.is_negated() { 1 } else { 0 };
+    for pattern in action.patterns() {
+        for sign in pattern.signs() {
+            print = (print ^ number_of(*sign))
+                .wrapping_mul(0x9e37_79b9_7f4a_7c15)
+                .rotate_left(23);
+        }
+    }
+    print
+}
+
+fn number_of(sign: Sign) -> u64 {
+    match sign {
+        Sign::Given(character) => character as u64,
+        Sign::One => 1 << 32,
+        Sign::Any => 1 << 33,
+    }
+}
