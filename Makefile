@@ -1,4 +1,4 @@
-.PHONY: try run build install test attacks fmt
+.PHONY: try rows check run build install test stress attacks fmt
 
 PREFIX ?= /usr/local
 
@@ -6,6 +6,14 @@ PREFIX ?= /usr/local
 try:
 	@echo 'make try: nothing was proved; make run proves and builds the program' >&2
 	@cd crates/iamsim && rt try -- decide 0 0 0 < ../../examples/smallest.json
+
+# The rows of FILE=name of crates/iam_rows/data/, or of all its files, unproved.
+rows:
+	@cd crates/iam_rows && rt try $(foreach it,$(notdir $(wildcard crates/iam_rows/data/*.json)),--data $(it)=data/$(it)) -- $(FILE:%=%.json)
+
+# The proof of the crate CRATE=name, and of what it needs.
+check:
+	@cd crates/$(or $(CRATE),$(error name the crate: make check CRATE=iam_match)) && rt check
 
 # The main job, proved: one decision on the smallest example world.
 run: build
@@ -24,6 +32,10 @@ install: build
 # then the tests of the tools.
 test:
 	tools/gate
+
+# Many workers on many tiles, again and again; not part of the gate.
+stress: build
+	tools/stress
 
 # The further edits that the prover has to refuse, of all crates or of CRATE=name; not part of the gate.
 attacks:

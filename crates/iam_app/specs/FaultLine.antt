@@ -1,4 +1,4 @@
--- The numbers of the faults of a run, and the line that tells of one. It has no line feed at its end.
+-- The numbers of the faults of a run, and the line that tells of one. It has no line feed at its end. LOGIC 14.
 use Rattle.std.specs.Prelude.{Option, ℕ, List, [], ◌++◌, codes, decimal, Some, None}
 use Rattle.iam_context.specs.ContextFault.{context_number_of, context_name_of}
 use Rattle.iam_context.specs.declared.fault.ContextFault.{ContextFault}

@@ -1,4 +1,4 @@
--- What a run writes, and why it ends without its report.
+-- What a run writes, and why it ends without its report. LOGIC 13.3, 13.4 and 13.5.
 use Rattle.std.specs.Prelude.{◌≡◌, ◌≢◌, ◌⊎◌, ℕ, ◌<◌, ◌≤◌, List, ◌++◌, Option, Some, None, if◌then◌else◌, length, max, ⊤, codes, decimal}
 use Rattle.std.specs.Int.{div_ceil}
 use Rattle.std.specs.Io.KnownBytes.{Appends}

@@ -1,5 +1,5 @@
 -- What reading all input does to the bytes that a reader has left. `None` stands where a reader does not say which bytes
--- these are, and nothing is claimed of it.
+-- these are, and nothing is claimed of it. LOGIC 13.5.
 use Rattle.std.specs.Prelude.{Option, ◌≡◌, ℕ, ◌<◌, ◌≤◌, List, [], ◌++◌, length, ⊤, Some, None}
 use Rattle.std.specs.Io.KnownBytes.{Consumes}
 

@@ -1,5 +1,6 @@
 -- The element `Condition` of a statement, its faults and its reading: AWS IAM User Guide, "IAM JSON policy elements:
 -- Condition". Its members are operators, each an object whose members are keys, each with a value or a list of them.
+-- LOGIC 7.1.
 use Rattle.std.specs.Prelude.{◌≡◌, ℕ, List, [], ◌∷◌, Bool, true, false, not, ◌&&◌, ◌||◌, ◌==◌, Some, is_some, is_none, length, nat_lt, map, unwrap_or, ⊤, Any, MatchOption}
 use Rattle.std.specs.List.{AllZip, flat_map, list_any}
 use Rattle.std.specs.Option.{option_map_or}

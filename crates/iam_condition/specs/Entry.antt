@@ -1,4 +1,4 @@
--- An entry of a condition as it is kept.
+-- An entry of a condition as it is kept. LOGIC 7.1.
 use Rattle.std.specs.Prelude.{ℕ, List}
 use Rattle.iam_condition.specs.declared.operator.Operator.{Operator}
 use Rattle.iam_condition.specs.declared.operand.Operand.{Operand}

@@ -1,4 +1,4 @@
--- The values of operators: AWS IAM User Guide, "IAM JSON policy elements: Condition operators".
+-- The values of operators: AWS IAM User Guide, "IAM JSON policy elements: Condition operators". LOGIC 7.3.
 use Rattle.std.specs.Prelude.{◌≡◌, ℕ, ℤ, List, Bool, true, false, Option, Some, None, is_some, MatchOption}
 use Rattle.iam_text.specs.declared.draft.Piece.{Piece}
 use Rattle.iam_text.specs.declared.version.Version.{Version}

@@ -1,4 +1,4 @@
--- The names of operators: AWS IAM User Guide, "IAM JSON policy elements: Condition operators".
+-- The names of operators: AWS IAM User Guide, "IAM JSON policy elements: Condition operators". LOGIC 7.2.
 use Rattle.std.specs.Prelude.{ℕ, ◌-◌, List, [], ◌∷◌, Bool, true, false, Option, Some, None, codes, length, take, drop, nat_eq, option_map, if◌then◌else◌}
 use Rattle.std.specs.List.{find, starts_with, ends_with}
 use Rattle.std.specs.Str.{bytes_eq}
@@ -76,7 +76,7 @@ abbrev pub single_operator : Option Quantifier → List ℕ × Bool → Option O
 single_operator quantifier parts = option_map (operator_with quantifier parts.1) (find (λ row. bytes_eq parts.0 row.name) rows)
 
 -- the operator of a name: `Null`, or `ForAllValues:`, `ForAnyValue:` or neither, a row's name, and `IfExists` or not
-abbrev pub operator_of : List ℕ → Option Operator
+unfoldable pub operator_of : List ℕ → Option Operator
 operator_of name =
     if bytes_eq name (codes "Null") then Some null_operator
     else single_operator (behind_quantifier name).0 (before_if_exists (behind_quantifier name).1)

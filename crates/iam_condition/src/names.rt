@@ -119,6 +119,7 @@ fn single_operator(quantifier: Option<Quantifier>, name: &str) -> Option<Operato
 /// `IfExists` may follow. `None` for any other text.
 ///
 /// AWS IAM User Guide, "IAM JSON policy elements: Condition operators".
+#[tactic(auto, unfolding(crate::specs::Operator::operator_of))]
 pub fn operator_of(name: &str) -> Option<Operator>
     ensures { result ≡ operator_of name.now }
 {

@@ -1,5 +1,5 @@
 -- The context of a request: AWS IAM User Guide, "AWS global condition context keys" and "IAM policy elements:
--- Variables and tags". A text is the list of its bytes.
+-- Variables and tags". A text is the list of its bytes. LOGIC 9.1 and 9.2.
 use Rattle.std.specs.Prelude.{ℕ, List, [], ◌∷◌, ◌++◌, Bool, false, ◌||◌, codes, map}
 use Rattle.std.specs.List.{find, flat_map, list_any}
 use Rattle.std.specs.Option.{option_map_or}

@@ -1,4 +1,4 @@
--- The faults of the parts that a context is joined of, as a set over all pairs of their keys.
+-- The faults of the parts that a context is joined of, as a set over all pairs of their keys. LOGIC 9.3.
 use Rattle.std.specs.Prelude.{◌≡◌, ℕ, List, [], Bool, false, ◌||◌, codes, IsTrue}
 use Rattle.std.specs.List.{list_any}
 use Rattle.iam_context.specs.Context.{ContextValue, all_of, has_derived, has_key, has_twice, keys_of}

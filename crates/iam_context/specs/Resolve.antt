@@ -1,5 +1,6 @@
 -- What a text with variables becomes in a context: AWS IAM User Guide, "IAM policy elements: Variables and tags".
 -- That replaced characters are no wildcards, and that a key with several values has no value here, are our choices.
+-- LOGIC 4.3.
 use Rattle.std.specs.Prelude.{ℕ, List, [], ◌∷◌, ◌++◌, Option, Some, map, option_map, option_and_then}
 use Rattle.std.specs.Str.{chars}
 use Rattle.iam_text.specs.declared.draft.Piece.{Piece}

@@ -68,6 +68,26 @@ pub low_small : (low : Option ℕ) → IfSome low (λ cell. cell < no_cell) → 
 low_small (Some x) small = omega arith
 low_small None small = omega arith
 
+-- a bound that is at or below what a seat offered and saw is at or below its floor
+pub low_least_of : (low : Option ℕ) (s : SeatView)
+    → IfSome low (λ cell. (other : ℕ) → 0 < times other s.offers + times other s.looks → cell ≤ other)
+    → IfNone low ((other : ℕ) → other < no_cell → times other s.offers + times other s.looks ≡ 0)
+    → bound_of low ≤ no_cell
+    → bound_of low ≤ floor s
+low_least_of low s least none small = ⊎_elim
+    (λ below. known low least none (floor_found s below))
+    (λ past. omega arith)
+    (cases_lt (floor s) no_cell)
+  where
+    known : (o : Option ℕ) → IfSome o (λ cell. (other : ℕ) → 0 < times other s.offers + times other s.looks → cell ≤ other)
+        → IfNone o ((other : ℕ) → other < no_cell → times other s.offers + times other s.looks ≡ 0)
+        → 0 < times (floor s) s.offers + times (floor s) s.looks → bound_of o ≤ floor s
+    known (Some x) at_least nothing there = at_least (floor s) there
+    known None at_least nothing there = ⊎_elim
+        (λ below. let z = nothing (floor s) below in absurd (omega arith))
+        (λ past. past)
+        (cases_lt (floor s) no_cell)
+
 -- the bound is at or below each seat's floor
 pub low_below : (low : Option ℕ) (seats : List SeatView)
     → IfSome low (λ cell. cell < no_cell)

@@ -1,4 +1,4 @@
--- What a worker and a whole crew know of the bound.
+-- What a worker and a whole crew know of the bound. LOGIC 11.7.
 use Rattle.std.specs.Prelude.{ℕ, min, Option, unwrap_or, List, [], ◌∷◌}
 use Rattle.iam_lanes.specs.LaneRule.{no_cell}
 use Rattle.iam_lanes.specs.Lanes.{SeatView}

@@ -7,11 +7,11 @@ use iam_lanes::{LaneSeat, Lanes};
 
 /// The least cell that any worker has offered so far, `None` while there is none.
 ///
-/// A tile all of whose cells are above it need not be searched. The seat's floor is then at or below it.
+/// A tile all of whose cells are above it need not be searched. The seat's floor is then that cell.
 pub fn look(lanes: &Lanes, seat: &mut LaneSeat) -> Option<u64>
     requires { seat.old.lanes ≡ lanes.now }
     ensures cell { IfSome result (λ cell. cell < no_cell) }
-    ensures seen { floor seat.new ≤ bound_of result }
+    ensures seen { floor seat.new ≡ bound_of result }
     ensures lower { floor seat.new ≤ floor seat.old }
     ensures lanes { seat.new.lanes ≡ seat.old.lanes }
     ensures taken { seat.new.taken ≡ seat.old.taken }

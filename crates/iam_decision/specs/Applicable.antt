@@ -1,4 +1,4 @@
--- The policies that apply to a request: AWS IAM User Guide, "Policy evaluation logic".
+-- The policies that apply to a request: AWS IAM User Guide, "Policy evaluation logic". LOGIC 10.1.
 use Rattle.std.specs.Prelude.{◌<◌, ◌^◌, List, [], ◌∷◌, Bool, Option, false, true, map, option_map, length}
 use Rattle.std.specs.List.{AllByRecursion}
 use Rattle.std.specs.Option.{is_some}

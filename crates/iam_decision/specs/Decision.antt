@@ -1,5 +1,5 @@
 -- Decision: AWS IAM User Guide, "Policy evaluation logic". What each grant of a resource policy passes by in the same
--- account, the deciding statements and the lacks are our choices.
+-- account, the deciding statements and the lacks are our choices. LOGIC 1.1, 11.1, 11.2, 11.3 and 11.4.
 use Rattle.std.specs.Prelude.{◌≡◌, ◌⊎◌, ◌<◌, ◌≤◌, ℕ, List, [], ◌∷◌, true, false, map}
 use Rattle.std.specs.List.{Any}
 use Rattle.iam_policy.specs.declared.effect.Effect.{Effect}

@@ -1,5 +1,6 @@
 -- What follows from the definition of a decision, for every requester, action, resource and context: AWS IAM User Guide,
 -- "Policy evaluation logic", "Permissions boundaries for IAM entities", "Session policies" and "Service control policies".
+-- LOGIC 11.2.
 use Rattle.std.specs.Prelude.{◌≡◌, ◌⊎◌, ◌↔◌, ◌<◌, ◌≤◌, ℕ, List, [], ◌∷◌, None, Some, codes, false, true, get_or, length}
 use Rattle.std.specs.List.{Any, Contains, flat_map}
 use Rattle.iam_element.specs.Reading.{PrincipalElement}

@@ -1,5 +1,5 @@
 -- The statements of the applicable policies that match a request once their action elements do, and those that match: what
--- a decision needs of them. No action is looked at for the former, so requests for many actions share them.
+-- a decision needs of them. No action is looked at for the former, so requests for many actions share them. LOGIC 11.1.
 use Rattle.std.specs.Prelude.{◌≡◌, ◌↔◌, ℕ, Bool, IsTrue, List, Some, map}
 use Rattle.std.specs.List.{slice_get}
 use Rattle.iam_element.specs.Reading.{ActionElement}

@@ -1,4 +1,5 @@
 -- The statements of the applicable policies, each with its place, and which of them match a request.
+-- LOGIC 10.2 and 11.1.
 use Rattle.std.specs.Prelude.{◌≡◌, ◌⊎◌, ℕ, List, [], ◌∷◌, ◌++◌, Option, Some, None}
 use Rattle.std.specs.List.{enumerate_from, flat_map}
 use Rattle.iam_policy.specs.Reading.{PolicyValue, StatementValue}

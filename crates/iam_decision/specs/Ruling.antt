@@ -1,4 +1,4 @@
--- A verdict, with all that it follows from.
+-- A verdict, with all that it follows from. LOGIC 11.2.
 use Rattle.std.specs.Prelude.{◌≡◌, List}
 use Rattle.iam_match.specs.Statement.{RequestValue}
 use Rattle.iam_decision.specs.Applicable.{ApplicableValue, frame_of}

@@ -1,5 +1,5 @@
 -- Elements of a statement, as JSON values: AWS IAM User Guide, "IAM JSON policy elements reference".
--- An element that is absent is `None`.
+-- An element that is absent is `None`. LOGIC 6.2.
 use Rattle.std.specs.Prelude.{ℕ, List, [], ◌∷◌, Bool, false, not, ◌&&◌, length, nat_lt, Option, Some, None, is_some, is_none, unwrap_or, if◌then◌else◌}
 use Rattle.std.specs.List.{list_all, list_any, filter_map}
 use Rattle.std.specs.Option.{option_map_or}

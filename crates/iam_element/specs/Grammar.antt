@@ -1,5 +1,5 @@
 -- Tests on the texts of a statement: AWS IAM User Guide, "Grammar of the IAM JSON policy language".
--- A text is the list of its bytes.
+-- A text is the list of its bytes. LOGIC 4.1 and 6.7.
 use Rattle.std.specs.Prelude.{ℕ, List, [], ◌∷◌, Bool, true, false, not, ◌&&◌, ◌||◌, ◌==◌, length, nat_eq, nat_le, nat_lt, codes, Option, Some, None, option_map, if◌then◌else◌}
 use Rattle.std.specs.List.{starts_with, list_any}
 use Rattle.std.specs.Option.{option_map_or}

@@ -1,4 +1,4 @@
--- Principal elements: AWS IAM User Guide, "IAM JSON policy elements: Principal".
+-- Principal elements: AWS IAM User Guide, "IAM JSON policy elements: Principal". LOGIC 6.6.
 use Rattle.std.specs.Prelude.{ℕ, List, [], ◌∷◌, Bool, false, not, ◌&&◌, ◌||◌, codes, map, is_some}
 use Rattle.std.specs.List.{list_any}
 use Rattle.std.specs.Str.{bytes_eq}

@@ -1,5 +1,5 @@
 -- What the elements of a statement are, and how they are read: AWS IAM User Guide, "IAM JSON policy elements
--- reference".
+-- reference". LOGIC 6.9.
 use Rattle.std.specs.Prelude.{◌≡◌, ℕ, List, [], ◌∷◌, Bool, true, false, Option, Some, None, IsSome, map, codes, option_map, if◌then◌else◌}
 use Rattle.std.specs.List.{AllZip, flat_map}
 use Rattle.std.specs.Str.{chars}

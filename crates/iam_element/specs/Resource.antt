@@ -1,4 +1,4 @@
--- Resource elements: AWS IAM User Guide, "IAM JSON policy elements: Resource".
+-- Resource elements: AWS IAM User Guide, "IAM JSON policy elements: Resource". LOGIC 6.7.
 use Rattle.std.specs.Prelude.{Bool, ◌||◌, codes}
 use Rattle.serde_json.specs.Data.{Data}
 use Rattle.serde_json.specs.Find.{get}

@@ -1,4 +1,4 @@
--- Action elements of which it is kept what they match.
+-- Action elements of which it is kept what they match. LOGIC 1.1.
 use Rattle.std.specs.Prelude.{◌≡◌, ◌↔◌, ℕ, Bool, IsTrue, List, Option, Some}
 use Rattle.std.specs.List.{slice_get}
 use Rattle.iam_element.specs.Reading.{ActionElement}

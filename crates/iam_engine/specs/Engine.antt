@@ -1,4 +1,4 @@
--- An engine, as its callers see it.
+-- An engine, as its callers see it. LOGIC 1.1.
 use Rattle.std.specs.Prelude.{◌≡◌, ℕ, List, Some}
 use Rattle.std.specs.List.{slice_get}
 use Rattle.iam_decision.specs.Ruling.{RulingValue}

@@ -1,4 +1,4 @@
--- The derived keys that an engine made last.
+-- The derived keys that an engine made last. LOGIC 1.1.
 use Rattle.std.specs.Prelude.{◌<◌, length}
 use Rattle.iam_layers.specs.Cell.{IsDerivedAt}
 use Rattle.iam_world.specs.World.{WorldValue}

@@ -1,5 +1,5 @@
 -- What an engine keeps: classes of requests that share the same, and verdicts on them. It may keep anything that is right,
--- and let go of it at any time.
+-- and let go of it at any time. LOGIC 1.1.
 use Rattle.std.specs.Prelude.{◌≡◌, ℕ, List, Option, Some}
 use Rattle.std.specs.List.{slice_get}
 use Rattle.iam_match.specs.Statement.{AccessValue, request_for}

@@ -1,4 +1,4 @@
--- Slots, each of which may keep something.
+-- Slots, each of which may keep something. LOGIC 1.1.
 use Rattle.std.specs.Prelude.{◌≡◌, ◌⊎◌, ℕ, List, Option, Some}
 use Rattle.std.specs.List.{slice_get}
 

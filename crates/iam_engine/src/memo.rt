@@ -41,17 +41,47 @@ pub struct Room {
 /// The class of a principal and a resource.
 #[derive(Clone, Copy)]
 pub struct Pair {
-    pub principal: u64,
-    pub resource: u64,
-    pub class: usize,
+    pub principal: u32,
+    pub resource: u32,
+    pub class: u32,
+}
+
+impl Pair {
+    ghost use Rattle.std.specs.Prelude.{◌≡◌, IfSome};
+
+    /// The pair, where its numbers have 32 bits.
+    fn of(p: u64, r: u64, class: usize) -> Option<Pair>
+        ensures { IfSome result (λ pair. pair ≡ record { principal = p; resource = r; class = class }) }
+    {
+        Some(Pair {
+            principal: u32::try_from(p).ok()?,
+            resource: u32::try_from(r).ok()?,
+            class: u32::try_from(class).ok()?,
+        })
+    }
 }
 
 /// The number of the verdict on requests of a class for an action.
 #[derive(Clone, Copy)]
 pub struct Answer {
-    pub class: usize,
-    pub action: u64,
-    pub number: usize,
+    pub class: u32,
+    pub action: u32,
+    pub number: u32,
+}
+
+impl Answer {
+    ghost use Rattle.std.specs.Prelude.{◌≡◌, IfSome};
+
+    /// The answer, where its numbers have 32 bits.
+    fn of(class: usize, a: u64, number: usize) -> Option<Answer>
+        ensures { IfSome result (λ answer. answer ≡ record { class = class; action = a; number = number }) }
+    {
+        Some(Answer {
+            class: u32::try_from(class).ok()?,
+            action: u32::try_from(a).ok()?,
+            number: u32::try_from(number).ok()?,
+        })
+    }
 }
 
 /// What is kept: requests that share the same are a class, and of some classes and actions the verdict is known.
@@ -108,8 +138,8 @@ impl<'a> Memo<'a> {
         ensures { (world : WorldValue) → IsRight world self.now → IfSome result (HasClass world self.now.classes.items p r) }
     {
         let pair = kept(self.pairs.as_slice(), slot_of(0, r, self.pairs.len()))?;
-        if pair.principal == p && pair.resource == r {
-            Some(pair.class)
+        if pair.principal as u64 == p && pair.resource as u64 == r {
+            Some(pair.class as usize)
         } else {
             None
         }
@@ -128,13 +158,10 @@ impl<'a> Memo<'a> {
         ensures class { IsSharedAt world.now p r shared.entry → IfOk result (HasClass world.now self.new.classes.items p r) }
     {
         let class = self.class_sharing(alloc, world, shared)?;
-        let slot = slot_of(0, r, self.pairs.len());
-        let pair = Pair {
-            principal: p,
-            resource: r,
-            class,
-        };
-        keep(&mut self.pairs, slot, pair);
+        if let Some(pair) = Pair::of(p, r, class) {
+            let slot = slot_of(0, r, self.pairs.len());
+            keep(&mut self.pairs, slot, pair);
+        }
         Ok(class)
     }
 
@@ -226,8 +253,8 @@ impl<'a> Memo<'a> {
             self.answers.as_slice(),
             slot_of(a, class as u64, self.answers.len()),
         )?;
-        if answer.class == class && answer.action == a {
-            Some(answer.number)
+        if answer.class as usize == class && answer.action as u64 == a {
+            Some(answer.number as usize)
         } else {
             None
         }
@@ -239,13 +266,10 @@ impl<'a> Memo<'a> {
             → IsRight world self.new }
         ensures same { self.new.rulings ≡ self.old.rulings }
     {
-        let slot = slot_of(a, class as u64, self.answers.len());
-        let answer = Answer {
-            class,
-            action: a,
-            number,
-        };
-        keep(&mut self.answers, slot, answer);
+        if let Some(answer) = Answer::of(class, a, number) {
+            let slot = slot_of(a, class as u64, self.answers.len());
+            keep(&mut self.answers, slot, answer);
+        }
     }
 
     /// Puts the statements that match requests of the class for action a, which has this text, into the room; what is asked

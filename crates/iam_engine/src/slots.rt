@@ -8,7 +8,7 @@ use std::alloc::Global;
 /// the same.
 pub fn slot_of(one: u64, other: u64, slots: usize) -> u64 {
     let mask = (slots as u64).wrapping_sub(1);
-    one.wrapping_mul(31).wrapping_add(other) & mask
+    one.wrapping_mul(1021).wrapping_add(other) & mask
 }
 
 /// More slots than a world has cells are never wanted.

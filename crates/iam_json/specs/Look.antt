@@ -1,4 +1,4 @@
--- Looking into JSON values.
+-- Looking into JSON values. LOGIC 6.1.
 use Rattle.std.specs.Prelude.{ℕ, List, [], ◌∷◌, Bool, false, not, ◌||◌, Option, Some, None}
 use Rattle.std.specs.List.{list_any}
 use Rattle.std.specs.Option.{option_map_or}

@@ -1,5 +1,5 @@
 -- Single values that stand for a text: a text for itself, a Boolean for `true` or `false`, a whole number for its
--- decimal text. A whole number is one that is read as a signed or unsigned number of 64 bits.
+-- decimal text. A whole number is one that is read as a signed or unsigned number of 64 bits. LOGIC 1.3.
 use Rattle.std.specs.Prelude.{ℕ, List, Bool, true, ◌&&◌, Option, Some, None, codes, is_some, if◌then◌else◌, decimal}
 use Rattle.std.specs.Fmt.{signed_decimal}
 use Rattle.serde_json.specs.Data.{Data, null, boolean, number, string, array, object, Num, unsigned, negative, float, Members, no_members, member}

@@ -1,4 +1,4 @@
--- How many values a JSON value holds.
+-- How many values a JSON value holds. LOGIC 15.
 use Rattle.std.specs.Prelude.{ℕ, suc, ◌+◌}
 use Rattle.serde_json.specs.Data.{Data, null, boolean, number, string, array, object, Items, no_items, item, Members, no_members, member}
 

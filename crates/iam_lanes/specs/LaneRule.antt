@@ -1,4 +1,5 @@
 -- Shared lanes as plain data: their state, what each event does to it, and the rule that holds between any two events.
+-- LOGIC 11.7.
 use Rattle.std.specs.Prelude.{◌≡◌, ℕ, ◌+◌, ◌-◌, ◌<◌, ◌≤◌, ◌==◌, ◌&&◌, nat_lt, min, if◌then◌else◌, List, [], ◌∷◌, ◌++◌, slice_index, slice_set, sum_by, count_by}
 use mathlib.Core.Option.{some}
 use lib.ListN.{get_elem?}

@@ -1,4 +1,4 @@
--- Lanes and their seats as callers see them, and what a caller knows once the lanes are closed.
+-- Lanes and their seats as callers see them, and what a caller knows once the lanes are closed. LOGIC 11.7.
 use Rattle.std.specs.Prelude.{ℕ, zero, suc, ◌+◌, ◌-◌, ◌<◌, ◌⊎◌, ◌==◌, nat_lt, max, if◌then◌else◌, List, [], ◌∷◌, ◌++◌, length, slice_index, sum, sum_by}
 use Rattle.atomic_table.specs.Seated.{TableId}
 use Rattle.iam_lanes.specs.LaneRule.{times, times_taken}

@@ -95,6 +95,15 @@ fn cell_of(word: u64) -> Option<u64>
     if word == NO_CELL { None } else { Some(word) }
 }
 
+// The number that a count stands for in a lane of this length: none where the lane has ended.
+fn number_at(count: u64, length: u64) -> Option<u64>
+    ensures number { IfSome result (λ n. n ≡ count) }
+    ensures inside { IfSome result (λ n. n < length) }
+    ensures ended { IfNone result (length ≤ count) }
+{
+    if count < length { Some(count) } else { None }
+}
+
 // Deals out the seats that stand in the opener's view, each with a view of its own.
 fn hand_out(
     alloc: Global,
@@ -175,11 +184,11 @@ impl Lanes {
             .table
             .shared
             .fetch_add::<Take>(&mut seat.pass, lane + 1, 1);
-        if found < length {
-            return Some(found);
-        }
-        seat.ended[lane] = true;
-        None
+        let Some(number) = number_at(found, length) else {
+            seat.ended[lane] = true;
+            return None;
+        };
+        Some(number)
     }
 
     /// Offers a cell: the bound falls to it where the bound is above it.

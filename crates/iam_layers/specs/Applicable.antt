@@ -1,4 +1,4 @@
--- The policies of a world that apply to a request: AWS IAM User Guide, "Policy evaluation logic".
+-- The policies of a world that apply to a request: AWS IAM User Guide, "Policy evaluation logic". LOGIC 10.1.
 use Rattle.std.specs.Prelude.{List, [], Bool, false, Option, None, Some, if◌then◌else◌}
 use Rattle.std.specs.Str.{bytes_eq}
 use Rattle.iam_decision.specs.Applicable.{ApplicableValue}

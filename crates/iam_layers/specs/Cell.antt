@@ -1,4 +1,4 @@
--- The requests of a world by the numbers of principal, action and resource, and their verdicts.
+-- The requests of a world by the numbers of principal, action and resource, and their verdicts. LOGIC 11.6.
 use Rattle.std.specs.Prelude.{◌≡◌, ℕ, ◌+◌, ◌*◌, ◌<◌, List, Some, length}
 use Rattle.std.specs.List.{slice_get}
 use Rattle.iam_match.specs.Requester.{requester_name}

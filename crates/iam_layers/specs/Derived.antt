@@ -1,5 +1,5 @@
 -- The keys that follow from requester, resource and moment, and the context of a request: AWS IAM User Guide, "AWS
--- global condition context keys".
+-- global condition context keys". LOGIC 9.2.
 use Rattle.std.specs.Prelude.{◌≡◌, ℕ, List, [], ◌∷◌, ◌++◌, codes, decimal, pos}
 use Rattle.std.specs.Option.{option_map_or}
 use Rattle.iam_context.specs.Context.{ContextValue, joined}

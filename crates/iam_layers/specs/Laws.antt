@@ -1,5 +1,5 @@
 -- What follows from which policies apply: AWS Organizations User Guide, "Service control policies" and "Resource control
--- policies".
+-- policies". LOGIC 10.1.
 use Rattle.std.specs.Prelude.{◌≡◌, ◌⊎◌, ℕ, List, true}
 use Rattle.std.specs.List.{AllZip}
 use Rattle.iam_decision.specs.declared.verdict.Verdict.{Verdict}

@@ -1,6 +1,6 @@
 -- When an entry of a condition holds: AWS IAM User Guide, "IAM JSON policy elements: Condition operators" and
 -- "Single-valued vs. multivalued context keys". That a text of a request which is off the operator's grammar matches
--- nothing, and how a value that does not resolve counts, are our choices.
+-- nothing, and how a value that does not resolve counts, are our choices. LOGIC 4.4, 6.8, 7.1, 7.3, 7.4 and 7.5.
 use Rattle.std.specs.Prelude.{◌≡◌, ◌⊎◌, ℕ, ℤ, ◌<ℤ◌, ◌≤ℤ◌, List, [], ◌∷◌, ◌++◌, Bool, true, false, Option, Some, None, IsSome, IsTrue, ⊤, All, Any, MatchBool}
 use Rattle.std.specs.Str.{chars}
 use Rattle.iam_text.specs.Arn.{IsArn, colon}

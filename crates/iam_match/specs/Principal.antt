@@ -1,5 +1,5 @@
 -- The principals of a statement, and what they name and grant: AWS IAM User Guide, "AWS JSON policy elements:
--- Principal", "NotPrincipal" and "Cross account policy evaluation logic".
+-- Principal", "NotPrincipal" and "Cross account policy evaluation logic". LOGIC 5.2, 5.3, 5.4 and 5.5.
 use Rattle.std.specs.Prelude.{◌≢◌, ℕ, List, [], ◌∷◌, Bool, true, false, ◌&&◌, ◌||◌, nat_lt, Option, IfSome, MatchBool, IsTrue, filter, map, codes, if◌then◌else◌}
 use Rattle.std.specs.List.{list_all, list_any}
 use Rattle.std.specs.Option.{option_map_or}

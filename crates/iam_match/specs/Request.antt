@@ -1,4 +1,4 @@
--- A request as the code holds it.
+-- A request as the code holds it. LOGIC 1.1.
 use Rattle.iam_match.specs.declared.request.Access.{Access}
 use Rattle.iam_match.specs.declared.request.Request.{Request}
 use Rattle.iam_match.specs.Statement.{AccessValue, RequestValue}

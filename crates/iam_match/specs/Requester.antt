@@ -1,5 +1,5 @@
 -- Requesters and their ARNs: AWS IAM User Guide, "IAM identifiers" and "AWS JSON policy elements: Principal".
--- A text is the list of its bytes.
+-- A text is the list of its bytes. LOGIC 5.1.
 use Rattle.std.specs.Prelude.{◌≡◌, ℕ, ◌<◌, List, ◌++◌, Bool, ◌&&◌, ◌||◌, not, ◌==◌, nat_le, length, Option, Some, None, IfSome, IsTrue, codes}
 use Rattle.std.specs.List.{AllByRecursion, after_last, join_with_byte}
 use Rattle.std.specs.Option.{option_map_or}

@@ -1,5 +1,5 @@
 -- When a statement matches a request: AWS IAM User Guide, "Policy evaluation logic" and "IAM JSON policy elements
--- reference".
+-- reference". LOGIC 2.3, 2.4, 4.4 and 6.10.
 use Rattle.std.specs.Prelude.{◌≡◌, ℕ, List, Option, Some, None, IsSome, ⊤, All, Any, MatchBool}
 use Rattle.std.specs.Str.{chars}
 use Rattle.iam_text.specs.declared.sign.Sign.{Sign}

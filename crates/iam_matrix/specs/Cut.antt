@@ -1,4 +1,4 @@
--- How the cells of a matrix are cut into tiles, which follow one another.
+-- How the cells of a matrix are cut into tiles, which follow one another. LOGIC 11.7.
 use Rattle.std.specs.Prelude.{◌≡◌, ◌≢◌, ℕ, ◌/◌, ◌%◌, ◌<◌, ◌≤◌, ◌==◌, List, [], ◌∷◌, ◌++◌, All, Any, length, sum, take, replicate, if◌then◌else◌}
 use Rattle.iam_matrix.specs.declared.cut.CutFault.{CutFault}
 use Rattle.iam_matrix.specs.declared.cut.CutFault.TheVariants.{ZeroTile, WrongSum, TooMany, OutOfMemory}

@@ -1,4 +1,4 @@
--- The faults of cuts and of matrices.
+-- The faults of cuts and of matrices. LOGIC 11.7 and 14.
 use Rattle.std.specs.Prelude.{◌≡◌, ℕ, ◌⊎◌, ◌<◌, List, codes}
 use Rattle.iam_matrix.specs.declared.cut.CutFault.{CutFault}
 use Rattle.iam_matrix.specs.declared.cut.CutFault.TheVariants as c

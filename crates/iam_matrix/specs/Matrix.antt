@@ -1,4 +1,5 @@
 -- The matrix of a world: the verdict of each cell, in the order of the cells' numbers. It names no cut and no worker.
+-- LOGIC 11.6 and 11.8.
 use Rattle.std.specs.Prelude.{◌≡◌, ◌≢◌, ℕ, ◌+◌, ◌<◌, List, Option, Some, None, length}
 use Rattle.std.specs.List.{slice_get}
 use Rattle.iam_decision.specs.declared.verdict.Decision.{Decision}

@@ -1,4 +1,4 @@
--- The report of a world's matrix.
+-- The report of a world's matrix. LOGIC 13.1 and 13.2.
 use Rattle.std.specs.Prelude.{◌≡◌, ℕ, List, Option, Some, None, Bool, MatchBool}
 use Rattle.iam_decision.specs.declared.verdict.Decision.{Decision}
 use Rattle.iam_decision.specs.declared.verdict.Decision.TheVariants.{Allowed}

@@ -7,11 +7,12 @@ ghost use Rattle.iam_matrix.specs.Code.Tiles.{AreDecisions};
 
 use crate::cut::Cut;
 use crate::fault::{MatrixFault, is_unlawful};
-use crate::verdicts::end_of;
+use crate::verdicts::{decision_at, end_of};
 use iam_crew::{Crew, Gate, gather};
 use iam_engine::Engine;
 use iam_lanes::{LaneSeat, Lanes};
 use iam_layers::{Decision, World};
+use iam_report::Position;
 use iam_text::OutOfMemory;
 use std::alloc::Global;
 use std::thread::Threads;
@@ -74,9 +75,12 @@ fn decisions_of(
     ensures same { engine.new.world ≡ engine.old.world }
 {
     let world = engine.world();
+    let end = end_of(world, from, count);
     let mut decisions = Vec::new(alloc);
-    for cell in from..end_of(world, from, count) {
-        decisions.push(engine.decide_brief(alloc, cell)?)?;
+    let mut at = Position::of(world, from);
+    while at.cell < end {
+        decisions.push(decision_at(alloc, engine, at)?)?;
+        at = at.next_in(world);
     }
     Ok(decisions)
 }

@@ -5,12 +5,12 @@ ghost use Rattle.iam_world.specs.World.{world_cells};
 ghost use Rattle.iam_matrix.specs.Code.Tiles.{AreBriefTails, AreDecisions, AreFullTails, AreTailsOf, AreVerdicts};
 
 use crate::cut::Cut;
-use crate::verdicts::end_of;
+use crate::verdicts::{decision_at, end_of};
 use iam_crew::{Crew, Gate};
 use iam_engine::Engine;
 use iam_lanes::{LaneSeat, Lanes};
 use iam_layers::World;
-use iam_report::{Entries, Format, Tile};
+use iam_report::{Entries, Format, Position, Tile};
 use iam_text::OutOfMemory;
 use std::alloc::Global;
 
@@ -124,11 +124,13 @@ fn full_entries(
     ensures same { engine.new.world ≡ engine.old.world }
 {
     let world = engine.world();
+    let end = end_of(world, from, count);
     let mut entries = Entries::new(alloc, count as usize)?;
-    for cell in from..end_of(world, from, count) {
-        let (p, a, r) = world.triple(cell);
-        let number = engine.find(alloc, p, a, r)?;
-        entries.push(alloc, engine.verdict(number))?;
+    let mut at = Position::of(world, from);
+    while at.cell < end {
+        let number = engine.find(alloc, at.principal, at.action, at.resource)?;
+        entries.push_hinted(alloc, number, engine.verdict(number))?;
+        at = at.next_in(world);
     }
     Ok(entries)
 }
@@ -145,11 +147,12 @@ fn brief_entries(
     ensures same { engine.new.world ≡ engine.old.world }
 {
     let world = engine.world();
+    let end = end_of(world, from, count);
     let mut entries = Entries::new(alloc, count as usize)?;
-    for cell in from..end_of(world, from, count) {
-        let (p, a, r) = world.triple(cell);
-        let number = engine.find(alloc, p, a, r)?;
-        entries.push_decision(alloc, engine.verdict(number).decision)?;
+    let mut at = Position::of(world, from);
+    while at.cell < end {
+        entries.push_decision(alloc, decision_at(alloc, engine, at)?)?;
+        at = at.next_in(world);
     }
     Ok(entries)
 }

@@ -7,11 +7,12 @@ ghost use Rattle.iam_matrix.specs.Code.Tiles.{IsAllowedCell, IsFirstIn};
 
 use crate::cut::Cut;
 use crate::fault::{MatrixFault, is_unlawful};
-use crate::verdicts::end_of;
+use crate::verdicts::{decision_at, end_of};
 use iam_crew::{Crew, Gate, gather, look, offer};
 use iam_engine::Engine;
 use iam_lanes::{LaneSeat, Lanes};
 use iam_layers::{Decision, World};
+use iam_report::Position;
 use iam_text::OutOfMemory;
 use std::alloc::Global;
 use std::thread::Threads;
@@ -98,10 +99,13 @@ fn first_in(
     ensures same { engine.new.world ≡ engine.old.world }
 {
     let world = engine.world();
-    for cell in from..end_of(world, from, count) {
-        if is_allowed(engine.decide_brief(alloc, cell)?) {
-            return Ok(Some(cell));
+    let end = end_of(world, from, count);
+    let mut at = Position::of(world, from);
+    while at.cell < end {
+        if is_allowed(decision_at(alloc, engine, at)?) {
+            return Ok(Some(at.cell));
         }
+        at = at.next_in(world);
     }
     Ok(None)
 }

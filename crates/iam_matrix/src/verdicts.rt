@@ -1,5 +1,6 @@
 ghost use Rattle.std.specs.Prelude.{◌≡◌, ◌+◌, ◌<◌, ◌≤◌, ◌↔◌, IfOk, sum};
 ghost use Rattle.std.specs.List.{flat_map};
+ghost use Rattle.iam_layers.specs.Cell.{IsCell, IsDecisionOf, IsVerdictOf};
 ghost use Rattle.iam_world.specs.World.{world_cells};
 ghost use Rattle.iam_matrix.specs.Fault.{IsUnlawful};
 ghost use Rattle.iam_matrix.specs.Matrix.{IsMatrix};
@@ -10,7 +11,8 @@ use crate::fault::{MatrixFault, is_unlawful};
 use iam_crew::{Crew, Gate, gather};
 use iam_engine::Engine;
 use iam_lanes::{LaneSeat, Lanes};
-use iam_layers::{Verdict, World};
+use iam_layers::{Decision, Verdict, World};
+use iam_report::Position;
 use iam_text::OutOfMemory;
 use std::alloc::Global;
 use std::thread::Threads;
@@ -71,6 +73,31 @@ pub fn end_of(world: &World, from: u64, count: u64) -> u64
     from + count
 }
 
+/// The decision on the request of a cell.
+pub fn decision_at(
+    alloc: Global,
+    engine: &mut Engine<'_>,
+    at: Position,
+) -> Result<Decision, OutOfMemory>
+    requires { IsCell engine.old.world at.cell at.principal at.action at.resource }
+    ensures decision { IfOk result (IsDecisionOf engine.old.world at.cell) }
+    ensures same { engine.new.world ≡ engine.old.world }
+{
+    let number = engine.find(alloc, at.principal, at.action, at.resource)?;
+    Ok(engine.verdict(number).decision)
+}
+
+/// The verdict on the request of a cell.
+fn verdict_at(alloc: Global, engine: &mut Engine<'_>, at: Position) -> Result<Verdict, OutOfMemory>
+    requires { IsCell engine.old.world at.cell at.principal at.action at.resource }
+    ensures verdict { IfOk result (IsVerdictOf engine.old.world at.cell) }
+    ensures same { engine.new.world ≡ engine.old.world }
+{
+    let number = engine.find(alloc, at.principal, at.action, at.resource)?;
+    let verdict = engine.verdict(number).copy(alloc)?;
+    Ok(verdict)
+}
+
 /// The verdicts of so many cells from this one on.
 fn verdicts_of(
     alloc: Global,
@@ -83,9 +110,12 @@ fn verdicts_of(
     ensures same { engine.new.world ≡ engine.old.world }
 {
     let world = engine.world();
+    let end = end_of(world, from, count);
     let mut verdicts = Vec::new(alloc);
-    for cell in from..end_of(world, from, count) {
-        verdicts.push(engine.decide(alloc, cell)?)?;
+    let mut at = Position::of(world, from);
+    while at.cell < end {
+        verdicts.push(verdict_at(alloc, engine, at)?)?;
+        at = at.next_in(world);
     }
     Ok(verdicts)
 }

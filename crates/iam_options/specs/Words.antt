@@ -1,4 +1,4 @@
--- What the words of a command line say, where `clap` has matched them.
+-- What the words of a command line say, where `clap` has matched them. LOGIC 13.3.
 use Rattle.std.specs.Prelude.{◌≡◌, ℕ, List, Some, codes}
 use Rattle.std.specs.Str.Parse.{digits_value, without_leading_plus}
 use Rattle.clap.specs.Matches.{found_of, one_text}

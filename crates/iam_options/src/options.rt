@@ -74,11 +74,15 @@ impl From<AllocError> for Usage {
 pub fn options_of(alloc: Global, words: &[&str]) -> Result<Options, Usage> {
     let mut command = iamsim(alloc)?;
     match command.try_get_matches_from_mut(words) {
-        Ok(matches) => match options_in(&matches) {
-            Some(options) => Ok(options),
-            None => Err(Usage::Refused(command.render_usage()?)),
-        },
+        Ok(matches) => options_or_usage(&mut command, &matches),
         Err(error) => Err(usage_of(alloc, &error)),
+    }
+}
+
+fn options_or_usage(command: &mut Command<'_>, matches: &ArgMatches<'_>) -> Result<Options, Usage> {
+    match options_in(matches) {
+        Some(options) => Ok(options),
+        None => Err(Usage::Refused(command.render_usage()?)),
     }
 }
 
@@ -147,16 +151,30 @@ fn usage_of(alloc: Global, error: &Error) -> Usage {
 }
 
 fn iamsim<'a>(alloc: Global) -> Result<Command<'a>, AllocError> {
+    let command = with(named(alloc), Ok(check(alloc)));
+    let command = with(command, decide(alloc));
+    let command = with(command, matrix(alloc));
+    with(command, first(alloc))
+}
+
+/// The command with this subcommand too.
+fn with<'a>(
+    command: Result<Command<'a>, AllocError>,
+    subcommand: Result<Command<'a>, AllocError>,
+) -> Result<Command<'a>, AllocError> {
+    match command {
+        Ok(command) => command.subcommand(subcommand?),
+        Err(refused) => Err(refused),
+    }
+}
+
+fn named<'a>(alloc: Global) -> Result<Command<'a>, AllocError> {
     Command::new(alloc, "iamsim")
         .no_binary_name(true)
-        .bin_name("iamsim")?
         .version(VERSION)
         .about(ABOUT)
         .subcommand_required(true)
-        .subcommand(check(alloc))?
-        .subcommand(decide(alloc)?)?
-        .subcommand(matrix(alloc)?)?
-        .subcommand(first(alloc)?)
+        .bin_name("iamsim")
 }
 
 fn check<'a>(alloc: Global) -> Command<'a> {
@@ -172,17 +190,27 @@ fn decide<'a>(alloc: Global) -> Result<Command<'a>, AllocError> {
 }
 
 fn matrix<'a>(alloc: Global) -> Result<Command<'a>, AllocError> {
-    Command::new(alloc, "matrix")
-        .about("Decide all requests, and report each")
-        .arg(workers(alloc))?
-        .arg(tile(alloc))?
+    run(alloc, "matrix", "Decide all requests, and report each")?
         .arg(format(alloc))?
         .arg(brief(alloc))
 }
 
 fn first<'a>(alloc: Global) -> Result<Command<'a>, AllocError> {
-    Command::new(alloc, "first")
-        .about("Find the first request that is allowed, in the order of the matrix")
+    run(
+        alloc,
+        "first",
+        "Find the first request that is allowed, in the order of the matrix",
+    )
+}
+
+/// A command that decides many requests.
+fn run<'a>(
+    alloc: Global,
+    name: &'static str,
+    about: &'static str,
+) -> Result<Command<'a>, AllocError> {
+    Command::new(alloc, name)
+        .about(about)
         .arg(workers(alloc))?
         .arg(tile(alloc))
 }

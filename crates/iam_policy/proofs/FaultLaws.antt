@@ -37,6 +37,7 @@ document_clean : (kind : Kind) (d : Data) → document_fault kind d ≡ None →
 document_clean kind d none = none_passes (document_has kind d) (document-memory kind d) none
 
 line_none : (kind : Kind) (d : Data) (i : ℕ) (s : Data) (bad : Bool) → fault_of kind d i s bad ≡ None → (fault : Fault) → line_has kind d i s bad fault ≡ false
+unfolding fault_of
 line_none kind d i s bad none = none_passes (line_has kind d i s bad) (line-memory kind d i s bad) none
 
 -- a fault of the document is the least of all
@@ -112,6 +113,7 @@ no_fault kind d i s fault at none h =
 -- the first statement that is at fault, where the document is not, has the least fault of all
 pub statement_least : (kind : Kind) (d : Data) (i : ℕ) (fault : Fault) → document_fault kind d ≡ None
     → IsFirstFault kind d i fault → IsLeastFault kind d (Some i) fault
+unfolding fault_of
 statement_least kind d i fault none first = record { holds = holds; least = least }
   where
     holds : HasFault kind d (Some i) fault
@@ -216,6 +218,7 @@ accepted_line kind d i s fault none at = line_clean kind d i s fault (clean BadS
 
 -- want of memory is no fault of a statement
 pub fault_not_memory : (kind : Kind) (d : Data) (i : ℕ) (s : Data) (bad : Bool) (fault : Fault) → fault_of kind d i s bad ≡ Some fault → fault ≢ OutOfMemory
+unfolding fault_of
 fault_not_memory kind d i s bad = found_not_memory (line_has kind d i s bad) (line-memory kind d i s bad)
 
 -- an accepted document names the version that it is read in

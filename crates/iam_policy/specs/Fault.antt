@@ -1,6 +1,6 @@
 -- The faults of a document, as a set: AWS IAM User Guide, "Grammar of the IAM JSON policy language".
 -- Each line of the fault table is one case, by itself. BadValue is no test of a `Bool`: it is the last case of
--- `HasFault`.
+-- `HasFault`. LOGIC 6.1, 6.2, 6.3, 6.4, 6.8 and 15.
 use Rattle.std.specs.Prelude.{◌≡◌, ℕ, suc, ◌<◌, ◌≤◌, ◌⊎◌, List, [], ◌∷◌, Bool, true, false, not, ◌&&◌, ◌||◌, ◌==◌, Option, Some, None, is_some, is_none, IsTrue, codes, if◌then◌else◌, length, nat_lt, take, unwrap_or, MatchOption}
 use Rattle.std.specs.List.{slice_get, filter_map}
 use Rattle.std.specs.Option.{option_map_or}

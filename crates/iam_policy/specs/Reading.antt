@@ -1,5 +1,5 @@
 -- What a policy is, and how an accepted document is read: AWS IAM User Guide, "IAM JSON policy elements
--- reference".
+-- reference". LOGIC 6.9.
 use Rattle.std.specs.Prelude.{◌≡◌, ℕ, List, [], Option, Some, None, codes}
 use Rattle.std.specs.List.{AllZip}
 use Rattle.serde_json.specs.Data.{Data}

@@ -1,4 +1,4 @@
--- The elements `Sid` and `Effect` of a statement: AWS IAM User Guide, "IAM JSON policy elements reference".
+-- The elements `Sid` and `Effect` of a statement: AWS IAM User Guide, "IAM JSON policy elements reference". LOGIC 6.2.
 use Rattle.std.specs.Prelude.{ℕ, List, Option, Some, None, codes, option_and_then, if◌then◌else◌}
 use Rattle.std.specs.Str.{bytes_eq}
 use Rattle.serde_json.specs.Data.{Data}

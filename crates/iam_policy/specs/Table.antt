@@ -1,4 +1,4 @@
--- The numbers and the names of the faults of a document, and their order.
+-- The numbers and the names of the faults of a document, and their order. LOGIC 6.3.
 use Rattle.std.specs.Prelude.{ℕ, List, [], ◌∷◌, Bool, ◌==◌, codes}
 use Rattle.iam_policy.specs.declared.fault.Fault.{Fault}
 use Rattle.iam_policy.specs.declared.fault.Fault.TheVariants.{NotObject, UnknownElement, BadVersion, NoStatement, BadStatement, BadSid, DuplicateSid, BadEffect, ActionCount, BadAction, PrincipalMisplaced, PrincipalMissing, BadPrincipal, NotPrincipalAllow, ResourceCount, BadResource, BadVariable, UnknownOperator, BadCondition, BadValue, TooMany, OutOfMemory}

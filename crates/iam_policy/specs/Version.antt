@@ -1,4 +1,4 @@
--- The version of a document: AWS IAM User Guide, "IAM JSON policy elements: Version".
+-- The version of a document: AWS IAM User Guide, "IAM JSON policy elements: Version". LOGIC 16.
 use Rattle.std.specs.Prelude.{ℕ, List, Option, Some, None, codes, option_and_then, unwrap_or, if◌then◌else◌}
 use Rattle.std.specs.Str.{bytes_eq}
 use Rattle.serde_json.specs.Data.{Data}

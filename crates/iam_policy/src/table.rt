@@ -153,6 +153,7 @@ fn line_has(statement: &Value, place: Place, bad_value: bool, fault: Fault) -> b
 }
 
 /// The first fault of a statement.
+#[tactic(auto, unfolding(crate::specs::Code::First::fault_of))]
 pub fn statement_fault(statement: &Value, place: Place, bad_value: bool) -> Option<Fault>
     ensures { (d : Data) (i : ℕ) → IsPlaceOf d i (view statement.now) place
         → result ≡ fault_of place.kind d i (view statement.now) bad_value }

@@ -7,7 +7,7 @@ use Rattle.iam_decision.specs.declared.verdict.Decision.{Decision}
 use Rattle.iam_decision.specs.declared.verdict.Verdict.{Verdict}
 use Rattle.iam_world.specs.World.{WorldValue, world_cells}
 use Rattle.iam_layers.specs.Cell.{IsCell}
-use Rattle.iam_report.specs.Piece.{IsBriefReport, IsQuotedOf, IsReport, IsTextOf, bare, brief_row, brief_tail, closing_text, first_position, full_row, full_tail, next_by, next_in, opening_text, pieces_of, row_at, row_text, rows_text, tail_of, text_of}
+use Rattle.iam_report.specs.Piece.{IsBriefReport, IsQuotedOf, IsReport, IsTextOf, bare, brief_row, brief_tail, closing_text, first_position, full_row, full_tail, next_by, next_in, next_of, opening_text, pieces_of, row_at, row_text, rows_text, tail_of, text_of}
 use Rattle.iam_report.specs.Report.{CellTexts}
 use Rattle.iam_report.specs.declared.position.Position.{Position}
 use Rattle.iam_report.specs.declared.quoted.Format.{Format}
@@ -19,7 +19,7 @@ use Rattle.iam_report.proofs.Rows.{AddsRows, adds_both, adds_none, adds_one, tex
 use Rattle.iam_report.proofs.Texts.{pieces_there}
 
 -- the position is that of a cell
-abbrev IsAt : WorldValue → Position → Type 0
+abbrev pub IsAt : WorldValue → Position → Type 0
 IsAt world at = IsCell world at.cell at.principal at.action at.resource
 
 -- the next place in rows of n places
@@ -67,16 +67,21 @@ tested i n m e h = grind (arith, nat_tests)
 untested : (i n m : ℕ) → m ≡ n → i < n → nat_lt (i + 1) m ≡ false → n ≡ i + 1
 untested i n m e below h = grind (arith, nat_tests)
 
+-- the next position is that of the next cell
+pub next_there : (world : WorldValue) (actions resources : ℕ) (at : Position) → actions ≡ length world.actions → resources ≡ length world.resources
+    → IsAt world at → at.cell + 1 < world_cells world → IsAt world (next_of actions resources at)
+next_there world actions resources at e f is more =
+    next_by_is world at _ _ is more
+    (tested (at.resource + 1) (length world.resources) resources f)
+    (untested at.resource (length world.resources) resources f is.resource)
+    (tested (at.action + 1) (length world.actions) actions e)
+    (untested at.action (length world.actions) actions e is.action)
+
 next_is : (world : WorldValue) (quoted : Quoted) (at : Position) → IsQuotedOf world quoted → IsAt world at → at.cell + 1 < world_cells world
     → IsAt world (next_in quoted at)
 next_is world quoted at same is more =
-    let actions : length quoted.actions ≡ length world.actions = ap length same.actions ∙ simp length-map in
-    let resources : length quoted.resources ≡ length world.resources = ap length same.resources ∙ simp length-map in
-    next_by_is world at _ _ is more
-    (tested (at.resource + 1) (length world.resources) (length quoted.resources) resources)
-    (untested at.resource (length world.resources) (length quoted.resources) resources is.resource)
-    (tested (at.action + 1) (length world.actions) (length quoted.actions) actions)
-    (untested at.action (length world.actions) (length quoted.actions) actions is.action)
+    next_there world (length quoted.actions) (length quoted.resources) at (ap length same.actions ∙ simp length-map)
+    (ap length same.resources ∙ simp length-map) is more
 
 next_number : (r a : Bool) (at : Position) → (next_by r a at).cell ≡ at.cell + 1
 next_number true a at = refl

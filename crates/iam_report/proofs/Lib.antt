@@ -1,6 +1,7 @@
 mod Buffered
 mod Cells
 mod Fields
+mod Lines
 mod Picks
 mod Plain
 mod Rendered

@@ -1,4 +1,4 @@
--- The CSV text of one cell of a world: the header, and then its row.
+-- The CSV text of one cell of a world: the header, and then its row. LOGIC 13.1.
 use Rattle.std.specs.Prelude.{◌≡◌, ℕ, List, ◌++◌}
 use Rattle.iam_decision.specs.declared.verdict.Decision.{Decision}
 use Rattle.iam_decision.specs.declared.verdict.Verdict.{Verdict}

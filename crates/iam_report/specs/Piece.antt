@@ -1,5 +1,6 @@
 -- Pieces of reports: an opening, the rows of the cells one behind the other, and a closing. A row is put together from texts
 -- that are made once: those of its principal, action and resource with what stands beside them, and a tail for its verdict.
+-- LOGIC 13.1 and 13.2.
 use Rattle.std.specs.Prelude.{◌≡◌, ◌+◌, ℕ, List, [], ◌∷◌, ◌++◌, ◌==◌, Bool, true, false, map, codes, decimal, get_or, length, nat_lt, if◌then◌else◌}
 use Rattle.csv.specs.Writing.{default_writer, field_text}
 use Rattle.serde_json.specs.Data.{string}

@@ -1,4 +1,5 @@
 -- Reports of the cells of a world, as CSV and as JSON: in full, or in brief without statements and lacks.
+-- LOGIC 13.1 and 13.2.
 use Rattle.std.specs.Prelude.{◌≡◌, ℕ, List, [], ◌∷◌, ◌++◌, ◌+◌, Some, length, map, codes, decimal}
 use Rattle.std.specs.List.{concat, join_by, slice_get}
 use Rattle.csv.specs.Writing.{default_writer, row_text}

@@ -1,5 +1,5 @@
 -- What a writer gains of a text. `None` stands where a writer does not say which bytes it holds, and nothing is claimed
--- of it.
+-- of it. LOGIC 13.5.
 use Rattle.std.specs.Prelude.{Option, ℕ, ◌≤◌, List, length, take}
 use Rattle.std.specs.Io.KnownBytes.{Appends}
 

@@ -1,4 +1,4 @@
--- The words of reports.
+-- The words of reports. LOGIC 13.1.
 use Rattle.std.specs.Prelude.{ℕ, List, ◌++◌, codes, decimal}
 use Rattle.std.specs.List.{join_by}
 use Rattle.iam_decision.specs.declared.place.Layer.{Layer}

@@ -3,7 +3,7 @@ ghost use Rattle.std.specs.Prelude.{◌≡◌, ◌++◌, ◌∷◌, [], IfOk, If
 ghost use Rattle.iam_report.specs.Piece.{bare, tail_of};
 ghost use Rattle.iam_decision.specs.declared.verdict.Verdict.{Verdict};
 
-use crate::guess::{Guesses, STEPS, hash_of};
+use crate::guess::{Guesses, Hints, STEPS, hash_of};
 use crate::quoted::Format;
 use crate::tail::Tail;
 use crate::tile::Tile;
@@ -20,6 +20,7 @@ pub struct Entries {
     // The number of each in `distinct`.
     numbers: Vec<u32>,
     guesses: Guesses,
+    hints: Hints,
 }
 
 impl Model for Entries {
@@ -54,6 +55,7 @@ impl Entries {
             distinct: Vec::new(alloc),
             numbers: Vec::with_capacity(alloc, room)?,
             guesses: Guesses::new(alloc),
+            hints: Hints::new(alloc)?,
         })
     }
 
@@ -67,11 +69,32 @@ impl Entries {
         Ok(())
     }
 
+    /// As [`Entries::push`], and quick where an equal verdict was the last to come with this hint, a number of which nothing
+    /// is claimed.
+    pub fn push_hinted(
+        &mut self,
+        alloc: Global,
+        hint: usize,
+        verdict: &Verdict,
+    ) -> Result<(), OutOfMemory>
+        ensures { OnOk result (self.new ≡ self.old ++ verdict.now ∷ []) }
+    {
+        let last = self.hints.at(hint);
+        let number = number_of(alloc, &mut self.distinct, &mut self.guesses, last, verdict)?;
+        self.hints.set(hint, number);
+        self.numbers.push(number)?;
+        Ok(())
+    }
+
     /// Puts a decision behind the others, as a verdict without places and layers.
     pub fn push_decision(&mut self, alloc: Global, decision: Decision) -> Result<(), OutOfMemory>
         ensures { OnOk result (self.new ≡ self.old ++ bare decision ∷ []) }
     {
-        self.push(alloc, &bare(alloc, decision))
+        let last = self.hints.at(decision as usize);
+        let number = bare_number(alloc, &mut self.distinct, &mut self.guesses, last, decision)?;
+        self.hints.set(decision as usize, number);
+        self.numbers.push(number)?;
+        Ok(())
     }
 
     /// The tails of their rows, in full or in brief.
@@ -82,6 +105,7 @@ impl Entries {
             distinct,
             numbers,
             guesses: _,
+            hints: _,
         } = self;
         let tails = tails_of(alloc, format, brief, distinct.as_slice())?;
         Ok(Tile { tails, numbers })
@@ -102,6 +126,26 @@ fn tails_of(
         tails.push(Tail::of(alloc, format, brief, verdict)?)?;
     }
     Ok(tails)
+}
+
+/// The number of a decision as a verdict without places and layers, which is put behind the others where none of them is
+/// found to be equal.
+fn bare_number(
+    alloc: Global,
+    distinct: &mut Vec<Verdict>,
+    guesses: &mut Guesses,
+    last: Option<u32>,
+    decision: Decision,
+) -> Result<u32, OutOfMemory>
+    ensures kept { (more : List Verdict) × (distinct.new.items ≡ distinct.old.items ++ more) }
+    ensures found { IfOk result (λ number. slice_get distinct.new.items number ≡ Some (bare decision)) }
+{
+    if let Some(number) = last {
+        if is_bare_at(distinct.as_slice(), number, decision) {
+            return Ok(number);
+        }
+    }
+    number_of(alloc, distinct, guesses, None, &bare(alloc, decision))
 }
 
 /// The number of a verdict, which is put behind the others where none of them is found to be equal.
@@ -154,10 +198,27 @@ fn add(
     let Ok(number) = u32::try_from(distinct.len()) else {
         return Err(OutOfMemory);
     };
-    let copy = copy_of(alloc, verdict)?;
-    distinct.push(copy)?;
+    distinct.push(verdict.copy(alloc)?)?;
     guesses.keep(alloc, distinct.as_slice(), hash, number)?;
     Ok(number)
+}
+
+/// Whether the verdict of this number is this decision without places and layers.
+fn is_bare_at(distinct: &[Verdict], number: u32, decision: Decision) -> bool
+    ensures { IsTrue result → slice_get distinct.now number ≡ Some (bare decision) }
+{
+    match distinct.get(number as usize) {
+        Some(other) => is_bare(other, decision),
+        None => false,
+    }
+}
+
+fn is_bare(verdict: &Verdict, decision: Decision) -> bool
+    ensures { IsTrue result → verdict.now ≡ bare decision }
+{
+    verdict.decision == decision
+        && verdict.statements.as_slice().is_empty()
+        && verdict.lacks.as_slice().is_empty()
 }
 
 /// Whether the verdict of this number is equal.
@@ -188,14 +249,4 @@ fn same_layers(a: &[Layer], b: &[Layer]) -> bool
     ensures { IsTrue result → a.now ≡ b.now }
 {
     a == b
-}
-
-fn copy_of(alloc: Global, verdict: &Verdict) -> Result<Verdict, OutOfMemory>
-    ensures { IfOk result (λ copy. copy ≡ verdict.now) }
-{
-    Ok(Verdict {
-        decision: verdict.decision,
-        statements: Items::from_vec(Vec::from_slice(alloc, verdict.statements.as_slice())?),
-        lacks: Items::from_vec(Vec::from_slice(alloc, verdict.lacks.as_slice())?),
-    })
 }

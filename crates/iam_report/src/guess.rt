@@ -1,4 +1,5 @@
-// Where a verdict may be found again: a table of numbers by hashes. It is a guess, and nothing is claimed of it.
+// Where a verdict may be found again: tables of numbers by hashes, and by hints of callers. Each is a guess, and nothing is
+// claimed of it.
 use iam_layers::Verdict;
 use iam_text::OutOfMemory;
 use std::alloc::Global;
@@ -87,6 +88,37 @@ impl Guesses {
             }
         }
         if let Some(place) = self.slots.get_mut(slot) {
+            *place = number.saturating_add(1);
+        }
+    }
+}
+
+/// So many hints are kept apart.
+const HINTS: usize = 1024;
+
+/// The numbers that hints led to last, 0 where none did, and else the number and 1.
+#[derive(Debug, Drop)]
+pub struct Hints {
+    slots: Vec<u32>,
+}
+
+impl Hints {
+    pub fn new(alloc: Global) -> Result<Hints, OutOfMemory> {
+        Ok(Hints {
+            slots: zeros(alloc, HINTS)?,
+        })
+    }
+
+    /// The number that a hint led to last, or another with which it shares its slot.
+    #[inline]
+    pub fn at(&self, hint: usize) -> Option<u32> {
+        let slot = *self.slots.get(hint % HINTS)?;
+        slot.checked_sub(1)
+    }
+
+    #[inline]
+    pub fn set(&mut self, hint: usize, number: u32) {
+        if let Some(place) = self.slots.get_mut(hint % HINTS) {
             *place = number.saturating_add(1);
         }
     }

@@ -1,5 +1,5 @@
 // Reports of all cells that are kept as numbers, and written without taking memory.
-ghost use Rattle.std.specs.Prelude.{◌≡◌, ◌++◌, ◌+◌, ◌≤◌, [], List, OnErr, OnOk, get_or, length};
+ghost use Rattle.std.specs.Prelude.{◌≡◌, ◌++◌, ◌+◌, ◌≤◌, [], List, OnErr, OnOk, length};
 ghost use Rattle.std.specs.Io.KnownBytes.{Appends};
 ghost use Rattle.std.specs.List.{flat_map};
 ghost use Rattle.iam_report.specs.Code.Buffer.{IsWithin, PutsRows, Passes};
@@ -7,13 +7,13 @@ ghost use Rattle.iam_report.specs.Piece.{first_position, row_at, rows_text, text
 ghost use Rattle.iam_report.specs.Streams.{AppendsBeginning};
 ghost use Rattle.iam_report.specs.declared.tail.Tail.{Tail};
 
+use crate::line::Line;
 use crate::output::{OutputFault, put, put_all, write_text};
 use crate::piece::{closing, comma_before, opening};
 use crate::position::Position;
-use crate::quoted::{Format, Quoted};
+use crate::quoted::{Format, Quoted, text_at};
 use crate::tail::Tail;
 use crate::tile::Tile;
-use iam_text::Text;
 use itoa::Buffer;
 use std::io::Write;
 use std::marker::Model;
@@ -39,18 +39,29 @@ impl Model for MatrixText {
     ghost invariant = { λ matrix. length (flat_map (λ tile. tile) matrix.tiles.items) ≤ 16777216 };
 }
 
-/// Text i, or the empty text where there is none.
-fn text_at(texts: &[Text], i: u64) -> &str
-    ensures { result.now ≡ get_or texts.entry.now i [] }
-{
-    match texts.get(i as usize) {
-        Some(text) => text.as_str(),
-        None => "",
-    }
-}
-
 /// Puts the row at a position, with this tail.
 fn put_row<W: Write>(
+    writer: &mut W,
+    kept: &mut Vec<u8>,
+    line: &mut Line<'_>,
+    at: Position,
+    tail: &Tail,
+) -> Result<(), OutputFault>
+    ensures ok { OnOk result (Passes (W.contents writer.old) (W.contents writer.new) kept.old.items kept.new.items (row_at line.old.quoted at tail.now)) }
+    ensures err { OnErr result (AppendsBeginning (W.contents writer.old) (W.contents writer.new) (kept.old.items ++ row_at line.old.quoted at tail.now)) }
+    ensures same { line.new.quoted ≡ line.old.quoted }
+{
+    if line.keep(kept, at, tail) {
+        return Ok(());
+    }
+    if let Err(fault) = put_pieces(writer, kept, line.quoted(), at, tail) {
+        return Err(fault);
+    }
+    Ok(())
+}
+
+/// Puts the row at a position, with this tail, piece by piece.
+fn put_pieces<W: Write>(
     writer: &mut W,
     kept: &mut Vec<u8>,
     quoted: &Quoted,
@@ -120,21 +131,23 @@ fn put_object<'a, W: Write>(
 fn put_tile<W: Write>(
     writer: &mut W,
     kept: &mut Vec<u8>,
-    quoted: &Quoted,
+    line: &mut Line<'_>,
     tile: &Tile,
     at: &mut Position,
 ) -> Result<(), OutputFault>
     requires within { IsWithin at.old }
     requires few { at.old.cell + length tile.now ≤ 16777216 }
-    ensures ok { OnOk result (PutsRows quoted.now tile.now at.old at.new (W.contents writer.old) (W.contents writer.new) kept.old.items kept.new.items) }
-    ensures err { OnErr result ((more : List Tail) → AppendsBeginning (W.contents writer.old) (W.contents writer.new) (kept.old.items ++ rows_text quoted.now at.old (tile.now ++ more))) }
+    ensures ok { OnOk result (PutsRows line.old.quoted tile.now at.old at.new (W.contents writer.old) (W.contents writer.new) kept.old.items kept.new.items) }
+    ensures err { OnErr result ((more : List Tail) → AppendsBeginning (W.contents writer.old) (W.contents writer.new) (kept.old.items ++ rows_text line.old.quoted at.old (tile.now ++ more))) }
+    ensures same { line.new.quoted ≡ line.old.quoted }
     ensures within { OnOk result (IsWithin at.new) }
     ensures cell { OnOk result (at.new.cell ≡ at.old.cell + length tile.now) }
 {
+    let quoted = line.quoted();
     let actions = quoted.actions.as_slice().len() as u64;
     let resources = quoted.resources.as_slice().len() as u64;
     for i in 0..tile.cells() {
-        if let Err(fault) = put_row(writer, kept, quoted, *at, tile.tail(i)) {
+        if let Err(fault) = put_row(writer, kept, line, *at, tile.tail(i)) {
             return Err(fault);
         }
         *at = at.next(actions, resources);
@@ -153,9 +166,10 @@ fn put_tiles<W: Write>(
     ensures ok { OnOk result (Passes (W.contents writer.old) (W.contents writer.new) kept.old.items kept.new.items (rows_text quoted.now first_position (flat_map (λ tile. tile) tiles.now))) }
     ensures err { OnErr result (AppendsBeginning (W.contents writer.old) (W.contents writer.new) (kept.old.items ++ rows_text quoted.now first_position (flat_map (λ tile. tile) tiles.now))) }
 {
+    let mut line = Line::new(quoted);
     let mut at = Position::first();
     for tile in tiles {
-        if let Err(fault) = put_tile(writer, kept, quoted, tile, &mut at) {
+        if let Err(fault) = put_tile(writer, kept, &mut line, tile, &mut at) {
             return Err(fault);
         }
     }

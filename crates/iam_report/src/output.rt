@@ -1,5 +1,5 @@
 // Texts written at once, or by way of a buffer.
-ghost use Rattle.std.specs.Prelude.{◌≡◌, ◌++◌, ◌+◌, ◌≤◌, [], IfOk, OnErr, OnOk, length, vec_capacity, vec_len};
+ghost use Rattle.std.specs.Prelude.{◌≡◌, ◌++◌, ◌+◌, ◌≤◌, [], IfOk, IsTrue, OnErr, OnOk, false, length, vec_capacity, vec_len};
 ghost use Rattle.std.specs.Io.KnownBytes.{Appends};
 ghost use Rattle.std.specs.List.{flat_map};
 ghost use Rattle.iam_report.specs.Code.Buffer.{Passes};
@@ -42,14 +42,36 @@ pub fn write_text<W: Write>(writer: &mut W, text: &[u8]) -> Result<(), OutputFau
 }
 
 /// Keeps a text for which there is room.
-fn keep(kept: &mut Vec<u8>, text: &str)
+#[inline(always)]
+fn keep(kept: &mut Vec<u8>, text: &[u8])
     requires { vec_len kept.old + length text.now ≤ vec_capacity kept.old }
-    ensures { kept.new.items ≡ kept.old.items ++ text.now }
+    ensures items { kept.new.items ≡ kept.old.items ++ text.now }
+    ensures len { vec_len kept.new ≡ vec_len kept.old + length text.now }
+    ensures capacity { vec_capacity kept.old ≤ vec_capacity kept.new }
 {
-    match kept.extend_from_slice(text.as_bytes()) {
+    match kept.extend_from_slice(text) {
         Ok(()) => (),
         Err(_) => unreachable!(),
     }
+}
+
+/// Keeps three texts as one, where there is room for it.
+#[inline]
+pub fn keep_three(kept: &mut Vec<u8>, first: &[u8], second: &[u8], third: &[u8]) -> bool
+    ensures kept { IsTrue result → kept.new.items ≡ kept.old.items ++ (first.now ++ (second.now ++ third.now)) }
+    ensures none { result ≡ false → kept.new.items ≡ kept.old.items }
+{
+    let count = first
+        .len()
+        .saturating_add(second.len())
+        .saturating_add(third.len());
+    if count > kept.capacity() - kept.len() {
+        return false;
+    }
+    keep(kept, first);
+    keep(kept, second);
+    keep(kept, third);
+    true
 }
 
 /// Writes what is kept, and keeps this text, or writes it too where it is longer than the buffer.
@@ -62,7 +84,7 @@ fn put_behind<W: Write>(writer: &mut W, kept: &mut Vec<u8>, text: &str) -> Resul
     }
     kept.clear();
     if text.len() <= kept.capacity() - kept.len() {
-        keep(kept, text);
+        keep(kept, text.as_bytes());
         return Ok(());
     }
     if let Err(fault) = write_text(writer, text.as_bytes()) {
@@ -78,7 +100,7 @@ pub fn put<W: Write>(writer: &mut W, kept: &mut Vec<u8>, text: &str) -> Result<(
     ensures err { OnErr result (AppendsBeginning (W.contents writer.old) (W.contents writer.new) (kept.old.items ++ text.now)) }
 {
     if text.len() <= kept.capacity() - kept.len() {
-        keep(kept, text);
+        keep(kept, text.as_bytes());
         return Ok(());
     }
     if let Err(fault) = put_behind(writer, kept, text) {

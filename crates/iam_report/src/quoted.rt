@@ -1,5 +1,5 @@
 // Texts as they stand in rows.
-ghost use Rattle.std.specs.Prelude.{◌≡◌, IfOk, map, string_bytes};
+ghost use Rattle.std.specs.Prelude.{◌≡◌, [], IfOk, get_or, map, string_bytes};
 ghost use Rattle.csv.specs.Writing.{default_writer, field_text};
 ghost use Rattle.serde_json.specs.Data.{string};
 ghost use Rattle.serde_json.specs.Written.{compact_text};
@@ -132,6 +132,16 @@ fn resources(alloc: Global, world: &World, format: Format) -> Result<Items<Text>
         texts.push(resource_piece(alloc, format, world.resource_text(r))?)?;
     }
     Ok(Items::from_vec(texts))
+}
+
+/// Text i, or the empty text where there is none.
+pub fn text_at(texts: &[Text], i: u64) -> &str
+    ensures { result.now ≡ get_or texts.entry.now i [] }
+{
+    match texts.get(i as usize) {
+        Some(text) => text.as_str(),
+        None => "",
+    }
 }
 
 impl Quoted {

@@ -1,4 +1,5 @@
-//! Tries the rows of `data/`: what `iamsim` has to answer to words and an input. Each is run over memory.
+//! Tries the rows of `data/`: what `iamsim` has to answer to words and an input. Each is run over memory. Words of the command
+//! line name the files of rows to try; without words all are tried.
 #![tactic(auto)]
 
 mod input;
@@ -8,8 +9,10 @@ mod row;
 use crate::problem::Problem;
 use crate::row::{Tally, try_rows};
 use serde_json::Value;
+use std::env;
 use std::fs::{self, Files};
 use std::process::ExitCode;
+use std::rt::Env;
 use std::thread::Threads;
 
 /// The file of the worlds that the rows name.
@@ -39,21 +42,31 @@ fn main(rt: HostRuntime) -> ExitCode {
     }
 }
 
-/// Prints how many rows were tried; the exit status.
+/// Prints how many rows were tried; the exit status, a failure where there was none.
 fn tell(rt: &impl Print, tally: Tally) -> u8 {
     let Tally { tried, differing } = tally;
     let told = println!(rt; "{tried} rows tried, {differing} differ");
-    u8::from(told.is_err() || differing > 0)
+    u8::from(told.is_err() || differing > 0 || tried == 0)
 }
 
-fn try_files<R: Files + AllocGlobal + Print + Threads + Sync>(rt: &R) -> Result<Tally, Problem> {
+fn try_files<R: Env + Files + AllocGlobal + Print + Threads + Sync>(
+    rt: &R,
+) -> Result<Tally, Problem> {
+    let words: Vec<String> = env::args(rt)?.skip(1).collect(rt.alloc())?;
     let worlds = read(rt, WORLDS)?;
     let mut tally = Tally::new();
     for file in ROWS {
-        let rows = read(rt, file)?;
-        try_rows(rt, &worlds, &rows, &mut tally)?;
+        if is_wanted(words.as_slice(), file) {
+            let rows = read(rt, file)?;
+            try_rows(rt, &worlds, &rows, &mut tally)?;
+        }
     }
     Ok(tally)
+}
+
+/// Whether the words name this file, or are none.
+fn is_wanted(words: &[String], file: &str) -> bool {
+    words.is_empty() || words.iter().any(|word| word.as_str() == file)
 }
 
 fn read(rt: &(impl Files + AllocGlobal), file: &str) -> Result<Value, Problem> {

@@ -1,6 +1,6 @@
-// A row is an object: its name, an input, words, and what has to come of them: `output`, or `row` for the full header
-// and that row, else nothing; `fault`, the line of the fault, else none; `status`, else 0 without a fault and 1 with one.
-// Where it has `runs`, each of these has words and an answer of its own.
+// A row is an object: its name, the section of LOGIC.md that it tries (`rule`), an input, words, and what has to come of
+// them: `output`, or `row` for the full header and that row, else nothing; `fault`, the line of the fault, else none;
+// `status`, else 0 without a fault and 1 with one. Where it has `runs`, each of these has words and an answer of its own.
 use crate::input::{input_of, number_at, text_at};
 use crate::problem::Problem;
 use iam_app::{Usage, fault_line, options_of, run, status};

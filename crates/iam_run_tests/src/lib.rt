@@ -15,3 +15,5 @@ mod report;
 mod sharing;
 #[cfg(test)]
 mod streams;
+#[cfg(test)]
+mod work;

@@ -1,4 +1,4 @@
--- How many lists and policies a document may hold: their numbers have 32 bits.
+-- How many lists and policies a document may hold: their numbers have 32 bits. LOGIC 15.
 use Rattle.std.specs.Prelude.{◌<◌, ◌^◌, List, length}
 use Rattle.std.specs.List.{AllByRecursion}
 use Rattle.iam_shape.specs.View.{PrincipalView, WorldView}

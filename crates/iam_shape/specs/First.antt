@@ -1,4 +1,5 @@
 -- The first element of a list of which something holds, and the path at which it stands in a world document.
+-- LOGIC 12.3.
 use Rattle.std.specs.Prelude.{◌≡◌, ◌⊎◌, ℕ, List, [], ◌∷◌, map}
 use Rattle.std.specs.List.{enumerate_from}
 use Rattle.iam_shape.specs.declared.path.Path.{Path}

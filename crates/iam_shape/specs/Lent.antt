@@ -1,4 +1,4 @@
--- The lent parts of a document as plain records: what they say, without where it lies in memory.
+-- The lent parts of a document as plain records: what they say, without where it lies in memory. LOGIC 12.1.
 use Rattle.std.specs.Prelude.{List, [], map, option_map, unwrap_or}
 use Rattle.serde_json.specs.Data.{Data}
 use Rattle.serde_json.specs.View.{view}

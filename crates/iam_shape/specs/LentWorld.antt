@@ -1,4 +1,4 @@
--- What the lent view of a whole document says, as a plain record.
+-- What the lent view of a whole document says, as a plain record. LOGIC 12.1.
 use Rattle.std.specs.Prelude.{option_map, map}
 use Rattle.serde_json.specs.View.{view}
 use Rattle.iam_shape.specs.View.{WorldView}

@@ -1,5 +1,5 @@
 -- Where something stands in a world document, and how that is written: the member names and list numbers from the
--- root joined by `/`; the root itself is `.`.
+-- root joined by `/`; the root itself is `.`. LOGIC 12.1.
 use Rattle.std.specs.Prelude.{ℕ, List, ◌++◌, codes}
 use Rattle.std.specs.Prelude.{decimal}
 use Rattle.iam_shape.specs.declared.path.Name.{Name}

@@ -1,5 +1,5 @@
 -- The shape of a world document: which members its objects have, and which values stand there. The shape is walked
--- in the order of the checks below, and the first that fails names its path.
+-- in the order of the checks below, and the first that fails names its path. LOGIC 12.3.
 use Rattle.std.specs.Prelude.{ℕ, ◌+◌, List, [], ◌∷◌, ◌++◌, Bool, true, false, not, ◌&&◌, ◌||◌, nat_le, Option, Some, None, is_some, is_none, if◌then◌else◌, option_and_then, take, map}
 use Rattle.std.specs.List.{filter_map, list_all}
 use Rattle.std.specs.Option.{option_map_or}

@@ -1,5 +1,5 @@
 -- What a world document of the right shape says, member by member: texts, numbers and lists. Policies and contexts
--- stand as the JSON values that they are; a text is the list of its bytes.
+-- stand as the JSON values that they are; a text is the list of its bytes. LOGIC 12.1.
 use Rattle.std.specs.Prelude.{◌≡◌, ◌⊎◌, ℕ, List, [], Bool, false, Option, Some, None, IsSome, option_and_then, unwrap_or}
 use Rattle.std.specs.List.{AllZip}
 use Rattle.serde_json.specs.Data.{Data}

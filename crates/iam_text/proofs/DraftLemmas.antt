@@ -218,9 +218,6 @@ pub record Along (wild : Bool) (text : List ℕ) (pieces : List Piece) (rest : L
   pub on : (tail : List Piece) → IsDraft wild rest tail → IsDraft wild text (pieces ++ tail)
   pub back : (all : List Piece) → IsDraft wild text all → (tail : List Piece) × IsDraft wild rest tail
 
-pub along-none : (wild : Bool) (text : List ℕ) → Along wild text [] text
-along-none wild text = record { on = λ tail draft. draft; back = λ all draft. (all, draft) }
-
 along-more : (wild : Bool) (text : List ℕ) (pieces : List Piece) (rest behind : List ℕ) (piece : Piece) → Along wild text pieces rest
     → BeginsWith wild rest piece behind → Along wild text (pieces ++ piece ∷ []) behind
 along-more wild text pieces rest behind piece a begins = record {

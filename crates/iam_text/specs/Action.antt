@@ -1,4 +1,4 @@
--- Action patterns: AWS IAM User Guide, "IAM JSON policy elements: Action". A text is the list of its bytes.
+-- Action patterns: AWS IAM User Guide, "IAM JSON policy elements: Action". A text is the list of its bytes. LOGIC 6.5.
 use Rattle.std.specs.Prelude.{ℕ, List, Bool, ◌&&◌, ◌||◌, ◌==◌, codes}
 use Rattle.std.specs.List.{after_first, before_first}
 use Rattle.std.specs.Str.{bytes_eq}

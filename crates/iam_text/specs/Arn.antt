@@ -1,5 +1,5 @@
 -- The parts of an ARN: AWS IAM User Guide, "IAM identifiers", `arn:partition:service:region:account:resource`.
--- A text is the list of its bytes.
+-- A text is the list of its bytes. LOGIC 3.
 use Rattle.std.specs.Prelude.{◌≡◌, ℕ, List, ◌==◌, length, take, count_by}
 use Rattle.std.specs.List.{AllByRecursion, join_with_byte}
 

@@ -1,4 +1,4 @@
--- Tests on the characters of a text, which is the list of its bytes.
+-- Tests on the characters of a text, which is the list of its bytes. LOGIC 2.1.
 use Rattle.std.specs.Prelude.{ℕ, List, Bool, ◌&&◌, ◌||◌, ◌==◌, length, nat_lt}
 use Rattle.std.specs.List.{list_all}
 use Rattle.std.specs.Char.{is_ascii_alphanumeric, is_ascii_digit}

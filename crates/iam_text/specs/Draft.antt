@@ -1,5 +1,5 @@
 -- Texts that may hold variables: AWS IAM User Guide, "IAM policy elements: Variables and tags". A text is the list of
--- its bytes, and so are a key and a default; an escaped piece is a character.
+-- its bytes, and so are a key and a default; an escaped piece is a character. LOGIC 4.1, 4.2 and 16.
 use Rattle.std.specs.Prelude.{◌≡◌, ◌≢◌, ℕ, List, [], ◌∷◌, ◌++◌, Bool, ◌||◌, not, ◌==◌, Some, None, IsTrue, codes, encode_utf8, map, replicate, if◌then◌else◌}
 use Rattle.std.specs.List.{list_all}
 use Rattle.std.specs.Str.{chars}

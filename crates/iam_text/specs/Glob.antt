@@ -1,5 +1,5 @@
 -- Patterns over texts: AWS IAM User Guide, "IAM JSON policy elements reference", the wildcards of
--- `Action` and `Resource`. A text is the list of its characters, Unicode scalar values.
+-- `Action` and `Resource`. A text is the list of its characters, Unicode scalar values. LOGIC 2.1 and 2.2.
 use Rattle.std.specs.Prelude.{◌≡◌, ℕ, List, [], ◌∷◌, ⊤, length, map, ◌==◌, if◌then◌else◌}
 use Rattle.std.specs.List.{AllZip, concat}
 use Rattle.std.specs.Char.{to_ascii_lowercase}

@@ -1,4 +1,4 @@
--- The parts of an `Arn`, as the list that `IsArn` speaks of.
+-- The parts of an `Arn`, as the list that `IsArn` speaks of. LOGIC 3.
 use Rattle.std.specs.Prelude.{ℕ, List, [], ◌∷◌}
 use Rattle.iam_text.specs.declared.arn.Arn.{Arn}
 

@@ -1,4 +1,4 @@
--- How the pieces of a text that may hold variables are kept.
+-- How the pieces of a text that may hold variables are kept. LOGIC 4.2.
 use Rattle.std.specs.Prelude.{◌≡◌, List}
 use Rattle.iam_text.specs.declared.draft.Piece.{Piece}
 use Rattle.iam_text.specs.declared.template.TemplateForm.{TemplateForm}

@@ -1,5 +1,5 @@
 -- A test of the grammar of variables: AWS IAM User Guide, "IAM policy elements: Variables and tags". It reads a text
--- once, byte by byte; what it tells is whether the text has a draft (`Draft`).
+-- once, byte by byte; what it tells is whether the text has a draft (`Draft`). LOGIC 4.2.
 use Rattle.std.specs.Prelude.{ℕ, List, [], ◌∷◌, Bool, true, false, ◌||◌, ◌==◌, Option, Some, None, if◌then◌else◌}
 use Rattle.std.specs.Option.{option_map_or}
 use Rattle.iam_text.specs.declared.version.Version.{Version}

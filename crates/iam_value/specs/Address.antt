@@ -1,5 +1,5 @@
 -- IPv4 addresses in dotted decimal, IPv6 addresses (RFC 4291 section 2.2), and ranges of either. The signs by their
--- codes: 46 is `.`, 47 `/`, 58 `:`.
+-- codes: 46 is `.`, 47 `/`, 58 `:`. LOGIC 8.5 and 8.6.
 use Rattle.std.specs.Prelude.{◌≡◌, ◌⊎◌, ℕ, ◌+◌, ◌-◌, ◌*◌, ◌/◌, ◌^◌, ◌<◌, ◌≤◌, List, [], ◌∷◌, ◌++◌, length, fold, replicate}
 use Rattle.std.specs.Fmt.{decimal}
 use Rattle.iam_value.specs.Pieces.{IsNumber}

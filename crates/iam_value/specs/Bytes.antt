@@ -1,4 +1,4 @@
--- Bytes in base64, with padding (RFC 4648 section 4).
+-- Bytes in base64, with padding (RFC 4648 section 4). LOGIC 8.4.
 use Rattle.std.specs.Prelude.{◌≡◌, ℕ, List}
 use Rattle.base64.specs.Engines.{standard}
 use Rattle.base64.specs.GeneralPurpose.{encode_of, IsBytes}

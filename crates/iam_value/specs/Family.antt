@@ -1,4 +1,4 @@
--- The families of addresses.
+-- The families of addresses. LOGIC 8.5.
 use Rattle.std.specs.Prelude.{ℕ}
 use Rattle.iam_value.specs.declared.ranges.Family.{Family}
 use Rattle.iam_value.specs.declared.ranges.Family.TheVariants.{V4, V6}

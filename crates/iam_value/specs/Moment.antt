@@ -1,6 +1,6 @@
 -- Instants: whole seconds, a date, or a date with a time and its offset from UTC (AWS IAM User Guide, 'Date condition
 -- operators': seconds from 1970 on, or ISO 8601, of which the forms below are our choice). Their values are nanoseconds
--- from 1970-01-01T00:00:00Z. The signs by their codes: 43 is `+`, 45 `-`, 46 `.`, 58 `:`, 84 `T`.
+-- from 1970-01-01T00:00:00Z. The signs by their codes: 43 is `+`, 45 `-`, 46 `.`, 58 `:`, 84 `T`. LOGIC 8.3.
 use Rattle.std.specs.Prelude.{◌≡◌, ◌⊎◌, ℕ, ◌+◌, ◌-◌, ◌*◌, ◌/◌, ◌%◌, ◌^◌, ◌≤◌, List, [], ◌∷◌, ◌++◌, length, codes, ℤ, pos, neg_ℤ, ◌+ℤ◌, ◌-ℤ◌, ◌*ℤ◌}
 use Rattle.std.specs.Str.Parse.{IsNumeral, digits_value}
 use Rattle.jiff_core.specs.Calendar.{IsCivilDate, days_from_civil}

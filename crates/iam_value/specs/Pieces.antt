@@ -1,4 +1,4 @@
--- Pieces of a text.
+-- Pieces of a text. LOGIC 8.
 use Rattle.std.specs.Prelude.{◌≡◌, ◌≢◌, ℕ, ◌≤◌, List, ◌∷◌, ◌++◌, length, All}
 use Rattle.std.specs.Str.Parse.{IsNumeral, digits_value}
 

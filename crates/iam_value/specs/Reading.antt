@@ -1,4 +1,4 @@
--- What a reader owes: the value that a text has, and none only where it has no value.
+-- What a reader owes: the value that a text has, and none only where it has no value. LOGIC 8.
 use Rattle.std.specs.Prelude.{◌≡◌, Option, Some, MatchOption}
 
 -- `Some v`: v is such a value; `None`: nothing is

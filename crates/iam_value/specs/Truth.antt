@@ -1,4 +1,4 @@
--- Truth values: `true` or `false`, in any case of letters.
+-- Truth values: `true` or `false`, in any case of letters. LOGIC 8.2.
 use Rattle.std.specs.Prelude.{◌≡◌, ℕ, List, Bool, true, false, map, codes}
 use Rattle.std.specs.Char.{to_ascii_lowercase}
 

@@ -1,4 +1,4 @@
--- Whole numbers in decimal. A numeral is one or more ASCII digits, and its value the sum of their places.
+-- Whole numbers in decimal. A numeral is one or more ASCII digits, and its value the sum of their places. LOGIC 8.1.
 use Rattle.std.specs.Prelude.{◌≡◌, ◌⊎◌, ℕ, List, ◌∷◌, ℤ, pos, neg_ℤ, FitsSigned}
 use Rattle.std.specs.Int.{w64}
 use Rattle.std.specs.Str.Parse.{IsNumeral, digits_value}

@@ -1,4 +1,4 @@
--- How a world document is read: the world of bytes that have no fault.
+-- How a world document is read: the world of bytes that have no fault. LOGIC 12.1.
 use Rattle.std.specs.Prelude.{◌≡◌, ℕ, List, Option, Some, None, ⊤}
 use Rattle.std.specs.List.{AllZip}
 use Rattle.serde_json.specs.Data.{Data}

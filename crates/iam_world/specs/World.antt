@@ -1,5 +1,5 @@
 -- A world: accounts with organisation policies, principals and resources with their policies, actions and a moment.
--- A text is the list of its bytes.
+-- A text is the list of its bytes. LOGIC 12.1.
 use Rattle.std.specs.Prelude.{ℕ, ◌*◌, List, ◌++◌, Bool, Option, length}
 use Rattle.std.specs.List.{find, flat_map, sum_by}
 use Rattle.std.specs.Option.{option_to_list}

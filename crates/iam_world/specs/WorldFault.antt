@@ -1,4 +1,5 @@
 -- Why bytes are no world: the set of their faults, one case a number, and the first of them.
+-- LOGIC 1.3, 12.2, 12.4, 12.5 and 15.
 use Rattle.std.specs.Prelude.{◌≡◌, ◌⊎◌, ℕ, ◌+◌, ◌*◌, ◌<◌, ◌≤◌, List, [], ◌∷◌, ◌++◌, Bool, not, ◌&&◌, ◌||◌, ◌==◌, nat_eq, nat_lt, length, codes, Some, IsTrue, map}
 use Rattle.std.specs.List.{before_first, after_first, starts_with, sum_by}
 use Rattle.std.specs.Option.{option_to_list}

@@ -1,4 +1,4 @@
--- The parts of the context that a world document gives, and the first that is faulty.
+-- The parts of the context that a world document gives, and the first that is faulty. LOGIC 12.4.
 use Rattle.std.specs.Prelude.{ℕ, List, [], ◌∷◌, ◌++◌, map}
 use Rattle.std.specs.List.{flat_map}
 use Rattle.iam_context.specs.Context.{ContextValue, keys_of}

@@ -1,4 +1,4 @@
--- The keys that a context of a world document gives, with their values.
+-- The keys that a context of a world document gives, with their values. LOGIC 12.1.
 use Rattle.std.specs.Prelude.{ℕ, List, [], ◌∷◌, Option, option_and_then}
 use Rattle.std.specs.List.{filter_map}
 use Rattle.std.specs.Option.{option_map_or, option_to_list}

@@ -35,7 +35,7 @@ abbrev pub line_has : Kind → Data → ℕ → Data → Bool → Fault → Bool
 line_has kind d i s bad fault = statement_has kind d i s fault || (fault_is BadValue fault && bad)
 
 -- the least fault of a statement
-abbrev pub fault_of : Kind → Data → ℕ → Data → Bool → Option Fault
+unfoldable pub fault_of : Kind → Data → ℕ → Data → Bool → Option Fault
 fault_of kind d i s bad = find (line_has kind d i s bad) table
 
 -- this is the least fault of a statement

@@ -1,4 +1,4 @@
-use Rattle.std.proofs.Common.{◌≡◌, ℕ, List, length, ap, ◌∙◌, subst, sym, arith}
+use Rattle.std.proofs.Common.{ℕ, List, length, ap, ◌∙◌, subst, sym, arith}
 use Rattle.std.specs.List.{flat_map}
 use Rattle.iam_report.specs.Piece.{MatrixValue, text_of}
 use Rattle.iam_report.specs.declared.quoted.Format.{Format}

@@ -1,51 +1,57 @@
-use Rattle.std.proofs.Common.{◌≡◌, ℕ, List, subst, ◌+◌, ◌-◌, [], ◌++◌, ◌∷◌, sym, ap, ◌∙◌, arith}
+use Rattle.std.proofs.Common.{◌≡◌, ℕ, subst, ◌+◌, ◌-◌, ◌≤◌, [], ◌++◌, ◌∷◌, sym, ap, ◌∙◌, arith}
 use Rattle.std.proofs.lemmas.List.{map_push}
-use Rattle.std.proofs.lemmas.Option.{slice_get_within}
-use Rattle.iam_decision.specs.declared.verdict.Verdict.{Verdict}
-use Rattle.iam_layers.specs.Cell.{IsDecisionAt, IsDecisionOf}
+use Rattle.iam_layers.specs.Cell.{IsCell, IsDecisionOf}
 use Rattle.iam_report.specs.Piece.{bare}
-use Rattle.iam_world.specs.World.{WorldValue}
+use Rattle.iam_world.specs.World.{WorldValue, world_cells}
 use Rattle.iam_matrix.specs.Code.Tiles.{AreEntries}
 use Rattle.iam_matrix.proofs.Tiles.{more-entries, no-entries}
 use Rattle.iam_matrix.proofs.rows.brief_entries.Goals as goal
 
-pub loop-cell-init : goal.loop-cell-init
-loop-cell-init c =
+pub loop-at-init : goal.loop-at-init
+loop-at-init c =
     let world = c.world-world.result.now in
     let from = c.args.from in
+    let at = c.of-at.ensures in
     let P : ℕ → Type 0 = λ n. AreEntries (IsDecisionOf world) from n [] in
-    let zero_is : 0 ≡ from - from = omega arith in record {
-      least = omega arith;
+    let zero_is : 0 ≡ c.of-at.result.cell - from = omega (arith, at.cell) in record {
+      least = omega (arith, at.cell);
+      most = omega (arith, at.cell, c.end_of-end.ensures.value);
+      there = λ below. at.is (omega (arith, below, at.cell));
       same = sym c.world-world.ensures;
       so_far = ([], subst P zero_is (no-entries (IsDecisionOf world) from), c.in_ok-entries.ensures);
     }
 
-pub verdict-requires : goal.verdict-requires
-verdict-requires c =
-    let (verdict, there, is) = c.in_ok-number.ensures.number in
-    slice_get_within c.find.new.self.rulings c.in_ok-number.number verdict there
+pub decision_at-requires : goal.decision_at-requires
+decision_at-requires c =
+    let at = c.loop-at.at in
+    let so_far = c.loop-at.invariant in
+    let F : WorldValue → Type 0 = λ w. c.args.from + c.args.count ≤ world_cells w in
+    let few = subst F (sym c.world-world.ensures) c.requires in
+    let P : WorldValue → Type 0 = λ w. IsCell w at.cell at.principal at.action at.resource in
+    subst P (sym so_far.same) (so_far.there (omega (arith, c.loop-at-test.true, c.end_of-end.ensures.value, few)))
 
-pub loop-cell-preserved : goal.loop-cell-preserved
-loop-cell-preserved c =
+pub loop-at-preserved : goal.loop-at-preserved
+loop-at-preserved c =
     let world = c.world-world.result.now in
     let from = c.args.from in
-    let cell = c.loop-cell.cell in
-    let t = c.triple-p.result in
-    let so_far = c.loop-cell.invariant in
+    let at = c.loop-at.at in
+    let next = c.next_in-at.ensures in
+    let so_far = c.loop-at.invariant in
     let old = so_far.so_far in
-    let verdict = c.verdict.result.now in
-    let decision = verdict.decision in
-    let W : WorldValue → Type 0 = λ w. IsDecisionAt w t.0 t.1 t.2 decision in
-    let same = c.in_ok-number.ensures.same ∙ so_far.same in
-    let (applicable, request, asked, holds) = c.verdict.ensures t.0 t.1 t.2 c.in_ok-number.ensures.number in
-    let at = subst W same (applicable, request, asked, holds.decided) in
-    let more = more-entries (IsDecisionOf world) from cell old.0 decision so_far.least old.1 (t.0, t.1, t.2, c.triple-p.ensures.is, at) in
+    let decision = c.in_ok-decision_at.field-0 in
+    let W : WorldValue → Type 0 = λ w. IsDecisionOf w at.cell decision in
+    let same = c.in_ok-decision_at.ensures.same ∙ so_far.same in
+    let told = subst W so_far.same c.in_ok-decision_at.ensures.decision in
+    let more = more-entries (IsDecisionOf world) from at.cell old.0 decision so_far.least old.1 told in
+    let R : ℕ → Type 0 = λ n. AreEntries (IsDecisionOf world) from (n - from) (old.0 ++ decision ∷ []) in
     record {
-      least = omega (arith, so_far.least);
+      least = omega (arith, so_far.least, next.cell);
+      most = omega (arith, next.cell, c.loop-at-test.true);
+      there = λ below. next.is (omega (arith, below, next.cell));
       same = same;
       so_far = (
         old.0 ++ decision ∷ [],
-        more,
+        subst R (sym next.cell) more,
         c.in_ok-push_decision.ensures ∙ ap (λ xs. xs ++ bare decision ∷ []) old.2 ∙ sym (map_push bare old.0 decision),
       );
     }

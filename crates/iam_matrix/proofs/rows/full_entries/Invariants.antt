@@ -1,11 +1,18 @@
-use Rattle.std.proofs.Common.{◌≡◌, ◌-◌, ◌≤◌}
+use Rattle.std.proofs.Common.{◌≡◌, ◌-◌, ◌≤◌, ◌<◌}
 use Rattle.iam_matrix.specs.Code.Tiles.{AreVerdicts}
+use Rattle.iam_layers.specs.Cell.{IsCell}
+use Rattle.iam_world.specs.World.{world_cells}
 use Rattle.iam_matrix.proofs.rows.full_entries.Given as goal
 
 -- the cells so far
-abbrev pub invariant-loop-cell : goal.invariant-loop-cell
-invariant-loop-cell l = record {
-  least : l.from ≤ l.cell;
+abbrev pub invariant-loop-at : goal.invariant-loop-at
+invariant-loop-at l = record {
+  least : l.from ≤ l.at.cell;
+  most : l.at.cell ≤ l.end;
+  there : l.at.cell < world_cells l.world → IsCell l.world l.at.cell l.at.principal l.at.action l.at.resource;
   same : l.engine.world ≡ l.world;
-  so_far : AreVerdicts l.world l.from (l.cell - l.from) l.entries;
+  so_far : AreVerdicts l.world l.from (l.at.cell - l.from) l.entries;
 }
+
+abbrev pub decreases-loop-at : goal.decreases-loop-at
+decreases-loop-at l = l.end - l.at.cell

@@ -1,50 +1,69 @@
-use Rattle.std.proofs.Common.{◌≡◌, ◌<◌, subst, sym, ◌∙◌, refl, ⊎_elim, arith}
+use Rattle.std.proofs.Common.{◌≡◌, ◌+◌, ◌≤◌, subst, sym, ◌∙◌, refl, ⊎_elim, arith}
 use Rattle.std.proofs.lemmas.Bool.{cases_lt}
 use Rattle.iam_decision.specs.declared.verdict.Decision.{Decision}
-use Rattle.iam_layers.specs.Cell.{IsDecisionOf}
+use Rattle.iam_layers.specs.Cell.{IsCell, IsDecisionOf}
 use Rattle.iam_world.specs.World.{WorldValue, world_cells}
 use Rattle.iam_matrix.specs.Matrix.{IsDenied}
 use Rattle.iam_matrix.specs.Code.Tiles.{IsAllowedCell}
 use Rattle.iam_matrix.proofs.search.first_in.Goals as goal
 
-pub decide_brief-requires : goal.decide_brief-requires
-decide_brief-requires c =
-    let P : WorldValue → Type 0 = λ w. c.loop-cell.cell < world_cells w in
-    subst P (sym c.loop-cell.invariant.same) (omega (arith, c.end_of-cell-end.ensures.value, c.requires))
+pub decision_at-requires : goal.decision_at-requires
+decision_at-requires c =
+    let at = c.loop-at.at in
+    let so_far = c.loop-at.invariant in
+    let F : WorldValue → Type 0 = λ w. c.args.from + c.args.count ≤ world_cells w in
+    let few = subst F (sym c.world-world.ensures) c.requires in
+    let P : WorldValue → Type 0 = λ w. IsCell w at.cell at.principal at.action at.resource in
+    subst P (c.world-world.ensures ∙ sym so_far.same) (so_far.there (omega (arith, c.loop-at-test.true, c.end_of-end.ensures.value, few)))
+
+pub loop-at-init : goal.loop-at-init
+loop-at-init c =
+    let at = c.of-at.ensures in record {
+      least = omega (arith, at.cell);
+      most = omega (arith, at.cell, c.end_of-end.ensures.value);
+      there = λ below. at.is (omega (arith, below, at.cell));
+      same = refl;
+      denied = λ cell from below. absurd (omega (arith, from, below, at.cell));
+    }
 
 pub returns-then-is_allowed-clause-first : goal.returns-then-is_allowed-clause-first
 returns-then-is_allowed-clause-first c =
     let world = c.args.engine.now.world in
-    let so_far = c.loop-cell.invariant in
-    let cell = c.loop-cell.cell in
-    let decision = c.in_ok-decide_brief.field-0 in
+    let so_far = c.loop-at.invariant in
+    let cell = c.loop-at.at.cell in
+    let decision = c.in_ok-decision_at.field-0 in
     let W : WorldValue → Type 0 = λ w. IsDecisionOf w cell decision in
     let D : Decision → Type 0 = λ d. IsDecisionOf world cell d in
-    let told = subst W so_far.same c.in_ok-decide_brief.ensures.decision in
-    let end = c.end_of-cell-end.ensures in
+    let told = subst W so_far.same c.in_ok-decision_at.ensures.decision in
+    let end = c.end_of-end.ensures in
+    let less = c.loop-at-test.true in
     let found : IsAllowedCell world cell = record {
-      below = omega (arith, end.value, c.requires);
-      small = omega (arith, end.few);
+      below = omega (arith, less, end.value, c.requires);
+      small = omega (arith, less, end.few);
       allowed = subst D (c.is_allowed.ensures.0 c.if-is_allowed.true) told;
     } in
-    (found, omega (arith, end.value), so_far.denied)
+    (found, omega (arith, less, end.value), so_far.denied)
 
-pub loop-cell-preserved : goal.loop-cell-preserved
-loop-cell-preserved c =
+pub loop-at-preserved : goal.loop-at-preserved
+loop-at-preserved c =
     let world = c.args.engine.now.world in
-    let so_far = c.loop-cell.invariant in
-    let decision = c.in_ok-decide_brief.field-0 in
-    let W : WorldValue → Type 0 = λ w. IsDecisionOf w c.loop-cell.cell decision in
-    let here : IsDenied world c.loop-cell.cell = record {
+    let so_far = c.loop-at.invariant in
+    let here = c.loop-at.at.cell in
+    let next = c.next_in-at.ensures in
+    let decision = c.in_ok-decision_at.field-0 in
+    let W : WorldValue → Type 0 = λ w. IsDecisionOf w here decision in
+    let is : IsDenied world here = record {
       decision = decision;
-      is = subst W so_far.same c.in_ok-decide_brief.ensures.decision;
-      denied = λ is. let allowed = c.is_allowed.ensures.1 is in let wrong : ⊥ = cc in wrong;
+      is = subst W so_far.same c.in_ok-decision_at.ensures.decision;
+      denied = λ same. let allowed = c.is_allowed.ensures.1 same in let wrong : ⊥ = cc in wrong;
     } in
     record {
-      least = omega (arith, so_far.least);
-      same = c.in_ok-decide_brief.ensures.same ∙ so_far.same;
+      least = omega (arith, so_far.least, next.cell);
+      most = omega (arith, next.cell, c.loop-at-test.true);
+      there = λ below. next.is (omega (arith, below, next.cell));
+      same = c.in_ok-decision_at.ensures.same ∙ so_far.same;
       denied = λ cell from below.
           ⊎_elim (λ before. so_far.denied cell from before)
-          (λ after. let same : c.loop-cell.cell ≡ cell = omega arith in subst (λ k. IsDenied world k) same here)
-          (cases_lt cell c.loop-cell.cell);
+          (λ after. let same : here ≡ cell = omega (arith, after, below, next.cell) in subst (λ k. IsDenied world k) same is)
+          (cases_lt cell here);
     }

@@ -2,6 +2,7 @@ use Rattle.std.proofs.Common.{sym, subst}
 use Rattle.iam_decision.specs.Living.{SharedValue}
 use Rattle.iam_layers.specs.Cell.{IsSharedAt}
 use Rattle.iam_engine.specs.Memo.{HasClass}
+use Rattle.iam_engine.specs.Slots.{Gains}
 use Rattle.iam_engine.specs.declared.memo.Pair.{Pair}
 use Rattle.iam_engine.proofs.SlotLemmas.{all-gained}
 use Rattle.iam_engine.proofs.memo.Memo.class_with.Goals as goal
@@ -17,19 +18,26 @@ of-class c shared =
     let (class, at, same) = c.in_ok-class.ensures.class in
     (class, at, subst S (sym same) shared)
 
-pub returns-clause-right : goal.returns-clause-right
-returns-clause-right c = λ right shared.
+pub returns-in-Some-clause-right : goal.returns-in-Some-clause-right
+returns-in-Some-clause-right c = λ right shared.
     let world = c.args.world.now in
     let memo = c.class_sharing.new.self in
     let fine = c.class_sharing.ensures.right right in
     let pair : Pair = record { principal = c.args.p; resource = c.args.r; class = c.in_ok-class.class } in
+    let gains : Gains memo.pairs.items c.keep.new.slots.items pair = subst (Gains memo.pairs.items c.keep.new.slots.items) c.in-Some.ensures c.keep.ensures in
     let P : Pair → Type 0 = λ p. HasClass world memo.classes.items p.principal p.resource p.class in
     record {
-      pairs = all-gained P memo.pairs.items c.keep.new.slots.items pair c.keep.ensures fine.pairs (of-class c shared);
+      pairs = all-gained P memo.pairs.items c.keep.new.slots.items pair gains fine.pairs (of-class c shared);
       answers = fine.answers;
       elements = fine.elements;
       rows = fine.rows;
     }
 
-pub returns-clause-class : goal.returns-clause-class
-returns-clause-class c = λ shared. of-class c shared
+pub returns-in-Some-clause-class : goal.returns-in-Some-clause-class
+returns-in-Some-clause-class c = λ shared. of-class c shared
+
+pub returns-in_default-clause-class : goal.returns-in_default-clause-class
+returns-in_default-clause-class c = λ shared.
+    let S : SharedValue → Type 0 = IsSharedAt c.args.world.now c.args.p c.args.r in
+    let (class, at, same) = c.in_ok-class.ensures.class in
+    (class, at, subst S (sym same) shared)

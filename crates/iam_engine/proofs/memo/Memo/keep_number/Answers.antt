@@ -1,16 +1,19 @@
+use Rattle.std.proofs.Common.{subst}
 use Rattle.iam_engine.specs.Memo.{HasNumber}
+use Rattle.iam_engine.specs.Slots.{Gains}
 use Rattle.iam_engine.specs.declared.memo.Answer.{Answer}
 use Rattle.iam_engine.proofs.SlotLemmas.{all-gained}
 use Rattle.iam_engine.proofs.memo.Memo.keep_number.Goals as goal
 
-pub returns-clause-right : goal.returns-clause-right
-returns-clause-right c = λ world right is.
+pub returns-in-Some-clause-right : goal.returns-in-Some-clause-right
+returns-in-Some-clause-right c = λ world right is.
     let memo = c.args.self.now in
     let answer : Answer = record { class = c.args.class; action = c.args.a; number = c.args.number } in
+    let gains : Gains memo.answers.items c.keep.new.slots.items answer = subst (Gains memo.answers.items c.keep.new.slots.items) c.in-Some.ensures c.keep.ensures in
     let P : Answer → Type 0 = λ a. HasNumber world memo.classes.items memo.rulings.items a.class a.action a.number in
     record {
       pairs = right.pairs;
-      answers = all-gained P memo.answers.items c.keep.new.slots.items answer c.keep.ensures right.answers is;
+      answers = all-gained P memo.answers.items c.keep.new.slots.items answer gains right.answers is;
       elements = right.elements;
       rows = right.rows;
     }

@@ -4,7 +4,7 @@ use Rattle.iam_lanes.specs.LaneRule.{times, times_taken, with_number, with_end}
 use Rattle.iam_lanes.specs.Code.Words.{FindsCount}
 use Rattle.iam_lanes.specs.Lanes.{LanesId, left_in, gains_number}
 use Rattle.iam_lanes.specs.Code.Fields.{seat_view}
-use Rattle.iam_lanes.proofs.Calls.{allows_take, same_lanes, unflagged, takes_number, takes_end, nearer, flags_set, shows_number, shows_end}
+use Rattle.iam_lanes.proofs.Calls.{allows_take, same_lanes, unflagged, takes_number, takes_end, nearer, flags_set, shows_number}
 use Rattle.iam_lanes.proofs.lanes.Lanes.take.Goals as goal
 use Rattle.iam_lanes.proofs.lanes.Lanes.take.Goals.{After-fetch_add-found}
 
@@ -48,19 +48,12 @@ end c past =
     let len = length_is c in
     takes_end v.lengths c.args.lane c.fetch_add-found.result v c.fetch_add-found.new.seat.me.0 (finds c).view (omega arith)
 
-pub invariant_of-seat : goal.invariant_of-seat
-invariant_of-seat c =
-    let a = (goal.at.invariant_of-seat c).After-fetch_add-found in
-    let e = number a c.if-found-length.true in
-    record {
-      empty = c.fetch_add-found.ensures.2.1 ∙ c.seat.invariant.empty;
-      alone = ap (λ v. v.seats) e ∙ c.seat.invariant.alone;
-      flagged = λ lane h. c.seat.invariant.flagged lane h ∙ ap (λ v. ltb 0 (times lane v.ends)) (sym e);
-    }
-
-pub returns-then-found-length-clause-fresh : goal.returns-then-found-length-clause-fresh
-returns-then-found-length-clause-fresh c m h =
-    ap (λ s. times_taken c.args.lane m s.taken) (sym c.seat.view_is) ∙ (finds (goal.at.returns-then-found-length-clause-fresh c).After-fetch_add-found).fresh m h
+-- what is given is what was found
+pub returns-clause-fresh : goal.returns-clause-fresh
+returns-clause-fresh c =
+    let e : c.in-Some.number ≡ c.fetch_add-found.result = c.in-Some.ensures.number in
+    let told = (finds (goal.at.returns-clause-fresh c).After-fetch_add-found).fresh in
+    λ m h. ap (λ s. times_taken c.args.lane m s.taken) (sym c.seat.view_is) ∙ told m (omega (arith, e, h))
 
 -- the seat gains the number
 gained : (c : After-fetch_add-found) → c.fetch_add-found.result < c.index-length.result.now
@@ -71,19 +64,24 @@ gained c below =
     let e = number c below in
     shows_number pass.table_id after.table_id pass.me.0 after.me.0 c.args.seat.now c.args.lane c.fetch_add-found.result c.fetch_add-found.ensures.0 e c.seat.view_is
 
-pub returns-then-found-length-clause-gained : goal.returns-then-found-length-clause-gained
-returns-then-found-length-clause-gained c = gained (goal.at.returns-then-found-length-clause-gained c).After-fetch_add-found c.if-found-length.true
+pub returns-clause-gained : goal.returns-clause-gained
+returns-clause-gained c =
+    let e = c.in-Some.ensures.number in
+    let below = c.in-Some.ensures.inside in
+    gained (goal.at.returns-clause-gained c).After-fetch_add-found (omega (arith, e, below)) ∙ ap (λ n. gains_number c.args.lane n c.args.seat.now) (sym e)
 
-pub returns-then-found-length-clause-nearer : goal.returns-then-found-length-clause-nearer
-returns-then-found-length-clause-nearer c =
-    let a = (goal.at.returns-then-found-length-clause-nearer c).After-fetch_add-found in
+pub returns-clause-nearer : goal.returns-clause-nearer
+returns-clause-nearer c =
+    let a = (goal.at.returns-clause-nearer c).After-fetch_add-found in
     let seat = c.args.seat.now in
     let n : ℕ = c.fetch_add-found.result in
     let len = length_is a in
     let lengths = ap (λ s. get_or s.lanes.lengths c.args.lane 0) c.seat.view_is in
-    let below = c.if-found-length.true in
+    let e : c.in-Some.number ≡ n = c.in-Some.ensures.number in
+    let inside : c.in-Some.number < c.index-length.result.now = c.in-Some.ensures.inside in
+    let below : n < c.index-length.result.now = omega (arith, e, inside) in
     let fresh : (m : ℕ) → n ≤ m → times_taken c.args.lane m seat.taken ≡ 0 = λ m h. ap (λ s. times_taken c.args.lane m s.taken) (sym c.seat.view_is) ∙ (finds a).fresh m h in
-    subst (λ s. left_in c.args.lane s < left_in c.args.lane seat) (sym (gained a below)) (nearer c.args.lane n seat (omega arith) fresh)
+    subst (λ s. left_in c.args.lane s < left_in c.args.lane seat) (sym (gained a below)) (nearer c.args.lane n seat (omega (arith, below, len, lengths)) fresh)
 
 -- the end is the seat's first of the lane
 first : (c : After-fetch_add-found) → times c.args.lane c.seat.inside.pass.me.0.ends ≡ 0
@@ -93,10 +91,10 @@ first c =
     let flag = c.seat.invariant.flagged c.args.lane (omega arith) in
     unflagged (get_or c.seat.inside.ended c.args.lane false) (times c.args.lane c.seat.inside.pass.me.0.ends) flag c.if-seat-lane.false
 
-pub invariant_of-seat-2 : goal.invariant_of-seat-2
-invariant_of-seat-2 c =
-    let a = (goal.at.invariant_of-seat-2 c).After-fetch_add-found in
-    let e = end a c.if-found-length.false in
+pub invariant_of-seat-in_default : goal.invariant_of-seat-in_default
+invariant_of-seat-in_default c =
+    let a = (goal.at.invariant_of-seat-in_default c).After-fetch_add-found in
+    let e = end a c.in_default.ensures.ended in
     let inside = subst (λ (l : LanesId). c.args.lane < length l.lengths) (sym c.self.view_is) c.requires.lane in
     let few = c.self.invariant.1.few_lanes in
     let told = c.seat.told in
@@ -106,10 +104,3 @@ invariant_of-seat-2 c =
       alone = ap (λ v. v.seats) e ∙ c.seat.invariant.alone;
       flagged = λ lane h. flags_set c.seat.inside.ended c.args.lane before (omega arith) c.seat.invariant.flagged lane h ∙ ap (λ v. ltb 0 (times lane v.ends)) (sym e);
     }
-
-pub returns-clause-ended : goal.returns-clause-ended
-returns-clause-ended c =
-    let a = (goal.at.returns-clause-ended c).After-fetch_add-found in
-    let pass = c.seat.inside.pass in
-    let after = c.fetch_add-found.new.seat in
-    shows_end pass.table_id after.table_id pass.me.0 after.me.0 c.args.seat.now c.args.lane c.fetch_add-found.ensures.0 (end a c.if-found-length.false) c.seat.view_is (first a)

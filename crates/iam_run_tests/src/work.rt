@@ -1,0 +1,84 @@
+use iam_work::{Run, Stolen, Work, WorkFault};
+use std::test::Fail;
+
+#[test]
+fn two_seats_push_pop_steal_and_mark_in_turn(rt: HostRuntime) -> Result<(), Fail> {
+    let Ok((work, mut seats)) = Work::open(rt.alloc(), 6, 2) else {
+        panic!(rt; "the work is lawful")
+    };
+    let mut b = seats.pop().expect(&rt, "two seats");
+    let mut a = seats.pop().expect(&rt, "two seats");
+    let all = Run { first: 0, count: 6 };
+    let half = Run { first: 3, count: 3 };
+    let rest = Run { first: 1, count: 2 };
+    assert_eq!(rt; work.push(rt.alloc(), &mut a, all), Ok(()));
+    assert_eq!(rt; work.pop(&mut a), Some(all));
+    assert_eq!(rt; work.push(rt.alloc(), &mut a, half), Ok(()));
+    assert_eq!(rt; work.push(rt.alloc(), &mut a, rest), Ok(()));
+    assert_eq!(rt; work.steal(&mut b, 0), Stolen::Took(half));
+    assert_eq!(rt; work.pop(&mut a), Some(rest));
+    assert_eq!(rt; work.pop(&mut a), None);
+    assert_eq!(rt; work.steal(&mut b, 0), Stolen::Empty);
+    assert!(rt; work.mark(&mut a, 0));
+    assert!(rt; !work.mark(&mut b, 0));
+    assert!(rt; work.mark(&mut b, 3));
+    assert!(rt; !work.mark(&mut b, 3));
+    seats.push(a)?;
+    seats.push(b)?;
+    assert_eq!(rt; work.close(seats), 2);
+    Ok(())
+}
+
+#[test]
+fn work_is_refused_past_the_limits_alone(rt: HostRuntime) {
+    let refused: [(u64, u32, WorkFault); 6] = [
+        (6, 0, WorkFault::NoSeat),
+        (4097, 0, WorkFault::NoSeat),
+        (4097, 1, WorkFault::TooMany),
+        (18_446_744_073_709_551_615, 1, WorkFault::TooMany),
+        (6, 65, WorkFault::TooMany),
+        (0, 65, WorkFault::TooMany),
+    ];
+    for (grains, seats, fault) in refused {
+        let opened = Work::open(rt.alloc(), grains, seats);
+        assert_eq!(rt; opened.err(), Some(fault));
+    }
+    let accepted: [(u64, u32); 4] = [(0, 1), (0, 64), (1, 64), (4096, 64)];
+    for (grains, seats) in accepted {
+        assert!(rt; Work::open(rt.alloc(), grains, seats).is_ok());
+    }
+}
+
+#[test]
+fn a_deque_grows_and_gives_its_runs_in_their_order(rt: HostRuntime) {
+    let Ok((work, mut seats)) = Work::open(rt.alloc(), 100, 1) else {
+        panic!(rt; "the work is lawful")
+    };
+    let mut seat = seats.pop().expect(&rt, "one seat");
+    for first in 0..100 {
+        let run = Run { first, count: 1 };
+        assert_eq!(rt; work.push(rt.alloc(), &mut seat, run), Ok(()));
+    }
+    for first in 0..100 {
+        let run = Run { first, count: 1 };
+        assert_eq!(rt; work.pop(&mut seat), Some(run));
+    }
+    assert_eq!(rt; work.pop(&mut seat), None);
+}
+
+#[test]
+fn each_of_many_grains_is_marked_once(rt: HostRuntime) -> Result<(), Fail> {
+    let Ok((work, mut seats)) = Work::open(rt.alloc(), 130, 2) else {
+        panic!(rt; "the work is lawful")
+    };
+    let mut b = seats.pop().expect(&rt, "two seats");
+    let mut a = seats.pop().expect(&rt, "two seats");
+    for grain in 0..130 {
+        assert!(rt; work.mark(&mut a, grain));
+        assert!(rt; !work.mark(&mut b, grain));
+    }
+    seats.push(a)?;
+    seats.push(b)?;
+    assert_eq!(rt; work.close(seats), 130);
+    Ok(())
+}

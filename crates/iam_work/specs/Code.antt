@@ -1,0 +1,4 @@
+pub mod Words
+pub mod Fields
+pub mod Closing
+pub mod Thefts

@@ -1,0 +1,4 @@
+pub mod MarkRule
+pub mod RunRule
+pub mod Work
+pub mod Code
