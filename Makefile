@@ -21,8 +21,7 @@ run: build
 
 # The program, proved and built, as ./iamsim.
 build:
-	@cd crates/iamsim && rt run -- --help > /dev/null
-	@cp crates/iamsim/out/iamsim iamsim
+	@tools/build
 
 # The program, copied to PREFIX/bin.
 install: build

@@ -159,4 +159,5 @@ def test_help_goes_to_standard_output():
             lines = out.decode().split("\n")
             same((status, lines[0], said), (0, about, b""), words)
             assert f"Usage: {' '.join(f'iamsim {command} {usage}'.split())}" in lines, out
+            same("The world comes on standard input, as in: iamsim check < world.json" in lines, command != "", words)
     same(shell("--version", "<&-"), (0, b"iamsim 0.1.0\n", b""))

@@ -5,10 +5,11 @@ import itertools
 import json
 import os
 import re
+import shutil
 import subprocess
 import tempfile
 
-from harness import EXAMPLES, IAMSIM, Skipped, answer, data, matrix, on_all_processors, row_world, run, same
+from harness import EXAMPLES, IAMSIM, Skipped, TOOLS, answer, data, matrix, on_all_processors, row_world, run, same
 
 HERE = os.path.dirname(os.path.abspath(__file__))
 
@@ -107,6 +108,30 @@ def test_refused_threads():
     many = [["matrix", "--workers", "64", "--tile", "1"], ["first", "--workers", "64", "--tile", "1"]]
     jobs = [("REFUSE_THREAD", later, words, world) for world in worlds().values() for words in [*MATRICES, *FIRSTS, *many] for later in (0, 1)]
     tell("refused threads", *refused(IAMSIM, jobs))
+
+
+def test_an_engine_that_was_refused():
+    # One engine decides the cells of a world, and is asked once more where it was refused: no refused call spoils a verdict.
+    program = os.path.join(os.path.dirname(TOOLS), "crates", "iam_run_tests", "out", "iam_run_tests_tests")
+    if not os.path.exists(program):
+        raise Skipped("the tests of calls are not built")
+    program, library = shutil.copy(program, os.environ["TOOLS_TEST_ROOM"]), shim()
+    os.chmod(program, 0o755)
+    passed, outcomes = (0, b"\ntest result: ok\n"), []
+    for number in itertools.count(1):
+        read, write = os.pipe()
+        setting = {"LD_PRELOAD": library, "REFUSE_CALL": str(number), "REFUSE_TOLD": str(write)}
+        found = answer(["engine::cells_asked_again"], b"", program=program, env=setting, pass_fds=[write])
+        os.close(write)
+        with os.fdopen(read, "rb") as told:
+            if not told.read():
+                break
+        outcomes.append(found[:2] == passed)
+    # The first calls read the world, and most of them end the test; those of the engine follow.
+    asked = outcomes[::-1].index(False)
+    print(f"an engine that was refused: {asked} runs, all right", flush=True)
+    assert asked > 100, f"only the last {asked} calls leave the verdicts right"
+    same(found[:2], passed)
 
 
 def test_a_small_machine():

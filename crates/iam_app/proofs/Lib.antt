@@ -1,1 +1,2 @@
+pub mod OneOutput
 pub mod Refusals

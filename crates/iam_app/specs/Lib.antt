@@ -1,4 +1,5 @@
 pub mod Code
 pub mod FaultLine
+pub mod Laws
 pub mod Output
 pub mod Streams

@@ -1,3 +1,4 @@
+// Why a run does not end with its report, and the line that tells it.
 ghost use Rattle.std.specs.Prelude.{◌≡◌, IfOk, MatchResult, string_bytes};
 ghost use Rattle.iam_app.specs.FaultLine.{fault_text};
 

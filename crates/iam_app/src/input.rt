@@ -1,3 +1,4 @@
+// Reading the input: at most one byte more than a world may have.
 ghost use Rattle.std.specs.Prelude.{◌≡◌, ◌≢◌, ◌+◌, ◌-◌, ◌≤◌, IfOk, OnOk, Ok, Err, true, false, length};
 ghost use Rattle.iam_app.specs.Streams.{AllRemained, ConsumesAtMost, Gains, IsEnd, MoreRemained};
 ghost use Rattle.iam_app.specs.declared.input.InputFault.TheVariants as InputFault;

@@ -1,3 +1,4 @@
+// A report, and writing it: one flush, behind the last byte.
 ghost use Rattle.std.specs.Prelude.{◌≡◌, [], OnOk, OnErr};
 ghost use Rattle.std.specs.Io.KnownBytes.{Appends, Keeps};
 ghost use Rattle.iam_report.specs.Streams.{AppendsBeginning};

@@ -1,3 +1,4 @@
+// A run: the input is read, the world asked for, the report made and written.
 ghost use Rattle.std.specs.Prelude.{◌≡◌, ◌≢◌, ◌↔◌, IsTrue, IfOk, IfErr, OnOk, string_bytes};
 ghost use Rattle.iam_app.specs.Code.Pieces.{report_text};
 ghost use Rattle.iam_app.specs.Code.Refusal.{IsWorldRefusal};

@@ -1,3 +1,4 @@
+// One entry of a statement's conditions: an operator, a key and values.
 use crate::operand::Operand;
 use crate::operator::Operator;
 use iam_text::OutOfMemory;

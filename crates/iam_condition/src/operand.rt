@@ -1,3 +1,4 @@
+// The values of a condition, as its operator reads them.
 ghost use Rattle.std.specs.Prelude.{◌≡◌, IfOk};
 ghost use Rattle.iam_value.specs.Reading.{IsReading};
 ghost use Rattle.iam_condition.specs.Code.Operands.{IsAddressOperand, IsBytesOperand, IsDateOperand, IsNumberOperand, IsTruthOperand};

@@ -1,3 +1,4 @@
+// The context of a request: the values of each key, sought in the parts that it is made of or in a table.
 ghost use Rattle.std.specs.Prelude.{◌≡◌, ◌≢◌, ℕ, List, [], ◌∷◌, ◌++◌, map, option_map, IfOk, IfErr};
 ghost use Rattle.iam_context.specs.Context.{ContextValue, all_of, has_derived, joined, keys_of, values_of};
 ghost use Rattle.iam_context.specs.Code.Values.{first_values};

@@ -1,3 +1,4 @@
+// Why parts of a context can't be joined.
 use iam_text::OutOfMemory;
 use std::alloc::AllocFailed;
 

@@ -1,3 +1,4 @@
+// The keys that were seen so far.
 ghost use Rattle.std.specs.Prelude.{◌≡◌, ℕ, List, [], ◌∷◌, ◌++◌, false, not, IfOk, OnOk};
 ghost use Rattle.iam_context.specs.Context.{has_key, keys_of};
 

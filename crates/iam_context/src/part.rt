@@ -1,3 +1,4 @@
+// Parts of a context: keys that stand twice, and derived keys that are given.
 ghost use Rattle.std.specs.Prelude.{◌≡◌, ◌||◌, ℕ, List, MatchOption, IfOk, map};
 ghost use Rattle.std.specs.List.{list_any};
 ghost use Rattle.iam_context.specs.Context.{all_of, derived_names, has_derived, has_key, has_twice, is_same_key, keys_of};

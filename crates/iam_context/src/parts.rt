@@ -1,3 +1,4 @@
+// The lent parts of a context: four without taking memory, or any number.
 ghost use Rattle.std.specs.Prelude.{◌≡◌, map};
 
 use crate::part::Part;

@@ -1,3 +1,4 @@
+// What a text with variables becomes in a context.
 ghost use Rattle.std.specs.Prelude.{◌≡◌, ◌++◌, Some, None, map, option_map, IfOk, if◌then◌else◌};
 ghost use Rattle.std.specs.Str.{chars};
 ghost use Rattle.iam_text.specs.Glob.{plain_sign};

@@ -1,3 +1,4 @@
+// The table of a context whose parts have too many keys to be sought one by one.
 ghost use Rattle.std.specs.Prelude.{ℕ, List, [], ◌∷◌, ◌++◌, map, IfOk, IfSome, OnOk};
 ghost use Rattle.iam_context.specs.Context.{ContextValue, all_of};
 ghost use Rattle.iam_context.specs.Code.Values.{HasValues};

@@ -4,26 +4,21 @@ use Rattle.std.proofs.lemmas.Bool.{cases_eq, cases_lt, eq-eqb, ne_eqb}
 use Rattle.std.proofs.lemmas.List.Elements.{All-head, All-tail}
 use Rattle.std.proofs.lemmas.List.Sums.{sum_by-cons, get_or-le-sum_by}
 use Rattle.iam_lanes.specs.LaneRule.{no_cell, times}
-use Rattle.iam_lanes.specs.Lanes.{SeatView, gains_number, gains_offer, gains_look, offers_by, looks_by}
-use Rattle.iam_crew.specs.Bound.{least_of, floor, bound_of}
+use Rattle.iam_lanes.specs.Lanes.{SeatView, gains_offer, gains_look, offers_by, looks_by}
+use Rattle.iam_crew.specs.Bound.{least_of, floor_of, bound_of}
 
 -- the least of some cells and one more
 pub least_of_push : (cells : List ℕ) (cell : ℕ) → cell ≤ no_cell → least_of (cells ++ cell ∷ []) ≡ min cell (least_of cells)
 least_of_push [] cell small = refl
 least_of_push (x ∷ xs) cell small = let e = least_of_push xs cell small in omega arith
 
-pub floor_look : (cell : ℕ) (s : SeatView) → cell ≤ no_cell → floor (gains_look cell s) ≡ min cell (floor s)
-unfolding floor
+pub floor_look : (cell : ℕ) (s : SeatView) → cell ≤ no_cell → floor_of (gains_look cell s) ≡ min cell (floor_of s)
+unfolding floor_of
 floor_look cell s small = let e = least_of_push s.looks cell small in omega arith
 
-pub floor_offer : (cell : ℕ) (s : SeatView) → cell ≤ no_cell → floor (gains_offer cell s) ≡ min cell (floor s)
-unfolding floor
+pub floor_offer : (cell : ℕ) (s : SeatView) → cell ≤ no_cell → floor_of (gains_offer cell s) ≡ min cell (floor_of s)
+unfolding floor_of
 floor_offer cell s small = let e = least_of_push s.offers cell small in omega arith
-
--- a number that is taken changes no floor
-pub floor_number : (lane n : ℕ) (s : SeatView) → floor (gains_number lane n s) ≡ floor s
-unfolding floor
-floor_number lane n s = refl
 
 -- how often a cell stands in a list with one more in front
 times_head : (cell : ℕ) (cells : List ℕ) → 0 < times cell (cell ∷ cells)
@@ -45,14 +40,14 @@ least_found (x ∷ xs) below = ⊎_elim
     (cases_lt (least_of xs) x)
 
 -- a seat offered or saw its floor, unless it knows of no cell
-pub floor_found : (s : SeatView) → floor s < no_cell → 0 < times (floor s) s.offers + times (floor s) s.looks
-unfolding floor
+pub floor_found : (s : SeatView) → floor_of s < no_cell → 0 < times (floor_of s) s.offers + times (floor_of s) s.looks
+unfolding floor_of
 floor_found s below =
     let P : ℕ → Type 0 = λ k. 0 < times k s.offers + times k s.looks in
     ⊎_elim
-    (λ less. let e : floor s ≡ least_of s.offers = omega arith in
+    (λ less. let e : floor_of s ≡ least_of s.offers = omega arith in
     subst P (sym e) (let f = least_found s.offers (omega arith) in omega arith))
-    (λ least. let e : floor s ≡ least_of s.looks = omega arith in
+    (λ least. let e : floor_of s ≡ least_of s.looks = omega arith in
     subst P (sym e) (let f = least_found s.looks (omega arith) in omega arith))
     (cases_lt (least_of s.offers) (least_of s.looks))
 
@@ -73,20 +68,20 @@ pub low_least_of : (low : Option ℕ) (s : SeatView)
     → IfSome low (λ cell. (other : ℕ) → 0 < times other s.offers + times other s.looks → cell ≤ other)
     → IfNone low ((other : ℕ) → other < no_cell → times other s.offers + times other s.looks ≡ 0)
     → bound_of low ≤ no_cell
-    → bound_of low ≤ floor s
+    → bound_of low ≤ floor_of s
 low_least_of low s least none small = ⊎_elim
     (λ below. known low least none (floor_found s below))
     (λ past. omega arith)
-    (cases_lt (floor s) no_cell)
+    (cases_lt (floor_of s) no_cell)
   where
     known : (o : Option ℕ) → IfSome o (λ cell. (other : ℕ) → 0 < times other s.offers + times other s.looks → cell ≤ other)
         → IfNone o ((other : ℕ) → other < no_cell → times other s.offers + times other s.looks ≡ 0)
-        → 0 < times (floor s) s.offers + times (floor s) s.looks → bound_of o ≤ floor s
-    known (Some x) at_least nothing there = at_least (floor s) there
+        → 0 < times (floor_of s) s.offers + times (floor_of s) s.looks → bound_of o ≤ floor_of s
+    known (Some x) at_least nothing there = at_least (floor_of s) there
     known None at_least nothing there = ⊎_elim
-        (λ below. let z = nothing (floor s) below in absurd (omega arith))
+        (λ below. let z = nothing (floor_of s) below in absurd (omega arith))
         (λ past. past)
-        (cases_lt (floor s) no_cell)
+        (cases_lt (floor_of s) no_cell)
 
 -- the bound is at or below each seat's floor
 pub low_below : (low : Option ℕ) (seats : List SeatView)
@@ -94,17 +89,17 @@ pub low_below : (low : Option ℕ) (seats : List SeatView)
     → IfSome low (λ cell. (other : ℕ) → 0 < offers_by other seats → cell ≤ other)
     → IfNone low ((cell : ℕ) → offers_by cell seats ≡ 0)
     → ((cell : ℕ) → cell < no_cell → 0 < looks_by cell seats → 0 < offers_by cell seats)
-    → All (λ s. bound_of low ≤ floor s) seats
+    → All (λ s. bound_of low ≤ floor_of s) seats
 low_below low seats small least none looks k d inside =
     let s = get_or seats k d in
     ⊎_elim
-    (λ below. low_least low seats (floor s) least none
+    (λ below. low_least low seats (floor_of s) least none
     (let f = floor_found s below in
-    let o : times (floor s) s.offers ≤ offers_by (floor s) seats = get_or-le-sum_by (λ (v : SeatView). times (floor s) v.offers) seats k d inside in
-    let l : times (floor s) s.looks ≤ looks_by (floor s) seats = get_or-le-sum_by (λ (v : SeatView). times (floor s) v.looks) seats k d inside in
-    ⊎_elim (λ seen. looks (floor s) below (omega arith)) (λ unseen. omega arith) (cases_lt 0 (times (floor s) s.looks))))
+    let o : times (floor_of s) s.offers ≤ offers_by (floor_of s) seats = get_or-le-sum_by (λ (v : SeatView). times (floor_of s) v.offers) seats k d inside in
+    let l : times (floor_of s) s.looks ≤ looks_by (floor_of s) seats = get_or-le-sum_by (λ (v : SeatView). times (floor_of s) v.looks) seats k d inside in
+    ⊎_elim (λ seen. looks (floor_of s) below (omega arith)) (λ unseen. omega arith) (cases_lt 0 (times (floor_of s) s.looks))))
     (λ past. let e = low_small low small in omega arith)
-    (cases_lt (floor s) no_cell)
+    (cases_lt (floor_of s) no_cell)
 
 -- a cell that stands in a list has what all in the list have
 times_in : (P : ℕ → Type 0) (cell : ℕ) (cells : List ℕ) → All P cells → 0 < times cell cells → P cell

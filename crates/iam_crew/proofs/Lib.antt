@@ -1,5 +1,5 @@
+mod Both
 mod Bounds
-mod Runs
 mod Slots
-mod Tiles
+mod Starts
 mod Workers

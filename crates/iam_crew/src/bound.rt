@@ -1,38 +1,68 @@
-// The shared bound, as a crew that searches sees it.
+// The shared bound, as one worker sees it.
 ghost use Rattle.std.specs.Prelude.{◌≡◌, ◌<◌, ◌≤◌, ◌++◌, ◌∷◌, [], IfSome};
 ghost use Rattle.iam_lanes.specs.LaneRule.{no_cell};
-ghost use Rattle.iam_crew.specs.Bound.{floor, bound_of};
+ghost use Rattle.iam_crew.specs.Bound.{bound_of, view_of, Lowers};
 
 use iam_lanes::{LaneSeat, Lanes};
+use std::marker::Model;
 
-/// The least cell that any worker has offered so far, `None` while there is none.
+/// The bound that all workers of a crew share, the least cell that any of them has offered, as one worker sees it.
 ///
-/// A tile all of whose cells are above it need not be searched. The seat's floor is then that cell.
-pub fn look(lanes: &Lanes, seat: &mut LaneSeat) -> Option<u64>
-    requires { seat.old.lanes ≡ lanes.now }
-    ensures cell { IfSome result (λ cell. cell < no_cell) }
-    ensures seen { floor seat.new ≡ bound_of result }
-    ensures lower { floor seat.new ≤ floor seat.old }
-    ensures lanes { seat.new.lanes ≡ seat.old.lanes }
-    ensures taken { seat.new.taken ≡ seat.old.taken }
-    ensures ends { seat.new.ends ≡ seat.old.ends }
-    ensures offers { seat.new.offers ≡ seat.old.offers }
-{
-    lanes.low(seat)
+/// A contract sees which lanes keep the bound, the cells that this worker offered, and its floor: the least cell that
+/// it offered or saw.
+#[derive(Drop)]
+pub struct Bound<'a> {
+    lanes: &'a Lanes,
+    seat: LaneSeat,
 }
 
-/// Offers a cell: the bound falls to it where it was above. The seat's floor is then at or below the cell.
-///
-/// The cell has to be below `u64::MAX`.
-pub fn offer(lanes: &Lanes, seat: &mut LaneSeat, cell: u64)
-    requires seat { seat.old.lanes ≡ lanes.now }
-    requires cell { cell < no_cell }
-    ensures offered { floor seat.new ≤ cell }
-    ensures lower { floor seat.new ≤ floor seat.old }
-    ensures lanes { seat.new.lanes ≡ seat.old.lanes }
-    ensures taken { seat.new.taken ≡ seat.old.taken }
-    ensures ends { seat.new.ends ≡ seat.old.ends }
-    ensures offers { seat.new.offers ≡ seat.old.offers ++ cell ∷ [] }
-{
-    lanes.offer(seat, cell);
+impl<'a> Model for Bound<'a> {
+    ghost use Rattle.std.specs.Prelude.{◌≡◌};
+    ghost use Rattle.iam_crew.specs.Bound.{BoundView, view_of};
+
+    ghost Value = { BoundView };
+
+    ghost view = { λ b. view_of b.seat };
+
+    ghost invariant = { λ b. b.seat.lanes ≡ b.lanes.now };
+}
+
+impl<'a> Bound<'a> {
+    pub(crate) fn new(lanes: &'a Lanes, seat: LaneSeat) -> Bound<'a>
+        requires { seat.lanes ≡ lanes.now }
+        ensures { result ≡ view_of seat }
+    {
+        Bound { lanes, seat }
+    }
+
+    pub(crate) fn into_seat(self) -> LaneSeat
+        ensures { view_of result ≡ self.entry }
+    {
+        let Bound { lanes: _, seat } = self;
+        seat
+    }
+
+    /// The least cell that any worker has offered so far, `None` while there is none.
+    ///
+    /// A tile all of whose cells are above it need not be searched. The floor is then that cell.
+    pub fn look(&mut self) -> Option<u64>
+        ensures cell { IfSome result (λ cell. cell < no_cell) }
+        ensures seen { self.new.floor ≡ bound_of result }
+        ensures lower { Lowers self.old self.new }
+        ensures offers { self.new.offers ≡ self.old.offers }
+    {
+        self.lanes.low(&mut self.seat)
+    }
+
+    /// Offers a cell: the bound falls to it where it was above. The floor is then at or below the cell.
+    ///
+    /// The cell has to be below `u64::MAX`.
+    pub fn offer(&mut self, cell: u64)
+        requires { cell < no_cell }
+        ensures offered { self.new.floor ≤ cell }
+        ensures lower { Lowers self.old self.new }
+        ensures offers { self.new.offers ≡ self.old.offers ++ cell ∷ [] }
+    {
+        self.lanes.offer(&mut self.seat, cell);
+    }
 }

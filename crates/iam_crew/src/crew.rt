@@ -1,8 +1,8 @@
 // What a crew makes of a tile, and what is told before it begins one.
-ghost use Rattle.std.specs.Prelude.{◌≡◌, ℕ, ◌≤◌, All, IfOk};
-ghost use Rattle.iam_crew.specs.Bound.{floor};
+ghost use Rattle.std.specs.Prelude.{ℕ, ◌≤◌, All, IfOk};
+ghost use Rattle.iam_crew.specs.Bound.{Lowers};
 
-use iam_lanes::{LaneSeat, Lanes};
+use crate::bound::Bound;
 use iam_text::OutOfMemory;
 use std::alloc::Global;
 
@@ -30,11 +30,11 @@ impl Gate for Open {
 /// cells a tile has is known to `gives` alone.
 ///
 /// A plain crew offers nothing (`offers` is `⊥`), makes the same output at any bound (`gives` does not look
-/// at it, and `lasts` hands its last argument back) and leaves the seat alone. A crew that searches for the
+/// at it, and `lasts` hands its last argument back) and leaves the bound alone. A crew that searches for the
 /// least cell of some kind gives, of a tile, that each such cell is at or above the bound. It looks at the
-/// bound first (`look`), and where the tile lies behind it, it is done; else it tells the gate, searches the
-/// tile, and offers what it finds (`offer`). Both calls say what becomes of the seat, so `work` is proved
-/// from their clauses where the search of one tile stands in a function of its own.
+/// bound first ([`Bound::look`]), and where the tile lies behind it, it is done; else it tells the gate, searches
+/// the tile, and offers what it finds ([`Bound::offer`]). Both calls say what becomes of the bound, so `work` is
+/// proved from their clauses where the search of one tile stands in a function of its own.
 pub trait Crew {
     /// What is made of one tile.
     type Output: Drop + Send;
@@ -60,28 +60,23 @@ pub trait Crew {
 
     /// Makes the output of a tile. The only error is want of memory.
     ///
-    /// The crew tells the gate before it begins the tile, and need not where it passes the tile over. With
-    /// the seat it may look at the bound and offer cells, and nothing else: it takes no number of a lane.
+    /// The crew tells the gate before it begins the tile, and need not where it passes the tile over. It may look
+    /// at the bound and offer cells.
     fn work<G: Gate>(
         &self,
         alloc: Global,
         tools: &mut Self::Tools,
-        lanes: &Lanes,
         gate: &G,
-        seat: &mut LaneSeat,
+        bound: &mut Bound<'_>,
         tile: u64,
     ) -> Result<Self::Output, OutOfMemory>
         requires tile { takes self.now tile }
         requires tools { fits self.now tools.old }
-        requires seat { seat.old.lanes ≡ lanes.now }
-        requires offered { All (offers self.now) seat.old.offers }
+        requires offered { All (offers self.now) bound.old.offers }
         ensures fits { fits self.now tools.new }
-        ensures given { IfOk result (λ output. gives self.now tile output (floor seat.new)) }
-        ensures offered { All (offers self.now) seat.new.offers }
-        ensures lanes { seat.new.lanes ≡ seat.old.lanes }
-        ensures taken { seat.new.taken ≡ seat.old.taken }
-        ensures ends { seat.new.ends ≡ seat.old.ends }
-        ensures lower { floor seat.new ≤ floor seat.old };
+        ensures given { IfOk result (λ output. gives self.now tile output bound.new.floor) }
+        ensures offered { All (offers self.now) bound.new.offers }
+        ensures lower { Lowers bound.old bound.new };
 
     // What is given at a bound is given at every lower one.
     ghost lasts: { (crew : Self) (tile : ℕ) (output : Self.Output) (bound lower : ℕ) → lower ≤ bound → gives crew tile output bound → gives crew tile output lower };

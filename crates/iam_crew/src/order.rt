@@ -1,7 +1,7 @@
 // The outputs of all workers, put into the order of tiles.
-ghost use Rattle.std.specs.Prelude.{◌≡◌, ℕ, ◌<◌, ◌++◌, ◌∷◌, [], All, Contains, IfOk, IsSome, List, None, Some, length, map, replicate, slice_get};
+ghost use Rattle.std.specs.Prelude.{◌≡◌, ◌<◌, ◌++◌, ◌∷◌, [], All, IfOk, List, None, length, replicate};
 ghost use Rattle.iam_crew.specs.declared.worker.Made.{Made};
-ghost use Rattle.iam_crew.specs.Code.Order.{IsPlaced, made_of};
+ghost use Rattle.iam_crew.specs.Code.Order.{IsPlaced};
 
 use crate::worker::Made;
 use iam_text::OutOfMemory;
@@ -29,8 +29,8 @@ fn put<O: Drop>(slots: &mut Vec<Option<O>>, one: Made<O>)
     slots[tile as usize] = Some(output);
 }
 
-// The slots of all tiles, with each output in the slot of its tile.
-fn place<O: Drop>(
+/// The slots of all tiles, with each output in the slot of its tile. Where two were made of a tile, either serves.
+pub fn place<O: Drop>(
     alloc: Global,
     made: Vec<Made<O>>,
     tiles: u64,
@@ -44,32 +44,4 @@ fn place<O: Drop>(
         put(&mut slots, one);
     }
     Ok(slots)
-}
-
-// The outputs of slots that are all filled.
-fn filled<O: Drop>(alloc: Global, slots: Vec<Option<O>>) -> Result<Vec<O>, OutOfMemory>
-    requires { All (λ slot. IsSome slot) slots.items }
-    ensures { IfOk result (λ v. map (λ output. Some output) v.items ≡ slots.items) }
-{
-    let mut outputs = Vec::new(alloc);
-    for slot in slots {
-        let Some(output) = slot else { unreachable!() };
-        outputs.push(output)?;
-    }
-    Ok(outputs)
-}
-
-/// The outputs of all tiles, moved into the order of tiles.
-pub fn in_order<O: Drop>(
-    alloc: Global,
-    made: Vec<Made<O>>,
-    tiles: u64,
-) -> Result<Vec<O>, OutOfMemory>
-    requires below { All (λ m. m.tile < tiles) made.items }
-    requires all { (tile : ℕ) → tile < tiles → Contains (map (λ m. m.tile) made.items) tile }
-    ensures count { IfOk result (λ v. length v.items ≡ tiles) }
-    ensures from { IfOk result (λ v. (tile : ℕ) (output : O) → slice_get v.items tile ≡ Some output → Contains made.items (made_of tile output)) }
-{
-    let slots = place(alloc, made, tiles)?;
-    filled(alloc, slots)
 }

@@ -1,55 +1,41 @@
-// How tiles are dealt out to lanes, one lane a worker.
-ghost use Rattle.std.specs.Prelude.{◌≡◌, ℕ, ◌+◌, ◌<◌, ◌≤◌, IfOk, replicate, sum};
-ghost use Rattle.iam_lanes.specs.Lanes.{fresh};
-ghost use Rattle.iam_crew.specs.Code.Shares.{start_of, AreShares};
+// How tiles are dealt out to workers that begin, each with a run of its own.
+ghost use Rattle.std.specs.Prelude.{◌≡◌, ◌+◌, ◌<◌, ◌≤◌};
+ghost use Rattle.iam_crew.specs.Code.Shares.{start_of};
 
-use iam_lanes::{LaneFault, LaneSeat, Lanes};
-use iam_text::OutOfMemory;
-use std::alloc::Global;
+use iam_work::Run;
 
-/// So many tiles, dealt out to so many workers: each lane has a run of tiles, and no two differ by more than one.
+/// So many tiles, dealt out to so many workers: each has a run of tiles, and no two differ by more than one.
 #[derive(Clone, Copy)]
 pub struct Shares {
     pub tiles: u64,
-    pub workers: u64,
+    pub workers: u32,
     ghost some: { 1 ≤ workers },
     ghost few: { workers ≤ 64 },
     ghost few_tiles: { tiles ≤ 4096 },
 }
 
 impl Shares {
-    /// The first tile of a lane. At the number of workers it is the number of tiles.
+    // The first tile of a worker. At the number of workers it is the number of tiles.
     #[tactic(auto, unfolding(crate::specs::Code::Shares::start_of))]
-    pub fn start(self, lane: u64) -> u64
-        requires { lane ≤ self.workers }
-        ensures { result ≡ start_of self.tiles self.workers lane }
+    fn start(self, worker: u32) -> u64
+        requires { worker ≤ self.workers }
+        ensures { result ≡ start_of self.tiles self.workers worker }
     {
-        lane * self.tiles / self.workers
+        u64::from(worker) * self.tiles / u64::from(self.workers)
     }
 
-    // The length of each lane.
-    fn lengths(self, alloc: Global) -> Result<Vec<u64>, OutOfMemory>
-        ensures shares { IfOk result (λ v. AreShares self.tiles self.workers v.items) }
-        ensures sum { IfOk result (λ v. sum v.items ≡ self.tiles) }
+    /// The run of a worker, which is empty where there are more workers than tiles.
+    pub fn run_of(self, worker: u32) -> Run
+        requires { worker < self.workers }
+        ensures first { result.first ≡ start_of self.tiles self.workers worker }
+        ensures end { result.first + result.count ≡ start_of self.tiles self.workers (worker + 1) }
+        ensures inside { result.first + result.count ≤ self.tiles }
     {
-        let mut lengths = Vec::new(alloc);
-        for lane in 0..self.workers {
-            lengths.push(self.start(lane + 1) - self.start(lane))?;
-        }
-        Ok(lengths)
-    }
-
-    /// The lanes of these shares, with a seat for each worker. The only error is want of memory.
-    pub fn open(self, alloc: Global) -> Result<(Lanes, Vec<LaneSeat>), OutOfMemory>
-        ensures shares { IfOk result (λ r. AreShares self.tiles self.workers r.0.lengths) }
-        ensures count { IfOk result (λ r. r.0.seats ≡ self.workers) }
-        ensures seats { IfOk result (λ r. r.1.items ≡ replicate self.workers (fresh r.0)) }
-    {
-        let lengths = self.lengths(alloc)?;
-        match Lanes::open(alloc, lengths.as_slice(), self.workers as u32) {
-            Ok(opened) => Ok(opened),
-            Err(LaneFault::OutOfMemory) => Err(OutOfMemory),
-            Err(LaneFault::NoSeat | LaneFault::TooMany) => unreachable!(),
+        let first = self.start(worker);
+        let end = self.start(worker + 1);
+        Run {
+            first,
+            count: end - first,
         }
     }
 }

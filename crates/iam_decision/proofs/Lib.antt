@@ -1,6 +1,7 @@
 mod GrantLemmas
 mod LawLemmas
 mod LivingLemmas
+mod OneVerdict
 mod ScanLemmas
 mod SomeLemmas
 mod StandingLemmas

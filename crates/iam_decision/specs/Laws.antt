@@ -14,12 +14,13 @@ use Rattle.iam_match.specs.Statement.{RequestValue, StatementMatches}
 use Rattle.iam_match.specs.declared.principal.Grant.{Grant}
 use Rattle.iam_match.specs.declared.principal.Grant.TheVariants.{Account, Role, Direct}
 use Rattle.iam_decision.specs.Applicable.{ApplicableValue, frame_of}
-use Rattle.iam_decision.specs.Decision.{IsDecision}
+use Rattle.iam_decision.specs.Decision.{IsDecision, IsVerdict}
 use Rattle.iam_decision.specs.Matched.{as_list}
 use Rattle.iam_decision.specs.declared.place.Layer.{Layer}
 use Rattle.iam_decision.specs.declared.place.Layer.TheVariants.{Org, Control, Resource, Identity, Boundary, Session}
 use Rattle.iam_decision.specs.declared.verdict.Decision.{Decision}
 use Rattle.iam_decision.specs.declared.verdict.Decision.TheVariants.{Allowed, ExplicitDeny}
+use Rattle.iam_decision.specs.declared.verdict.Verdict.{Verdict}
 
 -- the policies of a layer, level by level; a layer without levels is level 0 alone
 abbrev pub levels_of : ApplicableValue → Layer → List (List PolicyValue)
@@ -90,6 +91,12 @@ abbrev pub OneDecision : Type 0
 OneDecision =
     (a : ApplicableValue) (q : RequestValue) (decision other : Decision)
     → IsDecision a q decision → IsDecision a q other → decision ≡ other
+
+-- a request has at most one verdict: decision, deciding statements and lacks, in their order
+abbrev pub OneVerdict : Type 0
+OneVerdict =
+    (a : ApplicableValue) (q : RequestValue) (verdict other : Verdict)
+    → IsVerdict a q verdict → IsVerdict a q other → verdict ≡ other
 
 -- where a matched statement of any layer and level denies, the decision is no other
 abbrev pub DenyWins : Type 0

@@ -1,3 +1,4 @@
+// The policies that apply to a request, each by its layer.
 use crate::frame::Frame;
 use crate::scan::scan;
 use crate::shared::Shared;

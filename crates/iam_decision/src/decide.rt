@@ -1,3 +1,4 @@
+// The decision and the lacking layers that follow from the matched statements.
 ghost use Rattle.std.specs.Prelude.{◌≡◌, ◌↔◌, ◌≤◌, IsTrue, IfOk};
 ghost use Rattle.iam_match.specs.Principal.{rank};
 ghost use Rattle.iam_match.specs.Statement.{RequestValue};

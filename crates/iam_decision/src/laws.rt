@@ -1,11 +1,16 @@
 // What follows from the definition of a decision, for all policies and requests.
-ghost use Rattle.iam_decision.specs.Laws.{AllowedIsGranted, BothAccountsAllow, BoundaryBinds, DenyWins, DirectGrantNamesItself, EachLevelAllows, FurtherAllowTakesNothing, FurtherDenyAllowsNoMore, FurtherLimitsAllowNoMore, OneDecision, OnlyDenyDenies, OrderIsFree, SealedResourceGrants, SessionBinds};
+ghost use Rattle.iam_decision.specs.Laws.{AllowedIsGranted, BothAccountsAllow, BoundaryBinds, DenyWins, DirectGrantNamesItself, EachLevelAllows, FurtherAllowTakesNothing, FurtherDenyAllowsNoMore, FurtherLimitsAllowNoMore, OneDecision, OneVerdict, OnlyDenyDenies, OrderIsFree, SealedResourceGrants, SessionBinds};
 
 /// A request has at most one decision.
 ///
 /// AWS IAM User Guide, "Policy evaluation logic": the result is always that the request is either allowed or denied.
 pub fn one_decision()
     ensures { OneDecision }
+{}
+
+/// A request has at most one verdict, wholly: its decision, the deciding statements and the lacking layers, in their order.
+pub fn one_verdict()
+    ensures { OneVerdict }
 {}
 
 /// Where a matched statement denies, in whichever layer it stands, the decision is an explicit deny; and only there.

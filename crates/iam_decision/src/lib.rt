@@ -17,8 +17,8 @@ pub use frame::Frame;
 pub use laws::{
     allowed_is_granted, both_accounts_allow, boundary_and_session_bind, deny_wins,
     direct_grant_names_itself, each_level_allows, further_allow_takes_nothing,
-    further_deny_allows_no_more, further_limits_allow_no_more, one_decision, order_is_free,
-    sealed_resource_grants,
+    further_deny_allows_no_more, further_limits_allow_no_more, one_decision, one_verdict,
+    order_is_free, sealed_resource_grants,
 };
 pub use living::{Living, Matched};
 pub use place::{Layer, Place};

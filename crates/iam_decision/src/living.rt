@@ -1,3 +1,4 @@
+// Statements that match but for their action, and which of them act on an action.
 ghost use Rattle.std.specs.Prelude.{◌≡◌, List, ℕ, IfOk, IsTrue, OnOk, length, map};
 ghost use Rattle.iam_decision.specs.Living.{AreActs, living_value};
 ghost use Rattle.iam_decision.specs.Code.Scan.{AreActing};

@@ -1,3 +1,4 @@
+// A verdict with what it follows from, so that it can be told whether it is that of another request too.
 ghost use Rattle.std.specs.Prelude.{◌≡◌, IfOk, IsTrue};
 
 use crate::decide::verdict_of;

@@ -1,3 +1,4 @@
+// The walk over the statements of all layers, in place order.
 ghost use Rattle.std.specs.Prelude.{[], ◌∷◌, OnOk, IfOk, map, option_map};
 ghost use Rattle.iam_match.specs.Request.{access_of};
 ghost use Rattle.iam_decision.specs.Matched.{as_list, in_layer, in_level, in_policy, placed};

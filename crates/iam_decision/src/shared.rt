@@ -1,3 +1,4 @@
+// What the requests of one requester for one resource share.
 use crate::decide::verdict_of;
 use crate::frame::Frame;
 use crate::living::{Living, Matched, acts_of, are_same, put_acting};

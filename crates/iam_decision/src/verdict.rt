@@ -1,3 +1,4 @@
+// The answer to a request.
 use crate::place::{Layer, Place};
 use iam_match::OutOfMemory;
 use iam_text::Items;

@@ -1,3 +1,4 @@
+// The action element of a statement.
 ghost use Rattle.std.specs.Prelude.{◌≡◌, codes, false, map, IfOk, IsTrue};
 ghost use Rattle.std.specs.List.{filter_map};
 ghost use Rattle.serde_json.specs.Find.{as_str, get};

@@ -1,3 +1,4 @@
+// Tests on the elements of a statement: which are there, and whether each is a text or a list of texts.
 ghost use Rattle.std.specs.Prelude.{◌≡◌, map, Some, MatchOption, true, if◌then◌else◌};
 ghost use Rattle.std.specs.List.{list_all, list_any};
 ghost use Rattle.serde_json.specs.Find.{get};

@@ -1,3 +1,4 @@
+// The grammars of the texts of resource and principal elements.
 ghost use Rattle.std.specs.Prelude.{◌≡◌, nat_le, ◌&&◌, not};
 ghost use Rattle.std.specs.List.{list_all, list_any};
 ghost use Rattle.std.specs.Char.{is_ascii_alphanumeric};

@@ -1,3 +1,4 @@
+// Tests on the principal element.
 ghost use Rattle.std.specs.Prelude.{◌≡◌, ◌||◌, not, map, is_some};
 ghost use Rattle.std.specs.List.{list_any};
 ghost use Rattle.serde_json.specs.Find.{get};

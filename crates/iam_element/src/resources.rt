@@ -1,3 +1,4 @@
+// The resource element of a statement.
 ghost use Rattle.std.specs.Prelude.{◌≡◌, IfOk, IsTrue, false, true, map};
 ghost use Rattle.std.specs.List.{AllZip, filter_map, list_any};
 ghost use Rattle.serde_json.specs.Find.{as_str};

@@ -1,3 +1,4 @@
+// The engine as its callers see it.
 ghost use Rattle.std.specs.Prelude.{◌≡◌, ◌<◌, IfOk, Some, length};
 ghost use Rattle.std.specs.List.{slice_get};
 ghost use Rattle.std.specs.Option.{ForSome};
@@ -46,7 +47,13 @@ impl<'a> Engine<'a> {
     pub fn new(alloc: Global, world: &'a World, engines: u32) -> Result<Engine<'a>, OutOfMemory>
         ensures { IfOk result (λ engine. engine.world ≡ world.entry.now) }
     {
-        let memo = Memo::new(alloc, world.actions(), world.resources(), engines)?;
+        let memo = Memo::new(
+            alloc,
+            world.principals(),
+            world.actions(),
+            world.resources(),
+            engines,
+        )?;
         Ok(Engine {
             world,
             memo,

@@ -1,3 +1,4 @@
+// The derived keys that were made last, which the next resource of the same account may share.
 ghost use Rattle.std.specs.Prelude.{◌<◌, IfOk, length};
 ghost use Rattle.std.specs.Option.{ForSome};
 ghost use Rattle.iam_layers.specs.Cell.{IsSharedAt};

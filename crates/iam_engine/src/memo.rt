@@ -1,3 +1,4 @@
+// What an engine keeps: the classes of pairs, the acts of action elements, and verdicts by their numbers.
 ghost use Rattle.std.specs.Prelude.{◌≡◌, ◌<◌, IfOk, IfSome, Some, length};
 ghost use Rattle.std.specs.List.{slice_get};
 ghost use Rattle.iam_layers.specs.Cell.{IsAction, IsSharedAt};
@@ -6,7 +7,7 @@ ghost use Rattle.iam_engine.specs.Memo.{HasClass, HasNumber, HasRuling, HasShare
 ghost use Rattle.iam_engine.specs.declared.memo.Class.{Class};
 
 use crate::elements::Elements;
-use crate::slots::{empty, empty_slots, keep, kept, slot_of};
+use crate::slots::{empty, empty_slots, keep, kept, slot_at, slot_of};
 use iam_layers::{Frame, Matched, Ruling, Shared, World};
 use iam_text::OutOfMemory;
 use std::alloc::Global;
@@ -95,6 +96,8 @@ pub struct Memo<'a> {
     // By a print the class, and the ruling, that was last found with it: a hint.
     class_prints: Vec<Option<usize>>,
     ruling_prints: Vec<Option<usize>>,
+    // How many resources there are: as wide are the rows of pairs.
+    resources: u64,
     // How many further statements may be kept, and how many when nothing is.
     room: usize,
     most_statements: usize,
@@ -102,9 +105,11 @@ pub struct Memo<'a> {
 }
 
 impl<'a> Memo<'a> {
-    /// A memo that keeps nothing, one of so many that share the bounds, for a world of so many actions and resources.
+    /// A memo that keeps nothing, one of so many that share the bounds, for a world of so many principals, actions and
+    /// resources.
     pub fn new(
         alloc: Global,
+        principals: u64,
         actions: u64,
         resources: u64,
         memos: u32,
@@ -114,7 +119,8 @@ impl<'a> Memo<'a> {
         let memos = memos.max(1);
         // Where there is one action, no requests share anything.
         let pairs = if actions > 1 {
-            resources.min(MOST_PAIRS / memos as u64)
+            let all = principals.saturating_mul(resources);
+            all.min(MOST_PAIRS / memos as u64)
         } else {
             0
         };
@@ -127,6 +133,7 @@ impl<'a> Memo<'a> {
             answers: empty_slots(alloc, MOST_ANSWERS / memos as u64)?,
             class_prints: empty_slots(alloc, PRINTS)?,
             ruling_prints: empty_slots(alloc, PRINTS)?,
+            resources,
             room: most_statements,
             most_statements,
             most_verdicts: MOST_VERDICTS / memos as usize,
@@ -137,7 +144,10 @@ impl<'a> Memo<'a> {
     pub fn class_of(&self, p: u64, r: u64) -> Option<usize>
         ensures { (world : WorldValue) → IsRight world self.now → IfSome result (HasClass world self.now.classes.items p r) }
     {
-        let pair = kept(self.pairs.as_slice(), slot_of(0, r, self.pairs.len()))?;
+        let pair = kept(
+            self.pairs.as_slice(),
+            slot_at(p, self.resources, r, self.pairs.len()),
+        )?;
         if pair.principal as u64 == p && pair.resource as u64 == r {
             Some(pair.class as usize)
         } else {
@@ -159,7 +169,7 @@ impl<'a> Memo<'a> {
     {
         let class = self.class_sharing(alloc, world, shared)?;
         if let Some(pair) = Pair::of(p, r, class) {
-            let slot = slot_of(0, r, self.pairs.len());
+            let slot = slot_at(p, self.resources, r, self.pairs.len());
             keep(&mut self.pairs, slot, pair);
         }
         Ok(class)

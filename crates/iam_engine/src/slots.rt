@@ -1,3 +1,4 @@
+// Tables of slots, each of which holds what was kept there last.
 ghost use Rattle.std.specs.Prelude.{IfOk, IfSome};
 ghost use Rattle.iam_engine.specs.Slots.{AreEmpty, Gains, Keeps};
 
@@ -7,8 +8,14 @@ use std::alloc::Global;
 /// A slot for these two numbers among so many, a power of two: where there are fewer than pairs of numbers, several have
 /// the same.
 pub fn slot_of(one: u64, other: u64, slots: usize) -> u64 {
+    slot_at(one, 1021, other, slots)
+}
+
+/// A slot for column `other` of row `one` in a table so many columns wide, which goes round where there are fewer slots than
+/// places: rows that follow one another lie side by side.
+pub fn slot_at(one: u64, width: u64, other: u64, slots: usize) -> u64 {
     let mask = (slots as u64).wrapping_sub(1);
-    one.wrapping_mul(1021).wrapping_add(other) & mask
+    one.wrapping_mul(width).wrapping_add(other) & mask
 }
 
 /// More slots than a world has cells are never wanted.

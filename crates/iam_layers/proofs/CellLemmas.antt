@@ -1,13 +1,18 @@
 -- The numbers of cells.
-use Rattle.std.proofs.Common.{◌≡◌, ℕ, suc, zero, ◌+◌, ◌*◌, ◌/◌, ◌%◌, ◌<◌, ◌≤◌, sym, ap, ◌∙◌, subst, arith}
+use Rattle.std.proofs.Common.{◌≡◌, ℕ, suc, zero, ◌+◌, ◌*◌, ◌/◌, ◌%◌, ◌<◌, ◌≤◌, length, sym, ap, ◌∙◌, subst, arith}
 use Rattle.std.proofs.Math.Nat.{div-lt_iff_lt-mul, mul-add-div_right, div-eq_of_lt, div-add-mod, mod-lt, mul_comm, mul-le-mul_left, mul-one, mul-zero}
+use Rattle.iam_layers.specs.Laws
+
+-- the row of a place in rows of n places
+row-of : (n i j : ℕ) → j < n → (i * n + j) / n ≡ i
+row-of n i j place =
+    let some : 0 < n = omega arith in mul-add-div_right some i j ∙ ap (λ k. i + k) (div-eq_of_lt place) ∙ (omega arith)
 
 -- a place in one of m rows of n places
 row-below : (m n i j : ℕ) → i < m → j < n → i * n + j < m * n
 row-below m n i j row place =
     let some : 0 < n = omega arith in
-    let at : (i * n + j) / n ≡ i = mul-add-div_right some i j ∙ ap (λ k. i + k) (div-eq_of_lt place) ∙ (omega arith) in
-    (div-lt_iff_lt-mul some).0 (subst (λ k. k < m) (sym at) row)
+    (div-lt_iff_lt-mul some).0 (subst (λ k. k < m) (sym (row-of n i j place)) row)
 
 -- the number of a cell is below that of all
 pub cell_below : (P A R p a r : ℕ) → p < P → a < A → r < R → (p * A + a) * R + r < P * A * R
@@ -36,3 +41,24 @@ cell_parts P A R cell below =
 -- a row has no more rows before it than cells
 pub rows-le : (row R : ℕ) → 0 < R → row ≤ row * R
 rows-le row R some = let more : row * 1 ≤ row * R = mul-le-mul_left row some in let one : row * 1 ≡ row = mul-one row in omega arith
+
+-- a place in rows of n places has one row and one number there
+same-place : (n i j k l : ℕ) → j < n → l < n → i * n + j ≡ k * n + l → (i ≡ k) × (j ≡ l)
+same-place n i j k l here there e =
+    let row : i ≡ k = sym (row-of n i j here) ∙ ap (λ m. m / n) e ∙ row-of n k l there in
+    let rows : i * n ≡ k * n = ap (λ m. m * n) row in (row, omega arith)
+
+pub some_triple : Laws.SomeTriple
+some_triple world cell below =
+    let parts = cell_parts (length world.principals) (length world.actions) (length world.resources) cell below in
+    let p = cell / length world.resources / length world.actions in
+    let a = cell / length world.resources % length world.actions in
+    (p, a, cell % length world.resources, record { principal = parts.0; action = parts.1; resource = parts.2; number = parts.3 })
+
+pub one_triple : Laws.OneTriple
+one_triple world cell p a r q b s here there =
+    let m = length world.actions in
+    let n = length world.resources in
+    let outer = same-place n (p * m + a) r (q * m + b) s here.resource there.resource (sym here.number ∙ there.number) in
+    let inner = same-place m p a q b here.action there.action outer.0 in
+    (inner.0, inner.1, outer.1)

@@ -1,4 +1,5 @@
 mod CellLemmas
 pub mod DerivedLemmas
 mod ManagementLemmas
+mod OneAnswer
 pub mod VerdictLemmas

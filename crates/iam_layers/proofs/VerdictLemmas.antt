@@ -10,7 +10,7 @@ use Rattle.iam_layers.specs.Applicable.{applicable_of}
 use Rattle.iam_layers.specs.Cell.{IsAccessAt, IsContextAt, IsDerivedAt, IsPrincipal, IsResource}
 use Rattle.iam_layers.specs.Derived.{context_of}
 
-one_some : {A : Type 0} (o : Option A) (x y : A) → o ≡ Some x → o ≡ Some y → x ≡ y
+pub one_some : {A : Type 0} (o : Option A) (x y : A) → o ≡ Some x → o ≡ Some y → x ≡ y
 one_some o x y one two = let same : Some x ≡ Some y = sym one ∙ two in cc
 
 abbrev asked : RequesterValue → List ℕ → ContextValue → AccessValue

@@ -1,3 +1,4 @@
+// The derived keys of a request.
 ghost use Rattle.std.specs.Prelude.{◌≡◌, ◌≤◌, ◌++◌, pos, string_bytes, option_map, IfOk, OnOk};
 ghost use Rattle.iam_value.specs.Moment.{IsStamp};
 ghost use Rattle.iam_layers.specs.Code.Keys.{moment_keys, requester_keys, username_key, word_of};

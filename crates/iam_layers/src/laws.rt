@@ -1,5 +1,8 @@
-// What follows from which policies apply to a request.
-ghost use Rattle.iam_layers.specs.Laws.{ManagementIsNotBound};
+// What follows from which policies apply to a request, and that a request has one answer.
+ghost use Rattle.iam_layers.specs.Laws.{ManagementIsNotBound, OneDecisionAt, OneDecisionOf, OneRequest, OneTriple, OneVerdictAt, OneVerdictOf, SomeTriple};
+
+use iam_decision::{one_decision, one_verdict};
+use iam_value::one_stamp;
 
 /// Whatever the organisation policies of a management account are, and the resource control policies of its resources, they
 /// change no verdict.
@@ -9,3 +12,37 @@ ghost use Rattle.iam_layers.specs.Laws.{ManagementIsNotBound};
 pub fn management_is_not_bound()
     ensures { ManagementIsNotBound }
 {}
+
+/// A principal, an action and a resource of a world make one request, whose context is determined, also by the moment as it is
+/// written, and the policies that apply to it are determined.
+pub fn one_request()
+    ensures { OneRequest }
+{
+    one_stamp()
+}
+
+/// Each number below that of all cells is the cell of one principal, one action and one resource.
+pub fn one_triple()
+    ensures some { SomeTriple }
+    ensures one { OneTriple }
+{}
+
+/// A request of a world, and so a cell, has at most one verdict, wholly.
+pub fn one_verdict_at()
+    ensures request { OneVerdictAt }
+    ensures cell { OneVerdictOf }
+{
+    one_verdict();
+    one_request();
+    one_triple()
+}
+
+/// A request of a world, and so a cell, has at most one decision.
+pub fn one_decision_at()
+    ensures request { OneDecisionAt }
+    ensures cell { OneDecisionOf }
+{
+    one_decision();
+    one_request();
+    one_triple()
+}

@@ -1,3 +1,4 @@
+// A world: what it has, which policies apply to a request, and the verdict on it.
 ghost use Rattle.std.specs.Prelude.{◌≡◌, ◌+◌, ◌*◌, ◌≤◌, ◌<◌};
 
 use crate::applicable::{control_of, org_of};

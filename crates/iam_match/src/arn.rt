@@ -1,3 +1,4 @@
+// ARN patterns, part by part.
 ghost use Rattle.std.specs.Prelude.{◌≡◌, ◌≢◌, ◌↔◌, ◌⊎◌, ◌++◌, ◌∷◌, [], List, All, IsTrue, MatchOption, map};
 ghost use Rattle.iam_text.specs.Arn.{colon};
 ghost use Rattle.iam_text.specs.declared.sign.Sign.{Sign};

@@ -1,3 +1,4 @@
+// A text of the context, as an operator reads it.
 ghost use Rattle.std.specs.Prelude.{IfOk};
 ghost use Rattle.iam_match.specs.Code.Asked.{IsAsked, IsCut};
 

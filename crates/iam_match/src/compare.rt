@@ -1,3 +1,4 @@
+// One value of the context against one value of a condition.
 ghost use Rattle.std.specs.Prelude.{◌≡◌, ◌↔◌, ℕ, ℤ, List, Bool, IsTrue, IfOk};
 ghost use Rattle.iam_text.specs.declared.sign.Sign.{Sign};
 ghost use Rattle.iam_value.specs.Address.{Block, Holds};

@@ -1,3 +1,4 @@
+// Whether an entry of a condition holds: its quantifier, its values, and keys that are absent.
 ghost use Rattle.std.specs.Prelude.{◌≡◌, ◌↔◌, ℕ, List, All, Any, IsTrue, IfOk};
 ghost use Rattle.iam_match.specs.Code.Asked.{IsAsked, ValueDiffers};
 ghost use Rattle.iam_match.specs.Entry.{EntryHolds, HasTruth, HoldsBare, HoldsWith, HoldsWithout, Satisfies, ValueMatches, asks_every, is_null};

@@ -1,3 +1,4 @@
+// The parts of the ARN of a user, a role or a session.
 ghost use Rattle.std.specs.Prelude.{◌≡◌, MatchOption, IfSome, IfOk, None, false, string_bytes};
 ghost use Rattle.std.specs.List.{list_all};
 ghost use Rattle.iam_match.specs.Requester.{RequesterValue, is_segment, is_segment_character, last_segment, session_arn};

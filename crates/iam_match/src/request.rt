@@ -1,3 +1,4 @@
+// A request, as statements see it.
 use crate::requester::Requester;
 use iam_context::Context;
 

@@ -1,3 +1,4 @@
+// Who asks: a user, or a session of a role.
 use crate::parts::{Parts, is_segment, last_segment, parts_behind, session_arn};
 use iam_text::OutOfMemory;
 use std::alloc::Global;

@@ -1,3 +1,4 @@
+// Whether the resource element matches.
 ghost use Rattle.std.specs.Prelude.{◌↔◌, All, Any, IsTrue, IfOk, Some};
 ghost use Rattle.std.specs.Str.{chars};
 ghost use Rattle.iam_text.specs.Glob.{Matches};

@@ -1,3 +1,4 @@
+// Whether a statement matches, with its action and without.
 ghost use Rattle.std.specs.Prelude.{◌↔◌, All, Any, IsTrue, IfOk};
 ghost use Rattle.std.specs.Str.{chars};
 ghost use Rattle.iam_text.specs.Glob.{MatchesFold};

@@ -1,3 +1,4 @@
+pub mod OneMatrix
 pub mod Offers
 pub mod Tails
 pub mod Tiles

@@ -1,5 +1,6 @@
 pub mod Code
 pub mod Cut
 pub mod Fault
+pub mod Laws
 pub mod Matrix
 pub mod Report

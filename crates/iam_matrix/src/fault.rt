@@ -1,3 +1,4 @@
+// Why there is no matrix.
 ghost use Rattle.std.specs.Prelude.{◌≡◌, ◌↔◌, ◌⊎◌, ◌<◌, IsTrue};
 ghost use Rattle.iam_matrix.specs.Fault.{IsUnlawful};
 

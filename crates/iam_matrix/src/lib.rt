@@ -3,21 +3,20 @@
 //! Whatever the cut of the cells into tiles and the number of workers, the answer is that of one thread.
 #![tactic(auto)]
 
+mod cells;
 mod cut;
-mod decisions;
+mod each;
 mod fault;
+mod laws;
 mod report;
 mod rows;
 mod search;
-mod verdicts;
 
+pub use cells::{matrix, matrix_brief};
 pub use cut::{Cut, CutFault};
-pub use decisions::matrix_brief;
 pub use fault::MatrixFault;
 pub use iam_crew::{Gate, Open};
-pub use iam_report::{
-    Format, MatrixText, csv_brief, csv_row, csv_row_brief, csv_text, json_brief, json_text,
-};
+pub use iam_report::{Format, MatrixText, csv_brief, csv_row, csv_text, json_brief, json_text};
+pub use laws::{one_brief_matrix, one_first, one_matrix, one_report};
 pub use report::{first_report, matrix_report};
 pub use search::first;
-pub use verdicts::matrix;

@@ -1,3 +1,4 @@
+// The reports of the matrix and of the first allowed cell.
 ghost use Rattle.std.specs.Prelude.{◌≡◌, ◌↔◌, IfOk, sum};
 ghost use Rattle.iam_world.specs.World.{world_cells};
 ghost use Rattle.iam_report.specs.Piece.{text_of};

@@ -1,3 +1,4 @@
+// The tails of the rows of each tile.
 ghost use Rattle.std.specs.Prelude.{◌≡◌, ◌+◌, ◌<◌, ◌≤◌, List, IfOk, map};
 ghost use Rattle.iam_decision.specs.declared.verdict.Decision.{Decision};
 ghost use Rattle.iam_report.specs.Piece.{bare};
@@ -5,10 +6,9 @@ ghost use Rattle.iam_world.specs.World.{world_cells};
 ghost use Rattle.iam_matrix.specs.Code.Tiles.{AreBriefTails, AreDecisions, AreFullTails, AreTailsOf, AreVerdicts};
 
 use crate::cut::Cut;
-use crate::verdicts::{decision_at, end_of};
-use iam_crew::{Crew, Gate};
+use crate::each::{decision_at, end_of};
+use iam_crew::{Bound, Crew, Gate};
 use iam_engine::Engine;
-use iam_lanes::{LaneSeat, Lanes};
 use iam_layers::World;
 use iam_report::{Entries, Format, Position, Tile};
 use iam_text::OutOfMemory;
@@ -49,9 +49,8 @@ impl<'a> Crew for Rows<'a> {
         &self,
         alloc: Global,
         engine: &mut Engine<'a>,
-        _lanes: &Lanes,
         gate: &G,
-        _seat: &mut LaneSeat,
+        _bound: &mut Bound<'_>,
         tile: u64,
     ) -> Result<Tile, OutOfMemory> {
         gate.before(tile);

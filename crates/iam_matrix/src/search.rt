@@ -1,3 +1,4 @@
+// The first allowed cell, sought by many workers.
 ghost use Rattle.std.specs.Prelude.{◌≡◌, ◌+◌, ◌<◌, ◌≤◌, ◌↔◌, ℕ, IfOk, IfSome, IfNone, IsTrue, sum};
 ghost use Rattle.iam_crew.specs.Bound.{bound_of};
 ghost use Rattle.iam_world.specs.World.{world_cells};
@@ -6,11 +7,10 @@ ghost use Rattle.iam_matrix.specs.Matrix.{IsDenied, IsFirstAllowed};
 ghost use Rattle.iam_matrix.specs.Code.Tiles.{IsAllowedCell, IsFirstIn};
 
 use crate::cut::Cut;
+use crate::each::{decision_at, end_of};
 use crate::fault::{MatrixFault, is_unlawful};
-use crate::verdicts::{decision_at, end_of};
-use iam_crew::{Crew, Gate, gather, look, offer};
+use iam_crew::{Bound, Crew, Gate, gather};
 use iam_engine::Engine;
-use iam_lanes::{LaneSeat, Lanes};
 use iam_layers::{Decision, World};
 use iam_report::Position;
 use iam_text::OutOfMemory;
@@ -51,20 +51,19 @@ impl<'a> Crew for Search<'a> {
         &self,
         alloc: Global,
         engine: &mut Engine<'a>,
-        lanes: &Lanes,
         gate: &G,
-        seat: &mut LaneSeat,
+        bound: &mut Bound<'_>,
         tile: u64,
     ) -> Result<(), OutOfMemory> {
         let (from, count) = self.cut.cells_of(tile);
-        if is_behind(look(lanes, seat), from) {
+        if is_behind(bound.look(), from) {
             return Ok(());
         }
         gate.before(tile);
         let Some(cell) = first_in(alloc, engine, from, count)? else {
             return Ok(());
         };
-        offer(lanes, seat, cell);
+        bound.offer(cell);
         Ok(())
     }
 

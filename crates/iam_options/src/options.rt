@@ -1,3 +1,4 @@
+// The command line, read by `clap`.
 ghost use Rattle.std.specs.Prelude.{◌≡◌, IfSome, Some};
 ghost use Rattle.clap.specs.Words.{subcommand_name_of};
 ghost use Rattle.iam_options.specs.Words.{IsDecide, IsNumberAt, command_name};
@@ -13,6 +14,8 @@ const ABOUT: &str =
     "Answers who may do what in AWS, from policy documents alone, before they are put in force.
 The world comes on standard input: one JSON document with the accounts, the principals, the
 actions, the resources and their policies. The answer goes to standard output.";
+
+const INPUT: &str = "The world comes on standard input, as in: iamsim check < world.json";
 
 /// How many workers there are where the command line does not say.
 const WORKERS: u32 = 4;
@@ -177,13 +180,18 @@ fn named<'a>(alloc: Global) -> Result<Command<'a>, AllocError> {
         .bin_name("iamsim")
 }
 
+/// A command that reads a world.
+fn reading<'a>(alloc: Global, name: &'static str, about: &'static str) -> Command<'a> {
+    Command::new(alloc, name).about(about).after_help(INPUT)
+}
+
 fn check<'a>(alloc: Global) -> Command<'a> {
-    Command::new(alloc, "check").about("Read the world, and count what it has")
+    reading(alloc, "check", "Read the world, and count what it has")
 }
 
 fn decide<'a>(alloc: Global) -> Result<Command<'a>, AllocError> {
-    Command::new(alloc, "decide")
-        .about("Decide one request: may principal P do action A on resource R?")
+    let about = "Decide one request: may principal P do action A on resource R?";
+    reading(alloc, "decide", about)
         .arg(number(alloc, "P", "The principal's number in the world, from 0"))?
         .arg(number(alloc, "A", "The action's number in the world, from 0"))?
         .arg(number(alloc, "R", "The resource's number in the world, from 0"))
@@ -209,8 +217,7 @@ fn run<'a>(
     name: &'static str,
     about: &'static str,
 ) -> Result<Command<'a>, AllocError> {
-    Command::new(alloc, name)
-        .about(about)
+    reading(alloc, name, about)
         .arg(workers(alloc))?
         .arg(tile(alloc))
 }

@@ -1,3 +1,4 @@
+// Tests on a document as a whole.
 ghost use Rattle.std.specs.Prelude.{◌≡◌, map, codes, Some};
 ghost use Rattle.serde_json.specs.Find.{get};
 ghost use Rattle.serde_json.specs.View.{view};

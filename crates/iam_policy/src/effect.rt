@@ -1,3 +1,4 @@
+// The effect of a statement.
 ghost use Rattle.std.specs.Prelude.{◌≡◌};
 ghost use Rattle.serde_json.specs.View.{view};
 ghost use Rattle.iam_policy.specs.Statement.{effect_named, effect_of};

@@ -14,7 +14,7 @@ mod version;
 
 pub use effect::Effect;
 pub use fault::{Fault, Kind, Refused};
-pub use iam_condition::{Base, Entry, Operand, Operator, Order, Quantifier, TextTest};
+pub use iam_condition::Entry;
 pub use iam_element::{Actions, PrincipalKind, PrincipalName, Principals, Resources};
 pub use laws::{one_least_fault, one_policy};
 pub use policy::Policy;

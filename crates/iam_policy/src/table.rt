@@ -1,3 +1,4 @@
+// The faults of a document and of its statements, in the order in which they are tried.
 ghost use Rattle.std.specs.Prelude.{◌≡◌, ℕ};
 ghost use Rattle.serde_json.specs.Data.{Data};
 ghost use Rattle.serde_json.specs.View.{view};

@@ -1,7 +1,8 @@
 mod Buffered
 mod Cells
 mod Fields
-mod Lines
+mod Fronts
+mod OneText
 mod Picks
 mod Plain
 mod Rendered

@@ -1,8 +1,8 @@
 -- Items that are kept once, and lists of their numbers.
-use Rattle.std.proofs.Common.{◌≡◌, ℕ, ◌<◌, List, [], ◌∷◌, ◌++◌, All, Some, get_or, length, map, refl, ap, ◌∙◌, arith}
+use Rattle.std.proofs.Common.{◌≡◌, ℕ, ◌<◌, List, [], ◌∷◌, ◌++◌, All, Some, get_or, length, map, option_map, refl, ap, subst, ◌∙◌, arith}
 use Rattle.std.proofs.lemmas.List.{get_or-map, get_or_append_left, length-append, map-append}
-use Rattle.std.proofs.lemmas.List.Elements.{All-head, All-push, All-tail, All-weaker}
-use Rattle.std.proofs.lemmas.Option.{get_or_from_slice_get, slice_get_within}
+use Rattle.std.proofs.lemmas.List.Elements.{All-get_or, All-head, All-push, All-tail, All-weaker}
+use Rattle.std.proofs.lemmas.Option.{get_or_from_slice_get, slice_get-map, slice_get_within}
 use Rattle.std.specs.List.{slice_get}
 use Rattle.iam_report.specs.Code.Numbered.{picked}
 
@@ -41,3 +41,14 @@ picked_images f none other items [] w = refl
 picked_images f none other items (n ∷ numbers) w =
     ap (λ y. y ∷ picked other (map f items) numbers) (get_or-map f items n none other (All-head (λ k. k < length items) n numbers w))
     ∙ ap (λ ys. f (get_or items n none) ∷ ys) (picked_images f none other items numbers (All-tail (λ k. k < length items) n numbers w))
+
+-- the item at a place, by its number
+pub picked_at : {A : Type 0} (none : A) (items : List A) (numbers : List ℕ) (i n : ℕ) → slice_get numbers i ≡ Some n
+    → slice_get (picked none items numbers) i ≡ Some (get_or items n none)
+picked_at none items numbers i n at =
+    slice_get-map (λ k. get_or items k none) numbers i ∙ ap (option_map (λ k. get_or items k none)) at
+
+pub within_at : {A : Type 0} (items : List A) (numbers : List ℕ) (i n : ℕ) → slice_get numbers i ≡ Some n → Within items numbers → n < length items
+within_at items numbers i n at w =
+    subst (λ k. k < length items) (get_or_from_slice_get numbers i n n at)
+    (All-get_or (λ k. k < length items) numbers i n (slice_get_within numbers i n at) w)

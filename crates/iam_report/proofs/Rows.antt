@@ -25,7 +25,7 @@ one_triple world cell p a r q b s here there =
     (inner.0, inner.1, outer.1)
 
 -- they have one text each
-same_texts : (world : WorldValue) (p a r : ℕ) (t u : CellTexts) → HasTexts world p a r t → HasTexts world p a r u → t ≡ u
+pub same_texts : (world : WorldValue) (p a r : ℕ) (t u : CellTexts) → HasTexts world p a r t → HasTexts world p a r u → t ≡ u
 same_texts world p a r t u here there =
     let one : here.principal.0 ≡ there.principal.0 = cc in
     let principal : t.principal ≡ u.principal = here.principal.2 ∙ ap principal_text one ∙ sym there.principal.2 in
@@ -42,7 +42,7 @@ one_texts world cell t u (p, a, r, here, has) (q, b, s, there, has') =
     same_texts world p a r t u has
     (subst (λ x. HasTexts world x a r u) (sym same.0) (subst (λ x. HasTexts world q x r u) (sym same.1) (subst (λ x. HasTexts world q b x u) (sym same.2) has')))
 
-found : {A : Type 0} (xs : List A) (i : ℕ) → i < length xs → (x : A) × (slice_get xs i ≡ Some x)
+pub found : {A : Type 0} (xs : List A) (i : ℕ) → i < length xs → (x : A) × (slice_get xs i ≡ Some x)
 found [] i h = absurd (omega arith)
 found (x ∷ xs) zero h = (x, refl)
 found (x ∷ xs) (suc i) h = found xs i (omega arith)

@@ -4,6 +4,7 @@ ghost use Rattle.iam_report.specs.Piece.{bare, tail_of};
 ghost use Rattle.iam_decision.specs.declared.verdict.Verdict.{Verdict};
 
 use crate::guess::{Guesses, Hints, STEPS, hash_of};
+use crate::numbers::Numbers;
 use crate::quoted::Format;
 use crate::tail::Tail;
 use crate::tile::Tile;
@@ -18,7 +19,7 @@ use std::marker::Model;
 pub struct Entries {
     distinct: Vec<Verdict>,
     // The number of each in `distinct`.
-    numbers: Vec<u32>,
+    numbers: Numbers,
     guesses: Guesses,
     hints: Hints,
 }
@@ -30,9 +31,9 @@ impl Model for Entries {
 
     ghost Value = { List Verdict };
 
-    ghost view = { λ entries. picked no_verdict entries.distinct.items entries.numbers.items };
+    ghost view = { λ entries. picked no_verdict entries.distinct.items entries.numbers };
 
-    ghost invariant = { λ entries. All (λ n. n < length entries.distinct.items) entries.numbers.items };
+    ghost invariant = { λ entries. All (λ n. n < length entries.distinct.items) entries.numbers };
 }
 
 /// A decision as a verdict without places and layers.
@@ -53,7 +54,7 @@ impl Entries {
     {
         Ok(Entries {
             distinct: Vec::new(alloc),
-            numbers: Vec::with_capacity(alloc, room)?,
+            numbers: Numbers::new(alloc, room)?,
             guesses: Guesses::new(alloc),
             hints: Hints::new(alloc)?,
         })
@@ -63,7 +64,7 @@ impl Entries {
     pub fn push(&mut self, alloc: Global, verdict: &Verdict) -> Result<(), OutOfMemory>
         ensures { OnOk result (self.new ≡ self.old ++ verdict.now ∷ []) }
     {
-        let last = self.numbers.as_slice().last().copied();
+        let last = self.numbers.last();
         let number = number_of(alloc, &mut self.distinct, &mut self.guesses, last, verdict)?;
         self.numbers.push(number)?;
         Ok(())

@@ -7,10 +7,12 @@
 
 mod cell;
 mod entries;
+mod front;
 mod guess;
 mod laws;
 mod line;
 mod matrix;
+mod numbers;
 mod output;
 mod piece;
 mod position;
@@ -22,7 +24,7 @@ mod words;
 
 pub use cell::{csv_row, csv_row_brief};
 pub use entries::Entries;
-pub use laws::{brief_texts, full_texts};
+pub use laws::{brief_texts, full_texts, one_row, one_text};
 pub use matrix::MatrixText;
 pub use output::{OutputFault, buffer, write_text};
 pub use piece::opening;

@@ -1,87 +1,81 @@
-// Lines of CSV, whose texts of principal and action are copied at once.
-ghost use Rattle.std.specs.Prelude.{◌≡◌, ◌++◌, ◌+◌, ◌-◌, ◌≤◌, IfSome, IsTrue, decimal, drop, false, length, take};
-ghost use Rattle.iam_report.specs.Code.Line.{HasTexts, texts_of};
+// Rows that share what stands beside the number of their cells.
+ghost use Rattle.std.specs.Prelude.{◌≡◌, ◌++◌, ◌<◌, IsTrue, decimal, false, length};
+ghost use Rattle.iam_report.specs.Code.Line.{HasSides, before_of, behind_of, tail_at};
 ghost use Rattle.iam_report.specs.Piece.{row_at};
 
+use crate::front::Front;
 use crate::output::keep_three;
 use crate::position::Position;
 use crate::quoted::{Format, Quoted, text_at};
 use crate::tail::Tail;
-use itoa::write_digits;
 use std::marker::Model;
 
-/// The greatest number has so many digits.
-const DIGITS: usize = 20;
-
-/// So many bytes of a line are made at once.
-const ROOM: usize = 1024;
-
-/// Makes lines of CSV. The texts of the principal and the action of a line are copied together once for all the lines
-/// that have them, behind room for the number of the cell; the front of a line is that number and these texts.
+/// Makes rows. What stands before the resource of a row is its front; the texts in it are put together once for all rows
+/// that have them, and only the number of the cell is put in anew.
 #[derive(Drop)]
 pub struct Line<'a> {
     quoted: &'a Quoted,
-    bytes: [u8; ROOM],
-    // Whose texts stand behind the room for the number, up to `end`, which is 0 where none do.
+    tails: &'a [Tail],
+    front: Front,
+    // Whether the front has texts, and whose.
+    is_made: bool,
     principal: u64,
     action: u64,
-    end: usize,
-    // Where the front begins that was made last.
-    start: usize,
+    tail: usize,
 }
 
 impl<'a> Model for Line<'a> {
-    ghost use Rattle.iam_report.specs.Code.Line.{HoldsLine, LineValue, line_of};
+    ghost use Rattle.std.specs.Prelude.{IsTrue};
+    ghost use Rattle.iam_report.specs.Code.Line.{HasSides, LineValue};
 
     ghost Value = { LineValue };
 
-    ghost view = { λ line. line_of line.quoted.now line.bytes line.start line.end };
+    ghost view = { λ line. record { quoted = line.quoted.now; tails = line.tails.now; front = line.front; is_made = line.is_made; principal = line.principal; action = line.action; tail = line.tail } };
 
-    ghost invariant = { λ line. HoldsLine line.quoted.now line.bytes line.principal line.action line.end line.start };
+    ghost invariant = { λ line. IsTrue line.is_made → HasSides line.quoted.now line.tails.now line.principal line.action line.tail line.front };
 }
 
-/// Puts a text into bytes from a place on.
-fn put_at(bytes: &mut [u8], at: usize, text: &[u8])
-    requires { at + length text.now ≤ length bytes.old }
-    ensures { bytes.new ≡ take at bytes.old ++ (text.now ++ drop (at + length text.now) bytes.old) }
+/// Makes a front of these texts, where there is room for it.
+fn fill(
+    front: &mut Front,
+    format: Format,
+    cell: u64,
+    principal: &str,
+    action: &str,
+    tail: &str,
+) -> bool
+    ensures { IsTrue result → front.new ≡ record { before = before_of format action.now; number = decimal cell; behind = behind_of format principal.now action.now tail.now } }
 {
-    bytes[at..at + text.len()].copy_from_slice(text);
-}
-
-/// Puts two texts behind the room for a number, where there is room for them, and tells where they end.
-fn put_texts(bytes: &mut [u8; ROOM], first: &str, second: &str) -> Option<usize>
-    ensures { IfSome result (HasTexts bytes.new first.now second.now) }
-{
-    let room = ROOM - DIGITS;
-    if first.len() > room || second.len() > room - first.len() {
-        return None;
+    match format {
+        Format::Csv => front.fill("", "", cell, principal, action),
+        Format::Json => front.fill(",", action, cell, tail, principal),
     }
-    let between = DIGITS + first.len();
-    put_at(bytes, DIGITS, first.as_bytes());
-    put_at(bytes, between, second.as_bytes());
-    Some(between + second.len())
 }
 
-/// Puts a number before the texts that stand behind the room for it, and tells where it begins.
-fn put_number(bytes: &mut [u8; ROOM], number: u64) -> usize
-    ensures start { result + length (decimal number) ≡ 20 }
-    ensures written { drop result bytes.new ≡ decimal number ++ drop 20 bytes.old }
+/// Puts these texts behind the number, where there is room for them.
+fn refill(front: &mut Front, format: Format, principal: &str, action: &str, tail: &str) -> bool
+    ensures { IsTrue result → front.new ≡ record front.old { behind = behind_of format principal.now action.now tail.now } }
 {
-    write_digits(number, bytes, DIGITS)
+    match format {
+        Format::Csv => front.refill(principal, action),
+        Format::Json => front.refill(tail, principal),
+    }
 }
 
 impl<'a> Line<'a> {
-    /// No line yet, of a report with these texts.
-    pub fn new(quoted: &'a Quoted) -> Line<'a>
-        ensures { result.quoted ≡ quoted.entry.now }
+    /// No row yet, of a report with these texts and rows with these tails.
+    pub fn new(quoted: &'a Quoted, tails: &'a [Tail]) -> Line<'a>
+        ensures quoted { result.quoted ≡ quoted.entry.now }
+        ensures tails { result.tails ≡ tails.entry.now }
     {
         Line {
             quoted,
-            bytes: [0; ROOM],
+            tails,
+            front: Front::new(),
+            is_made: false,
             principal: 0,
             action: 0,
-            end: 0,
-            start: 0,
+            tail: 0,
         }
     }
 
@@ -92,53 +86,111 @@ impl<'a> Line<'a> {
         self.quoted
     }
 
-    /// Makes the front of the line at a position, where there is room for it.
-    fn make(&mut self, at: Position) -> bool
-        ensures same { self.new.quoted ≡ self.old.quoted }
-        ensures made { IsTrue result → self.new.front ≡ decimal at.cell ++ texts_of self.old.quoted at.principal at.action }
+    /// Tail n of the rows.
+    pub fn tail(&self, n: usize) -> &'a Tail
+        requires { n < length self.now.tails }
+        ensures { result.now ≡ tail_at self.now.tails n }
     {
-        if self.end != 0 && self.principal == at.principal && self.action == at.action {
-            self.start = put_number(&mut self.bytes, at.cell);
-            return true;
-        }
+        let tails = self.tails;
+        &tails[n]
+    }
+
+    /// Makes the whole front of the row at a position, with this tail, where there is room for it.
+    fn fill(&mut self, at: Position, tail: usize) -> bool
+        requires { tail < length self.old.tails }
+        ensures quoted { self.new.quoted ≡ self.old.quoted }
+        ensures tails { self.new.tails ≡ self.old.tails }
+        ensures number { IsTrue result → self.new.front.number ≡ decimal at.cell }
+        ensures sides { IsTrue result → HasSides self.old.quoted self.old.tails at.principal at.action tail self.new.front }
+    {
         let principal = text_at(self.quoted.principals.as_slice(), at.principal);
         let action = text_at(self.quoted.actions.as_slice(), at.action);
-        let Some(end) = put_texts(&mut self.bytes, principal, action) else {
-            self.start = 0;
-            self.end = 0;
-            return false;
-        };
+        let front = self.tails[tail].front.as_str();
+        let format = self.quoted.format;
+        self.is_made = fill(&mut self.front, format, at.cell, principal, action, front);
         self.principal = at.principal;
         self.action = at.action;
-        self.end = end;
-        self.start = put_number(&mut self.bytes, at.cell);
-        true
+        self.tail = tail;
+        self.is_made
     }
 
-    /// The front that was made last.
-    fn front(&self) -> &[u8]
-        ensures { result.now ≡ self.now.front }
+    /// Puts the number of another cell into the front, where it has as many digits.
+    fn renumber(&mut self, cell: u64) -> bool
+        requires { IsTrue self.old.is_made }
+        ensures quoted { self.new.quoted ≡ self.old.quoted }
+        ensures tails { self.new.tails ≡ self.old.tails }
+        ensures made { IsTrue result → self.new ≡ record self.old { front = record self.old.front { number = decimal cell } } }
     {
-        &self.bytes[self.start..self.end]
+        self.is_made = self.front.renumber(cell);
+        self.is_made
     }
 
-    /// Keeps the row at a position, with this tail, where it is a line of CSV and there is room for it.
-    pub fn keep(&mut self, kept: &mut Vec<u8>, at: Position, tail: &Tail) -> bool
-        ensures same { self.new.quoted ≡ self.old.quoted }
-        ensures kept { IsTrue result → kept.new.items ≡ kept.old.items ++ row_at self.old.quoted at tail.now }
+    /// Puts what stands behind the number at a position, with this tail, into the front of another with the same action.
+    fn refill(&mut self, at: Position, tail: usize) -> bool
+        requires tail { tail < length self.old.tails }
+        requires made { IsTrue self.old.is_made }
+        requires action { self.old.action ≡ at.action }
+        ensures quoted { self.new.quoted ≡ self.old.quoted }
+        ensures tails { self.new.tails ≡ self.old.tails }
+        ensures number { IsTrue result → self.new.front.number ≡ self.old.front.number }
+        ensures sides { IsTrue result → HasSides self.old.quoted self.old.tails at.principal at.action tail self.new.front }
+    {
+        let principal = text_at(self.quoted.principals.as_slice(), at.principal);
+        let action = text_at(self.quoted.actions.as_slice(), at.action);
+        let front = self.tails[tail].front.as_str();
+        let format = self.quoted.format;
+        self.is_made = refill(&mut self.front, format, principal, action, front);
+        self.principal = at.principal;
+        self.tail = tail;
+        self.is_made
+    }
+
+    /// Whether a front with the action of a position is that of the position with a tail, but for the number. In CSV it has
+    /// no text of the tail.
+    fn has_sides(&self, at: Position, tail: usize) -> bool
+        requires made { IsTrue self.now.is_made }
+        requires action { self.now.action ≡ at.action }
+        ensures { IsTrue result → HasSides self.now.quoted self.now.tails at.principal at.action tail self.now.front }
+    {
+        self.principal == at.principal && (self.tail == tail || self.quoted.format == Format::Csv)
+    }
+
+    /// Makes the front of the row at a position, with this tail, where there is room for it.
+    fn make(&mut self, at: Position, tail: usize) -> bool
+        requires { tail < length self.old.tails }
+        ensures quoted { self.new.quoted ≡ self.old.quoted }
+        ensures tails { self.new.tails ≡ self.old.tails }
+        ensures number { IsTrue result → self.new.front.number ≡ decimal at.cell }
+        ensures sides { IsTrue result → HasSides self.old.quoted self.old.tails at.principal at.action tail self.new.front }
+    {
+        if !self.is_made || self.action != at.action || !self.renumber(at.cell) {
+            return self.fill(at, tail);
+        }
+        if self.has_sides(at, tail) {
+            return true;
+        }
+        self.refill(at, tail)
+    }
+
+    /// Keeps the row at a position, with this tail, where there is room for it. The first row is not kept: no comma stands
+    /// before it.
+    pub fn keep(&mut self, kept: &mut Vec<u8>, at: Position, tail: usize) -> bool
+        requires { tail < length self.old.tails }
+        ensures quoted { self.new.quoted ≡ self.old.quoted }
+        ensures tails { self.new.tails ≡ self.old.tails }
+        ensures kept { IsTrue result → kept.new.items ≡ kept.old.items ++ row_at self.old.quoted at (tail_at self.old.tails tail) }
         ensures none { result ≡ false → kept.new.items ≡ kept.old.items }
     {
-        let quoted = self.quoted();
-        match quoted.format {
-            Format::Json => false,
-            Format::Csv => {
-                if !self.make(at) {
-                    return false;
-                }
-                let resource = text_at(quoted.resources.as_slice(), at.resource);
-                let back = tail.back.as_str();
-                keep_three(kept, self.front(), resource.as_bytes(), back.as_bytes())
-            }
+        if at.cell == 0 || !self.make(at, tail) {
+            return false;
         }
+        let resource = text_at(self.quoted.resources.as_slice(), at.resource);
+        let back = self.tails[tail].back.as_str();
+        keep_three(
+            kept,
+            self.front.text(),
+            resource.as_bytes(),
+            back.as_bytes(),
+        )
     }
 }

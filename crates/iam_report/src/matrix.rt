@@ -1,14 +1,17 @@
 // Reports of all cells that are kept as numbers, and written without taking memory.
-ghost use Rattle.std.specs.Prelude.{◌≡◌, ◌++◌, ◌+◌, ◌≤◌, [], List, OnErr, OnOk, length};
+ghost use Rattle.std.specs.Prelude.{◌≡◌, ◌++◌, ◌+◌, ◌<◌, ◌≤◌, [], All, List, OnErr, OnOk, length};
 ghost use Rattle.std.specs.Io.KnownBytes.{Appends};
 ghost use Rattle.std.specs.List.{flat_map};
 ghost use Rattle.iam_report.specs.Code.Buffer.{IsWithin, PutsRows, Passes};
+ghost use Rattle.iam_report.specs.Code.Line.{tail_at};
+ghost use Rattle.iam_report.specs.Code.Numbered.{no_tail, picked};
 ghost use Rattle.iam_report.specs.Piece.{first_position, row_at, rows_text, text_of};
 ghost use Rattle.iam_report.specs.Streams.{AppendsBeginning};
 ghost use Rattle.iam_report.specs.declared.tail.Tail.{Tail};
 
 use crate::line::Line;
-use crate::output::{OutputFault, put, put_all, write_text};
+use crate::numbers::Numbers;
+use crate::output::{OutputFault, put, put_all, write_kept};
 use crate::piece::{closing, comma_before, opening};
 use crate::position::Position;
 use crate::quoted::{Format, Quoted, text_at};
@@ -39,22 +42,24 @@ impl Model for MatrixText {
     ghost invariant = { λ matrix. length (flat_map (λ tile. tile) matrix.tiles.items) ≤ 16777216 };
 }
 
-/// Puts the row at a position, with this tail.
+/// Puts the row at a position, with tail n.
 fn put_row<W: Write>(
     writer: &mut W,
     kept: &mut Vec<u8>,
     line: &mut Line<'_>,
     at: Position,
-    tail: &Tail,
+    n: usize,
 ) -> Result<(), OutputFault>
-    ensures ok { OnOk result (Passes (W.contents writer.old) (W.contents writer.new) kept.old.items kept.new.items (row_at line.old.quoted at tail.now)) }
-    ensures err { OnErr result (AppendsBeginning (W.contents writer.old) (W.contents writer.new) (kept.old.items ++ row_at line.old.quoted at tail.now)) }
-    ensures same { line.new.quoted ≡ line.old.quoted }
+    requires { n < length line.old.tails }
+    ensures ok { OnOk result (Passes (W.contents writer.old) (W.contents writer.new) kept.old.items kept.new.items (row_at line.old.quoted at (tail_at line.old.tails n))) }
+    ensures err { OnErr result (AppendsBeginning (W.contents writer.old) (W.contents writer.new) (kept.old.items ++ row_at line.old.quoted at (tail_at line.old.tails n))) }
+    ensures quoted { line.new.quoted ≡ line.old.quoted }
+    ensures tails { line.new.tails ≡ line.old.tails }
 {
-    if line.keep(kept, at, tail) {
+    if line.keep(kept, at, n) {
         return Ok(());
     }
-    if let Err(fault) = put_pieces(writer, kept, line.quoted(), at, tail) {
+    if let Err(fault) = put_pieces(writer, kept, line.quoted(), at, line.tail(n)) {
         return Err(fault);
     }
     Ok(())
@@ -127,30 +132,54 @@ fn put_object<'a, W: Write>(
     )
 }
 
+/// Puts rows, which have the tails of these numbers, from this position on, and moves it behind the last.
+fn put_rows<W: Write>(
+    writer: &mut W,
+    kept: &mut Vec<u8>,
+    quoted: &Quoted,
+    tails: &[Tail],
+    numbers: &Numbers,
+    at: &mut Position,
+) -> Result<(), OutputFault>
+    requires known { All (λ n. n < length tails.now) numbers.now }
+    requires within { IsWithin at.old }
+    requires few { at.old.cell + length numbers.now ≤ 16777216 }
+    ensures ok { OnOk result (PutsRows quoted.now (picked no_tail tails.now numbers.now) at.old at.new (W.contents writer.old) (W.contents writer.new) kept.old.items kept.new.items) }
+    ensures err { OnErr result ((more : List Tail) → AppendsBeginning (W.contents writer.old) (W.contents writer.new) (kept.old.items ++ rows_text quoted.now at.old (picked no_tail tails.now numbers.now ++ more))) }
+    ensures within { OnOk result (IsWithin at.new) }
+    ensures cell { OnOk result (at.new.cell ≡ at.old.cell + length numbers.now) }
+{
+    let actions = quoted.actions.as_slice().len() as u64;
+    let resources = quoted.resources.as_slice().len() as u64;
+    let mut line = Line::new(quoted, tails);
+    for i in 0..numbers.len() {
+        let n = numbers.at(i) as usize;
+        if let Err(fault) = put_row(writer, kept, &mut line, *at, n) {
+            return Err(fault);
+        }
+        *at = at.next(actions, resources);
+    }
+    Ok(())
+}
+
 /// Puts the rows of a tile from this position on, and moves it behind the last.
 fn put_tile<W: Write>(
     writer: &mut W,
     kept: &mut Vec<u8>,
-    line: &mut Line<'_>,
+    quoted: &Quoted,
     tile: &Tile,
     at: &mut Position,
 ) -> Result<(), OutputFault>
     requires within { IsWithin at.old }
     requires few { at.old.cell + length tile.now ≤ 16777216 }
-    ensures ok { OnOk result (PutsRows line.old.quoted tile.now at.old at.new (W.contents writer.old) (W.contents writer.new) kept.old.items kept.new.items) }
-    ensures err { OnErr result ((more : List Tail) → AppendsBeginning (W.contents writer.old) (W.contents writer.new) (kept.old.items ++ rows_text line.old.quoted at.old (tile.now ++ more))) }
-    ensures same { line.new.quoted ≡ line.old.quoted }
+    ensures ok { OnOk result (PutsRows quoted.now tile.now at.old at.new (W.contents writer.old) (W.contents writer.new) kept.old.items kept.new.items) }
+    ensures err { OnErr result ((more : List Tail) → AppendsBeginning (W.contents writer.old) (W.contents writer.new) (kept.old.items ++ rows_text quoted.now at.old (tile.now ++ more))) }
     ensures within { OnOk result (IsWithin at.new) }
     ensures cell { OnOk result (at.new.cell ≡ at.old.cell + length tile.now) }
 {
-    let quoted = line.quoted();
-    let actions = quoted.actions.as_slice().len() as u64;
-    let resources = quoted.resources.as_slice().len() as u64;
-    for i in 0..tile.cells() {
-        if let Err(fault) = put_row(writer, kept, line, *at, tile.tail(i)) {
-            return Err(fault);
-        }
-        *at = at.next(actions, resources);
+    let tails = tile.tails.as_slice();
+    if let Err(fault) = put_rows(writer, kept, quoted, tails, &tile.numbers, at) {
+        return Err(fault);
     }
     Ok(())
 }
@@ -166,10 +195,9 @@ fn put_tiles<W: Write>(
     ensures ok { OnOk result (Passes (W.contents writer.old) (W.contents writer.new) kept.old.items kept.new.items (rows_text quoted.now first_position (flat_map (λ tile. tile) tiles.now))) }
     ensures err { OnErr result (AppendsBeginning (W.contents writer.old) (W.contents writer.new) (kept.old.items ++ rows_text quoted.now first_position (flat_map (λ tile. tile) tiles.now))) }
 {
-    let mut line = Line::new(quoted);
     let mut at = Position::first();
     for tile in tiles {
-        if let Err(fault) = put_tile(writer, kept, &mut line, tile, &mut at) {
+        if let Err(fault) = put_tile(writer, kept, quoted, tile, &mut at) {
             return Err(fault);
         }
     }
@@ -206,7 +234,7 @@ impl MatrixText {
         if let Err(fault) = put(writer, kept, closing(format)) {
             return Err(fault);
         }
-        if let Err(fault) = write_text(writer, kept.as_slice()) {
+        if let Err(fault) = write_kept(writer, kept) {
             return Err(fault);
         }
         Ok(())

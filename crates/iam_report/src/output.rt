@@ -41,6 +41,14 @@ pub fn write_text<W: Write>(writer: &mut W, text: &[u8]) -> Result<(), OutputFau
     Ok(())
 }
 
+/// Writes what is kept. After a fault the writer gained a beginning of it.
+pub fn write_kept<W: Write>(writer: &mut W, kept: &Vec<u8>) -> Result<(), OutputFault>
+    ensures ok { OnOk result (Appends (W.contents writer.old) (W.contents writer.new) kept.now.items) }
+    ensures err { OnErr result (AppendsBeginning (W.contents writer.old) (W.contents writer.new) kept.now.items) }
+{
+    write_text(writer, kept.as_slice())
+}
+
 /// Keeps a text for which there is room.
 #[inline(always)]
 fn keep(kept: &mut Vec<u8>, text: &[u8])
@@ -79,7 +87,7 @@ fn put_behind<W: Write>(writer: &mut W, kept: &mut Vec<u8>, text: &str) -> Resul
     ensures ok { OnOk result (Passes (W.contents writer.old) (W.contents writer.new) kept.old.items kept.new.items text.now) }
     ensures err { OnErr result (AppendsBeginning (W.contents writer.old) (W.contents writer.new) (kept.old.items ++ text.now)) }
 {
-    if let Err(fault) = write_text(writer, kept.as_slice()) {
+    if let Err(fault) = write_kept(writer, kept) {
         return Err(fault);
     }
     kept.clear();

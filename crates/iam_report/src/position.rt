@@ -1,3 +1,4 @@
+// A cell with its principal, action and resource, and the next one.
 ghost use Rattle.std.specs.Prelude.{◌≡◌, ◌+◌, ◌<◌, ◌^◌};
 ghost use Rattle.iam_layers.specs.Cell.{IsCell};
 ghost use Rattle.iam_world.specs.World.{world_cells};

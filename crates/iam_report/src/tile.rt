@@ -1,5 +1,5 @@
-ghost use Rattle.std.specs.Prelude.{◌≡◌, ◌<◌, Some, length, slice_get};
-
+// The tails of a tile's rows.
+use crate::numbers::Numbers;
 use crate::tail::Tail;
 use std::marker::Model;
 
@@ -9,7 +9,7 @@ use std::marker::Model;
 pub struct Tile {
     pub(crate) tails: Vec<Tail>,
     // The number of each in `tails`.
-    pub(crate) numbers: Vec<u32>,
+    pub(crate) numbers: Numbers,
 }
 
 impl Model for Tile {
@@ -19,24 +19,7 @@ impl Model for Tile {
 
     ghost Value = { List Tail };
 
-    ghost view = { λ tile. picked no_tail tile.tails.items tile.numbers.items };
+    ghost view = { λ tile. picked no_tail tile.tails.items tile.numbers };
 
-    ghost invariant = { λ tile. All (λ n. n < length tile.tails.items) tile.numbers.items };
-}
-
-impl Tile {
-    /// How many cells.
-    pub fn cells(&self) -> usize
-        ensures { result ≡ length self.now }
-    {
-        self.numbers.len()
-    }
-
-    /// The tail of cell i of these.
-    pub fn tail(&self, i: usize) -> &Tail
-        requires { i < length self.now }
-        ensures { slice_get self.now i ≡ Some result.now }
-    {
-        &self.tails[self.numbers[i] as usize]
-    }
+    ghost invariant = { λ tile. All (λ n. n < length tile.tails.items) tile.numbers };
 }

@@ -1,3 +1,4 @@
+// Why rows can't be tried.
 use std::alloc::{AllocError, AllocFailed};
 use std::{fmt, io};
 

@@ -1,7 +1,10 @@
-// An engine that is asked for the same cells again and again, in any order.
+// An engine that is asked for the same cells again and again, in any order, and one that was refused memory.
+ghost use Rattle.std.specs.Prelude.{◌≡◌, ◌<◌};
+ghost use Rattle.iam_world.specs.World.{world_cells};
+
 use crate::matrix::{HOME, is_decision, is_verdict};
 use iam_engine::Engine;
-use iam_layers::World;
+use iam_layers::{Decision, Verdict, World};
 use std::alloc::Global;
 use std::test::Fail;
 
@@ -42,6 +45,44 @@ fn cells_in_any_order_by_one_engine(rt: HostRuntime) -> Result<(), Fail> {
         for engines in [1, 4_000_000] {
             assert!(rt; answers_all(rt.alloc(), engines, cells)?);
         }
+    }
+    Ok(())
+}
+
+/// The verdict on a cell, asked for once more where memory was refused.
+fn decide_again(alloc: Global, engine: &mut Engine<'_>, cell: u64) -> Result<Verdict, Fail>
+    requires { cell < world_cells engine.old.world }
+    ensures { engine.new.world ≡ engine.old.world }
+{
+    match engine.decide(alloc, cell) {
+        Ok(verdict) => Ok(verdict),
+        Err(_) => Ok(engine.decide(alloc, cell)?),
+    }
+}
+
+/// The decision on a cell, asked for once more where memory was refused.
+fn decide_brief_again(alloc: Global, engine: &mut Engine<'_>, cell: u64) -> Result<Decision, Fail>
+    requires { cell < world_cells engine.old.world }
+    ensures { engine.new.world ≡ engine.old.world }
+{
+    match engine.decide_brief(alloc, cell) {
+        Ok(decision) => Ok(decision),
+        Err(_) => Ok(engine.decide_brief(alloc, cell)?),
+    }
+}
+
+// Of itself this shows nothing that the test above does not: tools/tests/test_refused.py refuses it each call of the allocator.
+#[test]
+fn cells_asked_again(rt: HostRuntime) -> Result<(), Fail> {
+    let alloc = rt.alloc();
+    let world = World::read(alloc, HOME.as_bytes())?;
+    let mut engine = Engine::new(alloc, &world, 1)?;
+    for cell in 0..world.cells() {
+        assert!(rt; cell < engine.world().cells());
+        let decision = decide_brief_again(alloc, &mut engine, cell)?;
+        let verdict = decide_again(alloc, &mut engine, cell)?;
+        assert!(rt; is_decision(cell as usize, decision));
+        assert!(rt; is_verdict(cell as usize, &verdict));
     }
     Ok(())
 }

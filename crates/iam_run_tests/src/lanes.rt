@@ -1,3 +1,4 @@
+// Lanes in one thread.
 use iam_lanes::{Closed, LaneFault, Lanes};
 use std::test::Fail;
 

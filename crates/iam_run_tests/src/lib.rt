@@ -2,6 +2,8 @@
 #![tactic(auto)]
 
 #[cfg(test)]
+mod crew;
+#[cfg(test)]
 mod engine;
 #[cfg(test)]
 mod lanes;

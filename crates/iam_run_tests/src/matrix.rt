@@ -253,69 +253,103 @@ fn the_brief_reports_of_the_twelve_cells(rt: HostRuntime) -> Result<(), Fail> {
     Ok(())
 }
 
-/// A gate where tile 0 waits until tile 1 begins as well.
+/// A gate where two tiles wait for one another, so that they have to be begun by two workers.
 #[derive(Drop)]
 struct Meeting {
-    is_next_begun: AtomicBool,
-    is_met: AtomicBool,
+    first: u64,
+    second: u64,
+    is_first_begun: AtomicBool,
+    is_second_begun: AtomicBool,
+    is_missed: AtomicBool,
 }
 
 impl Meeting {
-    fn new() -> Meeting {
+    fn of(first: u64, second: u64) -> Meeting {
         Meeting {
-            is_next_begun: AtomicBool::new(false),
-            is_met: AtomicBool::new(false),
+            first,
+            second,
+            is_first_begun: AtomicBool::new(false),
+            is_second_begun: AtomicBool::new(false),
+            is_missed: AtomicBool::new(false),
         }
-    }
-
-    /// Whether tile 1 begins within so many looks.
-    fn waits(&self) -> bool {
-        for _turn in 0..100_000_000u32 {
-            if self.is_next_begun.load(Ordering::SeqCst) {
-                return true;
-            }
-            spin_loop();
-        }
-        false
     }
 
     fn has_met(&self) -> bool {
-        self.is_met.load(Ordering::SeqCst)
+        self.is_first_begun.load(Ordering::SeqCst) && !self.is_missed.load(Ordering::SeqCst)
     }
+}
+
+/// Whether a tile begins within so many looks.
+fn begins(is_begun: &AtomicBool) -> bool {
+    for _turn in 0..100_000_000u32 {
+        if is_begun.load(Ordering::SeqCst) {
+            return true;
+        }
+        spin_loop();
+    }
+    false
 }
 
 impl Gate for Meeting {
     fn before(&self, tile: u64) {
-        match tile {
-            0 => self.is_met.store(self.waits(), Ordering::SeqCst),
-            1 => self.is_next_begun.store(true, Ordering::SeqCst),
-            _ => {}
+        if tile == self.first {
+            self.is_first_begun.store(true, Ordering::SeqCst);
+            if !begins(&self.is_second_begun) {
+                self.is_missed.store(true, Ordering::SeqCst);
+            }
+        }
+        if tile == self.second {
+            self.is_second_begun.store(true, Ordering::SeqCst);
+            if !begins(&self.is_first_begun) {
+                self.is_missed.store(true, Ordering::SeqCst);
+            }
         }
     }
 }
 
-#[test]
-fn tiles_of_a_worker_that_waits_are_taken_by_the_other(rt: HostRuntime) -> Result<(), Fail> {
-    let alloc = rt.alloc();
+/// Whether two workers meet at these tiles in a matrix of the twelve cells, in one of three runs.
+fn have_met<R: Threads + Sync>(
+    rt: &R,
+    alloc: Global,
+    first: u64,
+    second: u64,
+) -> Result<bool, Fail> {
     let world = World::read(alloc, HOME.as_bytes())?;
     let cut = Cut::even(alloc, 1, world.cells())?;
-    let gate = Meeting::new();
-    let verdicts = matrix(&rt, alloc, &world, &cut, 2, &gate)?;
-    assert!(rt; are_verdicts(&verdicts) && gate.has_met());
-    let gate = Meeting::new();
-    let decisions = matrix_brief(&rt, alloc, &world, &cut, 2, &gate)?;
-    assert!(rt; are_decisions(&decisions) && gate.has_met());
+    for _run in 0..3 {
+        let gate = Meeting::of(first, second);
+        let verdicts = matrix(rt, alloc, &world, &cut, 2, &gate)?;
+        if are_verdicts(&verdicts) && gate.has_met() {
+            return Ok(true);
+        }
+    }
+    Ok(false)
+}
+
+#[test]
+fn each_of_two_workers_begins_with_a_run_of_its_own(rt: HostRuntime) -> Result<(), Fail> {
+    assert!(rt; have_met(&rt, rt.alloc(), 0, 6)?);
     Ok(())
 }
 
 #[test]
-fn tiles_of_a_search_that_waits_are_taken_by_the_other(rt: HostRuntime) -> Result<(), Fail> {
+fn tiles_of_a_worker_that_waits_are_stolen_by_the_other(rt: HostRuntime) -> Result<(), Fail> {
+    assert!(rt; have_met(&rt, rt.alloc(), 0, 1)?);
+    Ok(())
+}
+
+#[test]
+fn tiles_of_a_search_that_waits_are_stolen_by_the_other(rt: HostRuntime) -> Result<(), Fail> {
     let alloc = rt.alloc();
     let world = World::read(alloc, DENIED.as_bytes())?;
     let cut = Cut::even(alloc, 1, world.cells())?;
-    let gate = Meeting::new();
-    assert_eq!(rt; first(&rt, alloc, &world, &cut, 2, &gate)?, None);
-    assert!(rt; gate.has_met());
+    let mut has_met = false;
+    for _run in 0..3 {
+        let gate = Meeting::of(0, 1);
+        assert_eq!(rt; first(&rt, alloc, &world, &cut, 2, &gate)?, None);
+        has_met |= gate.has_met();
+    }
+    assert!(rt; has_met);
     Ok(())
 }
 
@@ -347,18 +381,35 @@ fn a_search_skips_what_lies_behind_an_allowed_cell(rt: HostRuntime) -> Result<()
 }
 
 #[test]
-fn the_gate_is_told_of_each_tile_once(rt: HostRuntime) -> Result<(), Fail> {
+fn one_worker_halves_its_runs_and_takes_them_from_the_front(rt: HostRuntime) -> Result<(), Fail> {
     let alloc = rt.alloc();
     let world = World::read(alloc, HOME.as_bytes())?;
-    let cut = Cut::even(alloc, 3, world.cells())?;
+    let cut = Cut::even(alloc, 1, world.cells())?;
     let gate = Record {
         rt: &rt,
         tiles: Mutex::new(Vec::new(alloc)),
     };
-    let _verdicts = matrix(&rt, alloc, &world, &cut, 4, &gate)?;
-    let _decisions = matrix_brief(&rt, alloc, &world, &cut, 4, &gate)?;
-    let mut tiles = gate.tiles.lock(&rt);
-    tiles.sort_unstable();
-    assert_eq!(rt; tiles.as_slice(), [0, 0, 1, 1, 2, 2, 3, 3].as_slice());
+    assert!(rt; are_verdicts(&matrix(&rt, alloc, &world, &cut, 1, &gate)?));
+    let order = [0, 6, 3, 1, 9, 7, 4, 2, 10, 8, 5, 11];
+    assert_eq!(rt; gate.tiles.lock(&rt).as_slice(), order.as_slice());
+    Ok(())
+}
+
+#[test]
+fn the_gate_is_told_of_each_tile_once(rt: HostRuntime) -> Result<(), Fail> {
+    let alloc = rt.alloc();
+    let world = World::read(alloc, HOME.as_bytes())?;
+    let cut = Cut::even(alloc, 1, world.cells())?;
+    for workers in [1, 4, 64] {
+        let gate = Record {
+            rt: &rt,
+            tiles: Mutex::new(Vec::new(alloc)),
+        };
+        assert!(rt; are_verdicts(&matrix(&rt, alloc, &world, &cut, workers, &gate)?));
+        let mut tiles = gate.tiles.lock(&rt);
+        tiles.sort_unstable();
+        let each = [0, 1, 2, 3, 4, 5, 6, 7, 8, 9, 10, 11];
+        assert_eq!(rt; tiles.as_slice(), each.as_slice());
+    }
     Ok(())
 }

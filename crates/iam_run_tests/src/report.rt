@@ -1,3 +1,4 @@
+// The words of a report for each layer.
 use iam_layers::{Decision, Layer, Place, Verdict, World};
 use iam_matrix::csv_row;
 use iam_text::Items;

@@ -1,3 +1,4 @@
+// Lanes that threads share.
 ghost use Rattle.std.specs.Prelude.{◌≡◌, ◌<◌, All, IfOk, length, vec_len};
 
 use iam_lanes::{Closed, LaneSeat, Lanes};

@@ -1,3 +1,4 @@
+// Readers and writers that fail, at each of their calls, for all commands.
 use iam_app::{Options, OutOfMemory, RunFault, Task, fault_line, run, status};
 use std::alloc::Global;
 use std::io;

@@ -1,3 +1,4 @@
+// Runs that are pushed, stolen and marked, in one thread.
 use iam_work::{Run, Stolen, Work, WorkFault};
 use std::test::Fail;
 
@@ -11,10 +12,10 @@ fn two_seats_push_pop_steal_and_mark_in_turn(rt: HostRuntime) -> Result<(), Fail
     let all = Run { first: 0, count: 6 };
     let half = Run { first: 3, count: 3 };
     let rest = Run { first: 1, count: 2 };
-    assert_eq!(rt; work.push(rt.alloc(), &mut a, all), Ok(()));
+    assert_eq!(rt; work.push(&mut a, all), Ok(()));
     assert_eq!(rt; work.pop(&mut a), Some(all));
-    assert_eq!(rt; work.push(rt.alloc(), &mut a, half), Ok(()));
-    assert_eq!(rt; work.push(rt.alloc(), &mut a, rest), Ok(()));
+    assert_eq!(rt; work.push(&mut a, half), Ok(()));
+    assert_eq!(rt; work.push(&mut a, rest), Ok(()));
     assert_eq!(rt; work.steal(&mut b, 0), Stolen::Took(half));
     assert_eq!(rt; work.pop(&mut a), Some(rest));
     assert_eq!(rt; work.pop(&mut a), None);
@@ -57,7 +58,7 @@ fn a_deque_grows_and_gives_its_runs_in_their_order(rt: HostRuntime) {
     let mut seat = seats.pop().expect(&rt, "one seat");
     for first in 0..100 {
         let run = Run { first, count: 1 };
-        assert_eq!(rt; work.push(rt.alloc(), &mut seat, run), Ok(()));
+        assert_eq!(rt; work.push(&mut seat, run), Ok(()));
     }
     for first in 0..100 {
         let run = Run { first, count: 1 };

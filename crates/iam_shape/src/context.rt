@@ -1,3 +1,4 @@
+// Whether a value has the shape of a context.
 ghost use Rattle.std.specs.Prelude.{◌≡◌, map, option_map, true};
 ghost use Rattle.std.specs.List.{list_all};
 ghost use Rattle.std.specs.Option.{option_map_or};

@@ -1,3 +1,4 @@
+// Why a world has not the shape.
 use crate::path::Path;
 use iam_text::OutOfMemory;
 use std::alloc::AllocFailed;

@@ -1,3 +1,4 @@
+// The members of an object, each of its kind.
 ghost use Rattle.std.specs.Prelude.{◌≡◌, map, option_map, MatchOption, true, false};
 ghost use Rattle.serde_json.specs.View.{view};
 ghost use Rattle.iam_shape.specs.Shape.{is_absent_or, is_bool, is_list, list_at, member, number_at, text_at};

@@ -1,3 +1,4 @@
+// Places in a world, and their texts.
 use std::fmt::{self, Display, Formatter, Write};
 
 /// The name of a member of a world document, or of an account, a principal or a resource in it.

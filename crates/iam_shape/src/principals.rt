@@ -1,3 +1,4 @@
+// The walk over a principal.
 ghost use Rattle.std.specs.Prelude.{◌≡◌, [], ◌∷◌, None, Some, IsTrue};
 ghost use Rattle.serde_json.specs.View.{view};
 ghost use Rattle.iam_shape.specs.Lent.{principal_of};

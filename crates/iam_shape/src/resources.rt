@@ -1,3 +1,4 @@
+// The walk over a resource.
 ghost use Rattle.std.specs.Prelude.{◌≡◌, [], ◌∷◌};
 ghost use Rattle.serde_json.specs.View.{view};
 ghost use Rattle.iam_shape.specs.Lent.{resource_of};

@@ -1,3 +1,4 @@
+// What a world says, lent from its document.
 ghost use Rattle.std.specs.Prelude.{map};
 ghost use Rattle.iam_shape.specs.Code.Texts.{HasTexts};
 ghost use Rattle.iam_shape.specs.Lent.{account_of};

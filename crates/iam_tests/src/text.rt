@@ -1,3 +1,4 @@
+// Patterns and ARNs.
 use iam_text::{Arn, Glob, OutOfMemory, Sign};
 use std::alloc::Global;
 use std::test::Fail;

@@ -1,3 +1,4 @@
+// Numbers, truth values, bytes, moments, addresses and ranges.
 use iam_value::{Address, Range, bytes, moment, truth, whole};
 use std::alloc::Global;
 use std::process::Abort;

@@ -1,3 +1,4 @@
+// Patterns of actions.
 ghost use Rattle.std.specs.Prelude.{◌≡◌};
 ghost use Rattle.std.specs.List.{list_all};
 ghost use Rattle.iam_text.specs.Action.{is_action, is_name_character, is_prefix_character, is_wildcard};

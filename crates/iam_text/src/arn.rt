@@ -1,3 +1,4 @@
+// An ARN, cut at its first five colons.
 ghost use Rattle.std.specs.Prelude.{◌≡◌, MatchOption};
 ghost use Rattle.iam_text.specs.Arn.{colons};
 ghost use Rattle.iam_text.specs.Code.Cut.{IsCutFirst};

@@ -1,3 +1,4 @@
+// Patterns against ASCII text, byte by byte.
 ghost use Rattle.std.specs.Prelude.{◌≡◌, ◌↔◌, ◌≤◌, ◌<◌, IsTrue, length, slice_index};
 ghost use Rattle.iam_text.specs.Code.Walk.{Begins, Covers, char_in, Walks, found_at, IsFront, Settles, Later, signs_left};
 

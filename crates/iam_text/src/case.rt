@@ -1,3 +1,4 @@
+// Comparing characters, with and without regard to the case of ASCII letters.
 ghost use Rattle.std.specs.Prelude.{◌≡◌, ◌↔◌, IsTrue};
 ghost use Rattle.iam_text.specs.Code.Walk.{Covers, char_in};
 

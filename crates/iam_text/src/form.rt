@@ -1,3 +1,4 @@
+// Variables as they stand in a text: `${key}`, and with a default.
 ghost use Rattle.std.specs.Prelude.{◌≡◌, ◌≢◌, ℕ, List, [], ◌∷◌, ◌++◌, replicate, MatchOption};
 ghost use Rattle.std.specs.List.{list_all};
 ghost use Rattle.iam_text.specs.declared.draft.Piece.{Piece};

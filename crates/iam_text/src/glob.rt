@@ -1,3 +1,4 @@
+// A pattern, and whether it matches a text.
 ghost use Rattle.std.specs.Prelude.{◌≡◌, ◌↔◌, List, IsTrue, IfOk, map};
 ghost use Rattle.std.specs.Str.{chars};
 ghost use Rattle.iam_text.specs.declared.sign.Sign.{Sign};

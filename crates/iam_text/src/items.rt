@@ -1,3 +1,4 @@
+// A list that contracts see as its items.
 use std::marker::Model;
 
 /// A list that contracts see as the list of its elements.

@@ -1,3 +1,4 @@
+// What a pattern is made of.
 ghost use Rattle.std.specs.Prelude.{◌≡◌};
 ghost use Rattle.iam_text.specs.Draft.{sign_of};
 

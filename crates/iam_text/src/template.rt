@@ -1,3 +1,4 @@
+// A text that may have variables: a pattern where it has none, else a draft.
 ghost use Rattle.std.specs.Prelude.{◌≡◌, IfOk, map};
 ghost use Rattle.std.specs.Str.{chars};
 ghost use Rattle.iam_text.specs.Draft.{sign_of};

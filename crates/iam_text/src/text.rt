@@ -1,3 +1,4 @@
+// A text that contracts see as its bytes.
 use crate::OutOfMemory;
 use std::alloc::Global;
 use std::marker::Model;

@@ -10,4 +10,5 @@ pub mod Colons
 pub mod Slashes
 pub mod Unique
 pub mod OneAddress
+pub mod OneStamp
 pub mod Rows

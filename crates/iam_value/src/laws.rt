@@ -1,8 +1,8 @@
-// Laws of the definitions, for the crates above: a text has at most one value of each kind.
+// Laws of the definitions, for the crates above: a text has at most one value of each kind, and an instant one text.
 ghost use Rattle.std.specs.Prelude.{◌≡◌, ℕ, ℤ, List, Bool};
 ghost use Rattle.iam_value.specs.Address.{Block, IsRange};
 ghost use Rattle.iam_value.specs.Bytes.{IsBase64};
-ghost use Rattle.iam_value.specs.Moment.{IsMoment};
+ghost use Rattle.iam_value.specs.Moment.{IsMoment, IsStamp};
 ghost use Rattle.iam_value.specs.Truth.{IsTruth};
 ghost use Rattle.iam_value.specs.Whole.{IsWhole};
 
@@ -29,4 +29,9 @@ pub fn one_bytes()
 /// A text is at most one range of addresses.
 pub fn one_range()
     ensures { (text : List ℕ) (value other : Block) → IsRange text value → IsRange text other → value ≡ other }
+{}
+
+/// An instant has at most one text.
+pub fn one_stamp()
+    ensures { (seconds : ℤ) (text other : List ℕ) → IsStamp seconds text → IsStamp seconds other → text ≡ other }
 {}

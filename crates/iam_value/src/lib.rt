@@ -17,7 +17,7 @@ mod ranges;
 use base64::DecodeAllocError;
 use base64::engine::general_purpose::STANDARD;
 pub use dates::{moment, stamp};
-pub use laws::{one_bytes, one_moment, one_range, one_truth, one_whole};
+pub use laws::{one_bytes, one_moment, one_range, one_stamp, one_truth, one_whole};
 pub use numbers::whole;
 pub use ranges::{Address, Range};
 pub use std::alloc::AllocError as OutOfMemory;

@@ -56,6 +56,13 @@ impl WorkSeat {
         }
     }
 
+    /// The number of the seat, which is that of its own deque.
+    pub fn number(&self) -> u32
+        ensures { result ≡ self.now.number }
+    {
+        self.number
+    }
+
     pub(crate) fn into_pass(self) -> MarkPass
         ensures slots { result.me.1 ≡ [] }
         ensures seat { result.me.0.seats ≡ 1 }

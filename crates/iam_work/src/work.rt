@@ -116,7 +116,7 @@ impl Work {
     /// Adds a run at the back of the seat's own deque, or gives it back where the deque cannot grow.
     ///
     /// The seat has to be one of this work, and the run not empty and within its grains.
-    pub fn push(&self, _alloc: Global, seat: &mut WorkSeat, run: Run) -> Result<(), Run>
+    pub fn push(&self, seat: &mut WorkSeat, run: Run) -> Result<(), Run>
         requires seat { seat.old.work ≡ self.now }
         requires run { IsWithin self.now.grains run }
         ensures work { seat.new.work ≡ self.now }

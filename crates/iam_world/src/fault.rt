@@ -1,3 +1,4 @@
+// Why bytes are no world.
 use iam_context::ContextFault;
 use iam_policy::Refused;
 use iam_shape::{Path, ShapeFault};

@@ -1,3 +1,4 @@
+// The requesters, actions, resources and accounts of a world.
 ghost use Rattle.std.specs.Prelude.{◌≡◌, ◌≢◌, ◌||◌, ◌==◌, map, not, IfOk, IfErr, OnOk, MatchOption, option_map};
 ghost use Rattle.std.specs.Char.{is_ascii_alphanumeric};
 ghost use Rattle.std.specs.List.{AllZip, list_all, position_from};

@@ -1,3 +1,4 @@
+// Accounts, principals and resources, as a world has them.
 ghost use Rattle.std.specs.Prelude.{◌≡◌, map, string_bytes, IfOk};
 ghost use Rattle.std.specs.List.{zip};
 ghost use Rattle.iam_shape.specs.Lent.{account_of, resource_of};

@@ -1,3 +1,4 @@
+// Which part of a context has a fault.
 use iam_context::ContextFault;
 use iam_shape::Path;
 use iam_text::OutOfMemory;

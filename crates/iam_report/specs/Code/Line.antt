@@ -1,27 +1,37 @@
--- The fronts of lines of CSV, on their way through bytes that are used again.
-use Rattle.std.specs.Prelude.{◌≡◌, ◌≢◌, ◌-◌, ◌≤◌, ℕ, List, [], ◌++◌, drop, get_or, take}
+-- Rows that share what stands beside the number of their cells.
+use Rattle.std.specs.Prelude.{◌≡◌, ℕ, Bool, List, [], ◌++◌, codes, get_or}
+use Rattle.iam_report.specs.Code.Front.{FrontValue}
+use Rattle.iam_report.specs.Code.Numbered.{no_tail}
+use Rattle.iam_report.specs.declared.quoted.Format.{Format}
+use Rattle.iam_report.specs.declared.quoted.Format.TheVariants.{Csv, Json}
 use Rattle.iam_report.specs.declared.quoted.Quoted.{Quoted}
+use Rattle.iam_report.specs.declared.tail.Tail.{Tail}
 
--- what callers see of a line: the texts of the report, and the front that was made last
+-- a line: the texts of the report, the tails of its rows, and the front that was made last, and for which principal, action
+-- and tail
 pub record LineValue : Type 0 where
   pub quoted : Quoted
-  pub front : List ℕ
+  pub tails : List Tail
+  pub front : FrontValue
+  pub is_made : Bool
+  pub principal : ℕ
+  pub action : ℕ
+  pub tail : ℕ
 
--- the texts of a principal and an action
-abbrev pub texts_of : Quoted → ℕ → ℕ → List ℕ
-texts_of quoted p a = get_or quoted.principals p [] ++ get_or quoted.actions a []
+-- what stands before the number of a cell that is not the first, by the text of its action
+abbrev pub before_of : Format → List ℕ → List ℕ
+before_of Csv action = []
+before_of Json action = codes "," ++ action
 
--- two texts stand behind the room for a number, and end here
-pub record HasTexts (bytes first second : List ℕ) (end : ℕ) : Type 0 where
-  pub least : 20 ≤ end
-  pub most : end ≤ 1024
-  pub texts : take (end - 20) (drop 20 bytes) ≡ first ++ second
+-- what stands between the number and the resource, by the texts of the principal and the action and the front of the tail
+abbrev pub behind_of : Format → List ℕ → List ℕ → List ℕ → List ℕ
+behind_of Csv principal action front = principal ++ action
+behind_of Json principal action front = front ++ principal
 
--- the texts of this principal and this action stand there, or none
-pub record HoldsLine (quoted : Quoted) (bytes : List ℕ) (p a end start : ℕ) : Type 0 where
-  pub most : end ≤ 1024
-  pub order : start ≤ end
-  pub texts : end ≢ 0 → HasTexts bytes (get_or quoted.principals p []) (get_or quoted.actions a []) end
+abbrev pub tail_at : List Tail → ℕ → Tail
+tail_at tails n = get_or tails n no_tail
 
-abbrev pub line_of : Quoted → List ℕ → ℕ → ℕ → LineValue
-line_of quoted bytes start end = record { quoted = quoted; front = take (end - start) (drop start bytes) }
+-- a front with the texts of this principal, this action and this tail
+pub record HasSides (quoted : Quoted) (tails : List Tail) (p a n : ℕ) (front : FrontValue) : Type 0 where
+  pub before : front.before ≡ before_of quoted.format (get_or quoted.actions a [])
+  pub behind : front.behind ≡ behind_of quoted.format (get_or quoted.principals p []) (get_or quoted.actions a []) (tail_at tails n).front

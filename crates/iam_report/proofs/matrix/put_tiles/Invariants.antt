@@ -10,7 +10,6 @@ invariant-loop-tile g l = record {
   puts :
       PutsRows l.quoted (flat_map (λ tile. tile) (take l.tile-index l.tiles)) first_position l.at (g.W.Write.contents l.initial.writer) (g.W.Write.contents l.writer)
       l.initial.kept.items l.kept.items;
-  same : l.line.quoted ≡ l.quoted;
   within : IsWithin l.at;
   cell : l.at.cell ≡ length (flat_map (λ tile. tile) (take l.tile-index l.tiles));
 }

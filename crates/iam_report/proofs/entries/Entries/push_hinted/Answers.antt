@@ -9,6 +9,6 @@ returns c =
     let kept = c.in_ok-number.ensures.kept in
     let distinct = c.number_of.new.distinct.items in
     let verdict = c.args.verdict.now in
-    ap (λ (numbers : List ℕ). picked no_verdict distinct numbers) c.in_ok-push.ensures.items
-    ∙ picked_next no_verdict c.self.inside.distinct.items kept.0 distinct c.self.inside.numbers.items c.in_ok-number.number verdict kept.1 c.self.invariant c.in_ok-number.ensures.found
+    ap (λ (numbers : List ℕ). picked no_verdict distinct numbers) c.in_ok-push.ensures.ok
+    ∙ picked_next no_verdict c.self.inside.distinct.items kept.0 distinct c.self.inside.numbers c.in_ok-number.number verdict kept.1 c.self.invariant c.in_ok-number.ensures.found
     ∙ ap (λ (xs : List Verdict). xs ++ verdict ∷ []) c.self.view_is

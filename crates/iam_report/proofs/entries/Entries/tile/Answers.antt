@@ -10,6 +10,6 @@ pub returns : goal.returns
 returns c =
     let entries = c.self.inside in
     let f : Verdict → Tail = tail_of c.args.format c.args.brief in
-    ap (λ (tails : List Tail). picked no_tail tails entries.numbers.items) (c.in_ok-tails.ensures ∙ ap (map f) c.as_slice.ensures.value)
-    ∙ picked_images f no_verdict no_tail entries.distinct.items entries.numbers.items c.self.invariant
+    ap (λ (tails : List Tail). picked no_tail tails entries.numbers) (c.in_ok-tails.ensures ∙ ap (map f) c.as_slice.ensures.value)
+    ∙ picked_images f no_verdict no_tail entries.distinct.items entries.numbers c.self.invariant
     ∙ ap (map f) c.self.view_is

@@ -31,8 +31,8 @@ returns-in-Err-put-clause-err g c =
     fails_from_nothing _ _ c.args.kept.now.items (text_of c.args.self.now) c.requires
     (passes_fails _ _ _ c.args.kept.now.items c.put_tiles.new.kept.items (front ++ rows) back (text_of c.args.self.now) parts both c.in-Err-put.ensures.err)
 
-pub returns-in-Err-write_text-clause-err : goal.returns-in-Err-write_text-clause-err
-returns-in-Err-write_text-clause-err g c =
+pub returns-in-Err-write_kept-clause-err : goal.returns-in-Err-write_kept-clause-err
+returns-in-Err-write_kept-clause-err g c =
     let m = c.self.inside in
     let view : MatrixValue = record { quoted = m.quoted; brief = m.brief; tails = all_tails m.tiles.items } in
     let front = c.opening.result.now in
@@ -44,8 +44,8 @@ returns-in-Err-write_text-clause-err g c =
     let both = passes_both _ _ _ c.args.kept.now.items c.put.new.kept.items c.put_tiles.new.kept.items front rows c.in_default.ensures.ok c.in_default-put_tiles.ensures.ok in
     let all = passes_both _ _ _ c.args.kept.now.items c.put_tiles.new.kept.items c.put-2.new.kept.items (front ++ rows) back both c.in_default-put.ensures.ok in
     subst (AppendsBeginning _ _) (sym parts)
-    (passes_undone _ _ _ c.args.kept.now.items c.put-2.new.kept.items c.as_slice-2.result.now ((front ++ rows) ++ back) c.requires c.as_slice-2.ensures.value all
-    c.in-Err-write_text.ensures.err)
+    (passes_undone _ _ _ c.args.kept.now.items c.put-2.new.kept.items c.put-2.new.kept.items ((front ++ rows) ++ back) c.requires refl all
+    c.in-Err-write_kept.ensures.err)
 
 pub returns-clause-ok : goal.returns-clause-ok
 returns-clause-ok g c =
@@ -60,5 +60,5 @@ returns-clause-ok g c =
     let both = passes_both _ _ _ c.args.kept.now.items c.put.new.kept.items c.put_tiles.new.kept.items front rows c.in_default.ensures.ok c.in_default-put_tiles.ensures.ok in
     let all = passes_both _ _ _ c.args.kept.now.items c.put_tiles.new.kept.items c.put-2.new.kept.items (front ++ rows) back both c.in_default-put.ensures.ok in
     subst (Appends _ _) (sym parts)
-    (passes_done _ _ _ c.args.kept.now.items c.put-2.new.kept.items c.as_slice-2.result.now ((front ++ rows) ++ back) c.requires c.as_slice-2.ensures.value all
-    c.in_default-write_text.ensures.ok)
+    (passes_done _ _ _ c.args.kept.now.items c.put-2.new.kept.items c.put-2.new.kept.items ((front ++ rows) ++ back) c.requires refl all
+    c.in_default-write_kept.ensures.ok)

@@ -1,0 +1,20 @@
+use Rattle.std.proofs.Common.{List, All, Some, sym, subst, arith}
+use Rattle.std.proofs.lemmas.List.{length_push}
+use Rattle.std.proofs.lemmas.List.Elements.{All-pop, All-push}
+use Rattle.iam_crew.specs.declared.seats.Seats.{Seats}
+use Rattle.iam_crew.specs.Code.Worker.{IsFresh, IsReady}
+use Rattle.iam_crew.proofs.seats.deal.Goals as goal
+
+pub loop-seat-preserved : goal.loop-seat-preserved
+loop-seat-preserved c =
+    let P : Seats → Type 0 = IsReady c.args.lanes.now c.args.work.now in
+    let so_far = c.loop-seat.invariant in
+    let more = length_push c.loop-seat.yielded c.in-Some.seat in
+    let popped = All-pop (IsFresh c.args.lanes.now) c.loop-seat.bounds.items c.pop.new.self.items (Some c.in-Some-pop.bound) c.in-Some-pop.ensures.items so_far.fresh in
+    record {
+      count = omega (arith, more, c.in_ok-push.ensures.len, so_far.count);
+      left = omega (arith, more, c.in-Some-pop.ensures.len, so_far.left);
+      fresh = popped.0;
+      ready = subst (λ (all : List Seats). All P all) (sym c.in_ok-push.ensures.items)
+          (All-push P c.loop-seat.all.items (record { bound = c.in-Some-pop.bound; work = c.push_own.new.seat }) so_far.ready (popped.1, c.push_own.ensures));
+    }

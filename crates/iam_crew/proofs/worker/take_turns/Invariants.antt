@@ -1,0 +1,9 @@
+use Rattle.std.proofs.Common.{◌+◌, ◌≤◌}
+use Rattle.iam_crew.specs.Code.Worker.{IsAtWork}
+use Rattle.iam_crew.proofs.worker.take_turns.Given as goal
+
+abbrev pub invariant-loop-turn : goal.invariant-loop-turn
+invariant-loop-turn g l = record {
+  worker : IsAtWork l.work l.initial.worker.bound.of (g.C.Crew.fits l.crew) (g.C.Crew.offers l.crew) (g.C.Crew.gives l.crew) l.worker;
+  inside : l.run.first + l.run.count ≤ l.work.grains;
+}

@@ -1,0 +1,92 @@
+// What workers begin with: their seats, and the runs of their own on their deques.
+ghost use Rattle.std.specs.Prelude.{◌≡◌, ◌<◌, ◌≤◌, All, IfOk, map, vec_len};
+ghost use Rattle.std.specs.List.{range_with_len};
+ghost use Rattle.iam_work.specs.Work.{fresh};
+ghost use Rattle.iam_crew.specs.Code.Worker.{IsFresh, IsOwn, IsReady};
+
+use crate::shares::Shares;
+use iam_lanes::{LaneFault, LaneSeat, Lanes};
+use iam_text::OutOfMemory;
+use iam_work::{Work, WorkFault, WorkSeat};
+use std::alloc::Global;
+
+/// The seats of a worker: at the lanes that keep the bound, and at the work.
+#[derive(Drop)]
+pub struct Seats {
+    pub bound: LaneSeat,
+    pub work: WorkSeat,
+}
+
+/// The bound of so many workers: lanes without a lane, with a seat for each. The only error is want of memory.
+pub fn open_bound(alloc: Global, workers: u32) -> Result<(Lanes, Vec<LaneSeat>), OutOfMemory>
+    requires some { 1 ≤ workers }
+    requires few { workers ≤ 64 }
+    ensures count { IfOk result (λ r. r.0.seats ≡ workers) }
+    ensures len { IfOk result (λ r. vec_len r.1 ≡ workers) }
+    ensures seats { IfOk result (λ r. All (IsFresh r.0) r.1.items) }
+{
+    match Lanes::open(alloc, &[], workers) {
+        Ok(opened) => Ok(opened),
+        Err(LaneFault::OutOfMemory) => Err(OutOfMemory),
+        Err(LaneFault::NoSeat | LaneFault::TooMany) => unreachable!(),
+    }
+}
+
+/// The work of these shares, with a seat for each worker. The only error is want of memory.
+pub fn open_work(alloc: Global, shares: Shares) -> Result<(Work, Vec<WorkSeat>), OutOfMemory>
+    ensures tiles { IfOk result (λ r. r.0.grains ≡ shares.tiles) }
+    ensures workers { IfOk result (λ r. r.0.seats ≡ shares.workers) }
+    ensures seats { IfOk result (λ r. r.1.items ≡ map (fresh r.0) (range_with_len 0 shares.workers)) }
+{
+    match Work::open(alloc, shares.tiles, shares.workers) {
+        Ok(opened) => Ok(opened),
+        Err(WorkFault::OutOfMemory) => Err(OutOfMemory),
+        Err(WorkFault::NoSeat | WorkFault::TooMany) => unreachable!(),
+    }
+}
+
+// Pushes the run of a worker's own onto its deque, unless it is empty. Where the push is refused the run is left to
+// the collector.
+fn push_own(work: &Work, shares: Shares, seat: &mut WorkSeat)
+    requires tiles { work.now.grains ≡ shares.tiles }
+    requires workers { work.now.seats ≡ shares.workers }
+    requires seat { IsOwn work.now seat.old }
+    ensures { IsOwn work.now seat.new }
+{
+    let run = shares.run_of(seat.number());
+    if run.count == 0 {
+        return;
+    }
+    match work.push(seat, run) {
+        Ok(()) => {}
+        Err(_refused) => {}
+    }
+}
+
+/// The seats of all workers, each with the run of its own on its deque.
+pub fn deal(
+    alloc: Global,
+    lanes: &Lanes,
+    work: &Work,
+    shares: Shares,
+    mut bounds: Vec<LaneSeat>,
+    seats: Vec<WorkSeat>,
+) -> Result<Vec<Seats>, OutOfMemory>
+    requires tiles { work.now.grains ≡ shares.tiles }
+    requires workers { work.now.seats ≡ shares.workers }
+    requires count { vec_len bounds ≡ vec_len seats }
+    requires bounds { All (IsFresh lanes.now) bounds.items }
+    requires seats { All (IsOwn work.now) seats.items }
+    ensures count { IfOk result (λ v. vec_len v ≡ vec_len seats) }
+    ensures ready { IfOk result (λ v. All (IsReady lanes.now work.now) v.items) }
+{
+    let mut all = Vec::new(alloc);
+    for mut seat in seats {
+        let Some(bound) = bounds.pop() else {
+            unreachable!()
+        };
+        push_own(work, shares, &mut seat);
+        all.push(Seats { bound, work: seat })?;
+    }
+    Ok(all)
+}

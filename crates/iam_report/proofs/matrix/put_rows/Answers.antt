@@ -1,0 +1,60 @@
+use Rattle.std.proofs.Common.{◌≡◌, ◌<◌, List, ℕ, Some, length, ap, slice_get, ◌++◌, ◌∙◌, arith, subst, sym}
+use Rattle.iam_report.specs.Code.Buffer.{Passes}
+use Rattle.iam_report.specs.Code.Line.{tail_at}
+use Rattle.iam_report.specs.Code.Numbered.{no_tail, picked}
+use Rattle.iam_report.specs.Piece.{next_of, row_at}
+use Rattle.iam_report.specs.Streams.{AppendsBeginning}
+use Rattle.iam_report.specs.declared.quoted.Quoted.{Quoted}
+use Rattle.iam_report.specs.declared.tail.Tail.{Tail}
+use Rattle.iam_report.proofs.Buffered.{cell_next, puts_none, row_fails, row_more, within_next}
+use Rattle.iam_report.proofs.Picks.{picked_at, within_at}
+use Rattle.iam_report.proofs.matrix.put_rows.Goals as goal
+
+pub loop-i-init : goal.loop-i-init
+loop-i-init g c = record {
+  puts = puts_none c.args.quoted.now c.args.at.now _ _;
+  quoted = c.new-line.ensures.quoted;
+  tails = c.new-line.ensures.tails;
+  within = c.requires.within;
+  cell = omega arith;
+}
+
+pub put_row-requires : goal.put_row-requires
+put_row-requires g c =
+    subst (λ (tails : List Tail). c.at-n.result < length tails) (sym c.loop-i.invariant.tails)
+    (within_at c.args.tails.now c.args.numbers.now c.loop-i.i c.at-n.result c.at-n.ensures c.requires.known)
+
+pub returns-in-Err-clause-err : goal.returns-in-Err-clause-err
+returns-in-Err-clause-err g c more =
+    let quoted = c.args.quoted.now in
+    let all = picked no_tail c.args.tails.now c.args.numbers.now in
+    let n = c.at-n.result in
+    let tail = tail_at c.args.tails.now n in
+    let there : slice_get all c.loop-i.i ≡ Some tail = picked_at no_tail c.args.tails.now c.args.numbers.now c.loop-i.i n c.at-n.ensures in
+    let P : Quoted → List Tail → Type 0 = λ q tails.
+    AppendsBeginning (g.W.Write.contents c.loop-i.writer) (g.W.Write.contents c.put_row.new.writer) (c.loop-i.kept.items ++ row_at q c.loop-i.at (tail_at tails n)) in
+    row_fails quoted all more c.loop-i.i tail c.args.at.now c.loop-i.at _ _ _ _ _ there c.loop-i.invariant.puts
+    (subst (λ q. P q c.args.tails.now) c.loop-i.invariant.quoted (subst (P c.loop-i.line.quoted) c.loop-i.invariant.tails c.in-Err.ensures.err))
+
+pub loop-i-preserved : goal.loop-i-preserved
+loop-i-preserved g c =
+    let quoted = c.args.quoted.now in
+    let all = picked no_tail c.args.tails.now c.args.numbers.now in
+    let here = c.loop-i.at in
+    let n = c.at-n.result in
+    let tail = tail_at c.args.tails.now n in
+    let there : slice_get all c.loop-i.i ≡ Some tail = picked_at no_tail c.args.tails.now c.args.numbers.now c.loop-i.i n c.at-n.ensures in
+    let P : Quoted → List Tail → Type 0 = λ q tails.
+    Passes (g.W.Write.contents c.loop-i.writer) (g.W.Write.contents c.put_row.new.writer) c.loop-i.kept.items c.put_row.new.kept.items (row_at q here (tail_at tails n)) in
+    let next = c.next.ensures
+    ∙ ap (λ (xs : List (List ℕ)). next_of (length xs) (length c.as_slice-2.result.now) here) c.as_slice.ensures
+    ∙ ap (λ (xs : List (List ℕ)). next_of (length quoted.actions) (length xs) here) c.as_slice-2.ensures in
+    record {
+      puts =
+          row_more quoted all c.loop-i.i tail c.args.at.now here c.next.result _ _ _ _ _ _ there next c.loop-i.invariant.puts
+          (subst (λ q. P q c.args.tails.now) c.loop-i.invariant.quoted (subst (P c.loop-i.line.quoted) c.loop-i.invariant.tails c.in_default.ensures.ok));
+      quoted = c.in_default.ensures.quoted ∙ c.loop-i.invariant.quoted;
+      tails = c.in_default.ensures.tails ∙ c.loop-i.invariant.tails;
+      within = within_next quoted here c.next.result next c.loop-i.invariant.within;
+      cell = omega (arith, cell_next quoted here c.next.result next, c.loop-i.invariant.cell);
+    }

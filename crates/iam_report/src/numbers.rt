@@ -1,0 +1,89 @@
+// Numbers in as few bytes as serve.
+ghost use Rattle.std.specs.Prelude.{◌≡◌, ◌++◌, ◌∷◌, ◌<◌, [], IfOk, OnErr, OnOk, Some, length, slice_get};
+
+use iam_text::OutOfMemory;
+use std::alloc::Global;
+use std::marker::Model;
+
+/// Numbers one behind the other. A contract sees their list; each takes a byte until the first above 255 comes, and four
+/// bytes from there on.
+#[derive(Debug, Drop)]
+pub struct Numbers {
+    narrow: Vec<u8>,
+    wide: Vec<u32>,
+}
+
+impl Model for Numbers {
+    ghost use Rattle.std.specs.Prelude.{◌++◌, List, ℕ};
+
+    ghost Value = { List ℕ };
+
+    ghost view = { λ numbers. numbers.narrow.items ++ numbers.wide.items };
+}
+
+impl Numbers {
+    /// None yet, with room for so many below 256.
+    pub fn new(alloc: Global, room: usize) -> Result<Numbers, OutOfMemory>
+        ensures { IfOk result (λ numbers. numbers ≡ []) }
+    {
+        Ok(Numbers {
+            narrow: Vec::with_capacity(alloc, room)?,
+            wide: Vec::new(alloc),
+        })
+    }
+
+    /// How many.
+    pub fn len(&self) -> usize
+        ensures { result ≡ length self.now }
+    {
+        self.narrow.len() + self.wide.len()
+    }
+
+    /// Number i of these.
+    #[inline]
+    pub fn at(&self, i: usize) -> u32
+        requires { i < length self.now }
+        ensures { slice_get self.now i ≡ Some result }
+    {
+        if let Some(number) = self.narrow.get(i) {
+            return u32::from(*number);
+        }
+        self.wide[i - self.narrow.len()]
+    }
+
+    /// The last, where there is one.
+    pub fn last(&self) -> Option<u32> {
+        match self.wide.last() {
+            Some(number) => Some(*number),
+            None => self.narrow.last().map(|number| u32::from(*number)),
+        }
+    }
+
+    /// Puts a number behind the others.
+    #[inline]
+    pub fn push(&mut self, number: u32) -> Result<(), OutOfMemory>
+        ensures ok { OnOk result (self.new ≡ self.old ++ number ∷ []) }
+        ensures err { OnErr result (self.new ≡ self.old) }
+    {
+        if !self.wide.is_empty() {
+            self.wide.push(number)?;
+            return Ok(());
+        }
+        let Ok(byte) = u8::try_from(number) else {
+            return self.widen(number);
+        };
+        self.narrow.push(byte)?;
+        Ok(())
+    }
+
+    /// Puts the first number behind the others that may need four bytes, with room for as many as there was for bytes.
+    fn widen(&mut self, number: u32) -> Result<(), OutOfMemory>
+        ensures ok { OnOk result (self.new ≡ self.old ++ number ∷ []) }
+        ensures err { OnErr result (self.new ≡ self.old) }
+    {
+        let room = self.narrow.capacity() - self.narrow.len();
+        self.wide.reserve(room)?;
+        self.wide.push(number)?;
+        Ok(())
+    }
+}

@@ -1,0 +1,60 @@
+// Crews of many workers, over tiles that cost nothing.
+ghost use Rattle.std.specs.Prelude.{◌≡◌};
+
+use iam_crew::{Bound, Crew, Gate, Open, gather};
+use std::alloc::{AllocError, Global};
+use std::test::Fail;
+
+/// Those who make of each tile its number.
+struct Numbers;
+
+impl Crew for Numbers {
+    ghost use Rattle.std.specs.Prelude.{◌≡◌, ⊤};
+
+    type Output = u64;
+
+    type Tools = ();
+
+    ghost fits = { λ _ _. ⊤ };
+
+    ghost takes = { λ _ _. ⊤ };
+
+    ghost offers = { λ _ _. ⊥ };
+
+    ghost gives = { λ _ tile output _. output ≡ tile };
+
+    fn tools(&self, _alloc: Global) -> Result<(), AllocError> {
+        Ok(())
+    }
+
+    fn work<G: Gate>(
+        &self,
+        _alloc: Global,
+        _tools: &mut (),
+        gate: &G,
+        _bound: &mut Bound<'_>,
+        tile: u64,
+    ) -> Result<u64, AllocError> {
+        gate.before(tile);
+        Ok(tile)
+    }
+
+    ghost lasts = { λ _ _ _ _ _ _ given. given };
+}
+
+#[test]
+fn many_tiles_one_tile_and_none(rt: HostRuntime) -> Result<(), Fail> {
+    for tiles in [4096, 1, 0] {
+        let gathered = gather(&rt, rt.alloc(), &Numbers, tiles, 64, &Open)?;
+        let outputs = gathered.outputs.as_slice();
+        assert_eq!(rt; outputs.len() as u64, tiles);
+        assert!(rt;
+            outputs
+                .iter()
+                .enumerate()
+                .all(|(tile, output)| tile as u64 == *output)
+        );
+        assert_eq!(rt; gathered.low, None);
+    }
+    Ok(())
+}
