@@ -1,12 +1,10 @@
 // Why a run does not end with its report, and the line that tells it.
 ghost use Rattle.std.specs.Prelude.{◌≡◌, IfOk, MatchResult, string_bytes};
-ghost use Rattle.iam_app.specs.FaultLine.{fault_text};
+ghost use Rattle.iam_app.specs.FaultLine.{run_text};
 
 use crate::OutOfMemory;
-use iam_context::ContextFault;
 use iam_layers::WorldFault;
 use iam_matrix::{CutFault, MatrixFault};
-use iam_policy::Refused;
 use std::alloc::Global;
 use std::fmt::{self, Display, Formatter, Write};
 use thiserror::Error;
@@ -85,138 +83,26 @@ impl From<CutFault> for RunFault {
 
 impl Display for RunFault {
     ghost use Rattle.std.specs.Prelude.{Some};
-    ghost use Rattle.iam_app.specs.FaultLine.{fault_text};
+    ghost use Rattle.iam_app.specs.FaultLine.{run_text};
 
-    ghost output = { λ fault. Some (fault_text fault) };
+    ghost output = { λ fault. Some (run_text fault) };
 
     fn fmt<W: Write>(&self, f: &mut Formatter<W>) -> Result<(), fmt::Error> {
         match *self {
             RunFault::Read => write!(f, "fault 1 Read"),
-            RunFault::World(fault) => write!(f, "fault 2 World: {}", WorldText(fault)),
-            RunFault::Matrix(fault) => write!(f, "fault 3 Matrix: {}", MatrixText(fault)),
+            RunFault::World(fault) => write!(f, "fault 2 World: {fault}"),
+            RunFault::Matrix(fault) => write!(f, "fault 3 Matrix: {fault}"),
             RunFault::Write => write!(f, "fault 4 Write"),
             RunFault::NoSuchCell => write!(f, "fault 5 NoSuchCell"),
-            RunFault::Cut(fault) => write!(f, "fault 6 Cut: {}", CutText(fault)),
+            RunFault::Cut(fault) => write!(f, "fault 6 Cut: {fault}"),
             RunFault::OutOfMemory => write!(f, "fault 7 OutOfMemory"),
         }
     }
 }
 
-/// The number, the name and the place of a world's fault.
-#[derive(Clone, Copy)]
-struct WorldText(WorldFault);
-
-impl Display for WorldText {
-    ghost use Rattle.std.specs.Prelude.{Some};
-    ghost use Rattle.iam_app.specs.FaultLine.{world_text};
-
-    ghost output = { λ text. Some (world_text text.0) };
-
-    fn fmt<W: Write>(&self, f: &mut Formatter<W>) -> Result<(), fmt::Error> {
-        let number = self.0.number();
-        let name = self.0.name();
-        write!(f, "{number} {name}{}", PathText(self.0))
-    }
-}
-
-/// Where the fault of a world stands, where it has a place.
-#[derive(Clone, Copy)]
-struct PathText(WorldFault);
-
-impl Display for PathText {
-    ghost use Rattle.std.specs.Prelude.{Some};
-    ghost use Rattle.iam_app.specs.FaultLine.{fault_path_text};
-
-    ghost output = { λ text. Some (fault_path_text text.0) };
-
-    fn fmt<W: Write>(&self, f: &mut Formatter<W>) -> Result<(), fmt::Error> {
-        match self.0 {
-            WorldFault::BadShape(path)
-            | WorldFault::BadRequester(path)
-            | WorldFault::BadAction(path)
-            | WorldFault::BadResourceArn(path)
-            | WorldFault::UnknownAccount(path) => write!(f, " at {path}"),
-            WorldFault::Context(path, fault) => write!(f, " at {path}: {}", ContextText(fault)),
-            WorldFault::Policy(path, refused) => write!(f, " at {path}: {}", RefusedText(refused)),
-            WorldFault::NotJson | WorldFault::TooLarge | WorldFault::OutOfMemory => Ok(()),
-        }
-    }
-}
-
-/// The number and the name of the fault of a context.
-#[derive(Clone, Copy)]
-struct ContextText(ContextFault);
-
-impl Display for ContextText {
-    ghost use Rattle.std.specs.Prelude.{Some};
-    ghost use Rattle.iam_app.specs.FaultLine.{context_text};
-
-    ghost output = { λ text. Some (context_text text.0) };
-
-    fn fmt<W: Write>(&self, f: &mut Formatter<W>) -> Result<(), fmt::Error> {
-        let number = self.0.number();
-        let name = self.0.name();
-        write!(f, "{number} {name}")
-    }
-}
-
-/// Which statement of a document is refused, or the document itself, and the number and the name of its fault.
-#[derive(Clone, Copy)]
-struct RefusedText(Refused);
-
-impl Display for RefusedText {
-    ghost use Rattle.std.specs.Prelude.{Some};
-    ghost use Rattle.iam_app.specs.FaultLine.{refused_text};
-
-    ghost output = { λ text. Some (refused_text text.0) };
-
-    fn fmt<W: Write>(&self, f: &mut Formatter<W>) -> Result<(), fmt::Error> {
-        let number = self.0.fault.number();
-        let name = self.0.fault.name();
-        match self.0.statement {
-            None => write!(f, "document: {number} {name}"),
-            Some(statement) => write!(f, "statement {statement}: {number} {name}"),
-        }
-    }
-}
-
-/// The number and the name of a matrix's fault.
-#[derive(Clone, Copy)]
-struct MatrixText(MatrixFault);
-
-impl Display for MatrixText {
-    ghost use Rattle.std.specs.Prelude.{Some};
-    ghost use Rattle.iam_app.specs.FaultLine.{matrix_text};
-
-    ghost output = { λ text. Some (matrix_text text.0) };
-
-    fn fmt<W: Write>(&self, f: &mut Formatter<W>) -> Result<(), fmt::Error> {
-        let number = self.0.number();
-        let name = self.0.name();
-        write!(f, "{number} {name}")
-    }
-}
-
-/// The number and the name of a cut's fault.
-#[derive(Clone, Copy)]
-struct CutText(CutFault);
-
-impl Display for CutText {
-    ghost use Rattle.std.specs.Prelude.{Some};
-    ghost use Rattle.iam_app.specs.FaultLine.{cut_text};
-
-    ghost output = { λ text. Some (cut_text text.0) };
-
-    fn fmt<W: Write>(&self, f: &mut Formatter<W>) -> Result<(), fmt::Error> {
-        let number = self.0.number();
-        let name = self.0.name();
-        write!(f, "{number} {name}")
-    }
-}
-
 /// The line that tells of a fault, without a line feed.
 pub fn fault_line(alloc: Global, fault: &RunFault) -> Result<String, OutOfMemory>
-    ensures { IfOk result (λ line. string_bytes line ≡ fault_text fault.now) }
+    ensures { IfOk result (λ line. string_bytes line ≡ run_text fault.now) }
 {
     format!(in alloc; "{fault}")
 }

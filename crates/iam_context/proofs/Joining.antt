@@ -2,7 +2,7 @@
 use Rattle.std.proofs.Common.{◌≡◌, ℕ, suc, ◌+◌, ◌<◌, List, [], ◌∷◌, ◌++◌, Bool, true, false, ◌||◌, length, get_or, take, drop, map, refl, sym, ap, ◌∙◌, append_assoc, add-one, drop-cons, subst}
 use Rattle.std.proofs.lemmas.List.{append-nil, map-append, take_more}
 use Rattle.std.proofs.lemmas.List.Concat.{flat_map-append}
-use Rattle.iam_context.specs.Code.Keys.{shares}
+use Rattle.iam_context.specs.Keys.{shares}
 use Rattle.iam_context.specs.Context.{ContextValue, all_of, has_derived, has_twice, joined, keys_of}
 use Rattle.iam_context.specs.ContextFault.{IsClean}
 use Rattle.iam_context.specs.declared.fault.ContextFault.TheVariants.{KeyTwice, DerivedKeyGiven, OutOfMemory}

@@ -17,7 +17,7 @@ use Rattle.std.specs.Ordering.{nat_cmp}
 use Rattle.std.specs.Str.{bytes_eq}
 use Rattle.std.specs.declared.cmp.Ordering.{Ordering}
 use Rattle.std.specs.declared.cmp.Ordering.TheVariants.{Less, Equal, Greater}
-use Rattle.iam_context.specs.Code.Keys.{HasKeys, contains_key, key_cmp}
+use Rattle.iam_context.specs.Keys.{HasKeys, contains_key, key_cmp}
 use Rattle.iam_context.specs.Code.Values.{HasValues}
 use Rattle.iam_context.specs.Context.{ContextValue, has_key, is_same_key, keys_of}
 use Rattle.iam_context.specs.declared.key.Key.{Key}

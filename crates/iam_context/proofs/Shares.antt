@@ -7,7 +7,7 @@ use Rattle.std.specs.Bool.{Decides}
 use Rattle.std.specs.Char.{to_ascii_lowercase}
 use Rattle.std.specs.List.{list_any}
 use Rattle.std.specs.Str.{bytes_eq}
-use Rattle.iam_context.specs.Code.Keys.{shares}
+use Rattle.iam_context.specs.Keys.{shares}
 use Rattle.iam_context.specs.Context.{has_key, has_twice, is_same_key}
 
 same-way : (a b : List ℕ) → bytes_eq a b ≡ bytes_eq b a

@@ -1,36 +1,67 @@
--- The signs of the pieces that are left.
-use Rattle.std.proofs.Common.{◌≡◌, ℕ, suc, ◌+◌, ◌<◌, List, ◌++◌, length, get_or, drop, refl, sym, ap, subst, ◌∙◌, append_assoc, add-one, drop-cons, Option, Some, None, option_map}
+-- The signs of the stretches that are left.
+use Rattle.std.proofs.Common.{◌≡◌, ℕ, Bool, List, [], ◌∷◌, ◌++◌, refl, sym, ap, ◌∙◌, append_assoc, Option, Some, None, option_map, map}
+use Rattle.std.proofs.lemmas.List.{append-nil}
 use Rattle.std.specs.Option.{option_and_then}
+use Rattle.std.specs.Str.{chars}
 use Rattle.iam_text.specs.declared.draft.Piece.{Piece}
 use Rattle.iam_text.specs.declared.sign.Sign.{Sign}
+use Rattle.iam_text.specs.Draft.{plain_draft, sign_of}
 use Rattle.iam_context.specs.Context.{ContextValue}
-use Rattle.iam_context.specs.Resolve.{piece_signs, resolved}
+use Rattle.iam_context.specs.Resolve.{resolved}
 
--- a piece that has a value
-with-value : (before now : List Sign) (found : Option (List Sign)) (rest : Option (List Sign))
+-- signs before signs
+both : (before more : List Sign) (rest : Option (List Sign))
+    → option_map (λ rest. before ++ rest) (option_map (λ rest. more ++ rest) rest) ≡ option_map (λ rest. (before ++ more) ++ rest) rest
+both before more None = refl
+both before more (Some rest) = ap (λ l. Some l) (sym (append_assoc before more rest))
+
+none : (rest : Option (List Sign)) → rest ≡ option_map (λ rest. [] ++ rest) rest
+none None = refl
+none (Some rest) = refl
+
+-- plain text before other pieces
+plain : (context : ContextValue) (signs : List Sign) (pieces : List Piece)
+    → resolved context (plain_draft signs ++ pieces) ≡ option_map (λ rest. signs ++ rest) (resolved context pieces)
+plain context [] pieces = none (resolved context pieces)
+plain context (sign ∷ signs) pieces =
+    ap (option_map (λ rest. (sign ∷ []) ++ rest)) (plain context signs pieces) ∙ both (sign ∷ []) signs (resolved context pieces)
+
+over : (context : ContextValue) (before signs : List Sign) (pieces rest : List Piece) → pieces ≡ plain_draft signs ++ rest
+    → option_map (λ rest. before ++ rest) (resolved context pieces) ≡ option_map (λ rest. (before ++ signs) ++ rest) (resolved context rest)
+over context before signs pieces rest is =
+    ap (λ ps. option_map (λ rest. before ++ rest) (resolved context ps)) is
+    ∙ ap (option_map (λ rest. before ++ rest)) (plain context signs rest)
+    ∙ both before signs (resolved context rest)
+
+-- over plain text
+pub over-plain : (context : ContextValue) (before grown : List Sign) (wild read : Bool) (text : List ℕ) (pieces rest : List Piece)
+    → pieces ≡ plain_draft (map (sign_of wild) (chars text)) ++ rest → read ≡ wild → grown ≡ before ++ map (sign_of read) (chars text)
+    → option_map (λ rest. before ++ rest) (resolved context pieces) ≡ option_map (λ rest. grown ++ rest) (resolved context rest)
+over-plain context before grown wild read text pieces rest is same added =
+    over context before (map (sign_of wild) (chars text)) pieces rest is
+    ∙ ap (λ w. option_map (λ rest. (before ++ map (sign_of w) (chars text)) ++ rest) (resolved context rest)) (sym same)
+    ∙ ap (λ (ss : List Sign). option_map (λ rest. ss ++ rest) (resolved context rest)) (sym added)
+
+-- over plain text that is all
+pub over-all : (context : ContextValue) (before grown : List Sign) (wild read : Bool) (text : List ℕ) (pieces : List Piece)
+    → pieces ≡ plain_draft (map (sign_of wild) (chars text)) → read ≡ wild → grown ≡ before ++ map (sign_of read) (chars text)
+    → option_map (λ rest. before ++ rest) (resolved context pieces) ≡ Some grown
+over-all context before grown wild read text pieces is same added =
+    over-plain context before grown wild read text pieces [] (is ∙ sym (append-nil (plain_draft (map (sign_of wild) (chars text))))) same added
+    ∙ ap (λ l. Some l) (append-nil grown)
+
+-- over a piece that has a value
+pub over-piece : (before now : List Sign) (found : Option (List Sign)) (rest : Option (List Sign))
     → option_map (λ more. before ++ more) found ≡ Some now
     → option_map (λ rest. before ++ rest) (option_and_then (λ signs. option_map (λ rest. signs ++ rest) rest) found)
     ≡ option_map (λ rest. now ++ rest) rest
-with-value before now None rest is = cc
-with-value before now (Some signs) None is = refl
-with-value before now (Some signs) (Some more) is =
+over-piece before now None rest is = cc
+over-piece before now (Some signs) None is = refl
+over-piece before now (Some signs) (Some more) is =
     let e : before ++ signs ≡ now = cc in ap (λ l. Some l) (sym (append_assoc before signs more) ∙ ap (λ l. l ++ more) e)
 
--- the first of the pieces that are left
-left : (context : ContextValue) (pieces : List Piece) (i : ℕ) (e : Piece) → i < length pieces → e ≡ get_or pieces i e
-    → resolved context (drop i pieces)
-    ≡ option_and_then (λ signs. option_map (λ rest. signs ++ rest) (resolved context (drop (i + 1) pieces))) (piece_signs context e)
-left context pieces i e below is =
-    ap (resolved context) (drop-cons pieces i e below)
-    ∙ ap (λ (x : Piece). option_and_then (λ signs. option_map (λ rest. signs ++ rest) (resolved context (drop (suc i) pieces))) (piece_signs context x)) (sym is)
-    ∙ ap (λ k. option_and_then (λ signs. option_map (λ rest. signs ++ rest) (resolved context (drop k pieces))) (piece_signs context e)) (sym (add-one i))
-
--- one piece more
-pub resolved-more : (context : ContextValue) (pieces ys : List Piece) (i : ℕ) (e : Piece) (before now : List Sign) → ys ≡ pieces → i < length ys
-    → e ≡ get_or ys i e → option_map (λ more. before ++ more) (piece_signs context e) ≡ Some now
-    → option_map (λ rest. before ++ rest) (resolved context (drop i pieces)) ≡ option_map (λ rest. now ++ rest) (resolved context (drop (i + 1) pieces))
-resolved-more context pieces ys i e before now same below is added =
-    subst (λ (zs : List Piece). option_map (λ rest. before ++ rest) (resolved context (drop i zs))
-    ≡ option_map (λ rest. now ++ rest) (resolved context (drop (i + 1) zs))) same
-    (ap (λ o. option_map (λ rest. before ++ rest) o) (left context ys i e below is)
-    ∙ with-value before now (piece_signs context e) (resolved context (drop (i + 1) ys)) added)
+-- a piece without one
+pub no-value : (before : List Sign) (found : Option (List Sign)) (rest : Option (List Sign)) → option_map (λ more. before ++ more) found ≡ None
+    → option_map (λ rest. before ++ rest) (option_and_then (λ signs. option_map (λ rest. signs ++ rest) rest) found) ≡ None
+no-value before None rest is = refl
+no-value before (Some signs) rest is = cc

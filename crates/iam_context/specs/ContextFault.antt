@@ -1,5 +1,5 @@
 -- The faults of the parts that a context is joined of, as a set over all pairs of their keys. LOGIC 9.3.
-use Rattle.std.specs.Prelude.{◌≡◌, ℕ, List, [], Bool, false, ◌||◌, codes, IsTrue}
+use Rattle.std.specs.Prelude.{◌≡◌, ℕ, List, [], ◌++◌, Bool, false, ◌||◌, codes, decimal, IsTrue}
 use Rattle.std.specs.List.{list_any}
 use Rattle.iam_context.specs.Context.{ContextValue, all_of, has_derived, has_key, has_twice, keys_of}
 use Rattle.iam_context.specs.declared.fault.ContextFault.{ContextFault}
@@ -14,6 +14,10 @@ abbrev pub context_name_of : ContextFault → List ℕ
 context_name_of KeyTwice = codes "KeyTwice"
 context_name_of DerivedKeyGiven = codes "DerivedKeyGiven"
 context_name_of OutOfMemory = codes "OutOfMemory"
+
+-- `1 KeyTwice`
+abbrev pub context_text : ContextFault → List ℕ
+context_text fault = decimal (context_number_of fault) ++ (codes " " ++ context_name_of fault)
 
 -- the faults of a part beside these keys of other parts, each by itself
 abbrev pub part_has : List (List ℕ) → ContextValue → ContextFault → Bool

@@ -1,4 +1,5 @@
 pub mod Code
 pub mod Context
 pub mod ContextFault
+pub mod Keys
 pub mod Resolve

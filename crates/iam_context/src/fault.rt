@@ -1,9 +1,11 @@
 // Why parts of a context can't be joined.
 use iam_text::OutOfMemory;
 use std::alloc::AllocFailed;
+use std::fmt::{self, Display, Formatter, Write};
+use thiserror::Error;
 
 /// Why parts are no context. Parts with several faults are refused by the one with the least number.
-#[derive(Clone, Copy, Debug, PartialEq, Eq)]
+#[derive(Clone, Copy, Debug, PartialEq, Eq, Error)]
 pub enum ContextFault {
     /// 1: A key stands twice, compared without regard to case.
     KeyTwice,
@@ -37,6 +39,19 @@ impl ContextFault {
             ContextFault::DerivedKeyGiven => "DerivedKeyGiven",
             ContextFault::OutOfMemory => "OutOfMemory",
         }
+    }
+}
+
+impl Display for ContextFault {
+    ghost use Rattle.std.specs.Prelude.{Some};
+    ghost use Rattle.iam_context.specs.ContextFault.{context_text};
+
+    ghost output = { λ fault. Some (context_text fault) };
+
+    fn fmt<W: Write>(&self, f: &mut Formatter<W>) -> Result<(), fmt::Error> {
+        let number = self.number();
+        let name = self.name();
+        write!(f, "{number} {name}")
     }
 }
 

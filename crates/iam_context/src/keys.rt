@@ -15,7 +15,7 @@ pub struct Keys<'a> {
 }
 
 impl<'a> Keys<'a> {
-    ghost use Rattle.iam_context.specs.Code.Keys.{HasKeys, shares};
+    ghost use Rattle.iam_context.specs.Keys.{HasKeys, shares};
 
     /// No keys.
     pub fn new(alloc: Global) -> Keys<'a>

@@ -2,7 +2,7 @@
 ghost use Rattle.std.specs.Prelude.{◌≡◌, ◌||◌, ℕ, List, MatchOption, IfOk, map};
 ghost use Rattle.std.specs.List.{list_any};
 ghost use Rattle.iam_context.specs.Context.{all_of, derived_names, has_derived, has_key, has_twice, is_same_key, keys_of};
-ghost use Rattle.iam_context.specs.Code.Keys.{HasKeys, shares};
+ghost use Rattle.iam_context.specs.Keys.{HasKeys, shares};
 ghost use Rattle.iam_context.specs.ContextFault.{IsClean, IsPartFault};
 
 use crate::OutOfMemory;

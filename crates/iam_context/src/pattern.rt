@@ -1,12 +1,11 @@
 // What a text with variables becomes in a context.
-ghost use Rattle.std.specs.Prelude.{◌≡◌, ◌++◌, Some, None, map, option_map, IfOk, if◌then◌else◌};
-ghost use Rattle.std.specs.Str.{chars};
-ghost use Rattle.iam_text.specs.Glob.{plain_sign};
+ghost use Rattle.std.specs.Prelude.{◌≡◌, ◌++◌, Some, None, option_map, IfOk, if◌then◌else◌};
+ghost use Rattle.iam_text.specs.Stretches.{piece_of};
 ghost use Rattle.iam_context.specs.Resolve.{one_or, piece_signs, resolved};
 
 use crate::OutOfMemory;
 use crate::context::Context;
-use iam_text::{Draft, Glob, Piece, Sign, Text};
+use iam_text::{Draft, Form, Glob, Sign, Text, add_signs};
 use std::alloc::Global;
 
 /// The pattern that a text with variables becomes in the context, where the characters of a value are no wildcards;
@@ -18,54 +17,44 @@ pub fn resolve<'a>(
 ) -> Result<Option<Glob>, OutOfMemory>
     ensures { IfOk result (λ found. found ≡ resolved context.now draft.now) }
 {
-    let mut signs = Vec::new(alloc);
-    for piece in draft.pieces() {
-        if !add_piece(&mut signs, piece, context)? {
+    let mut left = draft.stretches();
+    let mut signs = Vec::with_capacity(alloc, left.text().len())?;
+    while let Some((front, form, behind)) = left.first_form() {
+        add_signs(&mut signs, front, left.is_wild())?;
+        if !add_form(&mut signs, form, context)? {
             return Ok(None);
         }
+        left = behind;
     }
-    Ok(Some(Glob::of(alloc, signs.as_slice())?))
+    add_signs(&mut signs, left.text(), left.is_wild())?;
+    Ok(Some(Glob::from_vec(signs)))
 }
 
-/// Adds the signs of a piece; `false` where it is a variable without a value.
-fn add_piece<'a>(
+/// Adds the signs of a form; `false` where it is a variable without a value.
+fn add_form<'a>(
     signs: &mut Vec<Sign>,
-    piece: &'a Piece,
+    form: Form<'a>,
     context: &Context<'a>,
 ) -> Result<bool, OutOfMemory>
-    ensures { IfOk result (λ known. option_map (λ more. signs.old.items ++ more) (piece_signs context.now piece.now)
+    ensures { IfOk result (λ known. option_map (λ more. signs.old.items ++ more) (piece_signs context.now (piece_of form.entry))
         ≡ if known then Some signs.new.items else None) }
 {
-    match piece {
-        Piece::Plain(sign) => signs.push(*sign)?,
-        Piece::Escaped(character) => signs.push(Sign::Given(*character))?,
-        Piece::Variable(key, default) => match one_or(context.values(key.as_str()), default) {
-            Some(value) => add_characters(signs, value)?,
+    match form {
+        Form::Literal(character) => signs.push(Sign::Given(character))?,
+        Form::Named(key, default) => match one_or(context.values(key), default) {
+            Some(value) => add_signs(signs, value, false)?,
             None => return Ok(false),
         },
     }
     Ok(true)
 }
 
-/// Adds the characters of a value, all of them plain.
-fn add_characters(signs: &mut Vec<Sign>, value: &str) -> Result<(), OutOfMemory>
-    ensures { IfOk result (λ _. signs.new.items ≡ signs.old.items ++ map plain_sign (chars value.now)) }
-{
-    for character in value.chars() {
-        signs.push(Sign::Given(character))?;
-    }
-    Ok(())
-}
-
 /// The one value; the default where there is none, or several.
-fn one_or<'t>(values: &'t [Text], default: &'t Option<Text>) -> Option<&'t str>
-    ensures { option_map (λ value. value.now) result ≡ one_or values.now default.now }
+fn one_or<'t>(values: &'t [Text], default: Option<&'t str>) -> Option<&'t str>
+    ensures { option_map (λ value. value.now) result ≡ one_or values.now (option_map (λ text. text.now) default.entry) }
 {
     match values {
         [value] => Some(value.as_str()),
-        _ => match default {
-            Some(text) => Some(text.as_str()),
-            None => None,
-        },
+        _ => default,
     }
 }

@@ -1,3 +1,4 @@
 pub mod Order
+pub mod Runs
 pub mod Shares
 pub mod Worker

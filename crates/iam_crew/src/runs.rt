@@ -1,6 +1,7 @@
 // How a worker comes by a run of tiles, and how it shares one.
-ghost use Rattle.std.specs.Prelude.{◌≡◌, ◌+◌, ◌<◌, ◌≤◌, IfSome};
+ghost use Rattle.std.specs.Prelude.{◌≡◌, ◌+◌, ◌-◌, ◌%◌, ◌<◌, ◌≤◌, IfNone, IfSome, Some};
 ghost use Rattle.iam_work.specs.RunRule.{IsWithin};
+ghost use Rattle.iam_crew.specs.Code.Runs.{IsFound, IsHalved, IsSpent};
 
 use iam_work::{Run, Stolen, Work, WorkSeat};
 
@@ -16,6 +17,7 @@ fn seat_behind(number: u32, steps: u32, seats: u32) -> u32
     requires number { number < seats }
     requires some { 0 < steps }
     requires steps { steps < seats }
+    ensures behind { result ≡ (number + steps) % seats }
     ensures inside { result < seats }
     ensures other { ¬ (result ≡ number) }
 {
@@ -37,6 +39,8 @@ fn find(work: &Work, seat: &mut WorkSeat, steps: u32, seats: u32) -> Option<Run>
     ensures work { seat.new.work ≡ work.now }
     ensures number { seat.new.number ≡ seat.old.number }
     ensures within { IfSome result (IsWithin work.now.grains) }
+    ensures found { IfSome result (λ run. IsFound seats steps seat.old run seat.new) }
+    ensures none { IfNone result (seat.new ≡ seat.old) }
 {
     if steps == 0 {
         return work.pop(seat);
@@ -57,6 +61,9 @@ fn seek(work: &Work, seat: &mut WorkSeat, seats: u32, idle: &mut u32) -> Option<
     ensures work { seat.new.work ≡ work.now }
     ensures number { seat.new.number ≡ seat.old.number }
     ensures within { IfSome result (IsWithin work.now.grains) }
+    ensures found { IfSome result (λ run. IsFound seats ((idle.old - idle.new) % seats) seat.old run seat.new) }
+    ensures left { IfSome result (λ _. (idle.new ≤ idle.old) × (idle.old < idle.new + 65_536) × (0 < idle.new)) }
+    ensures none { IfNone result ((seat.new ≡ seat.old) × IsSpent idle.old idle.new) }
 {
     for turn in 0..IDLE_IN_A_ROW.min(*idle) {
         let found = find(work, seat, turn % seats, seats);
@@ -87,6 +94,10 @@ pub fn next_run(
     ensures work { seat.new.work ≡ work.now }
     ensures number { seat.new.number ≡ seat.old.number }
     ensures within { IfSome result (IsWithin work.now.grains) }
+    ensures in_hand { 0 < in_hand.count → (result ≡ Some in_hand) × (seat.new ≡ seat.old) × (idle.new ≡ idle.old) }
+    ensures found { in_hand.count ≡ 0 → IfSome result (λ run. IsFound seats ((idle.old - idle.new) % seats) seat.old run seat.new) }
+    ensures left { IfSome result (λ _. (idle.new ≤ idle.old) × (idle.old < idle.new + 65_536)) }
+    ensures none { IfNone result ((in_hand.count ≡ 0) × (seat.new ≡ seat.old) × IsSpent idle.old idle.new) }
 {
     if in_hand.count > 0 {
         return Some(in_hand);
@@ -107,6 +118,7 @@ pub fn halve(work: &Work, seat: &mut WorkSeat, halves: &mut bool, run: Run) -> R
     ensures first { result.first ≡ run.first }
     ensures some { 0 < result.count }
     ensures fewer { result.count ≤ run.count }
+    ensures halved { IsHalved halves.old seat.old run halves.new seat.new result }
 {
     let kept = Run {
         first: run.first,

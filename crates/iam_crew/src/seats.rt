@@ -1,7 +1,8 @@
 // What workers begin with: their seats, and the runs of their own on their deques.
 ghost use Rattle.std.specs.Prelude.{◌≡◌, ◌<◌, ◌≤◌, All, IfOk, map, vec_len};
-ghost use Rattle.std.specs.List.{range_with_len};
+ghost use Rattle.std.specs.List.{AllZip, range_with_len};
 ghost use Rattle.iam_work.specs.Work.{fresh};
+ghost use Rattle.iam_crew.specs.Code.Runs.{IsDealt};
 ghost use Rattle.iam_crew.specs.Code.Worker.{IsFresh, IsOwn, IsReady};
 
 use crate::shares::Shares;
@@ -51,7 +52,8 @@ fn push_own(work: &Work, shares: Shares, seat: &mut WorkSeat)
     requires tiles { work.now.grains ≡ shares.tiles }
     requires workers { work.now.seats ≡ shares.workers }
     requires seat { IsOwn work.now seat.old }
-    ensures { IsOwn work.now seat.new }
+    ensures own { IsOwn work.now seat.new }
+    ensures dealt { IsDealt shares.tiles shares.workers seat.old seat.new }
 {
     let run = shares.run_of(seat.number());
     if run.count == 0 {
@@ -79,6 +81,7 @@ pub fn deal(
     requires seats { All (IsOwn work.now) seats.items }
     ensures count { IfOk result (λ v. vec_len v ≡ vec_len seats) }
     ensures ready { IfOk result (λ v. All (IsReady lanes.now work.now) v.items) }
+    ensures dealt { IfOk result (λ v. AllZip (IsDealt shares.tiles shares.workers) seats.items (map (λ s. s.work) v.items)) }
 {
     let mut all = Vec::new(alloc);
     for mut seat in seats {

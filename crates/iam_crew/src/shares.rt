@@ -1,5 +1,6 @@
 // How tiles are dealt out to workers that begin, each with a run of its own.
 ghost use Rattle.std.specs.Prelude.{◌≡◌, ◌+◌, ◌<◌, ◌≤◌};
+ghost use Rattle.iam_crew.specs.Code.Runs.{IsShare};
 ghost use Rattle.iam_crew.specs.Code.Shares.{start_of};
 
 use iam_work::Run;
@@ -27,8 +28,7 @@ impl Shares {
     /// The run of a worker, which is empty where there are more workers than tiles.
     pub fn run_of(self, worker: u32) -> Run
         requires { worker < self.workers }
-        ensures first { result.first ≡ start_of self.tiles self.workers worker }
-        ensures end { result.first + result.count ≡ start_of self.tiles self.workers (worker + 1) }
+        ensures share { IsShare self.tiles self.workers worker result }
         ensures inside { result.first + result.count ≤ self.tiles }
     {
         let first = self.start(worker);

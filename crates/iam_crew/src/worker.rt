@@ -1,6 +1,7 @@
 // A worker and its turns.
 ghost use Rattle.std.specs.Prelude.{◌≡◌, ℕ, ◌+◌, ◌<◌, ◌≤◌, IfOk, OnOk};
 ghost use Rattle.iam_work.specs.RunRule.{IsWithin};
+ghost use Rattle.iam_crew.specs.Code.Runs.{IsAsReady, IsMarked, IsOver, IsTurn};
 ghost use Rattle.iam_crew.specs.Code.Worker.{IsAtWork, IsDone, IsReady};
 
 use crate::bound::Bound;
@@ -52,7 +53,9 @@ fn work_tile<G: Gate, C: Crew>(
     requires takes { (tile : ℕ) → tile < work.now.grains → C.takes crew.now tile }
     requires worker { IsAtWork work.now worker.old.bound.of (C.fits crew.now) (C.offers crew.now) (C.gives crew.now) worker.old }
     requires tile { tile < work.now.grains }
-    ensures { OnOk result (IsAtWork work.now worker.old.bound.of (C.fits crew.now) (C.offers crew.now) (C.gives crew.now) worker.new) }
+    ensures worker { OnOk result (IsAtWork work.now worker.old.bound.of (C.fits crew.now) (C.offers crew.now) (C.gives crew.now) worker.new) }
+    ensures marked { OnOk result (IsMarked tile worker.old worker.new) }
+    ensures ready { OnOk result (IsAsReady worker.old worker.new) }
 {
     if !work.mark(&mut worker.seat, tile) {
         return Ok(());
@@ -77,6 +80,7 @@ fn take_turn<G: Gate, C: Crew>(
     requires run { IsWithin work.now.grains run }
     ensures worker { OnOk result (IsAtWork work.now worker.old.bound.of (C.fits crew.now) (C.offers crew.now) (C.gives crew.now) worker.new) }
     ensures inside { IfOk result (λ left. left.first + left.count ≤ work.now.grains) }
+    ensures turn { IfOk result (IsTurn worker.old run worker.new) }
 {
     if worker.halves && run.count > 1 {
         return Ok(halve(work, &mut worker.seat, &mut worker.halves, run));
@@ -101,7 +105,8 @@ fn take_turns<G: Gate, C: Crew>(
     requires workers { work.now.seats ≡ shares.workers }
     requires takes { (tile : ℕ) → tile < work.now.grains → C.takes crew.now tile }
     requires worker { IsAtWork work.now worker.old.bound.of (C.fits crew.now) (C.offers crew.now) (C.gives crew.now) worker.old }
-    ensures { OnOk result (IsAtWork work.now worker.old.bound.of (C.fits crew.now) (C.offers crew.now) (C.gives crew.now) worker.new) }
+    ensures worker { OnOk result (IsAtWork work.now worker.old.bound.of (C.fits crew.now) (C.offers crew.now) (C.gives crew.now) worker.new) }
+    ensures over { OnOk result (IsOver shares.tiles worker.old worker.new) }
 {
     let mut run = Run { first: 0, count: 0 };
     for _turn in 0..2 * shares.tiles + 1 {
@@ -112,7 +117,7 @@ fn take_turns<G: Gate, C: Crew>(
             &mut worker.idle,
             run,
         ) else {
-            break;
+            return Ok(());
         };
         run = take_turn(alloc, crew, work, gate, worker, next)?;
     }

@@ -1,11 +1,12 @@
 -- What stands before the first `${` of a text.
 use Rattle.std.proofs.Common.{◌≡◌, ℕ, ◌<◌, ◌≤◌, zero, suc, List, [], ◌∷◌, ◌++◌, Bool, true, false, ◌==◌, ◌&&◌, not, IsTrue, Some, None, refl, ap, ◌∙◌, arith, codes, eqb-true, cond, option_map, length, take, drop}
+use Rattle.std.specs.List.{list_any}
 use Rattle.std.specs.Str.Pattern.{LacksTextAt}
 use Rattle.iam_element.specs.Grammar.{before_variable, has_early_variable, is_bad_variable}
 use Rattle.iam_text.specs.declared.version.Version.{Version}
 use Rattle.iam_text.specs.declared.version.Version.TheVariants.{V2012, V2008}
 use Rattle.iam_text.specs.Variables.{is_draft, is_draft_in}
-use Rattle.iam_element.proofs.ElementLemmas.{first_false}
+use Rattle.iam_element.proofs.ElementLemmas.{first_false, second_false}
 
 -- a text whose first two characters are the sign, or are not
 sign-here : (c d : ℕ) (text : List ℕ) → (c == 36 && d == 123) ≡ true → c ∷ (d ∷ text) ≡ codes "${" ++ text
@@ -48,6 +49,16 @@ before-none [] off = refl
 before-none (c ∷ []) off = refl
 before-none (c ∷ d ∷ text) off =
     before-next c d text (off 0 (omega arith)) ∙ ap (option_map (λ front. c ∷ front)) (before-none (d ∷ text) (λ i below. off (suc i) (omega arith)))
+
+-- and none stands in a text without `$`
+pub no-dollar : (text : List ℕ) → list_any (λ c. c == 36) text ≡ false → before_variable text ≡ None
+no-dollar [] off = refl
+no-dollar (c ∷ []) off = refl
+no-dollar (c ∷ d ∷ text) off =
+    let here = first_false (c == 36) (list_any (λ x. x == 36) (d ∷ text)) off in
+    let behind = second_false (c == 36) (list_any (λ x. x == 36) (d ∷ text)) off in
+    ap (λ b. cond (b && d == 123) (Some []) (option_map (λ front. c ∷ front) (before_variable (d ∷ text)))) here
+    ∙ ap (option_map (λ front. c ∷ front)) (no-dollar (d ∷ text) behind)
 
 pub turned : (b : Bool) → not b ≡ false → b ≡ true
 turned true e = cc

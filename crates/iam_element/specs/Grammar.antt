@@ -17,8 +17,8 @@ abbrev pub begins_as_arn : List ℕ → Bool
 begins_as_arn text = starts_with nat_eq text (codes "arn:")
 
 -- `*`, or a text that begins with `arn:`
-abbrev pub is_resource : List ℕ → Bool
-is_resource text = bytes_eq text (codes "*") || begins_as_arn text
+abbrev pub is_resource_pattern : List ℕ → Bool
+is_resource_pattern text = bytes_eq text (codes "*") || begins_as_arn text
 
 -- what stands before the first `${`; `None` where there is none
 abbrev pub before_variable : List ℕ → Option (List ℕ)

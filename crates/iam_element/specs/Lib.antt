@@ -1,5 +1,5 @@
-pub mod Code
 pub mod Element
+pub mod Form
 pub mod Grammar
 pub mod Principal
 pub mod Reading

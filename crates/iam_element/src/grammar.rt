@@ -4,9 +4,9 @@ ghost use Rattle.std.specs.List.{list_all, list_any};
 ghost use Rattle.std.specs.Char.{is_ascii_alphanumeric};
 ghost use Rattle.iam_text.specs.Arn.{colons};
 ghost use Rattle.iam_text.specs.Action.{is_wildcard};
-ghost use Rattle.iam_element.specs.Grammar.{begins_as_arn, is_resource, has_early_variable, is_bad_variable, is_whole_arn, is_unique_id, is_aws_name};
+ghost use Rattle.iam_element.specs.Grammar.{begins_as_arn, is_resource_pattern, has_early_variable, is_bad_variable, is_whole_arn, is_unique_id, is_aws_name};
 
-use iam_text::{Arn, Version, has_draft, is_account, is_action, is_wildcard};
+use iam_text::{Arn, Version, has_dollar, has_draft, is_account, is_action_pattern, is_wildcard};
 
 /// A form that a text of a statement may have.
 #[derive(Clone, Copy)]
@@ -25,14 +25,14 @@ pub enum Form {
 
 impl Form {
     ghost use Rattle.std.specs.Prelude.{◌≡◌};
-    ghost use Rattle.iam_element.specs.Code.Form.{form_of};
+    ghost use Rattle.iam_element.specs.Form.{form_of};
 
     pub fn fits(self, text: &str) -> bool
         ensures { result ≡ form_of self text.now }
     {
         match self {
-            Form::Action => is_action(text),
-            Form::Resource => is_resource(text),
+            Form::Action => is_action_pattern(text),
+            Form::Resource => is_resource_pattern(text),
             Form::BadVariable(version) => is_bad_variable(text, version),
             Form::AwsName => is_aws_name(text),
             Form::AnyName => true,
@@ -46,8 +46,8 @@ fn begins_as_arn(text: &str) -> bool
     text.starts_with("arn:")
 }
 
-fn is_resource(text: &str) -> bool
-    ensures { result ≡ is_resource text.now }
+fn is_resource_pattern(text: &str) -> bool
+    ensures { result ≡ is_resource_pattern text.now }
 {
     text == "*" || begins_as_arn(text)
 }
@@ -64,6 +64,9 @@ fn is_bad_variable(text: &str, version: Version) -> bool
 fn has_early_variable(text: &str) -> bool
     ensures { result ≡ has_early_variable text.now }
 {
+    if !has_dollar(text.as_bytes()) {
+        return false;
+    }
     match text.split_once("${") {
         Some((front, _)) => Arn::cut(front).is_none(),
         None => false,

@@ -48,7 +48,7 @@ impl World {
     ghost use Rattle.iam_world.specs.WorldFault.{IsFirstWorldFault};
     ghost use Rattle.iam_context.specs.Context.{ContextValue};
     ghost use Rattle.iam_world.specs.World.{world_cells, world_statements};
-    ghost use Rattle.iam_world.specs.Code.Invariants.{HasFewPolicies};
+    ghost use Rattle.iam_world.specs.Invariants.{HasFewPolicies};
     ghost use Rattle.iam_world.specs.declared.fault.WorldFault.TheVariants as w;
     ghost use Rattle.iam_layers.specs.Applicable.{applicable_of};
     ghost use Rattle.iam_layers.specs.Cell.{IsAction, IsCell, IsContextAt, IsDerivedAt, IsPrincipal, IsResource, IsSharedAt, IsVerdictAt, principal_text};

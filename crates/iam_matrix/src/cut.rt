@@ -5,7 +5,9 @@ ghost use Rattle.iam_matrix.specs.Cut.{even_lengths};
 
 use iam_text::OutOfMemory;
 use std::alloc::Global;
+use std::fmt::{self, Display, Formatter, Write};
 use std::marker::Model;
+use thiserror::Error;
 
 const MOST_TILES: usize = 4096;
 
@@ -29,7 +31,7 @@ impl Model for Cut {
 }
 
 /// Why lengths are no cut; [`CutFault::number`] gives the number.
-#[derive(Clone, Copy, Debug, PartialEq, Eq)]
+#[derive(Clone, Copy, Debug, PartialEq, Eq, Error)]
 pub enum CutFault {
     /// A tile has no cell.
     ZeroTile,
@@ -67,6 +69,19 @@ impl CutFault {
             CutFault::TooMany => "TooMany",
             CutFault::OutOfMemory => "OutOfMemory",
         }
+    }
+}
+
+impl Display for CutFault {
+    ghost use Rattle.std.specs.Prelude.{Some};
+    ghost use Rattle.iam_matrix.specs.Fault.{cut_text};
+
+    ghost output = { λ fault. Some (cut_text fault) };
+
+    fn fmt<W: Write>(&self, f: &mut Formatter<W>) -> Result<(), fmt::Error> {
+        let number = self.number();
+        let name = self.name();
+        write!(f, "{number} {name}")
     }
 }
 

@@ -3,9 +3,11 @@ ghost use Rattle.std.specs.Prelude.{◌≡◌, ◌↔◌, ◌⊎◌, ◌<◌, Is
 ghost use Rattle.iam_matrix.specs.Fault.{IsUnlawful};
 
 use iam_text::OutOfMemory;
+use std::fmt::{self, Display, Formatter, Write};
+use thiserror::Error;
 
 /// Why there is no matrix; [`MatrixFault::number`] gives the number.
-#[derive(Clone, Copy, Debug, PartialEq, Eq)]
+#[derive(Clone, Copy, Debug, PartialEq, Eq, Error)]
 pub enum MatrixFault {
     /// No worker, or over 64.
     Workers,
@@ -35,6 +37,19 @@ impl MatrixFault {
             MatrixFault::Workers => "Workers",
             MatrixFault::OutOfMemory => "OutOfMemory",
         }
+    }
+}
+
+impl Display for MatrixFault {
+    ghost use Rattle.std.specs.Prelude.{Some};
+    ghost use Rattle.iam_matrix.specs.Fault.{matrix_text};
+
+    ghost output = { λ fault. Some (matrix_text fault) };
+
+    fn fmt<W: Write>(&self, f: &mut Formatter<W>) -> Result<(), fmt::Error> {
+        let number = self.number();
+        let name = self.name();
+        write!(f, "{number} {name}")
     }
 }
 

@@ -16,8 +16,8 @@ use Rattle.iam_policy.specs.declared.fault.PrincipalRule.{PrincipalRule}
 use Rattle.iam_policy.specs.declared.fault.PrincipalRule.TheVariants.{Nobody, Somebody, Everyone}
 use Rattle.iam_element.specs.Element.{both, neither, stands_as, is_no_text, is_this, is_bad_list, is_too_long}
 use Rattle.iam_policy.specs.Statement.{sid_of, effect_of}
-use Rattle.iam_text.specs.Action.{is_action}
-use Rattle.iam_element.specs.Grammar.{is_resource}
+use Rattle.iam_text.specs.Action.{is_action_pattern}
+use Rattle.iam_element.specs.Grammar.{is_resource_pattern}
 use Rattle.iam_element.specs.Resource.{has_bad_variable}
 use Rattle.iam_element.specs.Principal.{is_everyone, is_principal, has_long_kind}
 use Rattle.iam_policy.specs.Table.{number_of, fault_is}
@@ -129,7 +129,7 @@ statement_line kind d i s ActionCount =
     both (get (codes "Action") s) (get (codes "NotAction") s)
     || neither (get (codes "Action") s) (get (codes "NotAction") s)
 statement_line kind d i s BadAction =
-    is_bad_list is_action (get (codes "Action") s) || is_bad_list is_action (get (codes "NotAction") s)
+    is_bad_list is_action_pattern (get (codes "Action") s) || is_bad_list is_action_pattern (get (codes "NotAction") s)
 statement_line kind d i s PrincipalMisplaced = principal_line (principal_rule kind) s PrincipalMisplaced
 statement_line kind d i s PrincipalMissing = principal_line (principal_rule kind) s PrincipalMissing
 statement_line kind d i s BadPrincipal = principal_line (principal_rule kind) s BadPrincipal
@@ -138,7 +138,7 @@ statement_line kind d i s ResourceCount =
     both (get (codes "Resource") s) (get (codes "NotResource") s)
     || (wants_resource kind && neither (get (codes "Resource") s) (get (codes "NotResource") s))
 statement_line kind d i s BadResource =
-    is_bad_list is_resource (get (codes "Resource") s) || is_bad_list is_resource (get (codes "NotResource") s)
+    is_bad_list is_resource_pattern (get (codes "Resource") s) || is_bad_list is_resource_pattern (get (codes "NotResource") s)
 statement_line kind d i s BadVariable =
     has_bad_variable (version_of d) s || stands_as (has_bad_text (version_of d)) (get (codes "Condition") s)
 statement_line kind d i s UnknownOperator = stands_as has_unknown_operator (get (codes "Condition") s)

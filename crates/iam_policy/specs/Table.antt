@@ -1,6 +1,7 @@
--- The numbers and the names of the faults of a document, and their order. LOGIC 6.3.
-use Rattle.std.specs.Prelude.{ℕ, List, [], ◌∷◌, Bool, ◌==◌, codes}
+-- The numbers, the names and the texts of the faults of a document, and their order. LOGIC 6.3.
+use Rattle.std.specs.Prelude.{ℕ, List, [], ◌∷◌, ◌++◌, Bool, ◌==◌, Option, Some, None, codes, decimal}
 use Rattle.iam_policy.specs.declared.fault.Fault.{Fault}
+use Rattle.iam_policy.specs.declared.fault.Refused.{Refused}
 use Rattle.iam_policy.specs.declared.fault.Fault.TheVariants.{NotObject, UnknownElement, BadVersion, NoStatement, BadStatement, BadSid, DuplicateSid, BadEffect, ActionCount, BadAction, PrincipalMisplaced, PrincipalMissing, BadPrincipal, NotPrincipalAllow, ResourceCount, BadResource, BadVariable, UnknownOperator, BadCondition, BadValue, TooMany, OutOfMemory}
 
 -- the number of a fault
@@ -52,6 +53,19 @@ name_of BadCondition = codes "BadCondition"
 name_of BadValue = codes "BadValue"
 name_of TooMany = codes "TooMany"
 name_of OutOfMemory = codes "OutOfMemory"
+
+-- `3 BadVersion`
+abbrev pub fault_text : Fault → List ℕ
+fault_text fault = decimal (number_of fault) ++ (codes " " ++ name_of fault)
+
+-- the statement that has the fault, or the document itself
+abbrev pub statement_text : Option ℕ → List ℕ
+statement_text None = codes "document"
+statement_text (Some i) = codes "statement " ++ decimal i
+
+-- `document: 3 BadVersion`, `statement 1: 20 BadValue`
+abbrev pub refused_text : Refused → List ℕ
+refused_text refused = statement_text refused.statement ++ (codes ": " ++ fault_text refused.fault)
 
 -- the faults of the table, in the order of their numbers
 abbrev pub table : List Fault

@@ -1,5 +1,9 @@
+// The faults of a document, and the kinds of documents.
+use std::fmt::{self, Display, Formatter, Write};
+use thiserror::Error;
+
 /// Why a document is refused; [`Fault::number`] gives the number.
-#[derive(Clone, Copy, Debug, PartialEq, Eq)]
+#[derive(Clone, Copy, Debug, PartialEq, Eq, Error)]
 pub enum Fault {
     /// The document is not an object.
     NotObject,
@@ -90,6 +94,19 @@ impl Fault {
     }
 }
 
+impl Display for Fault {
+    ghost use Rattle.std.specs.Prelude.{Some};
+    ghost use Rattle.iam_policy.specs.Table.{fault_text};
+
+    ghost output = { λ fault. Some (fault_text fault) };
+
+    fn fmt<W: Write>(&self, f: &mut Formatter<W>) -> Result<(), fmt::Error> {
+        let number = self.number();
+        let name = self.name();
+        write!(f, "{number} {name}")
+    }
+}
+
 /// How a document is read.
 #[derive(Clone, Copy, Debug, PartialEq, Eq)]
 pub enum Kind {
@@ -146,10 +163,24 @@ impl Kind {
 
 /// Why a document is not read: want of memory, or its least fault, by place and then by number. The document itself
 /// comes first, then each statement in turn.
-#[derive(Clone, Copy, Debug, PartialEq, Eq)]
+#[derive(Clone, Copy, Debug, PartialEq, Eq, Error)]
 pub struct Refused {
     /// The statement's number, from 0; `None` for a fault of the document and for want of memory.
     pub statement: Option<u32>,
     /// The least fault there.
     pub fault: Fault,
+}
+
+impl Display for Refused {
+    ghost use Rattle.std.specs.Prelude.{Some};
+    ghost use Rattle.iam_policy.specs.Table.{refused_text};
+
+    ghost output = { λ refused. Some (refused_text refused) };
+
+    fn fmt<W: Write>(&self, f: &mut Formatter<W>) -> Result<(), fmt::Error> {
+        match self.statement {
+            None => write!(f, "document: {}", self.fault),
+            Some(statement) => write!(f, "statement {statement}: {}", self.fault),
+        }
+    }
 }

@@ -6,6 +6,8 @@ mod crew;
 #[cfg(test)]
 mod engine;
 #[cfg(test)]
+mod gates;
+#[cfg(test)]
 mod lanes;
 #[cfg(test)]
 mod matrix;

@@ -1,16 +1,14 @@
-// Cuts, the matrix by many workers, and the gate that is told before each tile.
+// Cuts, and the matrix by many workers.
 ghost use Rattle.std.specs.Prelude.{◌≡◌, sum};
 ghost use Rattle.iam_world.specs.World.{world_cells};
 
+use crate::gates::Record;
 use iam_layers::{Decision, Layer, Place, Verdict, World};
 use iam_matrix::{
-    Cut, CutFault, Gate, MatrixFault, Open, csv_brief, csv_text, first, json_brief, json_text,
-    matrix, matrix_brief,
+    Cut, CutFault, MatrixFault, Open, csv_brief, csv_text, first, json_brief, json_text, matrix,
+    matrix_brief,
 };
 use std::alloc::Global;
-use std::hint::spin_loop;
-use std::sync::atomic::{AtomicBool, Ordering};
-use std::sync::{Mutex, Wait};
 use std::test::Fail;
 use std::thread::Threads;
 
@@ -63,7 +61,7 @@ pub const HOME: &str = r#"{"moment":0,"accounts":[{"id":"111122223333"}],"princi
 const ALLOWED: [usize; 4] = [0, 5, 9, 11];
 
 /// Its four reports.
-const CSV: &str = "cell,principal,action,resource,decision,statements,lacks\n\
+pub const CSV: &str = "cell,principal,action,resource,decision,statements,lacks\n\
     0,arn:aws:iam::111122223333:user/ann,s3:GetObject,arn:aws:s3:::home/ann/x,allowed,identity/0/0,\n\
     1,arn:aws:iam::111122223333:user/ann,s3:GetObject,arn:aws:s3:::home/bob/x,implicitDeny,,identity\n\
     2,arn:aws:iam::111122223333:user/ann,s3:PutObject,arn:aws:s3:::home/ann/x,implicitDeny,,identity\n\
@@ -120,7 +118,7 @@ const JSON_BRIEF: &str =
     {\"action\":\"s3:PutObject\",\"cell\":11,\"decision\":\"allowed\",\"principal\":\"arn:aws:sts::111122223333:assumed-role/dev/s1\",\"resource\":\"arn:aws:s3:::home/bob/x\"}]\n";
 
 /// The same, but nobody has a policy.
-const DENIED: &str = r#"{"moment":0,"accounts":[{"id":"111122223333"}],"principals":[
+pub const DENIED: &str = r#"{"moment":0,"accounts":[{"id":"111122223333"}],"principals":[
     {"user":"arn:aws:iam::111122223333:user/ann"},{"user":"arn:aws:iam::111122223333:user/bob"},
     {"role":"arn:aws:iam::111122223333:role/app/dev","session":"s1"}],
     "actions":["s3:GetObject","s3:PutObject"],"resources":[
@@ -253,158 +251,13 @@ fn the_brief_reports_of_the_twelve_cells(rt: HostRuntime) -> Result<(), Fail> {
     Ok(())
 }
 
-/// A gate where two tiles wait for one another, so that they have to be begun by two workers.
-#[derive(Drop)]
-struct Meeting {
-    first: u64,
-    second: u64,
-    is_first_begun: AtomicBool,
-    is_second_begun: AtomicBool,
-    is_missed: AtomicBool,
-}
-
-impl Meeting {
-    fn of(first: u64, second: u64) -> Meeting {
-        Meeting {
-            first,
-            second,
-            is_first_begun: AtomicBool::new(false),
-            is_second_begun: AtomicBool::new(false),
-            is_missed: AtomicBool::new(false),
-        }
-    }
-
-    fn has_met(&self) -> bool {
-        self.is_first_begun.load(Ordering::SeqCst) && !self.is_missed.load(Ordering::SeqCst)
-    }
-}
-
-/// Whether a tile begins within so many looks.
-fn begins(is_begun: &AtomicBool) -> bool {
-    for _turn in 0..100_000_000u32 {
-        if is_begun.load(Ordering::SeqCst) {
-            return true;
-        }
-        spin_loop();
-    }
-    false
-}
-
-impl Gate for Meeting {
-    fn before(&self, tile: u64) {
-        if tile == self.first {
-            self.is_first_begun.store(true, Ordering::SeqCst);
-            if !begins(&self.is_second_begun) {
-                self.is_missed.store(true, Ordering::SeqCst);
-            }
-        }
-        if tile == self.second {
-            self.is_second_begun.store(true, Ordering::SeqCst);
-            if !begins(&self.is_first_begun) {
-                self.is_missed.store(true, Ordering::SeqCst);
-            }
-        }
-    }
-}
-
-/// Whether two workers meet at these tiles in a matrix of the twelve cells, in one of three runs.
-fn have_met<R: Threads + Sync>(
-    rt: &R,
-    alloc: Global,
-    first: u64,
-    second: u64,
-) -> Result<bool, Fail> {
-    let world = World::read(alloc, HOME.as_bytes())?;
-    let cut = Cut::even(alloc, 1, world.cells())?;
-    for _run in 0..3 {
-        let gate = Meeting::of(first, second);
-        let verdicts = matrix(rt, alloc, &world, &cut, 2, &gate)?;
-        if are_verdicts(&verdicts) && gate.has_met() {
-            return Ok(true);
-        }
-    }
-    Ok(false)
-}
-
-#[test]
-fn each_of_two_workers_begins_with_a_run_of_its_own(rt: HostRuntime) -> Result<(), Fail> {
-    assert!(rt; have_met(&rt, rt.alloc(), 0, 6)?);
-    Ok(())
-}
-
-#[test]
-fn tiles_of_a_worker_that_waits_are_stolen_by_the_other(rt: HostRuntime) -> Result<(), Fail> {
-    assert!(rt; have_met(&rt, rt.alloc(), 0, 1)?);
-    Ok(())
-}
-
-#[test]
-fn tiles_of_a_search_that_waits_are_stolen_by_the_other(rt: HostRuntime) -> Result<(), Fail> {
-    let alloc = rt.alloc();
-    let world = World::read(alloc, DENIED.as_bytes())?;
-    let cut = Cut::even(alloc, 1, world.cells())?;
-    let mut has_met = false;
-    for _run in 0..3 {
-        let gate = Meeting::of(0, 1);
-        assert_eq!(rt; first(&rt, alloc, &world, &cut, 2, &gate)?, None);
-        has_met |= gate.has_met();
-    }
-    assert!(rt; has_met);
-    Ok(())
-}
-
-/// A gate that notes the tiles in the order in which they begin.
-#[derive(Drop)]
-struct Record<'a, R: Wait> {
-    rt: &'a R,
-    tiles: Mutex<Vec<u64>>,
-}
-
-impl<R: Wait> Gate for Record<'_, R> {
-    fn before(&self, tile: u64) {
-        let _noted = self.tiles.lock(self.rt).push(tile).is_ok();
-    }
-}
-
-#[test]
-fn a_search_skips_what_lies_behind_an_allowed_cell(rt: HostRuntime) -> Result<(), Fail> {
-    let alloc = rt.alloc();
-    let world = World::read(alloc, HOME.as_bytes())?;
-    let cut = Cut::even(alloc, 1, world.cells())?;
-    let gate = Record {
-        rt: &rt,
-        tiles: Mutex::new(Vec::new(alloc)),
-    };
-    assert_eq!(rt; first(&rt, alloc, &world, &cut, 1, &gate)?, Some(0));
-    assert_eq!(rt; gate.tiles.lock(&rt).as_slice(), [0].as_slice());
-    Ok(())
-}
-
-#[test]
-fn one_worker_halves_its_runs_and_takes_them_from_the_front(rt: HostRuntime) -> Result<(), Fail> {
-    let alloc = rt.alloc();
-    let world = World::read(alloc, HOME.as_bytes())?;
-    let cut = Cut::even(alloc, 1, world.cells())?;
-    let gate = Record {
-        rt: &rt,
-        tiles: Mutex::new(Vec::new(alloc)),
-    };
-    assert!(rt; are_verdicts(&matrix(&rt, alloc, &world, &cut, 1, &gate)?));
-    let order = [0, 6, 3, 1, 9, 7, 4, 2, 10, 8, 5, 11];
-    assert_eq!(rt; gate.tiles.lock(&rt).as_slice(), order.as_slice());
-    Ok(())
-}
-
 #[test]
 fn the_gate_is_told_of_each_tile_once(rt: HostRuntime) -> Result<(), Fail> {
     let alloc = rt.alloc();
     let world = World::read(alloc, HOME.as_bytes())?;
     let cut = Cut::even(alloc, 1, world.cells())?;
     for workers in [1, 4, 64] {
-        let gate = Record {
-            rt: &rt,
-            tiles: Mutex::new(Vec::new(alloc)),
-        };
+        let gate = Record::of(&rt, alloc, 1);
         assert!(rt; are_verdicts(&matrix(&rt, alloc, &world, &cut, workers, &gate)?));
         let mut tiles = gate.tiles.lock(&rt);
         tiles.sort_unstable();

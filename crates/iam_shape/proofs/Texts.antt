@@ -9,7 +9,7 @@ use Rattle.std.specs.String.{string_eq}
 use Rattle.std.specs.declared.alloc.Global.{Global}
 use Rattle.std.proofs.lemmas.Map.Text.{hash_map_updates_text}
 use Rattle.std.proofs.lemmas.Slice.Eq.{bytes_eq-Decides}
-use Rattle.iam_shape.specs.Code.Texts.{HasTexts, Places}
+use Rattle.iam_shape.specs.Texts.{HasTexts, Places}
 
 -- a text has a place where it is one of the texts
 pub has-place : (test : List ℕ → Bool) (i : ℕ) (texts : List (List ℕ)) → is_some (position_from test i texts) ≡ list_any test texts

@@ -5,4 +5,5 @@ pub mod Lent
 pub mod LentWorld
 pub mod Path
 pub mod Shape
+pub mod Texts
 pub mod View

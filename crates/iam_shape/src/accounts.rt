@@ -3,7 +3,7 @@ ghost use Rattle.std.specs.Prelude.{◌≡◌, ◌≢◌, ℕ, List, [], ◌∷�
 ghost use Rattle.std.specs.List.{AllZip};
 ghost use Rattle.serde_json.specs.View.{view};
 ghost use Rattle.iam_json.specs.Look.{is_one_of};
-ghost use Rattle.iam_shape.specs.Code.Texts.{HasTexts};
+ghost use Rattle.iam_shape.specs.Texts.{HasTexts};
 ghost use Rattle.iam_shape.specs.Lent.{account_of};
 ghost use Rattle.iam_shape.specs.Code.Walk.{IsShapeFault, Walks, account_front};
 ghost use Rattle.iam_shape.specs.Shape.{account_checks, all_account_checks, first_bad, has_only, is_new_id};

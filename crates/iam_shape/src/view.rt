@@ -1,6 +1,6 @@
 // What a world says, lent from its document.
 ghost use Rattle.std.specs.Prelude.{map};
-ghost use Rattle.iam_shape.specs.Code.Texts.{HasTexts};
+ghost use Rattle.iam_shape.specs.Texts.{HasTexts};
 ghost use Rattle.iam_shape.specs.Lent.{account_of};
 
 use crate::levels::Levels;

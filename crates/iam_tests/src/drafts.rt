@@ -1,5 +1,5 @@
 // Texts that may hold variables.
-use iam_text::{Draft, Piece, Sign, Template, TemplateForm, Version, has_draft};
+use iam_text::{Draft, Form, Sign, Template, TemplateForm, Version, add_signs, has_draft};
 use std::alloc::{AllocError, Global};
 use std::fmt::Write;
 use std::test::Fail;
@@ -7,24 +7,34 @@ use std::test::Fail;
 /// The pieces, each in brackets.
 fn shown(alloc: Global, draft: &Draft) -> Result<String, AllocError> {
     let mut text = String::new(alloc);
-    for piece in draft.pieces() {
-        match piece {
-            Piece::Plain(Sign::Given(character)) => write!(text, "[{character}]")?,
-            Piece::Plain(Sign::One) => write!(text, "[one]")?,
-            Piece::Plain(Sign::Any) => write!(text, "[any]")?,
-            Piece::Escaped(character) => write!(text, "[escaped {character}]")?,
-            Piece::Variable(key, None) => {
-                let key = key.as_str();
-                write!(text, "[variable {key}]")?
-            }
-            Piece::Variable(key, Some(default)) => {
-                let key = key.as_str();
-                let default = default.as_str();
-                write!(text, "[variable {key} or {default}]")?
-            }
+    let mut left = draft.stretches();
+    for _form in 0..left.text().len() {
+        let Some((front, form, behind)) = left.first_form() else {
+            break;
+        };
+        show_plain(alloc, &mut text, front, left.is_wild())?;
+        match form {
+            Form::Literal(character) => write!(text, "[escaped {character}]")?,
+            Form::Named(key, None) => write!(text, "[variable {key}]")?,
+            Form::Named(key, Some(default)) => write!(text, "[variable {key} or {default}]")?,
+        }
+        left = behind;
+    }
+    show_plain(alloc, &mut text, left.text(), left.is_wild())?;
+    Ok(text)
+}
+
+fn show_plain(alloc: Global, text: &mut String, front: &str, wild: bool) -> Result<(), AllocError> {
+    let mut signs = Vec::new(alloc);
+    add_signs(&mut signs, front, wild)?;
+    for sign in signs {
+        match sign {
+            Sign::Given(character) => write!(text, "[{character}]")?,
+            Sign::One => write!(text, "[one]")?,
+            Sign::Any => write!(text, "[any]")?,
         }
     }
-    Ok(text)
+    Ok(())
 }
 
 #[test]

@@ -39,7 +39,9 @@ fn reads_every_element(rt: HostRuntime) -> Result<(), Fail> {
         return Err(Fail::new("not a pattern and a draft"));
     };
     assert!(rt;
-        objects.is_negated() && below_b.matches("arn:aws:s3:::b/k") && own.pieces().len() == 14
+        objects.is_negated()
+            && below_b.matches("arn:aws:s3:::b/k")
+            && own.stretches().text() == "arn:aws:s3:::${a}"
     );
     let (Some(others), Some(everyone)) = (deny.principal(), allow.principal()) else {
         return Err(Fail::new("not two principal elements"));

@@ -4,6 +4,7 @@ pub mod BackLemmas
 pub mod DraftLemmas
 pub mod FormLemmas
 pub mod GivenLemmas
+pub mod KeptLemmas
 pub mod VariableLemmas
 pub mod VersionLemmas
 pub mod WalkLemmas

@@ -17,8 +17,8 @@ abbrev pub is_name_character : ℕ → Bool
 is_name_character c = is_prefix_character c || c == 95 || c == 46
 
 -- `*`, or a prefix and a name, parted by the first colon; where there is no colon, nothing stands behind it
-abbrev pub is_action : List ℕ → Bool
-is_action text =
+abbrev pub is_action_pattern : List ℕ → Bool
+is_action_pattern text =
     bytes_eq text (codes "*")
     || (is_run is_prefix_character (before_first (λ c. c == 58) text)
     && is_run is_name_character (after_first (λ c. c == 58) text))

@@ -1,4 +1,5 @@
 pub mod Cut
 pub mod Forms
+pub mod Kept
 pub mod Templates
 pub mod Walk

@@ -5,5 +5,6 @@ pub mod Code
 pub mod Draft
 pub mod Glob
 pub mod Parts
+pub mod Stretches
 pub mod Template
 pub mod Variables

@@ -1,14 +1,14 @@
 // Patterns of actions.
 ghost use Rattle.std.specs.Prelude.{◌≡◌};
 ghost use Rattle.std.specs.List.{list_all};
-ghost use Rattle.iam_text.specs.Action.{is_action, is_name_character, is_prefix_character, is_wildcard};
+ghost use Rattle.iam_text.specs.Action.{is_action_pattern, is_name_character, is_prefix_character, is_wildcard};
 ghost use Rattle.iam_text.specs.Characters.{is_run};
 
 /// Whether a text is an action pattern: `*`, or a service prefix, a colon and a name, in which wildcards may stand.
 ///
 /// AWS IAM User Guide, "IAM JSON policy elements: Action".
-pub fn is_action(text: &str) -> bool
-    ensures { result ≡ is_action text.now }
+pub fn is_action_pattern(text: &str) -> bool
+    ensures { result ≡ is_action_pattern text.now }
 {
     if text == "*" {
         return true;

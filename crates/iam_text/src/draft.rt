@@ -1,21 +1,22 @@
-// A text with variables, as its pieces.
-ghost use Rattle.std.specs.Prelude.{◌≡◌, ◌↔◌, ◌==◌, ◌++◌, List, Bool, false, IsTrue, IfOk, OnOk, map};
+// A text with variables, as it is kept.
+ghost use Rattle.std.specs.Prelude.{◌≡◌, ◌↔◌, ◌==◌, List, Bool, false, IsTrue, map};
 ghost use Rattle.std.specs.List.{list_any};
 ghost use Rattle.std.specs.Str.{chars};
 ghost use Rattle.iam_text.specs.declared.draft.Piece.{Piece};
+ghost use Rattle.iam_text.specs.Code.Kept.{OneDraft, OneDraft-prop};
 ghost use Rattle.iam_text.specs.Draft.{IsDraftIn, plain_draft, sign_of};
-ghost use Rattle.iam_text.specs.Code.Forms.{piece_of};
 ghost use Rattle.iam_text.specs.Variables.{is_draft, is_draft_in};
 
 use crate::OutOfMemory;
-use crate::form::{Form, cut_form, form_behind};
-use crate::sign::{Sign, sign_of};
+use crate::form::{cut_form, form_behind};
+use crate::sign::Sign;
+use crate::stretches::Stretches;
 use crate::text::Text;
 use crate::version::Version;
 use std::alloc::Global;
 use std::marker::Model;
 
-/// A piece of a text that may hold variables.
+/// A piece of a text that may hold variables, as contracts speak of it: the code keeps the text.
 #[derive(Debug, Drop)]
 pub enum Piece {
     /// A character of the text, read as a sign of a pattern.
@@ -26,12 +27,15 @@ pub enum Piece {
     Variable(Text, Option<Text>),
 }
 
-/// A text that may hold variables, read into its pieces.
+/// A text that may hold variables and is on their grammar; contracts see it as its pieces.
 ///
 /// AWS IAM User Guide, "IAM policy elements: Variables and tags".
 #[derive(Debug, Drop)]
 pub struct Draft {
-    pieces: Vec<Piece>,
+    text: Text,
+    wild: bool,
+    version: Version,
+    ghost pieces: { OneDraft version wild text } by { OneDraft-prop version wild text },
 }
 
 impl Model for Draft {
@@ -40,7 +44,7 @@ impl Model for Draft {
 
     ghost Value = { List Piece };
 
-    ghost view = { λ draft. draft.pieces.items };
+    ghost view = { λ draft. draft.pieces.0 };
 }
 
 impl Draft {
@@ -54,37 +58,36 @@ impl Draft {
     pub fn read(alloc: Global, text: &str, wild: bool) -> Result<Option<Draft>, OutOfMemory>
         ensures { IfOk result (λ found. MatchOption found ((pieces : List Piece) → ¬ IsDraft wild text.now pieces) (IsDraft wild text.now)) }
     {
-        let mut pieces = Vec::new(alloc);
-        let mut rest = text;
-        while let Some((front, inside)) = cut_form(rest) {
-            add_characters(&mut pieces, front, wild)?;
-            match form_behind(inside) {
-                Some((form, behind)) => {
-                    pieces.push(piece_of(alloc, form)?)?;
-                    rest = behind;
-                }
-                None => return Ok(None),
-            }
+        if !has_forms(text) {
+            return Ok(None);
         }
-        add_characters(&mut pieces, rest, wild)?;
-        pieces.shrink_to_fit();
-        Ok(Some(Draft { pieces }))
+        Ok(Some(Draft {
+            text: Text::read(alloc, text)?,
+            wild,
+            version: Version::V2012,
+        }))
     }
 
     /// The draft of a text of version 2008-10-17: its characters one by one, where `${` begins no variable.
     pub fn literal(alloc: Global, text: &str, wild: bool) -> Result<Draft, OutOfMemory>
         ensures { IfOk result (λ draft. draft ≡ plain_draft (map (sign_of wild) (chars text.now))) }
     {
-        let mut pieces = Vec::new(alloc);
-        add_characters(&mut pieces, text, wild)?;
-        Ok(Draft { pieces })
+        Ok(Draft {
+            text: Text::read(alloc, text)?,
+            wild,
+            version: Version::V2008,
+        })
     }
 
-    /// The pieces, in order.
-    pub fn pieces(&self) -> &[Piece]
-        ensures { result.now ≡ self.now }
+    /// The text, to be walked from its front.
+    pub fn stretches(&self) -> Stretches<'_>
+        ensures { result.pieces ≡ self.now }
     {
-        self.pieces.as_slice()
+        Stretches {
+            text: self.text.as_str(),
+            wild: self.wild,
+            version: self.version,
+        }
     }
 }
 
@@ -108,8 +111,8 @@ pub fn is_plain(text: &str, version: Version) -> bool
     }
 }
 
-/// Whether the text has a `$`.
-fn has_dollar(text: &[u8]) -> bool
+/// Whether the text has a `$`, without which no variable begins.
+pub fn has_dollar(text: &[u8]) -> bool
     ensures { result ≡ list_any (λ c. c == 36) text.now }
 {
     text.contains(&b'$')
@@ -127,29 +130,4 @@ fn has_forms(text: &str) -> bool
         }
     }
     true
-}
-
-/// Adds the characters of the text, each a piece.
-fn add_characters(pieces: &mut Vec<Piece>, text: &str, wild: bool) -> Result<(), OutOfMemory>
-    ensures { OnOk result (pieces.new.items ≡ pieces.old.items ++ plain_draft (map (sign_of wild) (chars text.now))) }
-{
-    pieces.reserve(text.len())?;
-    for character in text.chars() {
-        pieces.push(Piece::Plain(sign_of(character, wild)))?;
-    }
-    Ok(())
-}
-
-/// The piece of a form.
-fn piece_of(alloc: Global, form: Form<'_>) -> Result<Piece, OutOfMemory>
-    ensures { IfOk result (λ piece. piece ≡ piece_of form.entry) }
-{
-    match form {
-        Form::Literal(character) => Ok(Piece::Escaped(character)),
-        Form::Named(key, Some(default)) => Ok(Piece::Variable(
-            Text::read(alloc, key)?,
-            Some(Text::read(alloc, default)?),
-        )),
-        Form::Named(key, None) => Ok(Piece::Variable(Text::read(alloc, key)?, None)),
-    }
 }

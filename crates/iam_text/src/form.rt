@@ -3,12 +3,15 @@ ghost use Rattle.std.specs.Prelude.{◌≡◌, ◌≢◌, ℕ, List, [], ◌∷�
 ghost use Rattle.std.specs.List.{list_all};
 ghost use Rattle.iam_text.specs.declared.draft.Piece.{Piece};
 ghost use Rattle.iam_text.specs.Draft.{is_key, is_key_character};
-ghost use Rattle.iam_text.specs.Code.Forms.{HasClosed, HasDefault, HasForm, IsClosed, IsCutAtForm, IsQuoted, NoneBegins, piece_of};
+ghost use Rattle.iam_text.specs.Code.Forms.{HasClosed, HasDefault, HasForm, IsClosed, IsCutAtForm, IsQuoted, NoneBegins};
+ghost use Rattle.iam_text.specs.Stretches.{piece_of};
 
-/// What a `${` begins.
+/// What a `${` begins in a text of version 2012-10-17.
+///
+/// AWS IAM User Guide, "IAM policy elements: Variables and tags".
 #[derive(Clone, Copy)]
 pub enum Form<'a> {
-    /// `${*}`, `${?}` or `${$}`.
+    /// `${*}`, `${?}` or `${$}`, by the character that it stands for.
     Literal(char),
     /// A variable by its key and its default.
     Named(&'a str, Option<&'a str>),

@@ -7,7 +7,7 @@ ghost use Rattle.iam_text.specs.Glob.{wild_sign, plain_sign, Equals, EqualsFold,
 
 use crate::OutOfMemory;
 use crate::case::Case;
-use crate::sign::{Sign, sign_of};
+use crate::sign::{Sign, add_signs};
 use crate::walk::{equals, matches};
 use std::alloc::Global;
 use std::marker::Model;
@@ -51,6 +51,13 @@ impl Glob {
         Ok(Glob { signs })
     }
 
+    /// The pattern of these signs, uncopied.
+    pub fn from_vec(signs: Vec<Sign>) -> Glob
+        ensures { result ≡ signs.items }
+    {
+        Glob { signs }
+    }
+
     /// The signs, in order.
     pub fn signs(&self) -> &[Sign]
         ensures { result.now ≡ self.now }
@@ -87,26 +94,13 @@ impl Glob {
     }
 }
 
-/// The signs of the characters. A text of ASCII characters alone, as most are, is read byte by byte.
+/// The signs of the characters, in no more memory than they want.
 fn read_signs(alloc: Global, text: &str, wild: bool) -> Result<Vec<Sign>, OutOfMemory>
     ensures { IfOk result (λ signs. signs.items ≡ map (sign_of wild) (chars text.now)) }
 {
-    if text.is_ascii() {
-        read_ascii(alloc, text.as_bytes(), wild)
-    } else {
-        text.chars()
-            .map(|character| sign_of(character, wild))
-            .collect(alloc)
-    }
-}
-
-fn read_ascii(alloc: Global, text: &[u8], wild: bool) -> Result<Vec<Sign>, OutOfMemory>
-    ensures { IfOk result (λ signs. signs.items ≡ map (sign_of wild) text.now) }
-{
     let mut signs = Vec::with_capacity(alloc, text.len())?;
-    for &byte in text {
-        signs.push_reserved(sign_of(char::from(byte), wild));
-    }
+    add_signs(&mut signs, text, wild)?;
+    signs.shrink_to_fit();
     Ok(signs)
 }
 

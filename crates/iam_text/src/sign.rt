@@ -1,6 +1,9 @@
 // What a pattern is made of.
-ghost use Rattle.std.specs.Prelude.{◌≡◌};
+ghost use Rattle.std.specs.Prelude.{◌≡◌, ◌++◌, OnOk, map};
+ghost use Rattle.std.specs.Str.{chars};
 ghost use Rattle.iam_text.specs.Draft.{sign_of};
+
+use crate::OutOfMemory;
 
 /// One sign of a pattern.
 #[derive(Clone, Copy, Debug, PartialEq, Eq)]
@@ -38,4 +41,37 @@ pub fn sign_of(character: char, wild: bool) -> Sign
     } else {
         Sign::Given(character)
     }
+}
+
+/// Adds the signs of the characters of a text, with `*` and `?` as wildcards where `wild` says so.
+///
+/// A text of ASCII characters alone, as most are, is read byte by byte.
+pub fn add_signs(signs: &mut Vec<Sign>, text: &str, wild: bool) -> Result<(), OutOfMemory>
+    ensures { OnOk result (signs.new.items ≡ signs.old.items ++ map (sign_of wild) (chars text.now)) }
+{
+    if text.is_ascii() {
+        add_bytes(signs, text.as_bytes(), wild)
+    } else {
+        add_characters(signs, text, wild)
+    }
+}
+
+fn add_bytes(signs: &mut Vec<Sign>, text: &[u8], wild: bool) -> Result<(), OutOfMemory>
+    ensures { OnOk result (signs.new.items ≡ signs.old.items ++ map (sign_of wild) text.now) }
+{
+    signs.reserve(text.len())?;
+    for &byte in text {
+        signs.push_reserved(sign_of(char::from(byte), wild));
+    }
+    Ok(())
+}
+
+fn add_characters(signs: &mut Vec<Sign>, text: &str, wild: bool) -> Result<(), OutOfMemory>
+    ensures { OnOk result (signs.new.items ≡ signs.old.items ++ map (sign_of wild) (chars text.now)) }
+{
+    signs.reserve(text.len())?;
+    for character in text.chars() {
+        signs.push(sign_of(character, wild))?;
+    }
+    Ok(())
 }

@@ -29,7 +29,7 @@ enum Kind {
 pub enum TemplateForm<'a> {
     /// A pattern, each of whose signs is a piece.
     Fixed(&'a Glob),
-    /// The pieces themselves.
+    /// The text itself, walked each time that it is resolved.
     Open(&'a Draft),
 }
 

@@ -4,7 +4,7 @@ use Rattle.std.specs.List.{AllByRecursion, AllZip, position_from}
 use Rattle.std.specs.Prelude.{IsTrue}
 use Rattle.iam_match.specs.Requester.{RequesterValue, IsRequesterOf}
 use Rattle.iam_world.specs.Code.ViewFault.{FindsFirst}
-use Rattle.iam_shape.specs.Code.Texts.{HasTexts, Places, has_text}
+use Rattle.iam_shape.specs.Texts.{HasTexts, Places, has_text}
 use Rattle.iam_shape.specs.View.{PrincipalView, ResourceView, WorldView}
 use Rattle.iam_shape.specs.First.{IsFirstAt, placed}
 use Rattle.iam_world.specs.WorldFault.{IsOfUnknownAccount, IsRequesterAt, Owner, of_principal, of_resource, has_account, owners}

@@ -8,11 +8,11 @@ use Rattle.iam_match.specs.Requester.{RequesterValue}
 use Rattle.iam_policy.specs.declared.fault.Kind.{Kind}
 use Rattle.iam_policy.specs.declared.fault.Kind.TheVariants as kind
 use Rattle.iam_policy.specs.Reading.{Reads, PolicyValue}
-use Rattle.iam_shape.specs.Code.Texts.{HasTexts, Places}
+use Rattle.iam_shape.specs.Texts.{HasTexts, Places}
 use Rattle.iam_shape.specs.Few.{HasFewDocuments, HasFewLevels, HasFewLists}
 use Rattle.iam_shape.specs.View.{AccountView, PrincipalView, ResourceView, WorldView}
-use Rattle.iam_world_context.specs.Code.Contexts.{AllClean, AreClean}
-use Rattle.iam_world.specs.Code.Invariants.{CanJoin, HasFewPolicies, IsSized}
+use Rattle.iam_world_context.specs.Clean.{AllClean, AreClean}
+use Rattle.iam_world.specs.Invariants.{CanJoin, HasFewPolicies, IsSized}
 use Rattle.iam_world.specs.Code.Made.{bare_account, bare_resource, made_account, made_principal, made_resource}
 use Rattle.iam_world_context.specs.Part.{part_of}
 use Rattle.iam_world.specs.Reads.{ReadsAccount, ReadsOptional, ReadsPrincipal, ReadsResource, ReadsWorld}

@@ -1,5 +1,4 @@
 pub mod Budget
 pub mod Documents
-pub mod Invariants
 pub mod Made
 pub mod ViewFault

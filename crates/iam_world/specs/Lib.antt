@@ -1,4 +1,5 @@
 pub mod Code
+pub mod Invariants
 pub mod Reads
 pub mod World
 pub mod WorldFault

@@ -1,6 +1,6 @@
 -- Why bytes are no world: the set of their faults, one case a number, and the first of them.
 -- LOGIC 1.3, 12.2, 12.4, 12.5 and 15.
-use Rattle.std.specs.Prelude.{◌≡◌, ◌⊎◌, ℕ, ◌+◌, ◌*◌, ◌<◌, ◌≤◌, List, [], ◌∷◌, ◌++◌, Bool, not, ◌&&◌, ◌||◌, ◌==◌, nat_eq, nat_lt, length, codes, Some, IsTrue, map}
+use Rattle.std.specs.Prelude.{◌≡◌, ◌⊎◌, ℕ, ◌+◌, ◌*◌, ◌<◌, ◌≤◌, List, [], ◌∷◌, ◌++◌, Bool, not, ◌&&◌, ◌||◌, ◌==◌, nat_eq, nat_lt, length, codes, decimal, Some, IsTrue, map}
 use Rattle.std.specs.List.{before_first, after_first, starts_with, sum_by}
 use Rattle.std.specs.Option.{option_to_list}
 use Rattle.std.specs.Str.{bytes_eq, IsUtf8}
@@ -8,11 +8,13 @@ use Rattle.std.specs.Char.{is_ascii_alphanumeric}
 use Rattle.serde_json.specs.Data.{Data}
 use Rattle.serde_json.specs.Read.{read}
 use Rattle.iam_json.specs.Look.{is_one_of}
+use Rattle.iam_context.specs.ContextFault.{context_text}
 use Rattle.iam_text.specs.Arn.{colons}
 use Rattle.iam_text.specs.Characters.{is_label, is_run}
 use Rattle.iam_policy.specs.Fault.{IsAccepted, IsLeastFault, statements_in}
 use Rattle.iam_policy.specs.declared.fault.Kind.{Kind}
 use Rattle.iam_policy.specs.declared.fault.Kind.TheVariants as kind
+use Rattle.iam_policy.specs.Table.{refused_text}
 use Rattle.iam_policy.specs.declared.fault.Refused.{Refused}
 use Rattle.iam_match.specs.Requester.{RequesterValue, IsRequesterOf}
 use Rattle.iam_shape.specs.declared.path.Name.{Name}
@@ -20,6 +22,7 @@ use Rattle.iam_shape.specs.declared.path.Name.TheVariants.{Accounts, Principals,
 use Rattle.iam_shape.specs.declared.path.Name.TheVariants as name
 use Rattle.iam_shape.specs.declared.path.Path.{Path}
 use Rattle.iam_shape.specs.declared.path.Path.TheVariants.{Item, Field, Entry, Leaf}
+use Rattle.iam_shape.specs.Path.{path_text}
 use Rattle.iam_world.specs.declared.fault.WorldFault.{WorldFault}
 use Rattle.iam_world.specs.declared.fault.WorldFault.TheVariants.{NotJson, BadShape, BadRequester, BadAction, BadResourceArn, UnknownAccount, Context, Policy, TooLarge, OutOfMemory}
 use Rattle.iam_shape.specs.First.{IsFirst, IsFirstAt, placed}
@@ -52,6 +55,23 @@ world_name_of (Context path fault) = codes "Context"
 world_name_of (Policy path refused) = codes "Policy"
 world_name_of TooLarge = codes "TooLarge"
 world_name_of OutOfMemory = codes "OutOfMemory"
+
+-- the path of a fault and what is wrong there, which follow its number and name
+abbrev pub fault_path_text : WorldFault → List ℕ
+fault_path_text NotJson = []
+fault_path_text (BadShape path) = codes " at " ++ path_text path
+fault_path_text (BadRequester path) = codes " at " ++ path_text path
+fault_path_text (BadAction path) = codes " at " ++ path_text path
+fault_path_text (BadResourceArn path) = codes " at " ++ path_text path
+fault_path_text (UnknownAccount path) = codes " at " ++ path_text path
+fault_path_text (Context path fault) = codes " at " ++ (path_text path ++ (codes ": " ++ context_text fault))
+fault_path_text (Policy path refused) = codes " at " ++ (path_text path ++ (codes ": " ++ refused_text refused))
+fault_path_text TooLarge = []
+fault_path_text OutOfMemory = []
+
+-- `1 NotJson`, `2 BadShape at moment`
+abbrev pub world_text : WorldFault → List ℕ
+world_text fault = decimal (world_number_of fault) ++ (codes " " ++ (world_name_of fault ++ fault_path_text fault))
 
 -- ---- requesters
 

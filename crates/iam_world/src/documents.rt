@@ -5,7 +5,7 @@ ghost use Rattle.std.specs.Option.{option_to_list};
 ghost use Rattle.serde_json.specs.View.{view};
 ghost use Rattle.iam_policy.specs.Reading.{Reads};
 ghost use Rattle.iam_policy.specs.declared.fault.Kind.TheVariants as kind;
-ghost use Rattle.iam_world.specs.declared.documents.Place.TheVariants as place;
+ghost use Rattle.iam_world.specs.declared.documents.Location.TheVariants as place;
 ghost use Rattle.iam_shape.specs.Lent.{account_of, levels_of, policies_in, principal_of, resource_of};
 ghost use Rattle.iam_shape.specs.LentWorld.{world_of};
 ghost use Rattle.iam_world.specs.Code.Documents.{HasPolicies, IsCleared, IsRefusedAmong, document_at, path_at};
@@ -24,7 +24,7 @@ use serde_json::Value;
 use std::alloc::Global;
 
 /// How the policy documents of a member of a list are read.
-trait Layer<T> {
+trait Reader<T> {
     type Read: Drop;
 
     ghost documents: { Self → ℕ → T → List Document };
@@ -46,7 +46,7 @@ trait Layer<T> {
 }
 
 /// Reads the documents of each member of a list.
-fn read_each<T, L: Layer<T>>(
+fn read_each<T, L: Reader<T>>(
     layer: &L,
     alloc: Global,
     budget: &mut Budget,
@@ -66,7 +66,7 @@ fn read_each<T, L: Layer<T>>(
 
 /// Where the documents of one list stand.
 #[derive(Clone, Copy)]
-enum Place {
+enum Location {
     /// In a list of a member of a list, as `principals/0/identity`.
     Entries(Name, usize, Name),
     /// In a level of a member of a list, as `accounts/0/org/1`.
@@ -75,7 +75,7 @@ enum Place {
     Alone(Name, usize, Name),
 }
 
-impl Place {
+impl Location {
     ghost use Rattle.std.specs.Prelude.{◌≡◌};
     ghost use Rattle.iam_world.specs.Code.Documents.{path_at};
 
@@ -84,9 +84,9 @@ impl Place {
         ensures { result ≡ path_at self i }
     {
         match self {
-            Place::Entries(list, of, name) => Path::Entry(list, of, name, i),
-            Place::Level(list, of, name, level) => Path::Leaf(list, of, name, level, i),
-            Place::Alone(list, of, name) => Path::Field(list, of, name),
+            Location::Entries(list, of, name) => Path::Entry(list, of, name, i),
+            Location::Level(list, of, name, level) => Path::Leaf(list, of, name, level, i),
+            Location::Alone(list, of, name) => Path::Field(list, of, name),
         }
     }
 }
@@ -95,7 +95,7 @@ impl Place {
 #[derive(Clone, Copy)]
 struct Documents {
     kind: Kind,
-    place: Place,
+    place: Location,
 }
 
 /// The fault of the world whose document at this path is refused.
@@ -110,7 +110,7 @@ fn fault_at(path: Path, refused: Refused) -> WorldFault
     }
 }
 
-impl Layer<Value> for Documents {
+impl Reader<Value> for Documents {
     type Read = Policy;
 
     ghost documents = { λ self i value. document_at self i (view value) ∷ [] };
@@ -139,7 +139,7 @@ fn read_policies(
     alloc: Global,
     budget: &mut Budget,
     kind: Kind,
-    place: Place,
+    place: Location,
     documents: &[Value],
 ) -> Result<Vec<Policy>, WorldFault>
     ensures ok { IfOk result (λ policies. AllZip (Reads kind) (map view documents.now) policies.items) }
@@ -155,7 +155,7 @@ fn read_optional(
     alloc: Global,
     budget: &mut Budget,
     kind: Kind,
-    place: Place,
+    place: Location,
     document: Option<&Value>,
 ) -> Result<Option<Policy>, WorldFault>
     ensures ok { IfOk result (λ policy. ReadsOptional kind (option_map (λ d. view d.now) document.entry) policy) }
@@ -182,7 +182,7 @@ struct LevelDocuments {
     name: Name,
 }
 
-impl Layer<Value> for LevelDocuments {
+impl Reader<Value> for LevelDocuments {
     type Read = Vec<Policy>;
 
     ghost documents = { λ self i level. numbered self.kind (path_at (place.Level self.list self.of self.name i)) 0 (policies_in (view level)) };
@@ -196,7 +196,7 @@ impl Layer<Value> for LevelDocuments {
         i: usize,
         level: &Value,
     ) -> Result<Vec<Policy>, WorldFault> {
-        let place = Place::Level(self.list, self.of, self.name, i);
+        let place = Location::Level(self.list, self.of, self.name, i);
         read_policies(alloc, budget, self.kind, place, policies_in(level))
     }
 }
@@ -222,7 +222,7 @@ fn read_levels(
 #[derive(Clone, Copy)]
 struct OrgPolicies;
 
-impl<'v> Layer<AccountView<'v>> for OrgPolicies {
+impl<'v> Reader<AccountView<'v>> for OrgPolicies {
     type Read = Vec<Vec<Policy>>;
 
     ghost documents = { λ self i account. org_documents i (account_of account) };
@@ -250,7 +250,7 @@ impl<'v> Layer<AccountView<'v>> for OrgPolicies {
 #[derive(Clone, Copy)]
 struct ControlPolicies;
 
-impl<'v> Layer<ResourceView<'v>> for ControlPolicies {
+impl<'v> Reader<ResourceView<'v>> for ControlPolicies {
     type Read = Vec<Vec<Policy>>;
 
     ghost documents = { λ self i resource. control_documents i (resource_of resource) };
@@ -278,7 +278,7 @@ impl<'v> Layer<ResourceView<'v>> for ControlPolicies {
 #[derive(Clone, Copy)]
 struct ResourcePolicies;
 
-impl<'v> Layer<ResourceView<'v>> for ResourcePolicies {
+impl<'v> Reader<ResourceView<'v>> for ResourcePolicies {
     type Read = Option<Policy>;
 
     ghost documents = { λ self i resource. resource_documents i (resource_of resource) };
@@ -292,7 +292,7 @@ impl<'v> Layer<ResourceView<'v>> for ResourcePolicies {
         i: usize,
         resource: &ResourceView<'v>,
     ) -> Result<Option<Policy>, WorldFault> {
-        let place = Place::Alone(Name::Resources, i, Name::Policy);
+        let place = Location::Alone(Name::Resources, i, Name::Policy);
         read_optional(alloc, budget, Kind::Resource, place, resource.policy)
     }
 }
@@ -301,7 +301,7 @@ impl<'v> Layer<ResourceView<'v>> for ResourcePolicies {
 #[derive(Clone, Copy)]
 struct IdentityPolicies;
 
-impl<'v> Layer<PrincipalView<'v>> for IdentityPolicies {
+impl<'v> Reader<PrincipalView<'v>> for IdentityPolicies {
     type Read = Items<Policy>;
 
     ghost documents = { λ self i principal. identity_documents i (principal_of principal) };
@@ -315,7 +315,7 @@ impl<'v> Layer<PrincipalView<'v>> for IdentityPolicies {
         i: usize,
         principal: &PrincipalView<'v>,
     ) -> Result<Items<Policy>, WorldFault> {
-        let place = Place::Entries(Name::Principals, i, Name::Identity);
+        let place = Location::Entries(Name::Principals, i, Name::Identity);
         let policies = read_policies(alloc, budget, Kind::Identity, place, principal.identity)?;
         Ok(Items::from_vec(policies))
     }
@@ -325,7 +325,7 @@ impl<'v> Layer<PrincipalView<'v>> for IdentityPolicies {
 #[derive(Clone, Copy)]
 struct Boundaries;
 
-impl<'v> Layer<PrincipalView<'v>> for Boundaries {
+impl<'v> Reader<PrincipalView<'v>> for Boundaries {
     type Read = Option<Policy>;
 
     ghost documents = { λ self i principal. boundary_documents i (principal_of principal) };
@@ -339,7 +339,7 @@ impl<'v> Layer<PrincipalView<'v>> for Boundaries {
         i: usize,
         principal: &PrincipalView<'v>,
     ) -> Result<Option<Policy>, WorldFault> {
-        let place = Place::Alone(Name::Principals, i, Name::Boundary);
+        let place = Location::Alone(Name::Principals, i, Name::Boundary);
         read_optional(alloc, budget, Kind::Identity, place, principal.boundary)
     }
 }
@@ -348,7 +348,7 @@ impl<'v> Layer<PrincipalView<'v>> for Boundaries {
 #[derive(Clone, Copy)]
 struct SessionPolicies;
 
-impl<'v> Layer<PrincipalView<'v>> for SessionPolicies {
+impl<'v> Reader<PrincipalView<'v>> for SessionPolicies {
     type Read = Items<Policy>;
 
     ghost documents = { λ self i principal. session_documents i (principal_of principal) };
@@ -362,7 +362,7 @@ impl<'v> Layer<PrincipalView<'v>> for SessionPolicies {
         i: usize,
         principal: &PrincipalView<'v>,
     ) -> Result<Items<Policy>, WorldFault> {
-        let place = Place::Entries(Name::Principals, i, Name::SessionPolicies);
+        let place = Location::Entries(Name::Principals, i, Name::SessionPolicies);
         let documents = principal.session_policies;
         let policies = read_policies(alloc, budget, Kind::Identity, place, documents)?;
         Ok(Items::from_vec(policies))

@@ -5,10 +5,12 @@ use iam_shape::{Path, ShapeFault};
 use iam_text::OutOfMemory;
 use iam_world_context::PartFault;
 use std::alloc::AllocFailed;
+use std::fmt::{self, Display, Formatter, Write};
+use thiserror::Error;
 
 /// Why bytes are no world. A document with several faults is refused by the first: `TooLarge` for its bytes, then by
 /// number, each at its first place, then `TooLarge` for its cells or statements.
-#[derive(Clone, Copy, Debug, PartialEq, Eq)]
+#[derive(Clone, Copy, Debug, PartialEq, Eq, Error)]
 pub enum WorldFault {
     /// 1: The bytes are no JSON text that `serde_json` reads.
     NotJson,
@@ -69,6 +71,43 @@ impl WorldFault {
             WorldFault::Policy(_, _) => "Policy",
             WorldFault::TooLarge => "TooLarge",
             WorldFault::OutOfMemory => "OutOfMemory",
+        }
+    }
+}
+
+impl Display for WorldFault {
+    ghost use Rattle.std.specs.Prelude.{Some};
+    ghost use Rattle.iam_world.specs.WorldFault.{world_text};
+
+    ghost output = { λ fault. Some (world_text fault) };
+
+    fn fmt<W: Write>(&self, f: &mut Formatter<W>) -> Result<(), fmt::Error> {
+        let number = self.number();
+        let name = self.name();
+        write!(f, "{number} {name}{}", PathText(*self))
+    }
+}
+
+/// Where the fault of a world stands, where it has a place, and the fault there.
+#[derive(Clone, Copy)]
+struct PathText(WorldFault);
+
+impl Display for PathText {
+    ghost use Rattle.std.specs.Prelude.{Some};
+    ghost use Rattle.iam_world.specs.WorldFault.{fault_path_text};
+
+    ghost output = { λ text. Some (fault_path_text text.0) };
+
+    fn fmt<W: Write>(&self, f: &mut Formatter<W>) -> Result<(), fmt::Error> {
+        match self.0 {
+            WorldFault::BadShape(path)
+            | WorldFault::BadRequester(path)
+            | WorldFault::BadAction(path)
+            | WorldFault::BadResourceArn(path)
+            | WorldFault::UnknownAccount(path) => write!(f, " at {path}"),
+            WorldFault::Context(path, fault) => write!(f, " at {path}: {fault}"),
+            WorldFault::Policy(path, refused) => write!(f, " at {path}: {refused}"),
+            WorldFault::NotJson | WorldFault::TooLarge | WorldFault::OutOfMemory => Ok(()),
         }
     }
 }

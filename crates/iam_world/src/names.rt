@@ -3,7 +3,7 @@ ghost use Rattle.std.specs.Prelude.{◌≡◌, ◌≢◌, ◌||◌, ◌==◌, ma
 ghost use Rattle.std.specs.Char.{is_ascii_alphanumeric};
 ghost use Rattle.std.specs.List.{AllZip, list_all, position_from};
 ghost use Rattle.iam_world.specs.Code.ViewFault.{FindsFirst, IsClearBelow, IsFaultAt, IsFirstViewFault};
-ghost use Rattle.iam_shape.specs.Code.Texts.{has_text};
+ghost use Rattle.iam_shape.specs.Texts.{has_text};
 ghost use Rattle.iam_shape.specs.Lent.{principal_of};
 ghost use Rattle.iam_shape.specs.LentWorld.{world_of};
 ghost use Rattle.iam_shape.specs.First.{IsFirstAt, placed};

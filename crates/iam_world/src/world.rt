@@ -5,9 +5,9 @@ ghost use Rattle.std.specs.Str.{bytes_eq};
 ghost use Rattle.serde_json.specs.Data.{Data};
 ghost use Rattle.serde_json.specs.View.{view};
 ghost use Rattle.iam_world.specs.Code.ViewFault.{IsFirstViewFault, ViewHasFault};
-ghost use Rattle.iam_world_context.specs.Code.Contexts.{HasContexts};
+ghost use Rattle.iam_world_context.specs.Clean.{HasContexts};
 ghost use Rattle.iam_world.specs.Code.Documents.{HasPolicies};
-ghost use Rattle.iam_shape.specs.Code.Texts.{HasTexts};
+ghost use Rattle.iam_shape.specs.Texts.{HasTexts};
 ghost use Rattle.iam_shape.specs.Few.{HasFewLists};
 ghost use Rattle.iam_shape.specs.Lent.{principal_of};
 ghost use Rattle.iam_shape.specs.LentWorld.{world_of};
@@ -52,7 +52,7 @@ pub struct WorldParts {
 impl Model for WorldParts {
     ghost use Rattle.std.specs.Prelude.{map, string_bytes};
     ghost use Rattle.iam_world.specs.World.{WorldValue};
-    ghost use Rattle.iam_world.specs.Code.Invariants.{IsSized};
+    ghost use Rattle.iam_world.specs.Invariants.{IsSized};
 
     ghost Value = { WorldValue };
 
@@ -195,7 +195,7 @@ impl WorldParts {
     ghost use Rattle.std.specs.Prelude.{◌≡◌, ◌≢◌, ◌≤◌, IfOk, IfErr, IfSome, map, option_map, string_bytes};
     ghost use Rattle.std.specs.List.{AllByRecursion};
     ghost use Rattle.iam_shape.specs.Few.{HasFewLevels};
-    ghost use Rattle.iam_world.specs.Code.Invariants.{CanJoin, HasFewPolicies};
+    ghost use Rattle.iam_world.specs.Invariants.{CanJoin, HasFewPolicies};
     ghost use Rattle.iam_world.specs.Reads.{IsWorld};
     ghost use Rattle.iam_world.specs.World.{account_with, world_cells, world_statements};
     ghost use Rattle.iam_world.specs.WorldFault.{IsFirstWorldFault};

@@ -9,7 +9,8 @@ use Rattle.iam_shape.specs.First.{placed}
 use Rattle.iam_shape.specs.declared.path.Name.TheVariants.{Context, Principals, Resources}
 use Rattle.iam_shape.specs.declared.path.Path.{Path}
 use Rattle.iam_shape.specs.declared.path.Path.TheVariants.{Field, Member}
-use Rattle.iam_world_context.specs.Code.Contexts.{AllClean, AreClean, IsFaultyAmong, IsFaultyPart}
+use Rattle.iam_world_context.specs.Clean.{AllClean, AreClean}
+use Rattle.iam_world_context.specs.Code.Contexts.{IsFaultyAmong, IsFaultyPart}
 use Rattle.iam_world_context.specs.Contexts.{Beside, IsFaulty, all_parts, parts_of}
 use Rattle.iam_world_context.specs.declared.fault.PartFault.{PartFault}
 use Rattle.iam_world_context.proofs.Lists.{drop-at, first_here, first_later, none-append}

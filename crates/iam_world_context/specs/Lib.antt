@@ -1,3 +1,4 @@
+pub mod Clean
 pub mod Code
 pub mod Contexts
 pub mod Part

@@ -2,12 +2,13 @@
 ghost use Rattle.std.specs.Prelude.{◌≡◌, ◌≢◌, ℕ, List, [], ◌++◌, map, option_map, IfOk, IfErr, OnOk};
 ghost use Rattle.std.specs.List.{AllByRecursion, filter_map, flat_map};
 ghost use Rattle.serde_json.specs.View.{members_view, view};
-ghost use Rattle.iam_context.specs.Code.Keys.{HasKeys};
+ghost use Rattle.iam_context.specs.Keys.{HasKeys};
 ghost use Rattle.iam_context.specs.Context.{keys_of};
 ghost use Rattle.iam_context.specs.ContextFault.{IsClean};
 ghost use Rattle.iam_json.specs.Scalar.{scalar_text};
 ghost use Rattle.iam_shape.specs.LentWorld.{world_of};
-ghost use Rattle.iam_world_context.specs.Code.Contexts.{AllClean, AreClean, HasContexts, IsFaultyAmong, IsFaultyPart};
+ghost use Rattle.iam_world_context.specs.Clean.{AllClean, AreClean, HasContexts};
+ghost use Rattle.iam_world_context.specs.Code.Contexts.{IsFaultyAmong, IsFaultyPart};
 ghost use Rattle.iam_world_context.specs.Contexts.{IsFaulty, all_parts, parts, parts_of};
 ghost use Rattle.iam_world_context.specs.Part.{members_part, part_of, value_texts};
 ghost use Rattle.iam_world_context.specs.declared.fault.PartFault.TheVariants as p;

@@ -3,7 +3,7 @@ use Rattle.std.specs.Prelude.{◌≡◌, ℕ, List, Option, option_map}
 use Rattle.std.specs.Borrow.{Bor}
 use Rattle.std.specs.BTreeMap.{BTreeMap, get_by}
 use Rattle.std.specs.List.{find}
-use Rattle.iam_context.specs.Code.Keys.{key_cmp}
+use Rattle.iam_context.specs.Keys.{key_cmp}
 use Rattle.iam_context.specs.Context.{ContextValue, is_same_key}
 use Rattle.iam_context.specs.declared.key.Key.{Key}
 

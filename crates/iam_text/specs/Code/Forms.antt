@@ -1,8 +1,6 @@
 -- How the code reads the forms of a text, beside the definition that it meets (`Draft`).
-use Rattle.std.specs.Prelude.{◌≡◌, ◌≤◌, ◌⊎◌, ℕ, List, [], ◌∷◌, ◌++◌, ◌||◌, not, ◌==◌, Some, None, IsTrue, codes, length, option_map, replicate}
+use Rattle.std.specs.Prelude.{◌≡◌, ◌≤◌, ◌⊎◌, ℕ, List, [], ◌∷◌, ◌++◌, ◌||◌, not, ◌==◌, Some, None, IsTrue, codes, length, replicate}
 use Rattle.std.specs.List.{list_all}
-use Rattle.iam_text.specs.declared.form.Form.{Form}
-use Rattle.iam_text.specs.declared.form.Form.TheVariants.{Literal, Named}
 use Rattle.iam_text.specs.declared.draft.Piece.{Piece}
 use Rattle.iam_text.specs.declared.draft.Piece.TheVariants.{Plain, Escaped, Variable}
 use Rattle.iam_text.specs.Draft.{is_key}
@@ -14,11 +12,6 @@ NoneBegins front rest = (before behind : List ℕ) → front ++ rest ≡ before 
 -- the text is cut at its first `${`, into what stands before it and behind it
 abbrev pub IsCutAtForm : List ℕ → List ℕ → List ℕ → Type 0
 IsCutAtForm text front inside = (text ≡ front ++ (codes "${" ++ inside)) × NoneBegins front (codes "${" ++ inside)
-
--- the piece of a form
-abbrev pub piece_of : Form → Piece
-piece_of (Literal c) = Escaped c
-piece_of (Named key default) = Variable key.now (option_map (λ d. d.now) default)
 
 -- what stands between `${` and `}` is this piece, which has no default
 abbrev pub IsClosed : Piece → List ℕ → Type 0

@@ -18,8 +18,8 @@ use Rattle.iam_shape.specs.Lent.{account_of, principal_of, resource_of}
 use Rattle.iam_world.specs.Reads.{ReadsOptional}
 use Rattle.iam_world.specs.declared.documents.Documents.{Documents}
 use Rattle.iam_world.specs.declared.documents.Policies.{Policies}
-use Rattle.iam_world.specs.declared.documents.Place.{Place}
-use Rattle.iam_world.specs.declared.documents.Place.TheVariants.{Entries, Level, Alone}
+use Rattle.iam_world.specs.declared.documents.Location.{Location}
+use Rattle.iam_world.specs.declared.documents.Location.TheVariants.{Entries, Level, Alone}
 
 -- how many statements documents have
 abbrev pub statements_of : List Document → ℕ
@@ -35,7 +35,7 @@ pub record IsCleared (ds : List Document) (before after : Budget) : Type 0 where
   pub counted : (total : ℕ) → Leaves before total → Leaves after (total + statements_of ds)
 
 -- the path of a document of a list
-abbrev pub path_at : Place → ℕ → Path
+abbrev pub path_at : Location → ℕ → Path
 path_at (Entries list i name) j = Entry list i name j
 path_at (Level list i name level) j = Leaf list i name level j
 path_at (Alone list i name) j = Field list i name

@@ -1,20 +1,12 @@
 -- How the code tests the parts of the context one after another, beside `Contexts`.
-use Rattle.std.specs.Prelude.{◌≡◌, ℕ, List, [], ◌++◌, map}
-use Rattle.std.specs.List.{AllByRecursion, flat_map}
-use Rattle.iam_context.specs.Context.{ContextValue, keys_of}
-use Rattle.iam_context.specs.ContextFault.{IsClean, IsPartFault}
+use Rattle.std.specs.Prelude.{◌≡◌, ℕ, List}
+use Rattle.iam_context.specs.Context.{ContextValue}
+use Rattle.iam_context.specs.ContextFault.{IsPartFault}
 use Rattle.iam_context.specs.declared.fault.ContextFault.{ContextFault}
 use Rattle.iam_shape.specs.declared.path.Path.{Path}
-use Rattle.iam_shape.specs.View.{WorldView}
-use Rattle.iam_world_context.specs.Part.{part_of}
-use Rattle.iam_world_context.specs.Contexts.{Beside, IsFirstFaulty, principal_parts, resource_parts}
-use Rattle.iam_world_context.specs.declared.contexts.Contexts.{Contexts}
+use Rattle.iam_world_context.specs.Contexts.{Beside, IsFirstFaulty}
 use Rattle.iam_world_context.specs.declared.fault.PartFault.{PartFault}
 use Rattle.iam_world_context.specs.declared.fault.PartFault.TheVariants.{At}
-
--- no part has a fault beside others with these keys
-abbrev pub AreClean : List (List ℕ) → List ContextValue → Type 0
-AreClean keys parts = AllByRecursion (IsClean keys) parts
 
 -- this is the fault of the part at this path
 abbrev pub IsFaultyPart : Path → List (List ℕ) → ContextValue → PartFault → Type 0
@@ -24,16 +16,3 @@ IsFaultyPart path keys part fault = (found : ContextFault) × (fault ≡ At path
 abbrev pub IsFaultyAmong : List (Path × Beside) → PartFault → Type 0
 IsFaultyAmong parts fault =
     (path : Path) × (found : ContextFault) × (fault ≡ At path found) × IsFirstFaulty parts path found
-
--- no part has a fault: neither that of the world, nor one of a principal, nor one of a resource
-pub record AllClean (world : ContextValue) (principals resources : List ContextValue) : Type 0 where
-  pub own : IsClean [] world
-  pub principals_clean : AreClean (keys_of world) principals
-  pub resources_clean : AreClean (keys_of world ++ flat_map keys_of principals) resources
-
--- the contexts of the view, none of which has a fault
-pub record HasContexts (view : WorldView) (contexts : Contexts) : Type 0 where
-  pub world : contexts.world.items ≡ part_of view.context
-  pub principals : map (λ part. part.items) contexts.principals.items ≡ principal_parts view
-  pub resources : map (λ part. part.items) contexts.resources.items ≡ resource_parts view
-  pub clean : AllClean (part_of view.context) (principal_parts view) (resource_parts view)

@@ -1,5 +1,5 @@
 use Rattle.std.proofs.Common.{◌≡◌, ◌≤◌, drop, length}
-use Rattle.iam_context.specs.Code.Keys.{key_cmp}
+use Rattle.iam_context.specs.Keys.{key_cmp}
 use Rattle.iam_context.proofs.key.folded_cmp.Given as goal
 
 -- what is left decides

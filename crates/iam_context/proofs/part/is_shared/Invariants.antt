@@ -1,6 +1,6 @@
 use Rattle.std.proofs.Common.{◌≡◌, ℕ, List, drop}
 use Rattle.std.specs.List.{list_any}
-use Rattle.iam_context.specs.Code.Keys.{HasKeys}
+use Rattle.iam_context.specs.Keys.{HasKeys}
 use Rattle.iam_context.specs.Context.{has_key, keys_of}
 use Rattle.iam_context.proofs.part.is_shared.Given as goal
 

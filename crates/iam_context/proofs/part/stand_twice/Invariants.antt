@@ -1,5 +1,5 @@
 use Rattle.std.proofs.Common.{◌≡◌, drop, map, take}
-use Rattle.iam_context.specs.Code.Keys.{HasKeys, shares}
+use Rattle.iam_context.specs.Keys.{HasKeys, shares}
 use Rattle.iam_context.specs.Context.{all_of, has_twice, keys_of}
 use Rattle.iam_context.proofs.part.stand_twice.Given as goal
 

@@ -3,7 +3,6 @@ use Rattle.iam_crew.proofs.runs.seek.Given as goal
 
 abbrev pub invariant-loop-turn : goal.invariant-loop-turn
 invariant-loop-turn l = record {
-  work : l.seat.work ≡ l.work;
-  number : l.seat.number ≡ l.initial.seat.number;
+  same : l.seat ≡ l.initial.seat;
   idle : l.idle + l.turn ≡ l.initial.idle;
 }

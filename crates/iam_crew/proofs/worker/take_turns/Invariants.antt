@@ -1,4 +1,5 @@
-use Rattle.std.proofs.Common.{◌+◌, ◌≤◌}
+use Rattle.std.proofs.Common.{◌≡◌, ◌+◌, ◌≤◌}
+use Rattle.iam_crew.specs.Code.Runs.{turns_of}
 use Rattle.iam_crew.specs.Code.Worker.{IsAtWork}
 use Rattle.iam_crew.proofs.worker.take_turns.Given as goal
 
@@ -6,4 +7,6 @@ abbrev pub invariant-loop-turn : goal.invariant-loop-turn
 invariant-loop-turn g l = record {
   worker : IsAtWork l.work l.initial.worker.bound.of (g.C.Crew.fits l.crew) (g.C.Crew.offers l.crew) (g.C.Crew.gives l.crew) l.worker;
   inside : l.run.first + l.run.count ≤ l.work.grains;
+  turns : turns_of l.worker ≡ turns_of l.initial.worker + l._turn;
+  idle : l.worker.idle ≤ l.initial.worker.idle;
 }

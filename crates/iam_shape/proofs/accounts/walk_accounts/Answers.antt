@@ -4,7 +4,7 @@ use Rattle.std.proofs.lemmas.List.{length-map, length_push, map-append}
 use Rattle.std.proofs.lemmas.Result.{err_from_is_err_and}
 use Rattle.serde_json.specs.View.{view}
 use Rattle.iam_json.specs.Look.{is_one_of}
-use Rattle.iam_shape.specs.Code.Texts.{HasTexts}
+use Rattle.iam_shape.specs.Texts.{HasTexts}
 use Rattle.iam_shape.specs.Lent.{account_of}
 use Rattle.iam_shape.specs.Shape.{text_at, nth_account_checks}
 use Rattle.iam_shape.specs.View.{AccountView, IsAccountView}

@@ -1,7 +1,7 @@
 use Rattle.std.proofs.Common.{◌≡◌, length, map, take, drop}
 use Rattle.std.specs.List.{AllZip}
 use Rattle.serde_json.specs.View.{view}
-use Rattle.iam_shape.specs.Code.Texts.{HasTexts}
+use Rattle.iam_shape.specs.Texts.{HasTexts}
 use Rattle.iam_shape.specs.Lent.{account_of}
 use Rattle.iam_shape.specs.Shape.{all_account_checks, each, first_bad, nth_account_checks}
 use Rattle.iam_shape.specs.View.{IsAccountView}

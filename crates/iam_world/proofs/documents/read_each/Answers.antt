@@ -11,7 +11,7 @@ returns-in_err-read-clause-fault g c =
     rw (p.1, p.2)
     (
     λ other.
-    each_refused (g.L.Layer.documents c.args.layer.now) c.args.list.now c.loop-i.i c.index-list-i.result c.in_err-read.field-0.0 c.loop-i-test.true c.index-list-i.is
+    each_refused (g.L.Reader.documents c.args.layer.now) c.args.list.now c.loop-i.i c.index-list-i.result c.in_err-read.field-0.0 c.loop-i-test.true c.index-list-i.is
     c.loop-i.invariant.cleared.accepted (c.in_err-read.ensures.fault other)
     )
 
@@ -20,14 +20,14 @@ loop-i-init g c = record { read = rw c.new-read.ensures.items tt; cleared = clea
 
 pub loop-i-preserved : goal.loop-i-preserved
 loop-i-preserved g c =
-    let docs = g.L.Layer.documents c.args.layer.now in
+    let docs = g.L.Reader.documents c.args.layer.now in
     let list = c.args.list.now in
     let i = c.loop-i.i in
     let x = c.index-list-i.result in
     record {
       read =
           rw c.in_ok-push.ensures.items
-          (zip_whole (g.L.Layer.reads c.args.layer.now) list i x c.loop-i.read.items c.in_ok-read.field-0 c.loop-i-test.true c.index-list-i.is c.loop-i.invariant.read
+          (zip_whole (g.L.Reader.reads c.args.layer.now) list i x c.loop-i.read.items c.in_ok-read.field-0 c.loop-i-test.true c.index-list-i.is c.loop-i.invariant.read
           c.in_ok-read.ensures.ok);
       cleared =
           rw (each-next docs list i x c.loop-i-test.true c.index-list-i.is)

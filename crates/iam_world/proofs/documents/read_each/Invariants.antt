@@ -7,6 +7,6 @@ use Rattle.iam_world.proofs.documents.read_each.Given as goal
 -- what was read so far, and its documents are cleared
 abbrev pub invariant-loop-i : goal.invariant-loop-i
 invariant-loop-i g l = record {
-  read : AllZip (g.L.Layer.reads l.layer) (take l.i l.list) l.read.items;
-  cleared : IsCleared (of_each (g.L.Layer.documents l.layer) 0 (take l.i l.list)) l.initial.budget l.budget;
+  read : AllZip (g.L.Reader.reads l.layer) (take l.i l.list) l.read.items;
+  cleared : IsCleared (of_each (g.L.Reader.documents l.layer) 0 (take l.i l.list)) l.initial.budget l.budget;
 }

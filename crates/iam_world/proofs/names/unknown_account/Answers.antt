@@ -1,7 +1,7 @@
 use Rattle.std.proofs.Common.{◌≡◌, ◌∙◌, List, map, not, option_map, refl, sym, ap, subst}
 use Rattle.std.specs.List.{position_from}
 use Rattle.iam_world.specs.Code.ViewFault.{FindsFirst}
-use Rattle.iam_shape.specs.Code.Texts.{has_text}
+use Rattle.iam_shape.specs.Texts.{has_text}
 use Rattle.iam_shape.specs.Lent.{resource_of}
 use Rattle.iam_shape.specs.LentWorld.{world_of}
 use Rattle.iam_shape.specs.First.{placed}

@@ -1,9 +1,10 @@
 use Rattle.std.proofs.Common.{ℕ, List, map, take, drop}
-use Rattle.iam_context.specs.Code.Keys.{HasKeys}
+use Rattle.iam_context.specs.Keys.{HasKeys}
 use Rattle.iam_shape.specs.First.{placed}
 use Rattle.iam_shape.specs.declared.path.Name.TheVariants.{Context}
 use Rattle.iam_shape.specs.declared.path.Path.TheVariants.{Field}
-use Rattle.iam_world_context.specs.Code.Contexts.{AreClean, IsFaultyAmong}
+use Rattle.iam_world_context.specs.Clean.{AreClean}
+use Rattle.iam_world_context.specs.Code.Contexts.{IsFaultyAmong}
 use Rattle.iam_world_context.specs.Contexts.{parts_of}
 use Rattle.iam_world_context.specs.declared.fault.PartFault.{PartFault}
 use Rattle.iam_world_context.proofs.PartLemmas.{beside}

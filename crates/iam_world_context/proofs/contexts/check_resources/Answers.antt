@@ -2,7 +2,7 @@ use Rattle.std.proofs.Common.{[], ◌++◌, map, take, subst, sym}
 use Rattle.std.specs.List.{flat_map}
 use Rattle.std.proofs.lemmas.Result.{IfErr-weaker, on_ok_weaker}
 use Rattle.std.proofs.lemmas.List.{append-nil, take_all}
-use Rattle.iam_context.specs.Code.Keys.{HasKeys}
+use Rattle.iam_context.specs.Keys.{HasKeys}
 use Rattle.iam_context.specs.Context.{keys_of}
 use Rattle.iam_world_context.proofs.PartLemmas.{keys_next}
 use Rattle.iam_world_context.proofs.contexts.check_resources.Goals as goal

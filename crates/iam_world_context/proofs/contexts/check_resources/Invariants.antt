@@ -1,6 +1,6 @@
 use Rattle.std.proofs.Common.{◌++◌, map, take}
 use Rattle.std.specs.List.{flat_map}
-use Rattle.iam_context.specs.Code.Keys.{HasKeys}
+use Rattle.iam_context.specs.Keys.{HasKeys}
 use Rattle.iam_context.specs.Context.{keys_of}
 use Rattle.iam_world_context.proofs.contexts.check_resources.Given as goal
 

@@ -1,5 +1,5 @@
 use Rattle.std.proofs.Common.{ℕ, List, ◌++◌, take}
-use Rattle.iam_context.specs.Code.Keys.{HasKeys}
+use Rattle.iam_context.specs.Keys.{HasKeys}
 use Rattle.iam_context.specs.Context.{keys_of}
 use Rattle.iam_context.proofs.keys.Keys.add.Given as goal
 

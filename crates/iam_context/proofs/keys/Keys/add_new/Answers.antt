@@ -2,7 +2,7 @@ use Rattle.std.proofs.Common.{◌∙◌, ◌+◌, ◌∷◌, [], ◌++◌, ◌�
 use Rattle.std.proofs.lemmas.List.{drop_all, take_all}
 use Rattle.iam_context.proofs.KeyLemmas.{keys-left-of, keys-more-of}
 use Rattle.iam_context.proofs.Shares.{not-there, shares-here, shares-next, there}
-use Rattle.iam_context.specs.Code.Keys.{shares}
+use Rattle.iam_context.specs.Keys.{shares}
 use Rattle.iam_context.specs.Context.{has_key, keys_of}
 use Rattle.iam_context.proofs.keys.Keys.add_new.Goals as goal
 
