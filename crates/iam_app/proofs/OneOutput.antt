@@ -7,8 +7,8 @@ use Rattle.iam_matrix.specs.Report.{IsMatrixReport}
 use Rattle.iam_options.specs.declared.options.Options.{Options}
 use Rattle.iam_options.specs.declared.options.Task.{Task}
 use Rattle.iam_options.specs.declared.options.Task.TheVariants as t
-use Rattle.iam_report.specs.CsvRow.{IsCsvRow}
-use Rattle.iam_report.specs.Laws.{OneRow}
+use Rattle.iam_row.specs.CsvRow.{IsCsvRow}
+use Rattle.iam_row.specs.Laws.{OneRow}
 use Rattle.iam_world.specs.Reads.{IsWorld}
 use Rattle.iam_world.specs.World.{WorldValue}
 use Rattle.iam_world.specs.WorldFault.{IsFirstWorldFault}

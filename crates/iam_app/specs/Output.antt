@@ -8,9 +8,9 @@ use Rattle.iam_world.specs.World.{WorldValue, world_cells, world_statements}
 use Rattle.iam_world.specs.WorldFault.{IsFirstWorldFault}
 use Rattle.iam_decision.specs.declared.verdict.Verdict.{Verdict}
 use Rattle.iam_world.specs.declared.fault.WorldFault.TheVariants as w
-use Rattle.iam_report.specs.CsvRow.{IsCsvRow}
-use Rattle.iam_report.specs.declared.quoted.Format.{Format}
-use Rattle.iam_report.specs.declared.quoted.Format.TheVariants.{Csv, Json}
+use Rattle.iam_row.specs.CsvRow.{IsCsvRow}
+use Rattle.iam_row.specs.declared.quoted.Format.{Format}
+use Rattle.iam_row.specs.declared.quoted.Format.TheVariants.{Csv, Json}
 use Rattle.iam_matrix.specs.Cut.{IsEvenCut, IsEvenFault}
 use Rattle.iam_matrix.specs.Fault.{IsUnlawful}
 use Rattle.iam_matrix.specs.Report.{IsFirstReport, IsMatrixReport}

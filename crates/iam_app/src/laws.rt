@@ -3,7 +3,7 @@ ghost use Rattle.iam_app.specs.Laws.{OneBeginning, OneEnd, OneOutput};
 
 use iam_layers::one_verdict_at;
 use iam_matrix::one_report;
-use iam_report::one_row;
+use iam_row::one_row;
 use iam_world::{no_world_and_fault, one_first_fault, one_world};
 
 /// Of bytes there is one report, whatever the tile and the number of workers. Two runs on one input, with options that differ

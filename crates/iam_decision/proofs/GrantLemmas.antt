@@ -13,7 +13,6 @@ use Rattle.iam_match.specs.Principal.{Name, grant_of, grant_of_element, grant_of
 use Rattle.iam_match.specs.Requester.{RequesterValue, requester_name, role_arn, root_arn, session_arn, user_arn}
 use Rattle.iam_match.specs.declared.principal.Grant.{Grant}
 use Rattle.iam_decision.specs.Laws
-use Rattle.iam_decision.specs.Laws.{NamesItself}
 use Rattle.iam_decision.proofs.SomeLemmas.{SomeOf, any-from_some, iff-trans, some-filter, some-from_any, some-map, some-same}
 
 -- the grant is direct

@@ -14,7 +14,7 @@ use Rattle.iam_match.specs.declared.principal.Grant.TheVariants.{Account, Role, 
 use Rattle.iam_decision.specs.Applicable.{ApplicableValue, frame_of, has_policies}
 use Rattle.iam_decision.specs.Decision.{Allows, BoundaryHolds, Denies, Grants, IsAllowed, IsDecision, LevelsHold, SessionHolds}
 use Rattle.iam_decision.specs.Laws
-use Rattle.iam_decision.specs.Laws.{Gains, HasFurtherLimits, HaveSameStatements, IsGrantedInAccount, SomeGrants, SomeSays, levels_of, statements_at, statements_of}
+use Rattle.iam_decision.specs.Laws.{HasFurtherLimits, IsGrantedInAccount, SomeGrants, SomeSays, levels_of, statements_at, statements_of}
 use Rattle.iam_decision.specs.Matched.{as_list}
 use Rattle.iam_decision.specs.declared.frame.Frame.{Frame}
 use Rattle.iam_decision.specs.declared.place.Layer.{Layer}

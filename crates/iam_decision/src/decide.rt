@@ -6,7 +6,7 @@ ghost use Rattle.iam_decision.specs.Applicable.{ApplicableValue, frame_of};
 ghost use Rattle.iam_decision.specs.Living.{AreFound};
 ghost use Rattle.iam_decision.specs.Matched.{Selects, placed};
 ghost use Rattle.iam_decision.specs.Code.Found.{AllowsIn, ArePlaces, DeniesIn, GrantsIn};
-ghost use Rattle.iam_decision.specs.Decision.{AllHold, AreLacking, deciding_effect, BoundaryHolds, Fails, GrantSuffices, IsAllowed, IsDecided, IsVerdict, LevelsHold, MustGrant, SessionHolds, layers_in_order};
+ghost use Rattle.iam_decision.specs.Decision.{AllHold, AreLacking, deciding_effect, BoundaryHolds, Fails, GrantSuffices, IsAllowed, IsDecided, IsVerdict, LevelsHold, MustGrant, SessionHolds};
 
 use crate::frame::Frame;
 use crate::living::Matched;

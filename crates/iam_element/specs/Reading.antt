@@ -83,6 +83,6 @@ names_of (array ds) = []
 names_of (object ms) = flat_map (names_under (object ms)) principal_kinds
 
 -- neither element stands there, or the one does with these names
-abbrev pub ReadsPrincipal : Data → Option PrincipalElement → Type 0
-ReadsPrincipal s None = (get (principal_name false) s ≡ None) × (get (principal_name true) s ≡ None)
-ReadsPrincipal s (Some r) = option_map names_of (get (principal_name r.negated) s) ≡ Some r.names
+abbrev pub ReadsPrincipalElement : Data → Option PrincipalElement → Type 0
+ReadsPrincipalElement s None = (get (principal_name false) s ≡ None) × (get (principal_name true) s ≡ None)
+ReadsPrincipalElement s (Some r) = option_map names_of (get (principal_name r.negated) s) ≡ Some r.names

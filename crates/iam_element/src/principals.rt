@@ -3,7 +3,7 @@ ghost use Rattle.std.specs.Prelude.{◌≡◌, ◌++◌, IfOk, OnOk, map};
 ghost use Rattle.std.specs.List.{filter_map};
 ghost use Rattle.serde_json.specs.Find.{as_str};
 ghost use Rattle.serde_json.specs.View.{view};
-ghost use Rattle.iam_element.specs.Reading.{ReadsPrincipal, names_of, typed};
+ghost use Rattle.iam_element.specs.Reading.{ReadsPrincipalElement, names_of, typed};
 
 use crate::OutOfMemory;
 use crate::element::{Element, either, listed, values_in};
@@ -129,7 +129,7 @@ impl Principals {
 
 /// Reads the `Principal` or the `NotPrincipal` of a statement; `None` where neither stands there.
 pub fn read_principal(alloc: Global, statement: &Value) -> Result<Option<Principals>, OutOfMemory>
-    ensures { IfOk result (λ r. ReadsPrincipal (view statement.now) r) }
+    ensures { IfOk result (λ r. ReadsPrincipalElement (view statement.now) r) }
 {
     match either(statement, "Principal", "NotPrincipal") {
         Some(element) => Ok(Some(Principals::read(alloc, element)?)),

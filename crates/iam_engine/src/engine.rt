@@ -1,12 +1,11 @@
 // The engine as its callers see it.
-ghost use Rattle.std.specs.Prelude.{◌≡◌, ◌<◌, IfOk, Some, length};
+ghost use Rattle.std.specs.Prelude.{◌≡◌, ◌<◌, All, IfOk, Some, length};
 ghost use Rattle.std.specs.List.{slice_get};
-ghost use Rattle.std.specs.Option.{ForSome};
 ghost use Rattle.iam_engine.specs.Keys.{AreKeys};
 ghost use Rattle.iam_engine.specs.Memo.{HasClass, IsNumber, IsRight};
 ghost use Rattle.iam_engine.specs.declared.memo.Class.{Class};
 
-use crate::keys::{Keys, shared_by};
+use crate::keys::{Keys, no_keys, shared_by};
 use crate::memo::{Memo, Room};
 use iam_layers::{Decision, Verdict, World};
 use iam_text::OutOfMemory;
@@ -19,13 +18,13 @@ use std::marker::Model;
 pub struct Engine<'a> {
     world: &'a World,
     memo: Memo<'a>,
-    // The derived keys that were made last.
-    keys: Option<Keys>,
+    // The derived keys that were made last, of one principal.
+    keys: Vec<Keys>,
     room: Room,
 }
 
 impl<'a> Model for Engine<'a> {
-    ghost use Rattle.std.specs.Option.{ForSome};
+    ghost use Rattle.std.specs.Prelude.{All};
     ghost use Rattle.iam_engine.specs.Engine.{EngineValue};
     ghost use Rattle.iam_engine.specs.Keys.{AreKeys};
     ghost use Rattle.iam_engine.specs.Memo.{IsRight};
@@ -34,7 +33,7 @@ impl<'a> Model for Engine<'a> {
 
     ghost view = { λ engine. record { world = engine.world.now; rulings = engine.memo.rulings.items } };
 
-    ghost invariant = { λ engine. IsRight engine.world.now engine.memo × ForSome engine.keys (AreKeys engine.world.now) };
+    ghost invariant = { λ engine. IsRight engine.world.now engine.memo × All (AreKeys engine.world.now) engine.keys.items };
 }
 
 impl<'a> Engine<'a> {
@@ -57,7 +56,7 @@ impl<'a> Engine<'a> {
         Ok(Engine {
             world,
             memo,
-            keys: None,
+            keys: no_keys(alloc),
             room: Room {
                 found: Vec::new(alloc),
                 acts: Vec::new(alloc),
@@ -123,16 +122,16 @@ fn class_of<'a>(
     alloc: Global,
     world: &'a World,
     memo: &mut Memo<'a>,
-    keys: &mut Option<Keys>,
+    keys: &mut Vec<Keys>,
     p: u64,
     r: u64,
 ) -> Result<usize, OutOfMemory>
     requires principal { p < length world.now.principals }
     requires resource { r < length world.now.resources }
     requires right { IsRight world.now memo.old }
-    requires keys { ForSome keys.old (AreKeys world.now) }
+    requires keys { All (AreKeys world.now) keys.old.items }
     ensures right { IsRight world.entry.now memo.new }
-    ensures keys { ForSome keys.new (AreKeys world.entry.now) }
+    ensures keys { All (AreKeys world.entry.now) keys.new.items }
     ensures class { IfOk result (HasClass world.entry.now memo.new.classes.items p r) }
 {
     if let Some(class) = memo.class_of(p, r) {

@@ -1,13 +1,16 @@
-// The derived keys that were made last, which the next resource of the same account may share.
-ghost use Rattle.std.specs.Prelude.{◌<◌, IfOk, length};
-ghost use Rattle.std.specs.Option.{ForSome};
-ghost use Rattle.iam_layers.specs.Cell.{IsSharedAt};
+// The derived keys that were made last, which further resources of their accounts may share.
+ghost use Rattle.std.specs.Prelude.{◌<◌, All, IfOk, IfSome, length};
+ghost use Rattle.iam_layers.specs.Cell.{IsDerivedAt, IsSharedAt};
+ghost use Rattle.iam_world.specs.World.{WorldValue};
 ghost use Rattle.iam_engine.specs.Keys.{AreKeys};
 
 use iam_context::Derived;
 use iam_layers::{Shared, World};
 use iam_text::OutOfMemory;
 use std::alloc::Global;
+
+/// Derived keys are kept for at most so many accounts of resources.
+const MOST: usize = 8;
 
 /// Derived keys of the requests of a principal for a resource.
 #[derive(Drop)]
@@ -17,32 +20,72 @@ pub struct Keys {
     pub derived: Derived,
 }
 
-/// What the requests of principal p for resource r share. The derived keys that were made last serve again where they are the
-/// same.
+/// None yet.
+pub fn no_keys(alloc: Global) -> Vec<Keys>
+    ensures { (world : WorldValue) → All (AreKeys world) result.items }
+{
+    Vec::new(alloc)
+}
+
+/// What the requests of principal p for resource r share. The derived keys that were made last for the principal serve again
+/// where they are the same.
 pub fn shared_by<'a>(
     alloc: Global,
     world: &'a World,
-    last: &mut Option<Keys>,
+    kept: &mut Vec<Keys>,
     p: u64,
     r: u64,
 ) -> Result<Shared<'a>, OutOfMemory>
     requires principal { p < length world.now.principals }
     requires resource { r < length world.now.resources }
-    requires keys { ForSome last.old (AreKeys world.now) }
-    ensures keys { ForSome last.new (AreKeys world.entry.now) }
+    requires keys { All (AreKeys world.now) kept.old.items }
+    ensures keys { All (AreKeys world.entry.now) kept.new.items }
     ensures shared { IfOk result (IsSharedAt world.entry.now p r) }
 {
-    if let Some(keys) = last.as_ref() {
-        if keys.principal == p && world.has_same_derived(keys.resource, r) {
-            return world.shared_with(alloc, p, r, &keys.derived);
-        }
+    if let Some(derived) = known(world, kept.as_slice(), p, r) {
+        return world.shared_with(alloc, p, r, derived);
     }
     let derived = world.derived(alloc, p, r)?;
     let shared = world.shared_with(alloc, p, r, &derived)?;
-    *last = Some(Keys {
+    let keys = Keys {
         principal: p,
         resource: r,
         derived,
-    });
+    };
+    put(world, kept, keys)?;
     Ok(shared)
+}
+
+/// The derived keys of principal p's requests for resource r, where they are among these.
+fn known<'k>(world: &World, kept: &'k [Keys], p: u64, r: u64) -> Option<&'k Derived>
+    requires resource { r < length world.now.resources }
+    requires keys { All (AreKeys world.now) kept.now }
+    ensures { IfSome result (λ derived. IsDerivedAt world.now p r derived.now.items) }
+{
+    for i in 0..kept.len() {
+        let keys = &kept[i];
+        if keys.principal == p && world.has_same_derived(keys.resource, r) {
+            return Some(&keys.derived);
+        }
+    }
+    None
+}
+
+/// How many of these stay where derived keys of this principal come: none where they are another's, or as many as are kept.
+fn staying(kept: &[Keys], p: u64) -> usize {
+    match kept.first() {
+        Some(keys) if keys.principal == p && kept.len() < MOST => kept.len(),
+        _ => 0,
+    }
+}
+
+/// Puts derived keys behind those that stay.
+fn put(_world: &World, kept: &mut Vec<Keys>, keys: Keys) -> Result<(), OutOfMemory>
+    requires kept { All (AreKeys _world.now) kept.old.items }
+    requires keys { AreKeys _world.now keys }
+    ensures { All (AreKeys _world.entry.now) kept.new.items }
+{
+    kept.truncate(staying(kept.as_slice(), keys.principal));
+    kept.push(keys)?;
+    Ok(())
 }

@@ -3,7 +3,7 @@ ghost use Rattle.std.specs.Prelude.{◌≡◌, ◌<◌, IfOk, IfSome, Some, leng
 ghost use Rattle.std.specs.List.{slice_get};
 ghost use Rattle.iam_layers.specs.Cell.{IsAction, IsSharedAt};
 ghost use Rattle.iam_world.specs.World.{WorldValue};
-ghost use Rattle.iam_engine.specs.Memo.{HasClass, HasNumber, HasRuling, HasShared, IsNumber, IsRight, Finds};
+ghost use Rattle.iam_engine.specs.Memo.{HasClass, HasNumber, HasRuling, HasShared, IsRight, Finds};
 ghost use Rattle.iam_engine.specs.declared.memo.Class.{Class};
 
 use crate::elements::Elements;
@@ -117,20 +117,21 @@ impl<'a> Memo<'a> {
         ensures { IfOk result (λ memo. (world : WorldValue) → IsRight world memo) }
     {
         let memos = memos.max(1);
+        let all = principals.saturating_mul(resources);
         // Where there is one action, no requests share anything.
         let pairs = if actions > 1 {
-            let all = principals.saturating_mul(resources);
             all.min(MOST_PAIRS / memos as u64)
         } else {
             0
         };
+        let cells = all.saturating_mul(actions);
         let most_statements = MOST_STATEMENTS / memos as usize;
         Ok(Memo {
             classes: Vec::new(alloc),
             rulings: Vec::new(alloc),
             elements: Elements::new(alloc, actions, memos)?,
             pairs: empty_slots(alloc, pairs)?,
-            answers: empty_slots(alloc, MOST_ANSWERS / memos as u64)?,
+            answers: empty_slots(alloc, cells.min(MOST_ANSWERS / memos as u64))?,
             class_prints: empty_slots(alloc, PRINTS)?,
             ruling_prints: empty_slots(alloc, PRINTS)?,
             resources,

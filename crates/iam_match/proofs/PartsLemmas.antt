@@ -1,5 +1,6 @@
 -- The ARN of a user or a role by its parts.
 use Rattle.std.proofs.Common.{◌≡◌, ℕ, ◌+◌, List, [], ◌∷◌, ◌++◌, Bool, true, false, ◌&&◌, ◌==◌, cond, None, length, refl, sym, ap, ◌∙◌, codes, eqb-true}
+use Rattle.std.proofs.lemmas.Bool.{and_parts}
 use Rattle.std.proofs.lemmas.List.Recursion.{is_count_by}
 use Rattle.std.proofs.lemmas.List.{append_cancel_left, nil_from_length}
 use Rattle.std.proofs.lemmas.Slice.Eq.{bytes_eq-Decides}
@@ -20,10 +21,6 @@ same_text a b e = let decided : Decides (bytes_eq a b) (a ≡ b) = bytes_eq-Deci
 abbrev pub parts_of : List ℕ → RequesterValue → List (List ℕ)
 parts_of word r = codes "arn" ∷ (r.partition ∷ (codes "iam" ∷ ([] ∷ (r.account ∷ ((word ++ r.path) ∷ [])))))
 
-and-both : (a b : Bool) → (a && b) ≡ true → (a ≡ true) × (b ≡ true)
-and-both true b e = (refl, e)
-and-both false b e = cc
-
 -- the colons, counted from the front
 abbrev count : List ℕ → ℕ
 count [] = 0
@@ -33,7 +30,7 @@ count (c ∷ text) = cond (c == 58) (1 + count text) (count text)
 colons-none : (test : ℕ → Bool) → test 58 ≡ false → (text : List ℕ) → list_all test text ≡ true → count text ≡ 0
 colons-none test never [] all = refl
 colons-none test never (c ∷ text) all =
-    let both = and-both (test c) (list_all test text) all in
+    let both = and_parts (test c) (list_all test text) all in
     go (c == 58) refl both.0 (colons-none test never text both.1)
   where
     go : (b : Bool) → (c == 58) ≡ b → test c ≡ true → count text ≡ 0 → cond b (1 + count text) (count text) ≡ 0
@@ -53,8 +50,8 @@ parts-is_arn arn word r p = (
   (
     refl,
     (
-      plain is_label_character refl r.partition (and-both _ _ p.partition).1,
-      (refl, (refl, (plain is_ascii_digit refl r.account (and-both _ _ p.account).1, tt))),
+      plain is_label_character refl r.partition (and_parts _ _ p.partition).1,
+      (refl, (refl, (plain is_ascii_digit refl r.account (and_parts _ _ p.account).1, tt))),
     ),
   ),
   sym p.arn_is,
@@ -66,10 +63,10 @@ pub parts-from_cut : (arn word prefix partition service region account resource 
     → is_of_account prefix partition service region account ≡ true → resource ≡ word ++ path → path_from false path ≡ true
     → HasParts arn word (record { partition = partition; account = account; path = path; session = None })
 parts-from_cut text word prefix partition service region account resource path arn fits behind walked =
-    let last = and-both _ (is_account account) fits in
-    let before_account = and-both _ (is_label partition) last.0 in
-    let before_partition = and-both _ (length region == 0) before_account.0 in
-    let words = and-both (bytes_eq prefix (codes "arn")) (bytes_eq service (codes "iam")) before_partition.0 in
+    let last = and_parts _ (is_account account) fits in
+    let before_account = and_parts _ (is_label partition) last.0 in
+    let before_partition = and_parts _ (length region == 0) before_account.0 in
+    let words = and_parts (bytes_eq prefix (codes "arn")) (bytes_eq service (codes "iam")) before_partition.0 in
     let arn_is : prefix ≡ codes "arn" = same_text prefix (codes "arn") words.0 in
     let iam_is : service ≡ codes "iam" = same_text service (codes "iam") words.1 in
     let no_region : region ≡ [] = nil_from_length region (eqb-true (length region) 0 before_partition.1) in

@@ -1,6 +1,6 @@
 -- The test of a path meets the definition.
 use Rattle.std.proofs.Common.{◌≡◌, ◌↔◌, ℕ, ◌<◌, List, [], ◌∷◌, ◌++◌, Bool, true, false, ◌&&◌, ◌==◌, cond, length, refl, sym, ap, ◌∙◌, subst, arith, IsTrue, nat_lt, eqb-true}
-use Rattle.std.proofs.lemmas.Bool.{lt-ltb, ltb-true}
+use Rattle.std.proofs.lemmas.Bool.{and_parts, lt-ltb, ltb-true}
 use Rattle.std.proofs.lemmas.List.{append-nil}
 use Rattle.std.specs.List.{AllByRecursion, list_all, join_with_byte}
 use Rattle.iam_match.specs.Code.Parts.{path_from}
@@ -25,10 +25,6 @@ abbrev IsRest : Bool → List ℕ → Type 0
 IsRest begun text =
     (first : List ℕ) × (rest : List (List ℕ)) × (are_characters first ≡ true) × (begun ≡ false → 0 < length first) × AllByRecursion IsSegment rest
     × (join_with_byte 47 (first ∷ rest) ≡ text)
-
-and-both : (a b : Bool) → (a && b) ≡ true → (a ≡ true) × (b ≡ true)
-and-both true b e = (refl, e)
-and-both false b e = cc
 
 run_of : (text : List ℕ) → 0 < length text → are_characters text ≡ true → IsSegment text
 run_of text some all = go (nat_lt 0 (length text)) (lt-ltb 0 (length text) some)
@@ -69,9 +65,9 @@ rest-from_test (c ∷ text) begun e = go (c == 47) refl (rest-from_test text fal
     go : (b : Bool) → (c == 47) ≡ b → (path_from false text ≡ true → IsRest false text) → (path_from true text ≡ true → IsRest true text)
         → cond b (begun && path_from false text) (is_segment_character c && path_from true text) ≡ true → IsRest begun (c ∷ text)
     go true slash fresh later e =
-        let both = and-both begun (path_from false text) e in at_slash (eqb-true c 47 slash) both.0 (fresh both.1)
+        let both = and_parts begun (path_from false text) e in at_slash (eqb-true c 47 slash) both.0 (fresh both.1)
     go false slash fresh later e =
-        let both = and-both (is_segment_character c) (path_from true text) e in at_character both.0 (later both.1)
+        let both = and_parts (is_segment_character c) (path_from true text) e in at_character both.0 (later both.1)
 
 no_slash : (c : ℕ) → is_segment_character c ≡ true → (c == 47) ≡ false
 no_slash c is = go (c == 47) refl
@@ -89,7 +85,7 @@ walk_first : (first tail : List ℕ) (begun : Bool) → are_characters first ≡
 walk_first [] tail true all some ends = ends
 walk_first [] tail false all some ends = absurd (omega (arith, some refl))
 walk_first (c ∷ first) tail begun all some ends =
-    let both = and-both (is_segment_character c) (are_characters first) all in
+    let both = and_parts (is_segment_character c) (are_characters first) all in
     go (c == 47) (is_segment_character c) (no_slash c both.0) both.0 (walk_first first tail true both.1 (λ fresh. let wrong : ⊥ = cc in absurd wrong) ends)
   where
     go : (b is : Bool) → b ≡ false → is ≡ true → path_from true (first ++ tail) ≡ true
@@ -100,7 +96,7 @@ walk_first (c ∷ first) tail begun all some ends =
 
 run-parts : (text : List ℕ) → IsSegment text → (0 < length text) × (are_characters text ≡ true)
 run-parts text run =
-    let both = and-both (nat_lt 0 (length text)) (are_characters text) run in
+    let both = and_parts (nat_lt 0 (length text)) (are_characters text) run in
     (ltb-true 0 (length text) both.0, both.1)
 
 test-from_rest : (rest : List (List ℕ)) (first : List ℕ) (begun : Bool) → are_characters first ≡ true → (begun ≡ false → 0 < length first)

@@ -1,5 +1,5 @@
 // ARN patterns, part by part.
-ghost use Rattle.std.specs.Prelude.{◌≡◌, ◌≢◌, ◌↔◌, ◌⊎◌, ◌++◌, ◌∷◌, [], List, All, IsTrue, MatchOption, map};
+ghost use Rattle.std.specs.Prelude.{◌≡◌, ◌↔◌, ◌⊎◌, ◌++◌, ◌∷◌, [], All, IsTrue, MatchOption, map};
 ghost use Rattle.iam_text.specs.Arn.{colon};
 ghost use Rattle.iam_text.specs.declared.sign.Sign.{Sign};
 ghost use Rattle.iam_text.specs.declared.sign.Sign.TheVariants as sign;

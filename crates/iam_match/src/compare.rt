@@ -1,6 +1,5 @@
 // One value of the context against one value of a condition.
-ghost use Rattle.std.specs.Prelude.{◌≡◌, ◌↔◌, ℕ, ℤ, List, Bool, IsTrue, IfOk};
-ghost use Rattle.iam_text.specs.declared.sign.Sign.{Sign};
+ghost use Rattle.std.specs.Prelude.{◌≡◌, ◌↔◌, ℕ, ℤ, List, IsTrue, IfOk};
 ghost use Rattle.iam_value.specs.Address.{Block, Holds};
 ghost use Rattle.iam_context.specs.Resolve.{resolved};
 ghost use Rattle.iam_condition.specs.declared.operator.Base.{Base};
@@ -14,7 +13,7 @@ use crate::arn::arn_matches;
 use crate::asked::Asked;
 use iam_condition::{Operand, Order, TextTest};
 use iam_context::{Context, resolve};
-use iam_text::{Arn, Draft, Glob, OutOfMemory, Template, TemplateForm};
+use iam_text::{Arn, Draft, Glob, OutOfMemory, TemplateForm};
 use iam_value::{Address, Range};
 use std::alloc::Global;
 

@@ -1,6 +1,6 @@
 // Whom a principal element names, and what it grants.
 ghost use Rattle.std.specs.Prelude.{◌≡◌, ◌||◌, ◌↔◌, IsTrue, map};
-ghost use Rattle.std.specs.List.{concat, list_all, list_any};
+ghost use Rattle.std.specs.List.{concat, list_all};
 ghost use Rattle.std.specs.Str.{bytes_eq};
 ghost use Rattle.iam_match.specs.Requester.{root_arn};
 ghost use Rattle.iam_match.specs.Principal.{ElementHolds, PrincipalMatches, grant_of, grant_of_element, grant_of_text, greatest, is_listed, is_named, names, the_account, the_user};

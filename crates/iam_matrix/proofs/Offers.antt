@@ -5,8 +5,8 @@ use Rattle.std.proofs.lemmas.List.Elements.{All-nil, All-append, All-cons}
 use Rattle.std.proofs.lemmas.List.Sums.{sum_by-cons}
 use Rattle.iam_crew.specs.Bound.{bound_of}
 use Rattle.iam_world.specs.World.{WorldValue, world_cells}
-use Rattle.iam_matrix.specs.Matrix.{IsDenied, IsFirstAllowed}
-use Rattle.iam_matrix.specs.Code.Tiles.{AreDeniedBelow, Chain, IsAllowedCell}
+use Rattle.iam_matrix.specs.Matrix.{IsNotAllowed, IsFirstAllowed}
+use Rattle.iam_matrix.specs.Code.Tiles.{AreNotAllowedBelow, Chain, IsAllowedCell}
 
 -- the offers after an offer
 pub offered-more : (world : WorldValue) (old new : List ℕ) (cell : ℕ) → new ≡ old ++ cell ∷ [] → All (IsAllowedCell world) old → IsAllowedCell world cell
@@ -17,8 +17,8 @@ offered-more world old new cell e all one =
 
 -- the cells of all tiles
 denied : {O : Type 0} (world : WorldValue) (bound from : ℕ) (lengths : List ℕ) (outputs : List O)
-    → Chain (λ f n output. AreDeniedBelow world f n bound) from lengths outputs
-    → (cell : ℕ) → from ≤ cell → cell < from + sum lengths → cell < bound → IsDenied world cell
+    → Chain (λ f n output. AreNotAllowedBelow world f n bound) from lengths outputs
+    → (cell : ℕ) → from ≤ cell → cell < from + sum lengths → cell < bound → IsNotAllowed world cell
 denied world bound from [] outputs c cell least most below = absurd (omega arith)
 denied world bound from (n ∷ lengths) [] c cell least most below = absurd c
 denied world bound from (n ∷ lengths) (output ∷ outputs) c cell least most below =
@@ -28,7 +28,7 @@ denied world bound from (n ∷ lengths) (output ∷ outputs) c cell least most b
 
 -- the least offer in the end
 pub first-allowed : {O : Type 0} (world : WorldValue) (lengths : List ℕ) (outputs : List O) (low : Option ℕ) → sum lengths ≡ world_cells world
-    → world_cells world ≤ 16777216 → Chain (λ f n output. AreDeniedBelow world f n (bound_of low)) 0 lengths outputs → IfSome low (IsAllowedCell world)
+    → world_cells world ≤ 16777216 → Chain (λ f n output. AreNotAllowedBelow world f n (bound_of low)) 0 lengths outputs → IfSome low (IsAllowedCell world)
     → IsFirstAllowed world low
 first-allowed world lengths outputs None e few c offered = λ cell below.
     denied world (bound_of None) 0 lengths outputs c cell (omega arith) (omega (arith, e)) (omega arith)

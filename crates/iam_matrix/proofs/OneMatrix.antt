@@ -5,11 +5,11 @@ use Rattle.iam_decision.specs.declared.verdict.Decision.TheVariants.{Allowed}
 use Rattle.iam_world.specs.World.{WorldValue}
 use Rattle.iam_layers.specs.Cell.{IsDecisionOf, IsVerdictOf}
 use Rattle.iam_layers.specs.Laws.{OneDecisionOf, OneTriple, OneVerdictOf}
-use Rattle.iam_report.specs.CsvRow.{IsBriefCsvRow}
-use Rattle.iam_report.specs.Laws.{OneBriefRow, OneBriefText, OneText}
-use Rattle.iam_report.specs.Piece.{IsBriefReport, IsReport}
+use Rattle.iam_row.specs.CsvRow.{IsBriefCsvRow}
+use Rattle.iam_row.specs.Laws.{OneBriefRow, OneBriefText, OneText}
+use Rattle.iam_row.specs.Piece.{IsBriefReport, IsReport}
 use Rattle.iam_matrix.specs.Laws
-use Rattle.iam_matrix.specs.Matrix.{AreEntriesFrom, IsDenied}
+use Rattle.iam_matrix.specs.Matrix.{AreEntriesFrom, IsNotAllowed}
 use Rattle.iam_matrix.specs.Report.{IsFirstText}
 
 -- the entries behind the first
@@ -31,7 +31,7 @@ one_matrix verdicts world xs ys h k = one-entries (IsVerdictOf world) (verdicts 
 pub one_brief_matrix : OneDecisionOf → Laws.OneBriefMatrix
 one_brief_matrix decisions world xs ys h k = one-entries (IsDecisionOf world) (decisions world) 0 xs ys (h.count ∙ sym k.count) h.each k.each
 
-not-allowed : OneDecisionOf → (world : WorldValue) (cell : ℕ) → IsDenied world cell → ¬ IsDecisionOf world cell Allowed
+not-allowed : OneDecisionOf → (world : WorldValue) (cell : ℕ) → IsNotAllowed world cell → ¬ IsDecisionOf world cell Allowed
 not-allowed decisions world cell denied allowed = denied.denied (decisions world cell denied.decision Allowed denied.is allowed)
 
 pub one_first : OneDecisionOf → Laws.OneFirst

@@ -6,14 +6,14 @@ use Rattle.std.proofs.lemmas.List.Concat.{flat_map-cons}
 use Rattle.std.proofs.lemmas.List.Sums.{sum_by-cons}
 use Rattle.iam_decision.specs.declared.verdict.Decision.{Decision}
 use Rattle.iam_decision.specs.declared.verdict.Verdict.{Verdict}
-use Rattle.iam_report.specs.Piece.{IsBriefReport, IsQuotedOf, IsReport, bare, brief_tail, full_tail, tail_of, text_of}
-use Rattle.iam_report.specs.declared.quoted.Format.{Format}
-use Rattle.iam_report.specs.declared.quoted.Quoted.{Quoted}
-use Rattle.iam_report.specs.declared.tail.Tail.{Tail}
+use Rattle.iam_row.specs.Piece.{IsBriefReport, IsQuotedOf, IsReport, bare, brief_tail, full_tail, tail_of, text_of}
+use Rattle.iam_row.specs.declared.quoted.Format.{Format}
+use Rattle.iam_row.specs.declared.quoted.Quoted.{Quoted}
+use Rattle.iam_row.specs.declared.tail.Tail.{Tail}
 use Rattle.iam_layers.specs.Cell.{IsDecisionOf, IsVerdictOf}
 use Rattle.iam_world.specs.World.{WorldValue, world_cells}
 use Rattle.iam_matrix.specs.Report.{IsMatrixReport}
-use Rattle.iam_matrix.specs.Code.Tiles.{AreEntries, AreTails, AreTailsOf, Chain}
+use Rattle.iam_matrix.specs.Code.Tiles.{AreEntries, AreEntriesOf, AreTails, AreTailsOf, Chain}
 use Rattle.iam_matrix.proofs.Tiles.{join-entries, no-entries, whole, whole-brief}
 
 chain-tails : {X : Type 0} (Is : ℕ → X → Type 0) (tail : X → Tail) (from : ℕ) (lengths : List ℕ) (outputs : List (List Tail))
@@ -34,9 +34,16 @@ chain-tails Is tail from (n ∷ lengths) (output ∷ outputs) ((xs, a, e), c) =
     )
 
 -- the decisions of bare verdicts
-pub of-bare : (format : Format) (decisions : List Decision) → map (tail_of format true) (map bare decisions) ≡ map (brief_tail format) decisions
+of-bare : (format : Format) (decisions : List Decision) → map (tail_of format true) (map bare decisions) ≡ map (brief_tail format) decisions
 of-bare format [] = refl
 of-bare format (decision ∷ decisions) = ap (λ l. brief_tail format decision ∷ l) (of-bare format decisions)
+
+-- the tails of the entries of these cells
+pub tails-of : (format : Format) (brief : Bool) (world : WorldValue) (from count : ℕ) (entries : List Verdict) (tails : List Tail)
+    → AreEntriesOf brief world from count entries → tails ≡ map (tail_of format brief) entries → AreTailsOf format brief world from count tails
+tails-of format false world from count entries tails are is = (entries, are, is)
+tails-of format true world from count entries tails (decisions, are, e) is =
+    (decisions, are, is ∙ ap (map (tail_of format true)) e ∙ of-bare format decisions)
 
 -- there are as many tails as cells
 pub count-tails : (format : Format) (brief : Bool) (world : WorldValue) (lengths : List ℕ) (outputs : List (List Tail))

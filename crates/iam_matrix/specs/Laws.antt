@@ -3,7 +3,7 @@ use Rattle.std.specs.Prelude.{◌≡◌, ℕ, Bool, List, Option}
 use Rattle.iam_decision.specs.declared.verdict.Decision.{Decision}
 use Rattle.iam_decision.specs.declared.verdict.Verdict.{Verdict}
 use Rattle.iam_world.specs.World.{WorldValue}
-use Rattle.iam_report.specs.declared.quoted.Format.{Format}
+use Rattle.iam_row.specs.declared.quoted.Format.{Format}
 use Rattle.iam_matrix.specs.Matrix.{IsBriefMatrix, IsFirstAllowed, IsMatrix}
 use Rattle.iam_matrix.specs.Report.{IsFirstReport, IsMatrixReport}
 

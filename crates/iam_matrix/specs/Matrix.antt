@@ -23,13 +23,13 @@ pub record IsBriefMatrix (world : WorldValue) (decisions : List Decision) : Type
   pub each : AreEntriesFrom (IsDecisionOf world) 0 decisions
 
 -- the cell is not allowed
-pub record IsDenied (world : WorldValue) (cell : ℕ) : Type 0 where
+pub record IsNotAllowed (world : WorldValue) (cell : ℕ) : Type 0 where
   pub decision : Decision
   pub is : IsDecisionOf world cell decision
   pub denied : decision ≢ Allowed
 
 -- the least cell that is allowed, or nothing where none is
 abbrev pub IsFirstAllowed : WorldValue → Option ℕ → Type 0
-IsFirstAllowed world None = (cell : ℕ) → cell < world_cells world → IsDenied world cell
+IsFirstAllowed world None = (cell : ℕ) → cell < world_cells world → IsNotAllowed world cell
 IsFirstAllowed world (Some cell) =
-    (cell < world_cells world) × IsDecisionOf world cell Allowed × ((lower : ℕ) → lower < cell → IsDenied world lower)
+    (cell < world_cells world) × IsDecisionOf world cell Allowed × ((lower : ℕ) → lower < cell → IsNotAllowed world lower)

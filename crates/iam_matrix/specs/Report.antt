@@ -5,10 +5,10 @@ use Rattle.iam_decision.specs.declared.verdict.Decision.TheVariants.{Allowed}
 use Rattle.iam_decision.specs.declared.verdict.Verdict.{Verdict}
 use Rattle.iam_layers.specs.Cell.{IsCell}
 use Rattle.iam_world.specs.World.{WorldValue}
-use Rattle.iam_report.specs.CsvRow.{IsBriefCsvRow}
-use Rattle.iam_report.specs.Piece.{IsBriefReport, IsReport}
-use Rattle.iam_report.specs.Report.{brief_header, csv_line}
-use Rattle.iam_report.specs.declared.quoted.Format.{Format}
+use Rattle.iam_row.specs.CsvRow.{IsBriefCsvRow}
+use Rattle.iam_row.specs.Piece.{IsBriefReport, IsReport}
+use Rattle.iam_row.specs.Report.{brief_header, csv_line}
+use Rattle.iam_row.specs.declared.quoted.Format.{Format}
 use Rattle.iam_matrix.specs.Matrix.{IsBriefMatrix, IsFirstAllowed, IsMatrix}
 
 -- the report of all verdicts, in full or in brief

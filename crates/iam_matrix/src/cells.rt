@@ -61,7 +61,7 @@ struct Entries<'a, E> {
 }
 
 impl<'a, E: Entry + Send + Sync> Crew for Entries<'a, E> {
-    ghost use Rattle.std.specs.Prelude.{◌≡◌, ⊤, slice_index};
+    ghost use Rattle.std.specs.Prelude.{◌≡◌, slice_index};
     ghost use Rattle.iam_matrix.specs.Cut.{start_of};
     ghost use Rattle.iam_matrix.specs.Code.Tiles.{AreEntries, IsTileOf};
 

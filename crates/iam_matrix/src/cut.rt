@@ -1,5 +1,5 @@
 // How the cells of a matrix are cut into tiles.
-ghost use Rattle.std.specs.Prelude.{◌≡◌, ◌≢◌, ◌↔◌, ℕ, ◌+◌, ◌/◌, ◌%◌, ◌^◌, ◌<◌, ◌≤◌, List, All, Any, IsTrue, IfOk, IfErr, IfSome, IfNone, length, slice_index, sum, vec_len};
+ghost use Rattle.std.specs.Prelude.{◌≡◌, ◌≢◌, ◌↔◌, ℕ, ◌+◌, ◌/◌, ◌%◌, ◌^◌, ◌<◌, ◌≤◌, List, IsTrue, IfOk, IfErr, length, slice_index, sum, vec_len};
 ghost use Rattle.iam_matrix.specs.Code.Starts.{AreStarts};
 ghost use Rattle.iam_matrix.specs.Cut.{even_lengths};
 

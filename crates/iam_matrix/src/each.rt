@@ -5,7 +5,7 @@ ghost use Rattle.iam_world.specs.World.{world_cells};
 
 use iam_engine::Engine;
 use iam_layers::{Decision, World};
-use iam_report::Position;
+use iam_row::Position;
 use iam_text::OutOfMemory;
 use std::alloc::Global;
 

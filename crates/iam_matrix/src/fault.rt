@@ -1,5 +1,5 @@
 // Why there is no matrix.
-ghost use Rattle.std.specs.Prelude.{◌≡◌, ◌↔◌, ◌⊎◌, ◌<◌, IsTrue};
+ghost use Rattle.std.specs.Prelude.{◌≡◌, ◌↔◌, ◌<◌, IsTrue};
 ghost use Rattle.iam_matrix.specs.Fault.{IsUnlawful};
 
 use iam_text::OutOfMemory;

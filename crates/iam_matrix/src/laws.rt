@@ -2,7 +2,7 @@
 ghost use Rattle.iam_matrix.specs.Laws.{OneBriefMatrix, OneFirst, OneFirstReport, OneMatrix, OneReport};
 
 use iam_layers::{one_decision_at, one_triple, one_verdict_at};
-use iam_report::{one_row, one_text};
+use iam_row::{one_row, one_text};
 
 /// A world has at most one matrix: one list of verdicts, each with its deciding statements and its lacks.
 pub fn one_matrix()

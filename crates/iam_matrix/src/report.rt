@@ -1,7 +1,7 @@
 // The reports of the matrix and of the first allowed cell.
 ghost use Rattle.std.specs.Prelude.{◌≡◌, ◌↔◌, IfOk, sum};
 ghost use Rattle.iam_world.specs.World.{world_cells};
-ghost use Rattle.iam_report.specs.Piece.{text_of};
+ghost use Rattle.iam_row.specs.Piece.{text_of};
 ghost use Rattle.iam_matrix.specs.Fault.{IsUnlawful};
 ghost use Rattle.iam_matrix.specs.Matrix.{IsFirstAllowed};
 ghost use Rattle.iam_matrix.specs.Report.{IsFirstReport, IsFirstText, IsMatrixReport};
@@ -12,7 +12,8 @@ use crate::rows::Rows;
 use crate::search::first;
 use iam_crew::{Gate, gather};
 use iam_layers::{Decision, World};
-use iam_report::{Format, MatrixText, Quoted, brief_texts, csv_row_brief, full_texts, opening};
+use iam_report::MatrixText;
+use iam_row::{Format, Quoted, brief_texts, csv_row_brief, full_texts, opening};
 use iam_text::OutOfMemory;
 use std::alloc::Global;
 use std::thread::Threads;

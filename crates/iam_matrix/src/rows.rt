@@ -1,16 +1,17 @@
 // The tails of the rows of each tile.
 ghost use Rattle.std.specs.Prelude.{◌≡◌, ◌+◌, ◌<◌, ◌≤◌, List, IfOk, map};
 ghost use Rattle.iam_decision.specs.declared.verdict.Decision.{Decision};
-ghost use Rattle.iam_report.specs.Piece.{bare};
+ghost use Rattle.iam_row.specs.Piece.{bare};
 ghost use Rattle.iam_world.specs.World.{world_cells};
-ghost use Rattle.iam_matrix.specs.Code.Tiles.{AreBriefTails, AreDecisions, AreFullTails, AreTailsOf, AreVerdicts};
+ghost use Rattle.iam_matrix.specs.Code.Tiles.{AreDecisions, AreEntriesOf, AreTailsOf, AreVerdicts};
 
 use crate::cut::Cut;
 use crate::each::{decision_at, end_of};
 use iam_crew::{Bound, Crew, Gate};
 use iam_engine::Engine;
 use iam_layers::World;
-use iam_report::{Entries, Format, Position, Tile};
+use iam_report::{Entries, Tile};
+use iam_row::{Format, Position};
 use iam_text::OutOfMemory;
 use std::alloc::Global;
 
@@ -74,41 +75,27 @@ fn tile_of(
     ensures tails { IfOk result (λ tile. AreTailsOf format brief engine.old.world from count tile) }
     ensures same { engine.new.world ≡ engine.old.world }
 {
+    let entries = entries_of(alloc, engine, brief, from, count)?;
+    entries.tile(alloc, format, brief)
+}
+
+/// The verdicts of so many cells from this one on, or in brief their decisions.
+fn entries_of(
+    alloc: Global,
+    engine: &mut Engine<'_>,
+    brief: bool,
+    from: u64,
+    count: u64,
+) -> Result<Entries, OutOfMemory>
+    requires { from + count ≤ world_cells engine.old.world }
+    ensures entries { IfOk result (λ entries. AreEntriesOf brief engine.old.world from count entries) }
+    ensures same { engine.new.world ≡ engine.old.world }
+{
     if brief {
-        brief_tile(alloc, engine, format, from, count)
+        brief_entries(alloc, engine, from, count)
     } else {
-        full_tile(alloc, engine, format, from, count)
+        full_entries(alloc, engine, from, count)
     }
-}
-
-fn full_tile(
-    alloc: Global,
-    engine: &mut Engine<'_>,
-    format: Format,
-    from: u64,
-    count: u64,
-) -> Result<Tile, OutOfMemory>
-    requires { from + count ≤ world_cells engine.old.world }
-    ensures tails { IfOk result (λ tile. AreFullTails format engine.old.world from count tile) }
-    ensures same { engine.new.world ≡ engine.old.world }
-{
-    let entries = full_entries(alloc, engine, from, count)?;
-    entries.tile(alloc, format, false)
-}
-
-fn brief_tile(
-    alloc: Global,
-    engine: &mut Engine<'_>,
-    format: Format,
-    from: u64,
-    count: u64,
-) -> Result<Tile, OutOfMemory>
-    requires { from + count ≤ world_cells engine.old.world }
-    ensures tails { IfOk result (λ tile. AreBriefTails format engine.old.world from count tile) }
-    ensures same { engine.new.world ≡ engine.old.world }
-{
-    let entries = brief_entries(alloc, engine, from, count)?;
-    entries.tile(alloc, format, true)
 }
 
 /// The verdicts of so many cells from this one on.

@@ -1,9 +1,9 @@
 // The first allowed cell, sought by many workers.
-ghost use Rattle.std.specs.Prelude.{◌≡◌, ◌+◌, ◌<◌, ◌≤◌, ◌↔◌, ℕ, IfOk, IfSome, IfNone, IsTrue, sum};
+ghost use Rattle.std.specs.Prelude.{◌≡◌, ◌+◌, ◌<◌, ◌≤◌, ◌↔◌, IfOk, IsTrue, sum};
 ghost use Rattle.iam_crew.specs.Bound.{bound_of};
 ghost use Rattle.iam_world.specs.World.{world_cells};
 ghost use Rattle.iam_matrix.specs.Fault.{IsUnlawful};
-ghost use Rattle.iam_matrix.specs.Matrix.{IsDenied, IsFirstAllowed};
+ghost use Rattle.iam_matrix.specs.Matrix.{IsFirstAllowed};
 ghost use Rattle.iam_matrix.specs.Code.Tiles.{IsAllowedCell, IsFirstIn};
 
 use crate::cut::Cut;
@@ -12,7 +12,7 @@ use crate::fault::{MatrixFault, is_unlawful};
 use iam_crew::{Bound, Crew, Gate, gather};
 use iam_engine::Engine;
 use iam_layers::{Decision, World};
-use iam_report::Position;
+use iam_row::Position;
 use iam_text::OutOfMemory;
 use std::alloc::Global;
 use std::thread::Threads;
@@ -26,10 +26,10 @@ struct Search<'a> {
 }
 
 impl<'a> Crew for Search<'a> {
-    ghost use Rattle.std.specs.Prelude.{◌≡◌, ◌+◌, ◌<◌, ◌≤◌, ℕ, slice_index};
+    ghost use Rattle.std.specs.Prelude.{◌≡◌, ◌+◌, ◌<◌, ◌≤◌, slice_index};
     ghost use Rattle.std.proofs.Math.Nat.{le_trans};
     ghost use Rattle.iam_matrix.specs.Cut.{start_of};
-    ghost use Rattle.iam_matrix.specs.Code.Tiles.{AreDeniedBelow, IsAllowedCell, IsTileOf};
+    ghost use Rattle.iam_matrix.specs.Code.Tiles.{AreNotAllowedBelow, IsAllowedCell, IsTileOf};
 
     type Output = ();
 
@@ -41,7 +41,7 @@ impl<'a> Crew for Search<'a> {
 
     ghost offers = { λ crew cell. IsAllowedCell crew.world.now cell };
 
-    ghost gives = { λ crew tile _ bound. AreDeniedBelow crew.world.now (start_of crew.cut.now tile) (slice_index crew.cut.now tile) bound };
+    ghost gives = { λ crew tile _ bound. AreNotAllowedBelow crew.world.now (start_of crew.cut.now tile) (slice_index crew.cut.now tile) bound };
 
     fn tools(&self, alloc: Global) -> Result<Engine<'a>, OutOfMemory> {
         Engine::new(alloc, self.world, self.workers)

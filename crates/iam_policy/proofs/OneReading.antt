@@ -15,14 +15,14 @@ use Rattle.iam_policy.specs.declared.fault.Kind.{Kind}
 use Rattle.iam_policy.specs.declared.fault.Kind.TheVariants.{Identity, Resource, Org, Control}
 use Rattle.iam_element.specs.Element.{both, stands_as, texts_of}
 use Rattle.iam_element.specs.Principal.{is_everyone}
-use Rattle.iam_policy.specs.Fault.{IsAccepted, IsLeastFault, IsNotAfter, rank, statements_in}
-use Rattle.iam_element.specs.Reading.{ActionElement, ResourceElement, PrincipalElement, PrincipalText, action_name, resource_name, principal_name, pattern_of, names_of, ReadsAction, ReadsText, ReadsResource, ReadsPrincipal}
+use Rattle.iam_policy.specs.Fault.{IsAccepted, IsLeastFault, IsNotAfter, place_rank, statements_in}
+use Rattle.iam_element.specs.Reading.{ActionElement, ResourceElement, PrincipalElement, PrincipalText, action_name, resource_name, principal_name, pattern_of, names_of, ReadsAction, ReadsText, ReadsResource, ReadsPrincipalElement}
 use Rattle.iam_policy.specs.Reading.{StatementValue, PolicyValue, ReadsConditions, ReadsStatement, Reads}
 use Rattle.iam_policy.specs.Table.{number_of}
 use Rattle.iam_policy.proofs.FaultLaws.{accepted_line}
 use Rattle.iam_policy.proofs.TableLaws.{same_number}
 
-same_rank : (place place' : Option ℕ) → rank place ≡ rank place' → place ≡ place'
+same_rank : (place place' : Option ℕ) → place_rank place ≡ place_rank place' → place ≡ place'
 same_rank None None e = refl
 same_rank None (Some i) e = cc
 same_rank (Some i) None e = cc
@@ -31,8 +31,8 @@ same_rank (Some i) (Some j) e = let same : i ≡ j = cc in ap (λ k. Some k) sam
 not_after-both : (place place' : Option ℕ) (fault fault' : Fault) → IsNotAfter place fault place' fault' → IsNotAfter place' fault' place fault
     → (place ≡ place') × (fault ≡ fault')
 not_after-both place place' fault fault' (inl a) (inl b) = absurd (omega arith)
-not_after-both place place' fault fault' (inl a) (inr b) = let same : rank place' ≡ rank place = b.0 in absurd (omega arith)
-not_after-both place place' fault fault' (inr a) (inl b) = let same : rank place ≡ rank place' = a.0 in absurd (omega arith)
+not_after-both place place' fault fault' (inl a) (inr b) = let same : place_rank place' ≡ place_rank place = b.0 in absurd (omega arith)
+not_after-both place place' fault fault' (inr a) (inl b) = let same : place_rank place ≡ place_rank place' = a.0 in absurd (omega arith)
 not_after-both place place' fault fault' (inr a) (inr b) =
     let low : number_of fault ≤ number_of fault' = a.1 in
     let high : number_of fault' ≤ number_of fault = b.1 in
@@ -95,7 +95,7 @@ stands None names e = cc
 stands (Some d) names e = refl
 
 principal_is_one : (s : Data) (a b : Option PrincipalElement) → both (get (codes "Principal") s) (get (codes "NotPrincipal") s) ≡ false
-    → ReadsPrincipal s a → ReadsPrincipal s b → a ≡ b
+    → ReadsPrincipalElement s a → ReadsPrincipalElement s b → a ≡ b
 principal_is_one s None None single p q = refl
 principal_is_one s None (Some b) single p q = absurd (none_stands principal_name s b.negated p.0 p.1 (stands (get (principal_name b.negated) s) b.names q))
 principal_is_one s (Some a) None single p q = absurd (none_stands principal_name s a.negated q.0 q.1 (stands (get (principal_name a.negated) s) a.names p))

@@ -172,14 +172,14 @@ abbrev pub IsAccepted : Kind → Data → Type 0
 IsAccepted kind d = (place : Option ℕ) (fault : Fault) → ¬ HasFault kind d place fault
 
 -- the document stands before statement 0
-abbrev pub rank : Option ℕ → ℕ
-rank None = 0
-rank (Some i) = suc i
+abbrev pub place_rank : Option ℕ → ℕ
+place_rank None = 0
+place_rank (Some i) = suc i
 
 -- no later than: by place, then by number
 abbrev pub IsNotAfter : Option ℕ → Fault → Option ℕ → Fault → Type 0
 IsNotAfter place fault place' fault' =
-    (rank place < rank place') ⊎ ((rank place ≡ rank place') × (number_of fault ≤ number_of fault'))
+    (place_rank place < place_rank place') ⊎ ((place_rank place ≡ place_rank place') × (number_of fault ≤ number_of fault'))
 
 -- the least member of the set
 pub record IsLeastFault (kind : Kind) (d : Data) (place : Option ℕ) (fault : Fault) : Type 0 where

@@ -8,11 +8,11 @@ use Rattle.std.proofs.lemmas.Option.{get_or_from_slice_get, slice_get_within}
 use Rattle.std.specs.List.{flat_map, slice_get}
 use Rattle.std.specs.Io.KnownBytes.{Appends}
 use Rattle.iam_report.specs.Code.Buffer.{IsWithin, Passes, PutsRows}
-use Rattle.iam_report.specs.Piece.{MatrixValue, closing_text, first_position, next_by, next_in, opening_text, row_at, rows_text, text_of}
+use Rattle.iam_row.specs.Piece.{MatrixValue, closing_text, first_position, next_by, next_in, opening_text, row_at, rows_text, text_of}
 use Rattle.iam_report.specs.Streams.{AppendsBeginning}
-use Rattle.iam_report.specs.declared.position.Position.{Position}
-use Rattle.iam_report.specs.declared.quoted.Quoted.{Quoted}
-use Rattle.iam_report.specs.declared.tail.Tail.{Tail}
+use Rattle.iam_row.specs.declared.position.Position.{Position}
+use Rattle.iam_row.specs.declared.quoted.Quoted.{Quoted}
+use Rattle.iam_row.specs.declared.tail.Tail.{Tail}
 
 -- a beginning of a text that stands behind another is a beginning of both and of what follows
 pub beginning_behind : (a b c : Option (List ℕ)) (before text rest : List ℕ) → Appends a b before → AppendsBeginning b c text → AppendsBeginning a c (before ++ (text ++ rest))

@@ -1,11 +1,4 @@
 mod Buffered
-mod Cells
-mod Fields
 mod Fronts
-mod OneText
 mod Picks
-mod Plain
-mod Rendered
-mod Reports
-mod Rows
-mod Texts
+mod Whole

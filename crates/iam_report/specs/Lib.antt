@@ -1,7 +1,2 @@
 pub mod Code
-pub mod CsvRow
-pub mod Laws
-pub mod Piece
-pub mod Report
 pub mod Streams
-pub mod Words

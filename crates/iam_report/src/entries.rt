@@ -1,15 +1,14 @@
 // Verdicts one behind the other, of which equal ones are kept once.
-ghost use Rattle.std.specs.Prelude.{◌≡◌, ◌++◌, ◌∷◌, [], IfOk, IfSome, IsTrue, List, OnOk, Some, map, slice_get, take};
-ghost use Rattle.iam_report.specs.Piece.{bare, tail_of};
+ghost use Rattle.std.specs.Prelude.{◌≡◌, ◌++◌, ◌∷◌, [], IfOk, IfSome, IsTrue, List, OnOk, Some, map, slice_get};
+ghost use Rattle.iam_row.specs.Piece.{bare, tail_of};
 ghost use Rattle.iam_decision.specs.declared.verdict.Verdict.{Verdict};
 
 use crate::guess::{Guesses, Hints, STEPS, hash_of};
 use crate::numbers::Numbers;
-use crate::quoted::Format;
-use crate::tail::Tail;
 use crate::tile::Tile;
 use iam_layers::{Decision, Layer, Place, Verdict};
-use iam_text::{Items, OutOfMemory};
+use iam_row::{Format, Tail, bare};
+use iam_text::OutOfMemory;
 use std::alloc::Global;
 use std::marker::Model;
 
@@ -34,17 +33,6 @@ impl Model for Entries {
     ghost view = { λ entries. picked no_verdict entries.distinct.items entries.numbers };
 
     ghost invariant = { λ entries. All (λ n. n < length entries.distinct.items) entries.numbers };
-}
-
-/// A decision as a verdict without places and layers.
-pub fn bare(alloc: Global, decision: Decision) -> Verdict
-    ensures { result ≡ bare decision }
-{
-    Verdict {
-        decision,
-        statements: Items::from_vec(Vec::new(alloc)),
-        lacks: Items::from_vec(Vec::new(alloc)),
-    }
 }
 
 impl Entries {

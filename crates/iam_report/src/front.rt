@@ -1,5 +1,5 @@
 // The front of a row: a number between texts, made in bytes that are used again.
-ghost use Rattle.std.specs.Prelude.{◌≡◌, ◌++◌, ◌+◌, ◌≤◌, IfSome, IsTrue, OnOk, decimal, length, take};
+ghost use Rattle.std.specs.Prelude.{◌≡◌, ◌++◌, ◌+◌, ◌≤◌, IfSome, IsTrue, decimal};
 ghost use Rattle.iam_report.specs.Code.Front.{IsPut};
 
 use itoa::{Buffer, write_digits};

@@ -1,13 +1,11 @@
 // Rows that share what stands beside the number of their cells.
 ghost use Rattle.std.specs.Prelude.{◌≡◌, ◌++◌, ◌<◌, IsTrue, decimal, false, length};
 ghost use Rattle.iam_report.specs.Code.Line.{HasSides, before_of, behind_of, tail_at};
-ghost use Rattle.iam_report.specs.Piece.{row_at};
+ghost use Rattle.iam_row.specs.Piece.{row_at};
 
 use crate::front::Front;
 use crate::output::keep_three;
-use crate::position::Position;
-use crate::quoted::{Format, Quoted, text_at};
-use crate::tail::Tail;
+use iam_row::{Format, Position, Quoted, Tail, text_at};
 use std::marker::Model;
 
 /// Makes rows. What stands before the resource of a row is its front; the texts in it are put together once for all rows

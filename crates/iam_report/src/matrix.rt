@@ -5,18 +5,15 @@ ghost use Rattle.std.specs.List.{flat_map};
 ghost use Rattle.iam_report.specs.Code.Buffer.{IsWithin, PutsRows, Passes};
 ghost use Rattle.iam_report.specs.Code.Line.{tail_at};
 ghost use Rattle.iam_report.specs.Code.Numbered.{no_tail, picked};
-ghost use Rattle.iam_report.specs.Piece.{first_position, row_at, rows_text, text_of};
+ghost use Rattle.iam_row.specs.Piece.{first_position, row_at, rows_text, text_of};
 ghost use Rattle.iam_report.specs.Streams.{AppendsBeginning};
-ghost use Rattle.iam_report.specs.declared.tail.Tail.{Tail};
+ghost use Rattle.iam_row.specs.declared.tail.Tail.{Tail};
 
 use crate::line::Line;
 use crate::numbers::Numbers;
 use crate::output::{OutputFault, put, put_all, write_kept};
-use crate::piece::{closing, comma_before, opening};
-use crate::position::Position;
-use crate::quoted::{Format, Quoted, text_at};
-use crate::tail::Tail;
 use crate::tile::Tile;
+use iam_row::{Format, Position, Quoted, Tail, closing, comma_before, opening, text_at};
 use itoa::Buffer;
 use std::io::Write;
 use std::marker::Model;
@@ -33,7 +30,7 @@ pub struct MatrixText {
 impl Model for MatrixText {
     ghost use Rattle.std.specs.Prelude.{◌≤◌, length};
     ghost use Rattle.std.specs.List.{flat_map};
-    ghost use Rattle.iam_report.specs.Piece.{MatrixValue};
+    ghost use Rattle.iam_row.specs.Piece.{MatrixValue};
 
     ghost Value = { MatrixValue };
 

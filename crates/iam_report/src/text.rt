@@ -1,15 +1,14 @@
 // Whole reports.
-ghost use Rattle.std.specs.Prelude.{◌≡◌, ◌<◌, ◌≤◌, ℕ, IfOk, false, length, map, true};
+ghost use Rattle.std.specs.Prelude.{◌≡◌, ◌<◌, IfOk, false, length, map, true};
 ghost use Rattle.iam_world.specs.World.{world_cells};
-ghost use Rattle.iam_report.specs.Piece.{IsBriefReport, IsReport, IsTextOf, bare, text_of};
-ghost use Rattle.iam_report.specs.Report.{IsBriefCsvReport, IsBriefJsonReport, IsCsvReport, IsJsonReport};
+ghost use Rattle.iam_row.specs.Piece.{IsBriefReport, IsReport, IsTextOf, bare, text_of};
+ghost use Rattle.iam_row.specs.Report.{IsBriefCsvReport, IsBriefJsonReport, IsCsvReport, IsJsonReport};
 
 use crate::entries::Entries;
-use crate::laws::{brief_texts, full_texts};
 use crate::matrix::MatrixText;
 use crate::output::buffer;
-use crate::quoted::{Format, Quoted};
 use iam_layers::{Decision, Verdict, World};
+use iam_row::{Format, Quoted, brief_texts, full_texts};
 use iam_text::OutOfMemory;
 use std::alloc::Global;
 

@@ -1,6 +1,6 @@
 // The tails of a tile's rows.
 use crate::numbers::Numbers;
-use crate::tail::Tail;
+use iam_row::Tail;
 use std::marker::Model;
 
 /// The tails of the rows of cells that follow one another. A contract sees their list; each different one is kept once,
@@ -15,7 +15,7 @@ pub struct Tile {
 impl Model for Tile {
     ghost use Rattle.std.specs.Prelude.{◌<◌, All, List, length};
     ghost use Rattle.iam_report.specs.Code.Numbered.{no_tail, picked};
-    ghost use Rattle.iam_report.specs.declared.tail.Tail.{Tail};
+    ghost use Rattle.iam_row.specs.declared.tail.Tail.{Tail};
 
     ghost Value = { List Tail };
 

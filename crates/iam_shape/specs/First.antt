@@ -10,8 +10,8 @@ IsFirst P [] x = ⊥
 IsFirst P (y ∷ ys) x = (P y × (x ≡ y)) ⊎ ((¬ P y) × IsFirst P ys x)
 
 -- the elements of a list, each at the path of its number, numbered from i
-abbrev pub placed : {X : Type 0} → (ℕ → Path) → ℕ → List X → List (Path × X)
-placed at i xs = map (λ x. (at x.0, x.1)) (enumerate_from i xs)
+abbrev pub with_paths : {X : Type 0} → (ℕ → Path) → ℕ → List X → List (Path × X)
+with_paths at i xs = map (λ x. (at x.0, x.1)) (enumerate_from i xs)
 
 -- the first element of which P holds stands at this path
 abbrev pub IsFirstAt : {X : Type 0} → (X → Type 0) → List (Path × X) → Path → Type 0

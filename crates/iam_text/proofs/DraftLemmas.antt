@@ -1,5 +1,6 @@
 -- What a text begins with, and that its draft is the only one.
 use Rattle.std.proofs.Common.{◌≡◌, ◌≢◌, ℕ, ◌<◌, List, [], ◌∷◌, ◌++◌, Bool, true, false, ◌==◌, not, length, replicate, Some, None, refl, sym, ap, ◌∙◌, subst, arith, codes, inl, inr, ◌⊎◌, length-append, IsTrue, ◌||◌, map}
+use Rattle.std.proofs.lemmas.Bool.{and_parts}
 use Rattle.std.proofs.lemmas.List.{append-nil, append_assoc}
 use Rattle.std.proofs.lemmas.Str.{chars_from_encodes, length-encode, len_utf8_bounds}
 use Rattle.std.specs.Char.{encode_utf8}
@@ -10,7 +11,7 @@ use Rattle.iam_text.specs.declared.draft.Piece.TheVariants.{Plain, Escaped, Vari
 use Rattle.iam_text.specs.declared.sign.Sign.{Sign}
 use Rattle.iam_text.specs.Draft.{BeginsWith, IsApart, IsDraft, IsWritten, is_key, is_key_character, plain_draft, sign_of}
 use Rattle.iam_text.specs.Code.Forms.{HasClosed, HasDefault, HasForm, IsClosed, IsCutAtForm, IsQuoted, NoneBegins}
-use Rattle.iam_text.proofs.FormLemmas.{all-absent, and-both, closed-avoids, default-cut, key-all, literal-no_key, one_character, run-unique, spaces-unique}
+use Rattle.iam_text.proofs.FormLemmas.{all-absent, closed-avoids, default-cut, key-all, literal-no_key, one_character, run-unique, spaces-unique}
 
 -- each piece is written with one character at least
 part-some : (wild : Bool) (piece : Piece) (part : List ℕ) → IsWritten wild piece part → 0 < length part
@@ -100,7 +101,7 @@ literal-before : (c : ℕ) (key more rest : List ℕ) → IsTrue (c == 42 || c =
 literal-before c [] more rest literal fits e = let no : ⊥ = cc in no
 literal-before c (k ∷ key) more rest literal fits e =
     let heads : c ≡ k = cc in
-    let wrong : true ≡ false = sym (and-both (is_key_character k) (list_all is_key_character key) (key-all (k ∷ key) fits)).0 ∙ ap is_key_character (sym heads) ∙ literal-no_key c literal in
+    let wrong : true ≡ false = sym (and_parts (is_key_character k) (list_all is_key_character key) (key-all (k ∷ key) fits)).0 ∙ ap is_key_character (sym heads) ∙ literal-no_key c literal in
     let no : ⊥ = cc in
     no
 

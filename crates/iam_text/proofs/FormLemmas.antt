@@ -1,6 +1,6 @@
 -- What a text begins with is determined.
 use Rattle.std.proofs.Common.{◌≡◌, ◌≢◌, ℕ, ◌<◌, ◌≤◌, zero, suc, List, [], ◌∷◌, ◌++◌, Bool, true, false, ◌&&◌, ◌||◌, ◌==◌, not, length, drop, replicate, Option, Some, None, refl, sym, ap, ◌∙◌, subst, arith, IsTrue, eqb-true, eq-eqb, get_or, inl, inr, ◌⊎◌, MatchOption, nat_lt, codes, take, ◌+◌}
-use Rattle.std.proofs.lemmas.Bool.{cases_lt}
+use Rattle.std.proofs.lemmas.Bool.{and_parts, cases_lt}
 use Rattle.std.proofs.lemmas.List.{append-nil, append_cancel_left, drop_at}
 use Rattle.std.proofs.lemmas.Str.{cons_from_encodes}
 use Rattle.std.proofs.lemmas.Str.Pattern.{split_text_parts}
@@ -14,25 +14,21 @@ use Rattle.iam_text.specs.Draft.{is_key, is_key_character}
 use Rattle.iam_text.specs.Code.Forms.{HasDefault, IsClosed, IsCutAtForm, IsQuoted, NoneBegins}
 use denote.Ref.{Bor}
 
-pub and-both : (a b : Bool) → (a && b) ≡ true → (a ≡ true) × (b ≡ true)
-and-both true b e = (refl, e)
-and-both false b e = cc
-
 -- a run of characters that pass, up to one that does not, is the only one
 pub run-unique : (test : ℕ → Bool) (xs ys : List ℕ) (c d : ℕ) (us vs : List ℕ) → list_all test xs ≡ true → list_all test ys ≡ true
     → test c ≡ false → test d ≡ false → xs ++ (c ∷ us) ≡ ys ++ (d ∷ vs) → (xs ≡ ys) × (c ≡ d) × (us ≡ vs)
 run-unique test [] [] c d us vs all all' off off' e = (refl, (let heads : c ≡ d = cc in heads), (let tails : us ≡ vs = cc in tails))
 run-unique test [] (y ∷ ys) c d us vs all all' off off' e =
     let heads : c ≡ y = cc in
-    let wrong : true ≡ false = sym (and-both (test y) (list_all test ys) all').0 ∙ ap test (sym heads) ∙ off in
+    let wrong : true ≡ false = sym (and_parts (test y) (list_all test ys) all').0 ∙ ap test (sym heads) ∙ off in
     absurd (let no : ⊥ = cc in no)
 run-unique test (x ∷ xs) [] c d us vs all all' off off' e =
     let heads : x ≡ d = cc in
-    let wrong : true ≡ false = sym (and-both (test x) (list_all test xs) all).0 ∙ ap test heads ∙ off' in
+    let wrong : true ≡ false = sym (and_parts (test x) (list_all test xs) all).0 ∙ ap test heads ∙ off' in
     absurd (let no : ⊥ = cc in no)
 run-unique test (x ∷ xs) (y ∷ ys) c d us vs all all' off off' e =
     let heads : x ≡ y = cc in
-    let rest = run-unique test xs ys c d us vs (and-both (test x) (list_all test xs) all).1 (and-both (test y) (list_all test ys) all').1 off off'
+    let rest = run-unique test xs ys c d us vs (and_parts (test x) (list_all test xs) all).1 (and_parts (test y) (list_all test ys) all').1 off off'
     (let tails : xs ++ (c ∷ us) ≡ ys ++ (d ∷ vs) = cc in tails) in
     let same : xs ≡ ys = rest.0 in
     ((let whole : x ∷ xs ≡ y ∷ ys = cc in whole), rest.1, rest.2)
@@ -93,8 +89,8 @@ differs c d test same = let wrong : true ≡ false = sym test ∙ ap not (eq-eqb
 -- no character of the text is `d`, by test and by index
 pub absent : (d : ℕ) (text : List ℕ) → list_all (λ c. not (c == d)) text ≡ true → (i : ℕ) → i < length text → get_or text i 0 ≢ d
 absent d [] all i below = absurd (omega arith)
-absent d (c ∷ text) all zero below = differs c d (and-both (not (c == d)) (list_all (λ x. not (x == d)) text) all).0
-absent d (c ∷ text) all (suc i) below = absent d text (and-both (not (c == d)) (list_all (λ x. not (x == d)) text) all).1 i (omega arith)
+absent d (c ∷ text) all zero below = differs c d (and_parts (not (c == d)) (list_all (λ x. not (x == d)) text) all).0
+absent d (c ∷ text) all (suc i) below = absent d text (and_parts (not (c == d)) (list_all (λ x. not (x == d)) text) all).1 i (omega arith)
 
 pub all-absent : (d : ℕ) (text : List ℕ) → ((i : ℕ) → i < length text → get_or text i 0 ≢ d) → list_all (λ c. not (c == d)) text ≡ true
 all-absent d [] none = refl
@@ -113,13 +109,13 @@ quoted-behind text inside default rest n spaces off (m, plain, joined) = (
 avoids : (test : ℕ → Bool) (d : ℕ) → test d ≡ false → (text : List ℕ) → list_all test text ≡ true → (i : ℕ) → i < length text → get_or text i 0 ≢ d
 avoids test d off [] all i below = absurd (omega arith)
 avoids test d off (c ∷ text) all zero below = λ same.
-    let wrong : true ≡ false = sym (and-both (test c) (list_all test text) all).0 ∙ ap test same ∙ off in
+    let wrong : true ≡ false = sym (and_parts (test c) (list_all test text) all).0 ∙ ap test same ∙ off in
     let no : ⊥ = cc in
     no
-avoids test d off (c ∷ text) all (suc i) below = avoids test d off text (and-both (test c) (list_all test text) all).1 i (omega arith)
+avoids test d off (c ∷ text) all (suc i) below = avoids test d off text (and_parts (test c) (list_all test text) all).1 i (omega arith)
 
 pub key-all : (key : List ℕ) → is_key key ≡ true → list_all is_key_character key ≡ true
-key-all key is = (and-both (nat_lt 0 (length key)) (list_all is_key_character key) is).1
+key-all key is = (and_parts (nat_lt 0 (length key)) (list_all is_key_character key) is).1
 
 pub key-avoids : (d : ℕ) → is_key_character d ≡ false → (key : List ℕ) → is_key key ≡ true → (i : ℕ) → i < length key → get_or key i 0 ≢ d
 key-avoids d off key is = avoids is_key_character d off key (key-all key is)

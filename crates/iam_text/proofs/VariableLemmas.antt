@@ -1,6 +1,6 @@
 -- The test of the grammar of variables tells whether a text has a draft.
 use Rattle.std.proofs.Common.{◌≡◌, ◌≢◌, ℕ, ◌<◌, ◌≤◌, zero, suc, List, [], ◌∷◌, ◌++◌, Bool, true, false, ◌&&◌, ◌||◌, ◌==◌, not, length, replicate, Some, None, refl, sym, ap, ◌∙◌, subst, arith, codes, IsTrue, inl, inr, ◌⊎◌, eqb-true, cond, get_or, drop, ◌+◌, length-append, nat_lt, ◌↔◌, map}
-use Rattle.std.proofs.lemmas.Bool.{lt-ltb}
+use Rattle.std.proofs.lemmas.Bool.{and_parts, lt-ltb}
 use Rattle.std.proofs.lemmas.List.{append-nil, append_assoc, drop_at, get_or_at}
 use Rattle.std.proofs.lemmas.List.Folds.{list_any-append}
 use Rattle.std.proofs.lemmas.Str.{inside_one, IsUtf8-drop, IsUtf8-past_char, chars_from_encodes, IsCharBoundary-after_ascii}
@@ -16,7 +16,7 @@ use Rattle.iam_text.specs.declared.sign.Sign.{Sign}
 use Rattle.iam_text.specs.Code.Forms.{HasForm, IsCutAtForm, IsQuoted, NoneBegins}
 use Rattle.iam_text.specs.Variables.{State, outside, dollar, opened, escaped, key, spaces, default, closing, is_draft, is_draft_from, is_end, step}
 use Rattle.iam_text.proofs.DraftLemmas.{begins-from_form, begins-shorter, form-from_begins, none-behind, none-here, piece-cases}
-use Rattle.iam_text.proofs.FormLemmas.{all-absent, and-both, default-cut, key-all, literal-no_key}
+use Rattle.iam_text.proofs.FormLemmas.{all-absent, default-cut, key-all, literal-no_key}
 
 -- one character on
 next : (s t : State) (c : ℕ) (text : List ℕ) → step s c ≡ Some t → is_draft_from s (c ∷ text) ≡ is_draft_from t text
@@ -27,7 +27,7 @@ run : (s : State) (test : ℕ → Bool) → ((c : ℕ) → test c ≡ true → s
     → is_draft_from s (xs ++ rest) ≡ is_draft_from s rest
 run s test stays [] rest all = refl
 run s test stays (c ∷ xs) rest all =
-    let both = and-both (test c) (list_all test xs) all in
+    let both = and_parts (test c) (list_all test xs) all in
     next s s c (xs ++ rest) (stays c both.0) ∙ run s test stays xs rest both.1
 
 stays-key : (c : ℕ) → is_key_character c ≡ true → step key c ≡ Some key
@@ -51,7 +51,7 @@ run-spaces (suc n) rest = run-spaces n rest
 run-key : (k rest : List ℕ) → is_key k ≡ true → is_draft_from opened (k ++ rest) ≡ is_draft_from key rest
 run-key [] rest is = cc
 run-key (c ∷ k) rest is =
-    let both = and-both (is_key_character c) (list_all is_key_character k) (key-all (c ∷ k) is) in
+    let both = and_parts (is_key_character c) (list_all is_key_character k) (key-all (c ∷ k) is) in
     next opened key c (k ++ rest) (ap (λ b. cond b (Some key) (cond (c == 42 || c == 63 || c == 36) (Some escaped) None)) both.0)
     ∙ run key is_key_character stays-key k rest both.1
 

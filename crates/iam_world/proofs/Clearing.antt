@@ -5,7 +5,7 @@ use Rattle.iam_match.specs.Requester.{RequesterValue}
 use Rattle.iam_world.specs.Code.ViewFault.{ViewHasFault, IsClearBelow, IsFirstViewFault}
 use Rattle.iam_world.specs.Code.Documents.{IsRefusedAmong}
 use Rattle.iam_shape.specs.View.{WorldView}
-use Rattle.iam_shape.specs.First.{placed}
+use Rattle.iam_shape.specs.First.{with_paths}
 use Rattle.iam_world_context.specs.Contexts.{Beside, IsFaulty, parts}
 use Rattle.iam_world.specs.WorldFault.{IsNoRequester, IsRequesterAt, IsNoAction, HasNoResourceArn, IsOfUnknownAccount, IsNotAccepted, IsOverLimits, documents, owners}
 use Rattle.iam_shape.specs.declared.path.Name.TheVariants.{Principals, Actions, Resources}
@@ -23,16 +23,16 @@ clear_3 world fault has = omega arith
 
 pub clear_4 : (world : WorldView) (requesters : List RequesterValue) → AllZip IsRequesterAt world.principals requesters → IsClearBelow 4 world
 clear_4 world requesters are (BadRequester path) has =
-    absurd (none_at IsNoRequester (placed (Item Principals) 0 world.principals) path
+    absurd (none_at IsNoRequester (with_paths (Item Principals) 0 world.principals) path
     (none_placed IsRequesterAt IsNoRequester (λ p r is none. none r is) (Item Principals) 0 world.principals requesters are) has)
 clear_4 world requesters are fault has = let before = clear_3 world fault has in omega arith
 
-pub clear_5 : (world : WorldView) → IsClearBelow 4 world → AllByRecursion (λ x. ¬ IsNoAction x.1) (placed (Item Actions) 0 world.actions) → IsClearBelow 5 world
-clear_5 world clear none (BadAction path) has = absurd (none_at IsNoAction (placed (Item Actions) 0 world.actions) path none has)
+pub clear_5 : (world : WorldView) → IsClearBelow 4 world → AllByRecursion (λ x. ¬ IsNoAction x.1) (with_paths (Item Actions) 0 world.actions) → IsClearBelow 5 world
+clear_5 world clear none (BadAction path) has = absurd (none_at IsNoAction (with_paths (Item Actions) 0 world.actions) path none has)
 clear_5 world clear none fault has = let before = clear fault has in omega arith
 
-pub clear_6 : (world : WorldView) → IsClearBelow 5 world → AllByRecursion (λ x. ¬ HasNoResourceArn x.1) (placed (Item Resources) 0 world.resources) → IsClearBelow 6 world
-clear_6 world clear none (BadResourceArn path) has = absurd (none_at HasNoResourceArn (placed (Item Resources) 0 world.resources) path none has)
+pub clear_6 : (world : WorldView) → IsClearBelow 5 world → AllByRecursion (λ x. ¬ HasNoResourceArn x.1) (with_paths (Item Resources) 0 world.resources) → IsClearBelow 6 world
+clear_6 world clear none (BadResourceArn path) has = absurd (none_at HasNoResourceArn (with_paths (Item Resources) 0 world.resources) path none has)
 clear_6 world clear none fault has = let before = clear fault has in omega arith
 
 pub clear_7 : (world : WorldView) → IsClearBelow 6 world → AllByRecursion (λ x. ¬ IsOfUnknownAccount world x.1) (owners world) → IsClearBelow 7 world

@@ -3,7 +3,7 @@ use Rattle.std.proofs.Common.{◌≡◌, inl, inr, ℕ, ◌+◌, ◌<◌, List, 
 use Rattle.std.specs.List.{AllByRecursion, AllZip, position_from}
 use Rattle.std.specs.Prelude.{IsTrue}
 use Rattle.iam_world.specs.Code.ViewFault.{FindsFirst}
-use Rattle.iam_shape.specs.First.{IsFirst, IsFirstAt, placed}
+use Rattle.iam_shape.specs.First.{IsFirst, IsFirstAt, with_paths}
 use Rattle.iam_shape.specs.declared.path.Path.{Path}
 use Rattle.iam_world.proofs.Walks.{drop-at}
 
@@ -46,18 +46,18 @@ none-append P (x ∷ front) back one two = (one.0, none-append P front back one.
 
 -- the first of the elements from i on: that at i, or else one behind it
 pub at_here : {V X : Type 0} (P : X → Type 0) (at : ℕ → Path) (f : V → X) (vs : List V) (i : ℕ) (v : V) → i < length vs → v ≡ get_or vs i v → P (f v)
-    → IsFirstAt P (placed at i (map f (drop i vs))) (at i)
+    → IsFirstAt P (with_paths at i (map f (drop i vs))) (at i)
 at_here P at f vs i v below is holds =
-    subst (λ xs. IsFirstAt P (placed at i xs) (at i)) (sym (drop-at f vs i v below is)) (f v, inl (holds, refl))
+    subst (λ xs. IsFirstAt P (with_paths at i xs) (at i)) (sym (drop-at f vs i v below is)) (f v, inl (holds, refl))
 
 pub at_later : {V X : Type 0} (P : X → Type 0) (at : ℕ → Path) (f : V → X) (vs : List V) (i : ℕ) (v : V) → i < length vs → v ≡ get_or vs i v → (¬ P (f v))
-    → (path : Path) → IsFirstAt P (placed at (i + 1) (map f (drop (i + 1) vs))) path → IsFirstAt P (placed at i (map f (drop i vs))) path
+    → (path : Path) → IsFirstAt P (with_paths at (i + 1) (map f (drop (i + 1) vs))) path → IsFirstAt P (with_paths at i (map f (drop i vs))) path
 at_later P at f vs i v below is fails path later =
-    subst (λ xs. IsFirstAt P (placed at i xs) path) (sym (drop-at f vs i v below is)) (later.0, inr (fails, later.1))
+    subst (λ xs. IsFirstAt P (with_paths at i xs) path) (sym (drop-at f vs i v below is)) (later.0, inr (fails, later.1))
 
 -- it holds of no element of a list that is read by something else
 pub none_placed : {X V : Type 0} (R : X → V → Type 0) (P : X → Type 0) → ((x : X) (v : V) → R x v → ¬ P x) → (at : ℕ → Path) (i : ℕ) (xs : List X) (vs : List V)
-    → AllZip R xs vs → AllByRecursion (λ x. ¬ P x.1) (placed at i xs)
+    → AllZip R xs vs → AllByRecursion (λ x. ¬ P x.1) (with_paths at i xs)
 none_placed R P step at i [] [] zip = tt
 none_placed R P step at i [] (v ∷ vs) zip = absurd zip
 none_placed R P step at i (x ∷ xs) [] zip = absurd zip
@@ -66,18 +66,18 @@ none_placed R P step at i (x ∷ xs) (v ∷ vs) zip = (step x v zip.0, none_plac
 -- a test along the one list finds the first element of the other
 pub found_by : {X V : Type 0} (R : X → V → Type 0) (P : X → Type 0) (test : V → Bool) → ((x : X) (v : V) → R x v → test v ≡ true → P x)
     → ((x : X) (v : V) → R x v → test v ≡ false → ¬ P x) → (at : ℕ → Path) (i : ℕ) (xs : List X) (vs : List V) → AllZip R xs vs
-    → FindsFirst P (placed at i xs) (option_map at (position_from test i vs))
+    → FindsFirst P (with_paths at i xs) (option_map at (position_from test i vs))
 found_by R P test holds fails at i [] [] zip = tt
 found_by R P test holds fails at i [] (v ∷ vs) zip = absurd zip
 found_by R P test holds fails at i (x ∷ xs) [] zip = absurd zip
 found_by {X} R P test holds fails at i (x ∷ xs) (v ∷ vs) zip = go (test v) refl (position_from test (i + 1) vs) (found_by R P test holds fails at (i + 1) xs vs zip.1)
   where
-    later : (o : Option ℕ) → (¬ P x) → FindsFirst P (placed at (i + 1) xs) (option_map at o) → FindsFirst P (placed at i (x ∷ xs)) (option_map at o)
+    later : (o : Option ℕ) → (¬ P x) → FindsFirst P (with_paths at (i + 1) xs) (option_map at o) → FindsFirst P (with_paths at i (x ∷ xs)) (option_map at o)
     later None fails none = (fails, none)
     later (Some n) fails first = (first.0, inr (fails, first.1))
 
-    go : (b : Bool) → test v ≡ b → (o : Option ℕ) → FindsFirst P (placed at (i + 1) xs) (option_map at o)
-        → FindsFirst P (placed at i (x ∷ xs)) (option_map at (cond b (Some i) o))
+    go : (b : Bool) → test v ≡ b → (o : Option ℕ) → FindsFirst P (with_paths at (i + 1) xs) (option_map at o)
+        → FindsFirst P (with_paths at i (x ∷ xs)) (option_map at (cond b (Some i) o))
     go true is o rest = (x, inl (holds x v zip.0 is, refl))
     go false is o rest = later o (fails x v zip.0 is) rest
 
@@ -88,7 +88,7 @@ said-zip f (v ∷ vs) = (refl, said-zip f vs)
 
 -- a test of what the code holds finds the first element that fails it
 pub found_said : {V X : Type 0} (test : X → Bool) (f : V → X) (at : ℕ → Path) (vs : List V)
-    → FindsFirst (λ x. ¬ IsTrue (test x)) (placed at 0 (map f vs)) (option_map at (position_from (λ v. not (test (f v))) 0 vs))
+    → FindsFirst (λ x. ¬ IsTrue (test x)) (with_paths at 0 (map f vs)) (option_map at (position_from (λ v. not (test (f v))) 0 vs))
 found_said {V} {X} test f at vs =
     found_by (λ x v. x ≡ f v) (λ x. ¬ IsTrue (test x)) (λ v. not (test (f v))) (λ x v is e. fails x v is (test (f v)) refl e) (λ x v is e off. off (ap test is ∙ passes (test (f v)) e))
     at 0 (map f vs) vs (said-zip f vs)

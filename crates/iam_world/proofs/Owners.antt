@@ -6,7 +6,7 @@ use Rattle.iam_match.specs.Requester.{RequesterValue, IsRequesterOf}
 use Rattle.iam_world.specs.Code.ViewFault.{FindsFirst}
 use Rattle.iam_shape.specs.Texts.{HasTexts, Places, has_text}
 use Rattle.iam_shape.specs.View.{PrincipalView, ResourceView, WorldView}
-use Rattle.iam_shape.specs.First.{IsFirstAt, placed}
+use Rattle.iam_shape.specs.First.{IsFirstAt, with_paths}
 use Rattle.iam_world.specs.WorldFault.{IsOfUnknownAccount, IsRequesterAt, Owner, of_principal, of_resource, has_account, owners}
 use Rattle.iam_shape.specs.declared.path.Name.TheVariants.{Principals, Resources}
 use Rattle.iam_shape.specs.declared.path.Path.{Path}
@@ -45,7 +45,7 @@ module _ (world : WorldView) (ids : Places) (has : HasTexts ids (map (λ account
   -- the first requester of an unknown account
   pub first_user : ((arn : List ℕ) (session : Option (List ℕ)) (r other : RequesterValue) → IsRequesterOf arn session r → IsRequesterOf arn session other → r ≡ other)
       → (rs : List RequesterValue) → AllZip IsRequesterAt world.principals rs
-      → FindsFirst (IsOfUnknownAccount world) (placed (Item Principals) 0 (map of_principal world.principals))
+      → FindsFirst (IsOfUnknownAccount world) (with_paths (Item Principals) 0 (map of_principal world.principals))
       (option_map (Item Principals) (position_from (λ r. not (has_text ids r.account)) 0 rs))
   first_user one rs zip =
       found_by User (IsOfUnknownAccount world) (λ r. not (has_text ids r.account)) holds fails (Item Principals) 0 (map of_principal world.principals) rs
@@ -63,10 +63,10 @@ module _ (world : WorldView) (ids : Places) (has : HasTexts ids (map (λ account
 
   -- the first resource of an unknown account, where the code holds the resources as `vs`
   pub first_resource : {V : Type 0} (f : V → ResourceView) (vs : List V) → map f vs ≡ world.resources
-      → FindsFirst (IsOfUnknownAccount world) (placed (Item Resources) 0 (map of_resource world.resources))
+      → FindsFirst (IsOfUnknownAccount world) (with_paths (Item Resources) 0 (map of_resource world.resources))
       (option_map (Item Resources) (position_from (λ v. not (has_text ids (f v).account)) 0 vs))
   first_resource {V} f vs are =
-      subst (λ rs. FindsFirst (IsOfUnknownAccount world) (placed (Item Resources) 0 (map of_resource rs)) (option_map (Item Resources) (position_from (λ v. not (has_text ids (f v).account)) 0 vs))) are
+      subst (λ rs. FindsFirst (IsOfUnknownAccount world) (with_paths (Item Resources) 0 (map of_resource rs)) (option_map (Item Resources) (position_from (λ v. not (has_text ids (f v).account)) 0 vs))) are
       (found_by (λ owner v. owner ≡ of_resource (f v)) (IsOfUnknownAccount world) (λ v. not (has_text ids (f v).account)) holds fails (Item Resources) 0
       (map of_resource (map f vs)) vs (each vs))
     where
@@ -83,16 +83,16 @@ module _ (world : WorldView) (ids : Places) (has : HasTexts ids (map (λ account
           at_v.2 (subst (λ id. IsTrue (has_account world id)) (sym at_v.1) (known (f v).account e))
 
   -- an unknown account of a principal comes first
-  pub in_users : (path : Path) → IsFirstAt (IsOfUnknownAccount world) (placed (Item Principals) 0 (map of_principal world.principals)) path
+  pub in_users : (path : Path) → IsFirstAt (IsOfUnknownAccount world) (with_paths (Item Principals) 0 (map of_principal world.principals)) path
       → IsFirstAt (IsOfUnknownAccount world) (owners world) path
   in_users path (x, first) =
-      (x, first_here (λ (y : Path × Owner). IsOfUnknownAccount world y.1) (placed (Item Principals) 0 (map of_principal world.principals)) (placed (Item Resources) 0 (map of_resource world.resources)) (path, x) first)
+      (x, first_here (λ (y : Path × Owner). IsOfUnknownAccount world y.1) (with_paths (Item Principals) 0 (map of_principal world.principals)) (with_paths (Item Resources) 0 (map of_resource world.resources)) (path, x) first)
 
   -- where there is none, the resources decide
-  pub in_resources : (found : Option Path) → AllByRecursion (λ (y : Path × Owner). ¬ IsOfUnknownAccount world y.1) (placed (Item Principals) 0 (map of_principal world.principals))
-      → FindsFirst (IsOfUnknownAccount world) (placed (Item Resources) 0 (map of_resource world.resources)) found
+  pub in_resources : (found : Option Path) → AllByRecursion (λ (y : Path × Owner). ¬ IsOfUnknownAccount world y.1) (with_paths (Item Principals) 0 (map of_principal world.principals))
+      → FindsFirst (IsOfUnknownAccount world) (with_paths (Item Resources) 0 (map of_resource world.resources)) found
       → FindsFirst (IsOfUnknownAccount world) (owners world) found
   in_resources None none rest =
-      none-append (λ (y : Path × Owner). ¬ IsOfUnknownAccount world y.1) (placed (Item Principals) 0 (map of_principal world.principals)) (placed (Item Resources) 0 (map of_resource world.resources)) none rest
+      none-append (λ (y : Path × Owner). ¬ IsOfUnknownAccount world y.1) (with_paths (Item Principals) 0 (map of_principal world.principals)) (with_paths (Item Resources) 0 (map of_resource world.resources)) none rest
   in_resources (Some path) none (x, first) =
-      (x, first_later (λ (y : Path × Owner). IsOfUnknownAccount world y.1) (placed (Item Principals) 0 (map of_principal world.principals)) (placed (Item Resources) 0 (map of_resource world.resources)) (path, x) none first)
+      (x, first_later (λ (y : Path × Owner). IsOfUnknownAccount world y.1) (with_paths (Item Principals) 0 (map of_principal world.principals)) (with_paths (Item Resources) 0 (map of_resource world.resources)) (path, x) none first)

@@ -1,5 +1,5 @@
 -- What a `WorldParts` keeps of its value, so that its calls need not test it again. LOGIC 12.1 and 15.
-use Rattle.std.specs.Prelude.{◌≡◌, ℕ, ◌<◌, ◌≤◌, ◌^◌, List, [], ◌++◌, length, map}
+use Rattle.std.specs.Prelude.{◌≡◌, ℕ, ◌<◌, ◌≤◌, ◌^◌, [], ◌++◌, length, map}
 use Rattle.std.specs.List.{AllByRecursion, flat_map}
 use Rattle.iam_context.specs.Context.{keys_of}
 use Rattle.iam_context.specs.ContextFault.{IsClean}

@@ -25,7 +25,7 @@ use Rattle.iam_shape.specs.declared.path.Path.TheVariants.{Item, Field, Entry, L
 use Rattle.iam_shape.specs.Path.{path_text}
 use Rattle.iam_world.specs.declared.fault.WorldFault.{WorldFault}
 use Rattle.iam_world.specs.declared.fault.WorldFault.TheVariants.{NotJson, BadShape, BadRequester, BadAction, BadResourceArn, UnknownAccount, Context, Policy, TooLarge, OutOfMemory}
-use Rattle.iam_shape.specs.First.{IsFirst, IsFirstAt, placed}
+use Rattle.iam_shape.specs.First.{IsFirst, IsFirstAt, with_paths}
 use Rattle.iam_shape.specs.Shape.{first_bad, shape_checks}
 use Rattle.iam_shape.specs.View.{AccountView, PrincipalView, ResourceView, WorldView, IsView}
 use Rattle.iam_world_context.specs.Contexts.{IsFirstFaulty, parts}
@@ -113,8 +113,8 @@ pub data Owner : Type 0 where
 -- the principals, then the resources
 abbrev pub owners : WorldView → List (Path × Owner)
 owners world =
-    placed (Item Principals) 0 (map of_principal world.principals)
-    ++ placed (Item Resources) 0 (map of_resource world.resources)
+    with_paths (Item Principals) 0 (map of_principal world.principals)
+    ++ with_paths (Item Resources) 0 (map of_resource world.resources)
 
 -- the account is that of the requester, where the principal is one, or that which the resource names
 abbrev pub BelongsTo : Owner → List ℕ → Type 0
@@ -225,11 +225,11 @@ abbrev pub WorldHasFault : List ℕ → WorldFault → Type 0
 WorldHasFault bytes NotJson = (d : Data) → ¬ IsJson bytes d
 WorldHasFault bytes (BadShape path) = (d : Data) × IsJson bytes d × (first_bad (shape_checks d) ≡ Some path)
 WorldHasFault bytes (BadRequester path) =
-    HasView bytes (λ world. IsFirstAt IsNoRequester (placed (Item Principals) 0 world.principals) path)
+    HasView bytes (λ world. IsFirstAt IsNoRequester (with_paths (Item Principals) 0 world.principals) path)
 WorldHasFault bytes (BadAction path) =
-    HasView bytes (λ world. IsFirstAt IsNoAction (placed (Item Actions) 0 world.actions) path)
+    HasView bytes (λ world. IsFirstAt IsNoAction (with_paths (Item Actions) 0 world.actions) path)
 WorldHasFault bytes (BadResourceArn path) =
-    HasView bytes (λ world. IsFirstAt HasNoResourceArn (placed (Item Resources) 0 world.resources) path)
+    HasView bytes (λ world. IsFirstAt HasNoResourceArn (with_paths (Item Resources) 0 world.resources) path)
 WorldHasFault bytes (UnknownAccount path) =
     HasView bytes (λ world. IsFirstAt (IsOfUnknownAccount world) (owners world) path)
 WorldHasFault bytes (Context path fault) = HasView bytes (λ world. IsFirstFaulty (parts world) path fault)

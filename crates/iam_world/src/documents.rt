@@ -165,10 +165,7 @@ fn read_optional(
         (numbered kind (path_at place) 0 (option_to_list (option_map (λ d. view d.now) document.entry))) fault) }
 {
     match document {
-        Some(document) => {
-            let policy = Documents { kind, place }.read(alloc, budget, 0, document)?;
-            Ok(Some(policy))
-        }
+        Some(document) => Ok(Some(Documents { kind, place }.read(alloc, budget, 0, document)?)),
         None => Ok(None),
     }
 }

@@ -1,5 +1,5 @@
 // How many cells and statements a world has, and may have.
-ghost use Rattle.std.specs.Prelude.{◌≡◌, ◌≤◌, ◌<◌, ◌+◌, ◌*◌, map, MatchOption, length};
+ghost use Rattle.std.specs.Prelude.{◌≡◌, ◌≤◌, ◌<◌, ◌+◌, ◌*◌, MatchOption};
 ghost use Rattle.iam_world.specs.Code.Budget.{Leaves};
 ghost use Rattle.iam_shape.specs.LentWorld.{world_of};
 ghost use Rattle.iam_world.specs.WorldFault.{IsOverLimits, cell_count, statement_count};

@@ -6,7 +6,7 @@ ghost use Rattle.iam_world.specs.Code.ViewFault.{FindsFirst, IsClearBelow, IsFau
 ghost use Rattle.iam_shape.specs.Texts.{has_text};
 ghost use Rattle.iam_shape.specs.Lent.{principal_of};
 ghost use Rattle.iam_shape.specs.LentWorld.{world_of};
-ghost use Rattle.iam_shape.specs.First.{IsFirstAt, placed};
+ghost use Rattle.iam_shape.specs.First.{IsFirstAt, with_paths};
 ghost use Rattle.iam_world.specs.WorldFault.{HasNoResourceArn, IsNoAction, IsNoRequester, IsOfUnknownAccount, IsRequesterAt, is_action, is_action_name, is_resource, owners};
 ghost use Rattle.iam_world.specs.declared.fault.WorldFault.TheVariants as w;
 
@@ -38,7 +38,7 @@ fn read_requesters(
     ensures ok { IfOk result (λ requesters. AllZip IsRequesterAt (map principal_of principals.now) requesters.items) }
     ensures fault { IfErr result (λ fault. fault ≢ w.OutOfMemory
         → IsFaultAt w.BadRequester
-        (IsFirstAt IsNoRequester (placed (Path.Item Name.Principals) 0 (map principal_of principals.now))) fault) }
+        (IsFirstAt IsNoRequester (with_paths (Path.Item Name.Principals) 0 (map principal_of principals.now))) fault) }
 {
     let mut requesters = Vec::new(alloc);
     for (i, principal) in principals.iter().enumerate() {
@@ -117,14 +117,14 @@ fn at(list: Name, number: Option<usize>) -> Option<Path>
 
 /// The first text that is no action.
 fn bad_action(world: &WorldView<'_>) -> Option<Path>
-    ensures { FindsFirst IsNoAction (placed (Path.Item Name.Actions) 0 (world_of world.now).actions) result }
+    ensures { FindsFirst IsNoAction (with_paths (Path.Item Name.Actions) 0 (world_of world.now).actions) result }
 {
     at(Name::Actions, first_no_action(world.actions.as_slice()))
 }
 
 /// The first resource that is neither `*` nor an ARN.
 fn bad_resource(world: &WorldView<'_>) -> Option<Path>
-    ensures { FindsFirst HasNoResourceArn (placed (Path.Item Name.Resources) 0 (world_of world.now).resources) result }
+    ensures { FindsFirst HasNoResourceArn (with_paths (Path.Item Name.Resources) 0 (world_of world.now).resources) result }
 {
     at(
         Name::Resources,

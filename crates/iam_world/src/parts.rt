@@ -53,11 +53,7 @@ impl Account {
     fn with(self, org: Vec<Vec<Policy>>) -> Account
         ensures { result ≡ made_account (self, map (λ level. level.items) org.items) }
     {
-        Account {
-            id: self.id,
-            management: self.management,
-            org,
-        }
+        Account { org, ..self }
     }
 
     /// Whether it manages its organisation.
@@ -189,12 +185,10 @@ impl Resource {
         ensures { result ≡ made_resource (((self, policy), map (λ level. level.items) control.items), context.items) }
     {
         Resource {
-            arn: self.arn,
-            account: self.account,
             policy,
-            sealed: self.sealed,
             context,
             control,
+            ..self
         }
     }
 

@@ -1,5 +1,5 @@
 // Reading a world, from its bytes.
-ghost use Rattle.std.specs.Prelude.{◌≡◌, ◌≢◌, ◌≤◌, true, map, option_map, IfOk, IfErr};
+ghost use Rattle.std.specs.Prelude.{◌≡◌, ◌≢◌, ◌≤◌, map, option_map, IfOk, IfErr};
 ghost use Rattle.std.specs.List.{AllZip, find};
 ghost use Rattle.std.specs.Str.{bytes_eq};
 ghost use Rattle.serde_json.specs.Data.{Data};
@@ -83,18 +83,8 @@ fn parse(alloc: Global, bytes: &[u8]) -> Result<Value, WorldFault>
 {
     match Value::from_slice(alloc, bytes) {
         Ok(value) => Ok(value),
-        Err(error) => Err(parse_fault(error.is_memory())),
-    }
-}
-
-fn parse_fault(memory: bool) -> WorldFault
-    ensures memory { memory ≡ true → result ≡ w.OutOfMemory }
-    ensures fault { memory ≢ true → result ≡ w.NotJson }
-{
-    if memory {
-        WorldFault::OutOfMemory
-    } else {
-        WorldFault::NotJson
+        Err(error) if error.is_memory() => Err(WorldFault::OutOfMemory),
+        Err(_) => Err(WorldFault::NotJson),
     }
 }
 

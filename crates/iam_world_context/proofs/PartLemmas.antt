@@ -5,7 +5,7 @@ use Rattle.std.proofs.lemmas.List.{append-nil, append_assoc}
 use Rattle.iam_context.specs.Context.{ContextValue, keys_of}
 use Rattle.iam_context.specs.ContextFault.{IsClean, IsPartFault}
 use Rattle.iam_context.specs.declared.fault.ContextFault.{ContextFault}
-use Rattle.iam_shape.specs.First.{placed}
+use Rattle.iam_shape.specs.First.{with_paths}
 use Rattle.iam_shape.specs.declared.path.Name.TheVariants.{Context, Principals, Resources}
 use Rattle.iam_shape.specs.declared.path.Path.{Path}
 use Rattle.iam_shape.specs.declared.path.Path.TheVariants.{Field, Member}
@@ -36,22 +36,22 @@ beside others part = record { others = others; part = part }
 
 -- the part at i is the first that is faulty
 pub part_here : {V : Type 0} (f : V → ContextValue) (others : List (List ℕ)) (at : ℕ → Path) (vs : List V) (i : ℕ) (v : V) (fault : PartFault) → i < length vs → v ≡ get_or vs i v
-    → IsFaultyPart (at i) others (f v) fault → IsFaultyAmong (placed at i (map (beside others) (map f (drop i vs)))) fault
+    → IsFaultyPart (at i) others (f v) fault → IsFaultyAmong (with_paths at i (map (beside others) (map f (drop i vs)))) fault
 part_here f others at vs i v fault below is (found, fault_is, holds) =
-    subst (λ parts. IsFaultyAmong (placed at i (map (beside others) parts)) fault) (sym (drop-at f vs i v below is))
+    subst (λ parts. IsFaultyAmong (with_paths at i (map (beside others) parts)) fault) (sym (drop-at f vs i v below is))
     (at i, found, fault_is, (beside others (f v), inl ((λ clean. not_clean others (f v) found holds clean), refl), holds))
 
 -- the part at i is clean
 pub part_later : {V : Type 0} (f : V → ContextValue) (others : List (List ℕ)) (at : ℕ → Path) (vs : List V) (i : ℕ) (v : V) → i < length vs → v ≡ get_or vs i v
-    → IsClean others (f v) → (fault : PartFault) → IsFaultyAmong (placed at (i + 1) (map (beside others) (map f (drop (i + 1) vs)))) fault
-    → IsFaultyAmong (placed at i (map (beside others) (map f (drop i vs)))) fault
+    → IsClean others (f v) → (fault : PartFault) → IsFaultyAmong (with_paths at (i + 1) (map (beside others) (map f (drop (i + 1) vs)))) fault
+    → IsFaultyAmong (with_paths at i (map (beside others) (map f (drop i vs)))) fault
 part_later f others at vs i v below is clean fault (path, found, fault_is, (b, first, holds)) =
-    subst (λ parts. IsFaultyAmong (placed at i (map (beside others) parts)) fault) (sym (drop-at f vs i v below is))
+    subst (λ parts. IsFaultyAmong (with_paths at i (map (beside others) parts)) fault) (sym (drop-at f vs i v below is))
     (path, found, fault_is, (b, inr ((λ off. off clean), first), holds))
 
 -- clean parts are not faulty
 pub clean_parts : (others : List (List ℕ)) (at : ℕ → Path) (i : ℕ) (parts : List ContextValue) → AreClean others parts
-    → AllByRecursion (λ (p : Path × Beside). ¬ IsFaulty p.1) (placed at i (map (beside others) parts))
+    → AllByRecursion (λ (p : Path × Beside). ¬ IsFaulty p.1) (with_paths at i (map (beside others) parts))
 clean_parts others at i [] clean = tt
 clean_parts others at i (p ∷ ps) clean = ((λ off. off clean.0), clean_parts others at (i + 1) ps clean.1)
 

@@ -4,7 +4,7 @@ use Rattle.std.specs.List.{flat_map}
 use Rattle.iam_context.specs.Context.{ContextValue, keys_of}
 use Rattle.iam_context.specs.ContextFault.{IsClean, IsPartFault}
 use Rattle.iam_context.specs.declared.fault.ContextFault.{ContextFault}
-use Rattle.iam_shape.specs.First.{IsFirst, placed}
+use Rattle.iam_shape.specs.First.{IsFirst, with_paths}
 use Rattle.iam_shape.specs.View.{WorldView}
 use Rattle.iam_shape.specs.declared.path.Name.{Name}
 use Rattle.iam_shape.specs.declared.path.Name.TheVariants.{Principals, Resources}
@@ -24,7 +24,7 @@ IsFaulty beside = ¬ IsClean beside.others beside.part
 -- the parts that members of a list give, beside others with these keys
 abbrev pub parts_of : Name → List (List ℕ) → List ContextValue → List (Path × Beside)
 parts_of list others parts =
-    placed (λ i. Field list i name.Context) 0 (map (λ part. record { others = others; part = part }) parts)
+    with_paths (λ i. Field list i name.Context) 0 (map (λ part. record { others = others; part = part }) parts)
 
 -- the contexts of the principals, and those of the resources
 abbrev pub principal_parts : WorldView → List ContextValue

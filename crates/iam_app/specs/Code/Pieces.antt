@@ -1,6 +1,6 @@
 -- The text of a report that was made whole, or is put together from pieces.
 use Rattle.std.specs.Prelude.{ℕ, List}
-use Rattle.iam_report.specs.Piece.{text_of}
+use Rattle.iam_row.specs.Piece.{text_of}
 use Rattle.iam_app.specs.declared.output.Report.{Report}
 use Rattle.iam_app.specs.declared.output.Report.TheVariants.{Whole, Matrix}
 

@@ -3,13 +3,13 @@ use Rattle.std.specs.Prelude.{◌≡◌, ℕ, ◌+◌, ◌<◌, ◌≤◌, List,
 use Rattle.iam_decision.specs.declared.verdict.Decision.{Decision}
 use Rattle.iam_decision.specs.declared.verdict.Decision.TheVariants.{Allowed}
 use Rattle.iam_decision.specs.declared.verdict.Verdict.{Verdict}
-use Rattle.iam_report.specs.Piece.{brief_tail, full_tail}
-use Rattle.iam_report.specs.declared.quoted.Format.{Format}
-use Rattle.iam_report.specs.declared.tail.Tail.{Tail}
+use Rattle.iam_row.specs.Piece.{bare, brief_tail, full_tail}
+use Rattle.iam_row.specs.declared.quoted.Format.{Format}
+use Rattle.iam_row.specs.declared.tail.Tail.{Tail}
 use Rattle.iam_world.specs.World.{WorldValue, world_cells}
 use Rattle.iam_lanes.specs.LaneRule.{no_cell}
 use Rattle.iam_layers.specs.Cell.{IsDecisionOf, IsVerdictOf}
-use Rattle.iam_matrix.specs.Matrix.{AreEntriesFrom, IsDenied}
+use Rattle.iam_matrix.specs.Matrix.{AreEntriesFrom, IsNotAllowed}
 
 -- the cut has this tile, and is one of the world's cells
 abbrev pub IsTileOf : WorldValue → List ℕ → ℕ → Type 0
@@ -27,19 +27,20 @@ AreVerdicts world from count verdicts = AreEntries (IsVerdictOf world) from coun
 abbrev pub AreDecisions : WorldValue → ℕ → ℕ → List Decision → Type 0
 AreDecisions world from count decisions = AreEntries (IsDecisionOf world) from count decisions
 
+-- the verdicts of these cells, or in brief their decisions, as verdicts without places and layers
+abbrev pub AreEntriesOf : Bool → WorldValue → ℕ → ℕ → List Verdict → Type 0
+AreEntriesOf brief world from count entries =
+    MatchBool brief ((decisions : List Decision) × AreDecisions world from count decisions × (entries ≡ map bare decisions))
+    (AreVerdicts world from count entries)
+
 -- the tails of the rows of the entries of these cells
 abbrev pub AreTails : {X : Type 0} → (ℕ → X → Type 0) → (X → Tail) → ℕ → ℕ → List Tail → Type 0
 AreTails {X} Is tail from count tails = (entries : List X) × AreEntries Is from count entries × (tails ≡ map tail entries)
 
-abbrev pub AreFullTails : Format → WorldValue → ℕ → ℕ → List Tail → Type 0
-AreFullTails format world from count tails = AreTails (IsVerdictOf world) (full_tail format) from count tails
-
-abbrev pub AreBriefTails : Format → WorldValue → ℕ → ℕ → List Tail → Type 0
-AreBriefTails format world from count tails = AreTails (IsDecisionOf world) (brief_tail format) from count tails
-
 abbrev pub AreTailsOf : Format → Bool → WorldValue → ℕ → ℕ → List Tail → Type 0
 AreTailsOf format brief world from count tails =
-    MatchBool brief (AreBriefTails format world from count tails) (AreFullTails format world from count tails)
+    MatchBool brief (AreTails (IsDecisionOf world) (brief_tail format) from count tails)
+    (AreTails (IsVerdictOf world) (full_tail format) from count tails)
 
 -- a cell that is allowed, and below all numbers that are no cells
 pub record IsAllowedCell (world : WorldValue) (cell : ℕ) : Type 0 where
@@ -48,14 +49,14 @@ pub record IsAllowedCell (world : WorldValue) (cell : ℕ) : Type 0 where
   pub allowed : IsDecisionOf world cell Allowed
 
 -- each cell of these that is below a bound is denied
-abbrev pub AreDeniedBelow : WorldValue → ℕ → ℕ → ℕ → Type 0
-AreDeniedBelow world from count bound = (cell : ℕ) → from ≤ cell → cell < from + count → cell < bound → IsDenied world cell
+abbrev pub AreNotAllowedBelow : WorldValue → ℕ → ℕ → ℕ → Type 0
+AreNotAllowedBelow world from count bound = (cell : ℕ) → from ≤ cell → cell < from + count → cell < bound → IsNotAllowed world cell
 
 -- the first allowed cell of these, or nothing where all are denied
 abbrev pub IsFirstIn : WorldValue → ℕ → ℕ → Option ℕ → Type 0
-IsFirstIn world from count None = (cell : ℕ) → from ≤ cell → cell < from + count → IsDenied world cell
+IsFirstIn world from count None = (cell : ℕ) → from ≤ cell → cell < from + count → IsNotAllowed world cell
 IsFirstIn world from count (Some found) =
-    IsAllowedCell world found × (found < from + count) × ((cell : ℕ) → from ≤ cell → cell < found → IsDenied world cell)
+    IsAllowedCell world found × (found < from + count) × ((cell : ℕ) → from ≤ cell → cell < found → IsNotAllowed world cell)
 
 -- a relation of a first cell, a number of cells and an output, for tiles that follow one another from a cell on
 abbrev pub Chain : {O : Type 0} → (ℕ → ℕ → O → Type 0) → ℕ → List ℕ → List O → Type 0

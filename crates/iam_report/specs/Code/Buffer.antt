@@ -1,10 +1,10 @@
 -- Texts and rows on their way through a buffer.
 use Rattle.std.specs.Prelude.{Option, ◌≡◌, ◌≤◌, ℕ, List, ◌++◌}
 use Rattle.std.specs.Io.KnownBytes.{Appends}
-use Rattle.iam_report.specs.Piece.{rows_text}
-use Rattle.iam_report.specs.declared.position.Position.{Position}
-use Rattle.iam_report.specs.declared.quoted.Quoted.{Quoted}
-use Rattle.iam_report.specs.declared.tail.Tail.{Tail}
+use Rattle.iam_row.specs.Piece.{rows_text}
+use Rattle.iam_row.specs.declared.position.Position.{Position}
+use Rattle.iam_row.specs.declared.quoted.Quoted.{Quoted}
+use Rattle.iam_row.specs.declared.tail.Tail.{Tail}
 
 -- a text was taken: what was kept and the text are what the writer gained and what is kept now
 pub record Passes (old new : Option (List ℕ)) (kept rest text : List ℕ) : Type 0 where

@@ -2,10 +2,10 @@
 use Rattle.std.specs.Prelude.{◌≡◌, ℕ, Bool, List, [], ◌++◌, codes, get_or}
 use Rattle.iam_report.specs.Code.Front.{FrontValue}
 use Rattle.iam_report.specs.Code.Numbered.{no_tail}
-use Rattle.iam_report.specs.declared.quoted.Format.{Format}
-use Rattle.iam_report.specs.declared.quoted.Format.TheVariants.{Csv, Json}
-use Rattle.iam_report.specs.declared.quoted.Quoted.{Quoted}
-use Rattle.iam_report.specs.declared.tail.Tail.{Tail}
+use Rattle.iam_row.specs.declared.quoted.Format.{Format}
+use Rattle.iam_row.specs.declared.quoted.Format.TheVariants.{Csv, Json}
+use Rattle.iam_row.specs.declared.quoted.Quoted.{Quoted}
+use Rattle.iam_row.specs.declared.tail.Tail.{Tail}
 
 -- a line: the texts of the report, the tails of its rows, and the front that was made last, and for which principal, action
 -- and tail

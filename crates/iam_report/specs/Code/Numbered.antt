@@ -2,7 +2,7 @@
 use Rattle.std.specs.Prelude.{ℕ, List, [], get_or, map}
 use Rattle.iam_decision.specs.declared.verdict.Decision.TheVariants.{ImplicitDeny}
 use Rattle.iam_decision.specs.declared.verdict.Verdict.{Verdict}
-use Rattle.iam_report.specs.declared.tail.Tail.{Tail}
+use Rattle.iam_row.specs.declared.tail.Tail.{Tail}
 
 -- the items of these numbers
 abbrev pub picked : {A : Type 0} → A → List A → List ℕ → List A

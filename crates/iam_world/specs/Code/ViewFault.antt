@@ -2,7 +2,7 @@
 use Rattle.std.specs.Prelude.{◌≡◌, ℕ, ◌≤◌, List, Option, MatchOption}
 use Rattle.std.specs.List.{AllByRecursion}
 use Rattle.iam_shape.specs.View.{WorldView}
-use Rattle.iam_shape.specs.First.{IsFirstAt, placed}
+use Rattle.iam_shape.specs.First.{IsFirstAt, with_paths}
 use Rattle.iam_world_context.specs.Contexts.{parts, IsFirstFaulty}
 use Rattle.iam_world.specs.WorldFault.{world_number_of, IsNoRequester, IsNoAction, HasNoResourceArn, owners, IsOfUnknownAccount, documents, IsFirstRefused, IsOverLimits}
 use Rattle.iam_shape.specs.declared.path.Name.TheVariants.{Principals, Actions, Resources}
@@ -18,9 +18,9 @@ use Rattle.iam_world.specs.declared.fault.WorldFault.TheVariants.{NotJson, BadSh
 abbrev pub ViewHasFault : WorldView → WorldFault → Type 0
 ViewHasFault world NotJson = ⊥
 ViewHasFault world (BadShape path) = ⊥
-ViewHasFault world (BadRequester path) = IsFirstAt IsNoRequester (placed (Item Principals) 0 world.principals) path
-ViewHasFault world (BadAction path) = IsFirstAt IsNoAction (placed (Item Actions) 0 world.actions) path
-ViewHasFault world (BadResourceArn path) = IsFirstAt HasNoResourceArn (placed (Item Resources) 0 world.resources) path
+ViewHasFault world (BadRequester path) = IsFirstAt IsNoRequester (with_paths (Item Principals) 0 world.principals) path
+ViewHasFault world (BadAction path) = IsFirstAt IsNoAction (with_paths (Item Actions) 0 world.actions) path
+ViewHasFault world (BadResourceArn path) = IsFirstAt HasNoResourceArn (with_paths (Item Resources) 0 world.resources) path
 ViewHasFault world (UnknownAccount path) = IsFirstAt (IsOfUnknownAccount world) (owners world) path
 ViewHasFault world (Context path fault) = IsFirstFaulty (parts world) path fault
 ViewHasFault world (Policy path refused) = IsFirstRefused (documents world) path refused

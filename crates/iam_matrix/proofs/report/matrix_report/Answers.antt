@@ -1,8 +1,8 @@
 use Rattle.std.proofs.Common.{ℕ, List, length, ap, ◌∙◌, subst, sym, arith}
 use Rattle.std.specs.List.{flat_map}
-use Rattle.iam_report.specs.Piece.{MatrixValue, text_of}
-use Rattle.iam_report.specs.declared.quoted.Format.{Format}
-use Rattle.iam_report.specs.declared.tail.Tail.{Tail}
+use Rattle.iam_row.specs.Piece.{MatrixValue, text_of}
+use Rattle.iam_row.specs.declared.quoted.Format.{Format}
+use Rattle.iam_row.specs.declared.tail.Tail.{Tail}
 use Rattle.iam_matrix.specs.Report.{IsMatrixReport}
 use Rattle.iam_matrix.specs.Code.Tiles.{AreTailsOf, Chain}
 use Rattle.iam_matrix.proofs.Tails.{count-tails, report}

@@ -1,7 +1,7 @@
 use Rattle.std.proofs.Common.{◌≡◌, ℕ, subst, ◌+◌, ◌-◌, ◌≤◌, [], ◌++◌, ◌∷◌, sym, ap, ◌∙◌, arith}
 use Rattle.std.proofs.lemmas.List.{map_push}
 use Rattle.iam_layers.specs.Cell.{IsCell, IsDecisionOf}
-use Rattle.iam_report.specs.Piece.{bare}
+use Rattle.iam_row.specs.Piece.{bare}
 use Rattle.iam_world.specs.World.{WorldValue, world_cells}
 use Rattle.iam_matrix.specs.Code.Tiles.{AreEntries}
 use Rattle.iam_matrix.proofs.Tiles.{more-entries, no-entries}

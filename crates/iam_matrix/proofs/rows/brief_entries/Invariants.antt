@@ -1,6 +1,6 @@
 use Rattle.std.proofs.Common.{◌≡◌, ◌-◌, ◌≤◌, ◌<◌, List, map}
 use Rattle.iam_decision.specs.declared.verdict.Decision.{Decision}
-use Rattle.iam_report.specs.Piece.{bare}
+use Rattle.iam_row.specs.Piece.{bare}
 use Rattle.iam_matrix.specs.Code.Tiles.{AreDecisions}
 use Rattle.iam_layers.specs.Cell.{IsCell}
 use Rattle.iam_world.specs.World.{world_cells}

@@ -3,7 +3,7 @@ use Rattle.std.proofs.lemmas.Bool.{cases_lt}
 use Rattle.iam_decision.specs.declared.verdict.Decision.{Decision}
 use Rattle.iam_layers.specs.Cell.{IsCell, IsDecisionOf}
 use Rattle.iam_world.specs.World.{WorldValue, world_cells}
-use Rattle.iam_matrix.specs.Matrix.{IsDenied}
+use Rattle.iam_matrix.specs.Matrix.{IsNotAllowed}
 use Rattle.iam_matrix.specs.Code.Tiles.{IsAllowedCell}
 use Rattle.iam_matrix.proofs.search.first_in.Goals as goal
 
@@ -52,7 +52,7 @@ loop-at-preserved c =
     let next = c.next_in-at.ensures in
     let decision = c.in_ok-decision_at.field-0 in
     let W : WorldValue → Type 0 = λ w. IsDecisionOf w here decision in
-    let is : IsDenied world here = record {
+    let is : IsNotAllowed world here = record {
       decision = decision;
       is = subst W so_far.same c.in_ok-decision_at.ensures.decision;
       denied = λ same. let allowed = c.is_allowed.ensures.1 same in let wrong : ⊥ = cc in wrong;
@@ -64,6 +64,6 @@ loop-at-preserved c =
       same = c.in_ok-decision_at.ensures.same ∙ so_far.same;
       denied = λ cell from below.
           ⊎_elim (λ before. so_far.denied cell from before)
-          (λ after. let same : here ≡ cell = omega (arith, after, below, next.cell) in subst (λ k. IsDenied world k) same is)
+          (λ after. let same : here ≡ cell = omega (arith, after, below, next.cell) in subst (λ k. IsNotAllowed world k) same is)
           (cases_lt cell here);
     }

@@ -1,7 +1,7 @@
 use Rattle.std.proofs.Common.{◌≡◌, ◌-◌, ◌≤◌, ◌<◌, ℕ}
 use Rattle.iam_layers.specs.Cell.{IsCell}
 use Rattle.iam_world.specs.World.{world_cells}
-use Rattle.iam_matrix.specs.Matrix.{IsDenied}
+use Rattle.iam_matrix.specs.Matrix.{IsNotAllowed}
 use Rattle.iam_matrix.proofs.search.first_in.Given as goal
 
 -- the cells so far
@@ -11,7 +11,7 @@ invariant-loop-at l = record {
   most : l.at.cell ≤ l.end;
   there : l.at.cell < world_cells l.world → IsCell l.world l.at.cell l.at.principal l.at.action l.at.resource;
   same : l.engine.world ≡ l.initial.engine.world;
-  denied : (cell : ℕ) → l.from ≤ cell → cell < l.at.cell → IsDenied l.initial.engine.world cell;
+  denied : (cell : ℕ) → l.from ≤ cell → cell < l.at.cell → IsNotAllowed l.initial.engine.world cell;
 }
 
 abbrev pub decreases-loop-at : goal.decreases-loop-at

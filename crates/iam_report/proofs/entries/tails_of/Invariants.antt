@@ -1,5 +1,5 @@
 use Rattle.std.proofs.Common.{◌≡◌, map, take}
-use Rattle.iam_report.specs.Piece.{tail_of}
+use Rattle.iam_row.specs.Piece.{tail_of}
 use Rattle.iam_report.proofs.entries.tails_of.Given as goal
 
 abbrev pub invariant-loop-verdict : goal.invariant-loop-verdict

@@ -1,8 +1,8 @@
 use Rattle.std.proofs.Common.{List, ◌++◌, ◌∙◌, ap, subst}
 use Rattle.iam_report.specs.Code.Numbered.{no_tail, picked}
-use Rattle.iam_report.specs.Piece.{rows_text}
+use Rattle.iam_row.specs.Piece.{rows_text}
 use Rattle.iam_report.specs.Streams.{AppendsBeginning}
-use Rattle.iam_report.specs.declared.tail.Tail.{Tail}
+use Rattle.iam_row.specs.declared.tail.Tail.{Tail}
 use Rattle.iam_report.proofs.matrix.put_tile.Goals as goal
 
 pub returns-in-Err-clause-err : goal.returns-in-Err-clause-err

@@ -1,5 +1,5 @@
 use Rattle.std.proofs.Common.{◌+◌, ◌≤◌, length, arith}
-use Rattle.iam_report.specs.Piece.{first_position}
+use Rattle.iam_row.specs.Piece.{first_position}
 use Rattle.iam_report.proofs.Buffered.{count_next, few_at, tile_fails, tile_more, tiles_all}
 use Rattle.iam_report.proofs.matrix.put_tiles.Goals as goal
 

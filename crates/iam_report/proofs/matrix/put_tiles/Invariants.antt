@@ -1,7 +1,7 @@
 use Rattle.std.proofs.Common.{◌≡◌, length, take}
 use Rattle.std.specs.List.{flat_map}
 use Rattle.iam_report.specs.Code.Buffer.{IsWithin, PutsRows}
-use Rattle.iam_report.specs.Piece.{first_position}
+use Rattle.iam_row.specs.Piece.{first_position}
 use Rattle.iam_report.proofs.matrix.put_tiles.Given as goal
 
 -- the tiles so far

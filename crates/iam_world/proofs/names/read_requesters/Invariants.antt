@@ -1,7 +1,7 @@
 use Rattle.std.proofs.Common.{map, take, drop}
 use Rattle.std.specs.List.{AllZip}
 use Rattle.iam_shape.specs.Lent.{principal_of}
-use Rattle.iam_shape.specs.First.{IsFirstAt, placed}
+use Rattle.iam_shape.specs.First.{IsFirstAt, with_paths}
 use Rattle.iam_world.specs.WorldFault.{IsNoRequester, IsRequesterAt}
 use Rattle.iam_shape.specs.declared.path.Path.TheVariants.{Item}
 use Rattle.iam_shape.specs.declared.path.Name.TheVariants.{Principals}
@@ -12,6 +12,6 @@ use Rattle.iam_world.proofs.names.read_requesters.Given as goal
 abbrev pub invariant-loop-i : goal.invariant-loop-i
 invariant-loop-i l = record {
   read : AllZip IsRequesterAt (map principal_of (take l.i l.principals)) l.requesters.items;
-  first : (path : Path) → IsFirstAt IsNoRequester (placed (Item Principals) l.i (map principal_of (drop l.i l.principals))) path
-      → IsFirstAt IsNoRequester (placed (Item Principals) 0 (map principal_of l.principals)) path;
+  first : (path : Path) → IsFirstAt IsNoRequester (with_paths (Item Principals) l.i (map principal_of (drop l.i l.principals))) path
+      → IsFirstAt IsNoRequester (with_paths (Item Principals) 0 (map principal_of l.principals)) path;
 }

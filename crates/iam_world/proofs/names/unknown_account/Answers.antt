@@ -4,7 +4,7 @@ use Rattle.iam_world.specs.Code.ViewFault.{FindsFirst}
 use Rattle.iam_shape.specs.Texts.{has_text}
 use Rattle.iam_shape.specs.Lent.{resource_of}
 use Rattle.iam_shape.specs.LentWorld.{world_of}
-use Rattle.iam_shape.specs.First.{placed}
+use Rattle.iam_shape.specs.First.{with_paths}
 use Rattle.iam_world.specs.WorldFault.{IsOfUnknownAccount, of_principal, of_resource}
 use Rattle.iam_shape.specs.declared.path.Name.TheVariants.{Principals, Resources}
 use Rattle.iam_shape.specs.declared.path.Path.TheVariants.{Item}
@@ -17,7 +17,7 @@ returns-in-Some c =
     let world = world_of c.args.world.now in
     let ids = c.args.world.now.accounts.ids in
     let known = c.args.world.now.accounts.known in
-    let users = placed (Item Principals) 0 (map of_principal world.principals) in
+    let users = with_paths (Item Principals) 0 (map of_principal world.principals) in
     let found = ap (option_map (Item Principals)) (sym c.first_unknown_user.ensures) ∙ sym c.at.ensures ∙ c.in-Some.is in
     in_users world ids known c.in-Some.path
     (subst (FindsFirst (IsOfUnknownAccount world) users) found (first_user world ids known c.one_requester.ensures c.args.requesters.now c.requires))
@@ -27,8 +27,8 @@ returns-in-None c =
     let world = world_of c.args.world.now in
     let ids = c.args.world.now.accounts.ids in
     let known = c.args.world.now.accounts.known in
-    let users = placed (Item Principals) 0 (map of_principal world.principals) in
-    let resources = placed (Item Resources) 0 (map of_resource world.resources) in
+    let users = with_paths (Item Principals) 0 (map of_principal world.principals) in
+    let resources = with_paths (Item Resources) 0 (map of_resource world.resources) in
     let none = ap (option_map (Item Principals)) (sym c.first_unknown_user.ensures) ∙ sym c.at.ensures ∙ c.in-None.is in
     let owners : List ResourceView = c.args.world.now.resources.items in
     let test = λ (r : ResourceView). not (has_text ids r.account.now) in

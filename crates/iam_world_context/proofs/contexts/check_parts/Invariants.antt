@@ -1,6 +1,6 @@
 use Rattle.std.proofs.Common.{ℕ, List, map, take, drop}
 use Rattle.iam_context.specs.Keys.{HasKeys}
-use Rattle.iam_shape.specs.First.{placed}
+use Rattle.iam_shape.specs.First.{with_paths}
 use Rattle.iam_shape.specs.declared.path.Name.TheVariants.{Context}
 use Rattle.iam_shape.specs.declared.path.Path.TheVariants.{Field}
 use Rattle.iam_world_context.specs.Clean.{AreClean}
@@ -15,6 +15,6 @@ abbrev pub invariant-loop-i : goal.invariant-loop-i
 invariant-loop-i l = record {
   clean : (keys : List (List ℕ)) → HasKeys l.others keys → AreClean keys (map (λ part. part.items) (take l.i l.parts));
   first : (keys : List (List ℕ)) → HasKeys l.others keys → (fault : PartFault)
-      → IsFaultyAmong (placed (λ i. Field l.list i Context) l.i (map (beside keys) (map (λ part. part.items) (drop l.i l.parts)))) fault
+      → IsFaultyAmong (with_paths (λ i. Field l.list i Context) l.i (map (beside keys) (map (λ part. part.items) (drop l.i l.parts)))) fault
       → IsFaultyAmong (parts_of l.list keys (map (λ part. part.items) l.parts)) fault;
 }

@@ -1,7 +1,7 @@
 use Rattle.std.proofs.Common.{◌++◌, ◌∷◌, [], ◌∙◌, List, ℕ, ap}
 use Rattle.iam_decision.specs.declared.verdict.Verdict.{Verdict}
 use Rattle.iam_report.specs.Code.Numbered.{no_verdict, picked}
-use Rattle.iam_report.specs.Piece.{bare}
+use Rattle.iam_row.specs.Piece.{bare}
 use Rattle.iam_report.proofs.Picks.{picked_next}
 use Rattle.iam_report.proofs.entries.Entries.push_decision.Goals as goal
 

@@ -1,8 +1,8 @@
 use Rattle.std.proofs.Common.{List, ◌∙◌, ap, map}
 use Rattle.iam_decision.specs.declared.verdict.Verdict.{Verdict}
 use Rattle.iam_report.specs.Code.Numbered.{no_tail, no_verdict, picked}
-use Rattle.iam_report.specs.Piece.{tail_of}
-use Rattle.iam_report.specs.declared.tail.Tail.{Tail}
+use Rattle.iam_row.specs.Piece.{tail_of}
+use Rattle.iam_row.specs.declared.tail.Tail.{Tail}
 use Rattle.iam_report.proofs.Picks.{picked_images}
 use Rattle.iam_report.proofs.entries.Entries.tile.Goals as goal
 

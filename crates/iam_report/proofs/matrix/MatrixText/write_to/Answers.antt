@@ -1,6 +1,6 @@
 use Rattle.std.proofs.Common.{◌≡◌, ◌++◌, ◌∙◌, refl, sym, ap, subst, append_assoc}
 use Rattle.std.specs.Io.KnownBytes.{Appends}
-use Rattle.iam_report.specs.Piece.{MatrixValue, closing_text, first_position, rows_text, text_of}
+use Rattle.iam_row.specs.Piece.{MatrixValue, closing_text, first_position, rows_text, text_of}
 use Rattle.iam_report.specs.Streams.{AppendsBeginning}
 use Rattle.iam_report.proofs.Buffered.{all_tails, fails_from_nothing, passes_both, passes_done, passes_fails, passes_fails_more, passes_undone, text_parts}
 use Rattle.iam_report.proofs.matrix.MatrixText.write_to.Goals as goal

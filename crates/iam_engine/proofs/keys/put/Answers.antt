@@ -1,0 +1,22 @@
+use Rattle.std.proofs.Common.{ℕ, List, ◌≡◌, ◌∷◌, [], ◌++◌, All, take}
+use Rattle.std.proofs.lemmas.List.Elements.{All-push, All-same, All-take}
+use Rattle.iam_engine.specs.Keys.{AreKeys}
+use Rattle.iam_engine.proofs.keys.put.Goals as goal
+
+-- those that stay have the property
+stay : {X : Type 0} (P : X → Type 0) (n : ℕ) (old rest : List X) → rest ≡ take n old → All P old → All P rest
+stay P n old rest is all = All-same P rest (take n old) is (All-take P n old all)
+
+pub returns : goal.returns
+returns c =
+    let rest = c.truncate.new.self.items in
+    let P = AreKeys c.args._world.now in
+    let there = stay P c.staying.result c.args.kept.now.items rest c.truncate.ensures.items c.requires.kept in
+    All-same P c.push.new.self.items (rest ++ c.args.keys ∷ []) c.in_ok-push.ensures.items (All-push P rest c.args.keys there c.requires.keys)
+
+pub returns-in_err-push : goal.returns-in_err-push
+returns-in_err-push c =
+    let rest = c.truncate.new.self.items in
+    let P = AreKeys c.args._world.now in
+    let there = stay P c.staying.result c.args.kept.now.items rest c.truncate.ensures.items c.requires.kept in
+    All-same P c.push.new.self.items rest c.in_err-push.ensures.items there

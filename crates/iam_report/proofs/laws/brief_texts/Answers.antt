@@ -1,5 +1,0 @@
-use Rattle.iam_report.proofs.Cells.{brief_are_report}
-use Rattle.iam_report.proofs.laws.brief_texts.Goals as goal
-
-pub returns : goal.returns
-returns c = brief_are_report

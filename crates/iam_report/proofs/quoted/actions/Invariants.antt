@@ -1,6 +1,0 @@
-use Rattle.std.proofs.Common.{◌≡◌, map, take}
-use Rattle.iam_report.specs.Piece.{action_piece}
-use Rattle.iam_report.proofs.quoted.actions.Given as goal
-
-abbrev pub invariant-loop-a : goal.invariant-loop-a
-invariant-loop-a l = l.texts.items ≡ map (action_piece l.format) (take l.a l.world.actions)

@@ -1,0 +1,6 @@
+pub mod Code
+pub mod CsvRow
+pub mod Laws
+pub mod Piece
+pub mod Report
+pub mod Words

@@ -1,0 +1,21 @@
+//! Rows of reports, as CSV and as JSON, each in full or in brief; and what a report of a world's matrix is.
+//!
+//! `csv_row` gives the header and one row. Who makes many rows keeps the texts of a world as they stand in rows, in a `Quoted`,
+//! and what stands in a row beside them and its number, in a `Tail`; the laws of this crate say that rows put together from
+//! these are the report.
+#![tactic(auto)]
+
+mod cell;
+mod laws;
+mod piece;
+mod position;
+mod quoted;
+mod tail;
+mod words;
+
+pub use cell::{csv_row, csv_row_brief};
+pub use laws::{brief_texts, full_texts, one_row, one_text};
+pub use piece::{closing, comma_before, opening};
+pub use position::Position;
+pub use quoted::{Format, Quoted, text_at};
+pub use tail::{Tail, bare};
