@@ -20,15 +20,15 @@ pub struct Keys {
     pub derived: Derived,
 }
 
-/// None yet.
+/// No derived keys yet.
 pub fn no_keys(alloc: Global) -> Vec<Keys>
     ensures { (world : WorldValue) → All (AreKeys world) result.items }
 {
     Vec::new(alloc)
 }
 
-/// What the requests of principal p for resource r share. The derived keys that were made last for the principal serve again
-/// where they are the same.
+/// What the requests of principal p for resource r share. Kept derived keys of the principal serve again for resources of the
+/// same account.
 pub fn shared_by<'a>(
     alloc: Global,
     world: &'a World,
@@ -52,11 +52,11 @@ pub fn shared_by<'a>(
         resource: r,
         derived,
     };
-    put(world, kept, keys)?;
+    put(kept, keys)?;
     Ok(shared)
 }
 
-/// The derived keys of principal p's requests for resource r, where they are among these.
+/// Derived keys of principal p's requests for resource r, where some are found among these.
 fn known<'k>(world: &World, kept: &'k [Keys], p: u64, r: u64) -> Option<&'k Derived>
     requires resource { r < length world.now.resources }
     requires keys { All (AreKeys world.now) kept.now }
@@ -71,7 +71,8 @@ fn known<'k>(world: &World, kept: &'k [Keys], p: u64, r: u64) -> Option<&'k Deri
     None
 }
 
-/// How many of these stay where derived keys of this principal come: none where they are another's, or as many as are kept.
+/// How many of these stay where derived keys of this principal come: all, or none where they are another's or as many as may be
+/// kept.
 fn staying(kept: &[Keys], p: u64) -> usize {
     match kept.first() {
         Some(keys) if keys.principal == p && kept.len() < MOST => kept.len(),
@@ -79,11 +80,9 @@ fn staying(kept: &[Keys], p: u64) -> usize {
     }
 }
 
-/// Puts derived keys behind those that stay.
-fn put(_world: &World, kept: &mut Vec<Keys>, keys: Keys) -> Result<(), OutOfMemory>
-    requires kept { All (AreKeys _world.now) kept.old.items }
-    requires keys { AreKeys _world.now keys }
-    ensures { All (AreKeys _world.entry.now) kept.new.items }
+/// Puts derived keys behind those that stay. Where memory is refused, these are not kept.
+fn put(kept: &mut Vec<Keys>, keys: Keys) -> Result<(), OutOfMemory>
+    ensures { (world : WorldValue) → All (AreKeys world) kept.old.items → AreKeys world keys → All (AreKeys world) kept.new.items }
 {
     kept.truncate(staying(kept.as_slice(), keys.principal));
     kept.push(keys)?;

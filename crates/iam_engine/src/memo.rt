@@ -7,7 +7,7 @@ ghost use Rattle.iam_engine.specs.Memo.{HasClass, HasNumber, HasRuling, HasShare
 ghost use Rattle.iam_engine.specs.declared.memo.Class.{Class};
 
 use crate::elements::Elements;
-use crate::slots::{empty, empty_slots, keep, kept, slot_at, slot_of};
+use crate::slots::{WIDTH, empty, empty_slots, keep, kept, slot_at, slot_of};
 use iam_layers::{Frame, Matched, Ruling, Shared, World};
 use iam_text::OutOfMemory;
 use std::alloc::Global;
@@ -124,14 +124,14 @@ impl<'a> Memo<'a> {
         } else {
             0
         };
-        let cells = all.saturating_mul(actions);
+        let answers = all.max(WIDTH).saturating_mul(actions);
         let most_statements = MOST_STATEMENTS / memos as usize;
         Ok(Memo {
             classes: Vec::new(alloc),
             rulings: Vec::new(alloc),
             elements: Elements::new(alloc, actions, memos)?,
             pairs: empty_slots(alloc, pairs)?,
-            answers: empty_slots(alloc, cells.min(MOST_ANSWERS / memos as u64))?,
+            answers: empty_slots(alloc, answers.min(MOST_ANSWERS / memos as u64))?,
             class_prints: empty_slots(alloc, PRINTS)?,
             ruling_prints: empty_slots(alloc, PRINTS)?,
             resources,

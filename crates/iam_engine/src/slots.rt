@@ -5,10 +5,12 @@ ghost use Rattle.iam_engine.specs.Slots.{AreEmpty, Gains, Keeps};
 use iam_text::OutOfMemory;
 use std::alloc::Global;
 
-/// A slot for these two numbers among so many, a power of two: where there are fewer than pairs of numbers, several have
-/// the same.
+/// Numbers below this, with another, have slots of their own, where there are so many slots for each of the others.
+pub const WIDTH: u64 = 1021;
+
+/// A slot for these two numbers among so many, a power of two; several may have the same.
 pub fn slot_of(one: u64, other: u64, slots: usize) -> u64 {
-    slot_at(one, 1021, other, slots)
+    slot_at(one, WIDTH, other, slots)
 }
 
 /// A slot for column `other` of row `one` in a table so many columns wide, which goes round where there are fewer slots than

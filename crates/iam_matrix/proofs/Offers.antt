@@ -16,14 +16,14 @@ offered-more world old new cell e all one =
     (All-append (IsAllowedCell world) old (cell ∷ []) all (All-cons (IsAllowedCell world) cell [] one (All-nil (IsAllowedCell world))))
 
 -- the cells of all tiles
-denied : {O : Type 0} (world : WorldValue) (bound from : ℕ) (lengths : List ℕ) (outputs : List O)
+not_allowed : {O : Type 0} (world : WorldValue) (bound from : ℕ) (lengths : List ℕ) (outputs : List O)
     → Chain (λ f n output. AreNotAllowedBelow world f n bound) from lengths outputs
     → (cell : ℕ) → from ≤ cell → cell < from + sum lengths → cell < bound → IsNotAllowed world cell
-denied world bound from [] outputs c cell least most below = absurd (omega arith)
-denied world bound from (n ∷ lengths) [] c cell least most below = absurd c
-denied world bound from (n ∷ lengths) (output ∷ outputs) c cell least most below =
+not_allowed world bound from [] outputs c cell least most below = absurd (omega arith)
+not_allowed world bound from (n ∷ lengths) [] c cell least most below = absurd c
+not_allowed world bound from (n ∷ lengths) (output ∷ outputs) c cell least most below =
     ⊎_elim (λ here. c.0 cell least here below)
-    (λ past. denied world bound (from + n) lengths outputs c.1 cell past (omega (arith, sum_by-cons (λ (x : ℕ). x) n lengths)) below)
+    (λ past. not_allowed world bound (from + n) lengths outputs c.1 cell past (omega (arith, sum_by-cons (λ (x : ℕ). x) n lengths)) below)
     (cases_lt cell (from + n))
 
 -- the least offer in the end
@@ -31,9 +31,9 @@ pub first-allowed : {O : Type 0} (world : WorldValue) (lengths : List ℕ) (outp
     → world_cells world ≤ 16777216 → Chain (λ f n output. AreNotAllowedBelow world f n (bound_of low)) 0 lengths outputs → IfSome low (IsAllowedCell world)
     → IsFirstAllowed world low
 first-allowed world lengths outputs None e few c offered = λ cell below.
-    denied world (bound_of None) 0 lengths outputs c cell (omega arith) (omega (arith, e)) (omega arith)
+    not_allowed world (bound_of None) 0 lengths outputs c cell (omega arith) (omega (arith, e)) (omega arith)
 first-allowed world lengths outputs (Some found) e few c offered = (
   offered.below,
   offered.allowed,
-  λ lower less. let below = offered.below in denied world found 0 lengths outputs c lower (omega arith) (omega (arith, e)) less,
+  λ lower less. let below = offered.below in not_allowed world found 0 lengths outputs c lower (omega arith) (omega (arith, e)) less,
 )

@@ -32,7 +32,7 @@ pub one_brief_matrix : OneDecisionOf → Laws.OneBriefMatrix
 one_brief_matrix decisions world xs ys h k = one-entries (IsDecisionOf world) (decisions world) 0 xs ys (h.count ∙ sym k.count) h.each k.each
 
 not-allowed : OneDecisionOf → (world : WorldValue) (cell : ℕ) → IsNotAllowed world cell → ¬ IsDecisionOf world cell Allowed
-not-allowed decisions world cell denied allowed = denied.denied (decisions world cell denied.decision Allowed denied.is allowed)
+not-allowed decisions world cell here allowed = here.not_allowed (decisions world cell here.decision Allowed here.is allowed)
 
 pub one_first : OneDecisionOf → Laws.OneFirst
 one_first decisions world None None h k = refl

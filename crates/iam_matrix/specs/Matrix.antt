@@ -26,7 +26,7 @@ pub record IsBriefMatrix (world : WorldValue) (decisions : List Decision) : Type
 pub record IsNotAllowed (world : WorldValue) (cell : ℕ) : Type 0 where
   pub decision : Decision
   pub is : IsDecisionOf world cell decision
-  pub denied : decision ≢ Allowed
+  pub not_allowed : decision ≢ Allowed
 
 -- the least cell that is allowed, or nothing where none is
 abbrev pub IsFirstAllowed : WorldValue → Option ℕ → Type 0

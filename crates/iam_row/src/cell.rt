@@ -1,4 +1,4 @@
-// The report of one cell.
+// The header and the row of one cell.
 ghost use Rattle.std.specs.Prelude.{◌≡◌, ℕ, ◌<◌, ◌++◌, IfOk, length, string_bytes};
 ghost use Rattle.iam_layers.specs.Cell.{IsCell};
 ghost use Rattle.iam_world.specs.World.{world_cells};

@@ -13,7 +13,7 @@ use Rattle.iam_shape.specs.declared.path.Path.{Path}
 use Rattle.iam_shape.specs.declared.path.Path.TheVariants.{Item}
 use Rattle.iam_world.specs.declared.fault.WorldFault.{WorldFault}
 use Rattle.iam_world.specs.declared.fault.WorldFault.TheVariants.{NotJson, BadShape, BadRequester, BadAction, BadResourceArn, UnknownAccount, Context, Policy, TooLarge, OutOfMemory}
-use Rattle.iam_world.proofs.Firsts.{none_at, none_first, none_placed}
+use Rattle.iam_world.proofs.Firsts.{none_at, none_first, none_with_paths}
 
 pub clear_3 : (world : WorldView) → IsClearBelow 3 world
 clear_3 world NotJson has = absurd has
@@ -24,7 +24,7 @@ clear_3 world fault has = omega arith
 pub clear_4 : (world : WorldView) (requesters : List RequesterValue) → AllZip IsRequesterAt world.principals requesters → IsClearBelow 4 world
 clear_4 world requesters are (BadRequester path) has =
     absurd (none_at IsNoRequester (with_paths (Item Principals) 0 world.principals) path
-    (none_placed IsRequesterAt IsNoRequester (λ p r is none. none r is) (Item Principals) 0 world.principals requesters are) has)
+    (none_with_paths IsRequesterAt IsNoRequester (λ p r is none. none r is) (Item Principals) 0 world.principals requesters are) has)
 clear_4 world requesters are fault has = let before = clear_3 world fault has in omega arith
 
 pub clear_5 : (world : WorldView) → IsClearBelow 4 world → AllByRecursion (λ x. ¬ IsNoAction x.1) (with_paths (Item Actions) 0 world.actions) → IsClearBelow 5 world

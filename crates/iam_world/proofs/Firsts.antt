@@ -56,12 +56,12 @@ at_later P at f vs i v below is fails path later =
     subst (λ xs. IsFirstAt P (with_paths at i xs) path) (sym (drop-at f vs i v below is)) (later.0, inr (fails, later.1))
 
 -- it holds of no element of a list that is read by something else
-pub none_placed : {X V : Type 0} (R : X → V → Type 0) (P : X → Type 0) → ((x : X) (v : V) → R x v → ¬ P x) → (at : ℕ → Path) (i : ℕ) (xs : List X) (vs : List V)
+pub none_with_paths : {X V : Type 0} (R : X → V → Type 0) (P : X → Type 0) → ((x : X) (v : V) → R x v → ¬ P x) → (at : ℕ → Path) (i : ℕ) (xs : List X) (vs : List V)
     → AllZip R xs vs → AllByRecursion (λ x. ¬ P x.1) (with_paths at i xs)
-none_placed R P step at i [] [] zip = tt
-none_placed R P step at i [] (v ∷ vs) zip = absurd zip
-none_placed R P step at i (x ∷ xs) [] zip = absurd zip
-none_placed R P step at i (x ∷ xs) (v ∷ vs) zip = (step x v zip.0, none_placed R P step at (i + 1) xs vs zip.1)
+none_with_paths R P step at i [] [] zip = tt
+none_with_paths R P step at i [] (v ∷ vs) zip = absurd zip
+none_with_paths R P step at i (x ∷ xs) [] zip = absurd zip
+none_with_paths R P step at i (x ∷ xs) (v ∷ vs) zip = (step x v zip.0, none_with_paths R P step at (i + 1) xs vs zip.1)
 
 -- a test along the one list finds the first element of the other
 pub found_by : {X V : Type 0} (R : X → V → Type 0) (P : X → Type 0) (test : V → Bool) → ((x : X) (v : V) → R x v → test v ≡ true → P x)

@@ -48,11 +48,11 @@ pub record IsAllowedCell (world : WorldValue) (cell : ℕ) : Type 0 where
   pub small : cell < no_cell
   pub allowed : IsDecisionOf world cell Allowed
 
--- each cell of these that is below a bound is denied
+-- no cell of these that is below a bound is allowed
 abbrev pub AreNotAllowedBelow : WorldValue → ℕ → ℕ → ℕ → Type 0
 AreNotAllowedBelow world from count bound = (cell : ℕ) → from ≤ cell → cell < from + count → cell < bound → IsNotAllowed world cell
 
--- the first allowed cell of these, or nothing where all are denied
+-- the first allowed cell of these, or nothing where none is allowed
 abbrev pub IsFirstIn : WorldValue → ℕ → ℕ → Option ℕ → Type 0
 IsFirstIn world from count None = (cell : ℕ) → from ≤ cell → cell < from + count → IsNotAllowed world cell
 IsFirstIn world from count (Some found) =

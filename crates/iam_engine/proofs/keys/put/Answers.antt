@@ -8,15 +8,15 @@ stay : {X : Type 0} (P : X → Type 0) (n : ℕ) (old rest : List X) → rest �
 stay P n old rest is all = All-same P rest (take n old) is (All-take P n old all)
 
 pub returns : goal.returns
-returns c =
+returns c = λ world kept keys.
+    let P = AreKeys world in
     let rest = c.truncate.new.self.items in
-    let P = AreKeys c.args._world.now in
-    let there = stay P c.staying.result c.args.kept.now.items rest c.truncate.ensures.items c.requires.kept in
-    All-same P c.push.new.self.items (rest ++ c.args.keys ∷ []) c.in_ok-push.ensures.items (All-push P rest c.args.keys there c.requires.keys)
+    let there = stay P c.staying.result c.args.kept.now.items rest c.truncate.ensures.items kept in
+    All-same P c.push.new.self.items (rest ++ c.args.keys ∷ []) c.in_ok-push.ensures.items (All-push P rest c.args.keys there keys)
 
 pub returns-in_err-push : goal.returns-in_err-push
-returns-in_err-push c =
+returns-in_err-push c = λ world kept keys.
+    let P = AreKeys world in
     let rest = c.truncate.new.self.items in
-    let P = AreKeys c.args._world.now in
-    let there = stay P c.staying.result c.args.kept.now.items rest c.truncate.ensures.items c.requires.kept in
+    let there = stay P c.staying.result c.args.kept.now.items rest c.truncate.ensures.items kept in
     All-same P c.push.new.self.items rest c.in_err-push.ensures.items there

@@ -23,7 +23,7 @@ loop-at-init c =
       most = omega (arith, at.cell, c.end_of-end.ensures.value);
       there = λ below. at.is (omega (arith, below, at.cell));
       same = refl;
-      denied = λ cell from below. absurd (omega (arith, from, below, at.cell));
+      not_allowed = λ cell from below. absurd (omega (arith, from, below, at.cell));
     }
 
 pub returns-then-is_allowed-clause-first : goal.returns-then-is_allowed-clause-first
@@ -42,7 +42,7 @@ returns-then-is_allowed-clause-first c =
       small = omega (arith, less, end.few);
       allowed = subst D (c.is_allowed.ensures.0 c.if-is_allowed.true) told;
     } in
-    (found, omega (arith, less, end.value), so_far.denied)
+    (found, omega (arith, less, end.value), so_far.not_allowed)
 
 pub loop-at-preserved : goal.loop-at-preserved
 loop-at-preserved c =
@@ -55,15 +55,15 @@ loop-at-preserved c =
     let is : IsNotAllowed world here = record {
       decision = decision;
       is = subst W so_far.same c.in_ok-decision_at.ensures.decision;
-      denied = λ same. let allowed = c.is_allowed.ensures.1 same in let wrong : ⊥ = cc in wrong;
+      not_allowed = λ same. let allowed = c.is_allowed.ensures.1 same in let wrong : ⊥ = cc in wrong;
     } in
     record {
       least = omega (arith, so_far.least, next.cell);
       most = omega (arith, next.cell, c.loop-at-test.true);
       there = λ below. next.is (omega (arith, below, next.cell));
       same = c.in_ok-decision_at.ensures.same ∙ so_far.same;
-      denied = λ cell from below.
-          ⊎_elim (λ before. so_far.denied cell from before)
+      not_allowed = λ cell from below.
+          ⊎_elim (λ before. so_far.not_allowed cell from before)
           (λ after. let same : here ≡ cell = omega (arith, after, below, next.cell) in subst (λ k. IsNotAllowed world k) same is)
           (cases_lt cell here);
     }

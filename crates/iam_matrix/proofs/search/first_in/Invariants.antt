@@ -11,7 +11,7 @@ invariant-loop-at l = record {
   most : l.at.cell ≤ l.end;
   there : l.at.cell < world_cells l.world → IsCell l.world l.at.cell l.at.principal l.at.action l.at.resource;
   same : l.engine.world ≡ l.initial.engine.world;
-  denied : (cell : ℕ) → l.from ≤ cell → cell < l.at.cell → IsNotAllowed l.initial.engine.world cell;
+  not_allowed : (cell : ℕ) → l.from ≤ cell → cell < l.at.cell → IsNotAllowed l.initial.engine.world cell;
 }
 
 abbrev pub decreases-loop-at : goal.decreases-loop-at
