@@ -27,8 +27,8 @@ fn shown(alloc: Global, draft: &Draft) -> Result<String, AllocError> {
 fn show_plain(alloc: Global, text: &mut String, front: &str, wild: bool) -> Result<(), AllocError> {
     let mut signs = Vec::new(alloc);
     add_signs(&mut signs, front, wild)?;
-    for sign in signs {
-        match sign {
+    for sign in signs.as_slice() {
+        match *sign {
             Sign::Given(character) => write!(text, "[{character}]")?,
             Sign::One => write!(text, "[one]")?,
             Sign::Any => write!(text, "[any]")?,
@@ -96,6 +96,12 @@ fn templates_without_variables_are_patterns(rt: HostRuntime) -> Result<(), Fail>
         }
         TemplateForm::Open(_) => return Err(Fail::new("no pattern")),
     }
+    Ok(())
+}
+
+#[test]
+fn templates_with_variables_are_drafts(rt: HostRuntime) -> Result<(), Fail> {
+    let alloc = rt.alloc();
     let open = Template::read(alloc, "${a}", true, Version::V2012)?.ok_or("no template")?;
     match open.form() {
         TemplateForm::Fixed(_) => return Err(Fail::new("no draft")),
@@ -103,6 +109,12 @@ fn templates_without_variables_are_patterns(rt: HostRuntime) -> Result<(), Fail>
             assert_eq!(rt; shown(alloc, draft)?.as_str(), "[variable a]");
         }
     }
+    Ok(())
+}
+
+#[test]
+fn texts_off_the_variable_grammar_have_no_template(rt: HostRuntime) -> Result<(), Fail> {
+    let alloc = rt.alloc();
     assert!(rt; Template::read(alloc, "${", true, Version::V2012)?.is_none());
     Ok(())
 }
