@@ -14,24 +14,30 @@ def is_chosen($patterns):
 
 def account_of: split(":")[4];
 
-# A document is an object, or its JSON as a text, as some calls of AWS give it.
+# A document is an object, or its JSON as a text, alone or as `Policy` of an object, as some calls of AWS give it.
 def document($name):
-    if type == "string" then (. as $text | try fromjson catch error("\($name): its document is a text that is no JSON"))
-    else . end;
+    if type == "object" and (.Policy | type) == "string" then .Policy else . end
+    | if type == "string" then (. as $text | try fromjson catch error("\($name): its document is a text that is no JSON"))
+      else . end;
 
 def policy($name; $document): {name: $name, document: ($document | document($name))};
 
 # --- what one account has -------------------------------------------------------------------------------------------
 
-# The exports joined by account; an account may come in several files.
+# AWS says that more follows behind this part of an export.
+def goes_on: .NextToken != null or .IsTruncated == true;
+
+# The exports joined by account; an account may come in several files, of which the last is its end.
 def by_account:
     map(.file as $file | .export
         | ([.UserDetailList[]?, .GroupDetailList[]?, .RoleDetailList[]?, .Policies[]? | .Arn | account_of
             | select(. != "aws")] | unique) as $accounts
-        | if ($accounts | length) == 1 then . + {account: $accounts[0]}
+        | if ($accounts | length) == 1 then . + {account: $accounts[0], file: $file}
           else error("\($file): an export is of one account, and this one names \($accounts | length)") end)
     | group_by(.account)
-    | map({account: .[0].account,
+    | map(if all(.[]; goes_on) then error("\(.[0].file): the end of the export is missing (NextToken or IsTruncated stands there)")
+          else . end
+        | {account: .[0].account,
            users: map(.UserDetailList // []) | add,
            groups: map(.GroupDetailList // []) | add | map({key: .GroupName, value: .}) | from_entries,
            roles: map(.RoleDetailList // []) | add,
@@ -204,6 +210,7 @@ def refuse_doubles: group_by(.) | map(select(length > 1) | error("\(.[0]) comes 
               actions: $actions,
               resources: ($resources | map(bare_resource))}),
    names: names($accounts; $principals; $resources),
-   notes: (if $organization == null then []
-           else [$accounts[].id | select(is_member($organization) | not)
-                 | "account \(.) is not in the organization: none of its policies bind it"] end)}
+   notes: ((if $organization == null then []
+            else [$accounts[].id | select(is_member($organization) | not)
+                  | "account \(.) is not in the organization: none of its policies bind it"] end)
+           + (if $resources == [] then ["the world has no resources, so its matrix has no cells: see --resources"] else [] end))}

@@ -183,6 +183,31 @@ def test_a_policy_that_is_not_there_is_named():
     assert "comes twice" in world(data("partner.json"), data("partner.json"), status=1)
 
 
+def test_an_export_without_its_end_is_refused():
+    with open(data("account.json")) as it:
+        whole = json.load(it)
+    for more in ({"NextToken": "eyJ"}, {"IsTruncated": True, "Marker": "x"}):
+        part = file({**whole, **more})
+        assert "the end of the export is missing" in world(part, status=1)
+        rest = file({"UserDetailList": [{"UserName": "zoe", "UserId": "AIDA0", "Arn": ACCOUNT + "user/zoe"}], "IsTruncated": False})
+        same([it.get("user") for it in world(part, rest)["principals"]][-1:] + [it.get("user") for it in world(rest, part)["principals"]][:1],
+             [None, ACCOUNT + "user/zoe"])
+
+
+def test_a_policy_as_aws_answers_it():
+    policy = document(statement("Allow", "s3:GetObject", "*", Principal="*"))
+    for given in (policy, json.dumps(policy), {"Policy": json.dumps(policy)}, {"Policy": json.dumps(policy), "PolicyName": "default"}):
+        further = [{"arn": "arn:aws:s3:::b/k", "account": "111122223333", "policy": given}]
+        made = world("--actions", file("s3:GetObject\n"), "--resources", file(further), data("account.json"))
+        same(made["resources"][0]["policy"], policy)
+
+
+def test_a_world_without_resources_is_told():
+    words = [os.path.join(TOOLS, "aws/world"), "--actions", file("s3:GetObject\n"), data("account.json")]
+    _, said = run(words)
+    assert "the world has no resources" in said, said
+
+
 def test_resource_control_policies_stand_with_resources():
     with open(data("organization.json")) as it:
         organization = json.load(it)
