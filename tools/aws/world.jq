@@ -27,7 +27,7 @@ def policy($name; $document): {name: $name, document: ($document | document($nam
 # AWS says that more follows behind this part of an export.
 def goes_on: .NextToken != null or .IsTruncated == true;
 
-# The exports joined by account; an account may come in several files, of which the last is its end.
+# The exports joined by account; an account may come in several files, one of which is its end.
 def by_account:
     map(.file as $file | .export
         | ([.UserDetailList[]?, .GroupDetailList[]?, .RoleDetailList[]?, .Policies[]? | .Arn | account_of
