@@ -4,7 +4,7 @@ use Rattle.std.specs.List.{AllZip}
 use Rattle.serde_json.specs.Data.{Data}
 use Rattle.serde_json.specs.Find.{as_str}
 use Rattle.iam_json.specs.Look.{values}
-use Rattle.iam_shape.specs.View.{AccountView, PrincipalView, ResourceView, WorldView, HasLevels, HasListOf, HasListOrNone, IsAccountView, IsGivenBy, IsLevel, IsPrincipalView, IsResourceView, IsView}
+use Rattle.iam_shape.specs.View.{AccountViewValue, PrincipalViewValue, ResourceViewValue, WorldViewValue, HasLevels, HasListOf, HasListOrNone, IsAccountView, IsGivenBy, IsLevel, IsPrincipalView, IsResourceView, IsView}
 use Rattle.iam_shape.specs.declared.path.Name.{Name}
 use Rattle.iam_shape.specs.declared.path.Name.TheVariants.{Accounts, Principals, Actions, Resources, Org, Identity, SessionPolicies, Control}
 
@@ -42,7 +42,7 @@ one_list_or_none name d xs ys (inl one) (inr two) = absurd (not_none values _ xs
 one_list_or_none name d xs ys (inr one) (inl two) = absurd (not_none values _ ys two one.0)
 one_list_or_none name d xs ys (inr one) (inr two) = one.1 ∙ sym two.1
 
-one_account : (d : Data) (a b : AccountView) → IsAccountView d a → IsAccountView d b → a ≡ b
+one_account : (d : Data) (a b : AccountViewValue) → IsAccountView d a → IsAccountView d b → a ≡ b
 one_account d a b one two =
     let id : a.id ≡ b.id = one_some _ a.id b.id one.id two.id in
     let management : a.management ≡ b.management = one.management ∙ sym two.management in
@@ -62,7 +62,7 @@ one_session d arn other session last (inl one) (inr two) = absurd (not_none as_s
 one_session d arn other session last (inr one) (inl two) = absurd (not_none as_str _ other two.1 one.0)
 one_session d arn other session last (inr one) (inr two) = one.2 ∙ sym two.2
 
-one_principal : (d : Data) (p q : PrincipalView) → IsPrincipalView d p → IsPrincipalView d q → p ≡ q
+one_principal : (d : Data) (p q : PrincipalViewValue) → IsPrincipalView d p → IsPrincipalView d q → p ≡ q
 one_principal d p q one two =
     let arn : p.arn ≡ q.arn = one_arn d p.arn q.arn p.session q.session one.requester two.requester in
     let session : p.session ≡ q.session = one_session d p.arn q.arn p.session q.session one.requester two.requester in
@@ -80,7 +80,7 @@ one_principal d p q one two =
       context = context i;
     }
 
-one_resource : (d : Data) (r s : ResourceView) → IsResourceView d r → IsResourceView d s → r ≡ s
+one_resource : (d : Data) (r s : ResourceViewValue) → IsResourceView d r → IsResourceView d s → r ≡ s
 one_resource d r s one two =
     let arn : r.arn ≡ s.arn = one_some _ r.arn s.arn one.arn two.arn in
     let account : r.account ≡ s.account = one_some _ r.account s.account one.account two.account in
@@ -97,7 +97,7 @@ one_resource d r s one two =
       control = control i;
     }
 
-pub one_view : (d : Data) (v w : WorldView) → IsView d v → IsView d w → v ≡ w
+pub one_view : (d : Data) (v w : WorldViewValue) → IsView d v → IsView d w → v ≡ w
 one_view d v w one two =
     let moment : v.moment ≡ w.moment = one_some _ v.moment w.moment one.moment two.moment in
     let accounts : v.accounts ≡ w.accounts = one_list_of IsAccountView one_account Accounts d v.accounts w.accounts one.accounts two.accounts in

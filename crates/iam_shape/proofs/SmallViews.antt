@@ -9,7 +9,7 @@ use Rattle.iam_json.specs.Size.{size}
 use Rattle.iam_shape.specs.Few.{HasFewDocuments, HasFewLevels, HasFewLists}
 use Rattle.iam_shape.specs.Path.{name_text}
 use Rattle.iam_shape.specs.Shape.{list_at, member}
-use Rattle.iam_shape.specs.View.{PrincipalView, WorldView, IsAccountView, IsLevel, IsPrincipalView, IsResourceView, IsView, HasLevels, HasListOf, HasListOrNone}
+use Rattle.iam_shape.specs.View.{PrincipalViewValue, WorldViewValue, IsAccountView, IsLevel, IsPrincipalView, IsResourceView, IsView, HasLevels, HasListOf, HasListOrNone}
 use Rattle.iam_shape.specs.declared.path.Name.{Name}
 use Rattle.iam_shape.specs.declared.path.Name.TheVariants.{Accounts, Principals, Resources, Org, Identity, SessionPolicies, Control}
 
@@ -52,7 +52,7 @@ module _
     list_few Says Few n one name d small xs (ds, at, zip) =
         each_few Says Few n one ds (λ i value here. let within : size value ≤ size d = item_in name d ds at i value here in omega arith) xs zip
 
-    few_documents : (n : ℕ) → n < 2 ^ 32 → (d : Data) (p : PrincipalView) → size d ≤ n → IsPrincipalView d p → HasFewDocuments p
+    few_documents : (n : ℕ) → n < 2 ^ 32 → (d : Data) (p : PrincipalViewValue) → size d ≤ n → IsPrincipalView d p → HasFewDocuments p
     few_documents n small d p within says =
         let identity : length p.identity ≤ size d = short Identity d p.identity says.identity in
         let session : length p.session_policies ≤ size d = short SessionPolicies d p.session_policies says.session_policies in
@@ -78,7 +78,7 @@ module _
     few_levels n small name d [] within (inr none) = record { levels_few = omega arith; policies_few = tt }
     few_levels n small name d (level ∷ levels) within (inr none) = let wrong : level ∷ levels ≡ [] = none.1 in cc
 
-    pub few : (bytes : List ℕ) (d : Data) (world : WorldView) → length bytes ≤ 8388608 → read bytes ≡ Some d → IsView d world → HasFewLists world
+    pub few : (bytes : List ℕ) (d : Data) (world : WorldViewValue) → length bytes ≤ 8388608 → read bytes ≡ Some d → IsView d world → HasFewLists world
     few bytes d world short is says =
         let whole : size d ≤ length bytes = of_read bytes d is in
         let small : size d < 2 ^ 32 = omega arith in

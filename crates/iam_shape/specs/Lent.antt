@@ -3,7 +3,7 @@ use Rattle.std.specs.Prelude.{List, [], map, option_map, unwrap_or}
 use Rattle.serde_json.specs.Data.{Data}
 use Rattle.serde_json.specs.View.{view}
 use Rattle.iam_json.specs.Look.{values}
-use Rattle.iam_shape.specs.View.{AccountView, PrincipalView, ResourceView}
+use Rattle.iam_shape.specs.View.{AccountViewValue, PrincipalViewValue, ResourceViewValue}
 use Rattle.iam_shape.specs.declared.levels.Levels.{Levels}
 use Rattle.iam_shape.specs.declared.view.AccountView as lent_account
 use Rattle.iam_shape.specs.declared.view.PrincipalView as lent_principal
@@ -16,14 +16,14 @@ policies_in level = unwrap_or (values level) []
 abbrev pub levels_of : Levels → List (List Data)
 levels_of levels = map (λ level. policies_in (view level)) levels.values.now
 
-abbrev pub account_of : lent_account.AccountView → AccountView
+abbrev pub account_of : lent_account.AccountView → AccountViewValue
 account_of account = record {
   id = account.id.now;
   management = account.management;
   org = levels_of account.org;
 }
 
-abbrev pub principal_of : lent_principal.PrincipalView → PrincipalView
+abbrev pub principal_of : lent_principal.PrincipalView → PrincipalViewValue
 principal_of principal = record {
   arn = principal.arn.now;
   session = option_map (λ name. name.now) principal.session;
@@ -33,7 +33,7 @@ principal_of principal = record {
   context = option_map (λ context. view context.now) principal.context;
 }
 
-abbrev pub resource_of : lent_resource.ResourceView → ResourceView
+abbrev pub resource_of : lent_resource.ResourceView → ResourceViewValue
 resource_of resource = record {
   arn = resource.arn.now;
   account = resource.account.now;

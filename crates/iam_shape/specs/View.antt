@@ -12,13 +12,13 @@ use Rattle.iam_shape.specs.Shape.{member, list_at, number_at, text_at}
 -- ---- what it says
 
 -- an account: its id, whether it manages its organisation, and the organisation policies by level from the root
-pub record AccountView : Type 0 where
+pub record AccountViewValue : Type 0 where
   pub id : List ℕ
   pub management : Bool
   pub org : List (List Data)
 
 -- a principal: the ARN of its user, or that of its role and the name of its session; its policies and its context
-pub record PrincipalView : Type 0 where
+pub record PrincipalViewValue : Type 0 where
   pub arn : List ℕ
   pub session : Option (List ℕ)
   pub identity : List Data
@@ -28,7 +28,7 @@ pub record PrincipalView : Type 0 where
 
 -- a resource: its ARN, its account, its policy, whether that one must grant, its context, and the resource control
 -- policies by level from the root
-pub record ResourceView : Type 0 where
+pub record ResourceViewValue : Type 0 where
   pub arn : List ℕ
   pub account : List ℕ
   pub policy : Option Data
@@ -36,12 +36,12 @@ pub record ResourceView : Type 0 where
   pub context : Option Data
   pub control : List (List Data)
 
-pub record WorldView : Type 0 where
+pub record WorldViewValue : Type 0 where
   pub moment : ℕ
-  pub accounts : List AccountView
-  pub principals : List PrincipalView
+  pub accounts : List AccountViewValue
+  pub principals : List PrincipalViewValue
   pub actions : List (List ℕ)
-  pub resources : List ResourceView
+  pub resources : List ResourceViewValue
   pub context : Option Data
 
 -- ---- where it says so
@@ -80,19 +80,19 @@ IsGivenBy principal arn session =
     ((member Role principal ≡ None) × HasText User principal arn × (session ≡ None))
     ⊎ ((member User principal ≡ None) × HasText Role principal arn × (session ≡ text_at Session principal) × IsSome session)
 
-pub record IsAccountView (d : Data) (account : AccountView) : Type 0 where
+pub record IsAccountView (d : Data) (account : AccountViewValue) : Type 0 where
   pub id : HasText Id d account.id
   pub management : account.management ≡ is_true_at Management d
   pub org : HasLevels Org d account.org
 
-pub record IsPrincipalView (d : Data) (principal : PrincipalView) : Type 0 where
+pub record IsPrincipalView (d : Data) (principal : PrincipalViewValue) : Type 0 where
   pub requester : IsGivenBy d principal.arn principal.session
   pub identity : HasListOrNone Identity d principal.identity
   pub boundary : principal.boundary ≡ member Boundary d
   pub session_policies : HasListOrNone SessionPolicies d principal.session_policies
   pub context : principal.context ≡ member Context d
 
-pub record IsResourceView (d : Data) (resource : ResourceView) : Type 0 where
+pub record IsResourceView (d : Data) (resource : ResourceViewValue) : Type 0 where
   pub arn : HasText Arn d resource.arn
   pub account : HasText Account d resource.account
   pub policy : resource.policy ≡ member Policy d
@@ -101,7 +101,7 @@ pub record IsResourceView (d : Data) (resource : ResourceView) : Type 0 where
   pub control : HasLevels Control d resource.control
 
 -- the document says this
-pub record IsView (d : Data) (world : WorldView) : Type 0 where
+pub record IsView (d : Data) (world : WorldViewValue) : Type 0 where
   pub moment : number_at Moment d ≡ Some world.moment
   pub accounts : HasListOf IsAccountView Accounts d world.accounts
   pub principals : HasListOf IsPrincipalView Principals d world.principals

@@ -8,7 +8,7 @@ use Rattle.iam_policy.specs.Fault.{statements_in}
 use Rattle.iam_policy.specs.declared.fault.Kind.{Kind}
 use Rattle.iam_policy.specs.declared.fault.Kind.TheVariants as kind
 use Rattle.iam_policy.specs.Reading.{Reads, PolicyValue}
-use Rattle.iam_shape.specs.View.{WorldView}
+use Rattle.iam_shape.specs.View.{WorldViewValue}
 use Rattle.iam_shape.specs.declared.path.Name.{Name}
 use Rattle.iam_shape.specs.declared.path.Name.TheVariants.{Accounts, Principals, Resources, Org, Identity, Boundary, SessionPolicies, Control}
 use Rattle.iam_shape.specs.declared.path.Name.TheVariants as name
@@ -71,7 +71,7 @@ of_levels kind list i name levels policies zip =
     of_members (λ j ds. numbered kind (Leaf list i name j) 0 ds) (λ (level : List PolicyValue). level) (AllZip (Reads kind))
     (λ j ds ps reads. of_list kind (Leaf list i name j) 0 ds ps reads) 0 levels policies zip
 
-pub statements-are : (view : WorldView) (world : WorldValue) → ReadsWorld view world → statement_count view ≡ world_statements world
+pub statements-are : (view : WorldViewValue) (world : WorldValue) → ReadsWorld view world → statement_count view ≡ world_statements world
 statements-are view world reads =
     let orgs = λ (a : AccountValue). flat_map (λ (level : List PolicyValue). level) a.org in
     let controls = λ (x : ResourceValue). flat_map (λ (level : List PolicyValue). level) x.control in

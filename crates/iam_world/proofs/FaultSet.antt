@@ -3,7 +3,7 @@ use Rattle.std.proofs.Common.{◌≡◌, inr, ℕ, ◌≤◌, List, length, Some
 use Rattle.serde_json.specs.Data.{Data}
 use Rattle.iam_world.specs.Code.ViewFault.{ViewHasFault, IsFirstViewFault}
 use Rattle.iam_shape.specs.Shape.{first_bad, shape_checks}
-use Rattle.iam_shape.specs.View.{WorldView, IsView}
+use Rattle.iam_shape.specs.View.{WorldViewValue, IsView}
 use Rattle.iam_world.specs.WorldFault.{HasView, IsFirstWorldFault, IsJson, WorldHasFault}
 use Rattle.iam_world.specs.declared.fault.WorldFault.{WorldFault}
 use Rattle.iam_world.specs.declared.fault.WorldFault.TheVariants.{NotJson, BadShape, BadRequester, BadAction, BadResourceArn, UnknownAccount, Context, Policy, TooLarge, OutOfMemory}
@@ -14,15 +14,15 @@ one_json bytes d e one two = let same : Some d ≡ Some e = sym one.1 ∙ two.1 
 
 -- a document says one thing
 abbrev pub OneView : Type 0
-OneView = (d : Data) (view other : WorldView) → IsView d view → IsView d other → view ≡ other
+OneView = (d : Data) (view other : WorldViewValue) → IsView d view → IsView d other → view ≡ other
 
 -- what bytes say is one thing
-pub view_is : (one_view : OneView) (bytes : List ℕ) (d : Data) (world : WorldView) → IsJson bytes d → IsView d world → (P : WorldView → Type 0) → HasView bytes P → P world
+pub view_is : (one_view : OneView) (bytes : List ℕ) (d : Data) (world : WorldViewValue) → IsJson bytes d → IsView d world → (P : WorldViewValue → Type 0) → HasView bytes P → P world
 view_is one_view bytes d world json says P (e, json', (other, says', holds)) =
     let same : other ≡ world = one_view d other world (subst (λ x. IsView x other) (one_json bytes e d json' json) says') says in subst P same holds
 
 -- the faults of a document of the right shape are those of what it says
-pub to_view : (one_view : OneView) (bytes : List ℕ) (d : Data) (world : WorldView) → IsJson bytes d → first_bad (shape_checks d) ≡ None → IsView d world → (fault : WorldFault)
+pub to_view : (one_view : OneView) (bytes : List ℕ) (d : Data) (world : WorldViewValue) → IsJson bytes d → first_bad (shape_checks d) ≡ None → IsView d world → (fault : WorldFault)
     → WorldHasFault bytes fault → ViewHasFault world fault
 to_view one_view bytes d world json clear says NotJson has = absurd (has d json)
 to_view one_view bytes d world json clear says (BadShape path) (e, json', bad) =
@@ -38,7 +38,7 @@ to_view one_view bytes d world json clear says (Policy path refused) has = view_
 to_view one_view bytes d world json clear says TooLarge has = view_is one_view bytes d world json says _ has
 to_view one_view bytes d world json clear says OutOfMemory has = has
 
-from_view : (bytes : List ℕ) (d : Data) (world : WorldView) → IsJson bytes d → IsView d world → (fault : WorldFault) → ViewHasFault world fault → WorldHasFault bytes fault
+from_view : (bytes : List ℕ) (d : Data) (world : WorldViewValue) → IsJson bytes d → IsView d world → (fault : WorldFault) → ViewHasFault world fault → WorldHasFault bytes fault
 from_view bytes d world json says NotJson has = absurd has
 from_view bytes d world json says (BadShape path) has = absurd has
 from_view bytes d world json says OutOfMemory has = absurd has
@@ -53,7 +53,7 @@ from_view bytes d world json says TooLarge has = (d, json, (world, says, has))
 -- ---- the first fault
 
 -- a document of the right shape
-pub first_of_view : (one_view : OneView) (bytes : List ℕ) (d : Data) (world : WorldView) → length bytes ≤ 8388608 → IsJson bytes d → first_bad (shape_checks d) ≡ None → IsView d world
+pub first_of_view : (one_view : OneView) (bytes : List ℕ) (d : Data) (world : WorldViewValue) → length bytes ≤ 8388608 → IsJson bytes d → first_bad (shape_checks d) ≡ None → IsView d world
     → (fault : WorldFault) → IsFirstViewFault world fault → IsFirstWorldFault bytes fault
 first_of_view one_view bytes d world short json clear says fault first =
     inr (

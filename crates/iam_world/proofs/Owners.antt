@@ -5,7 +5,7 @@ use Rattle.std.specs.Prelude.{IsTrue}
 use Rattle.iam_match.specs.Requester.{RequesterValue, IsRequesterOf}
 use Rattle.iam_world.specs.Code.ViewFault.{FindsFirst}
 use Rattle.iam_shape.specs.Texts.{HasTexts, Places, has_text}
-use Rattle.iam_shape.specs.View.{PrincipalView, ResourceView, WorldView}
+use Rattle.iam_shape.specs.View.{PrincipalViewValue, ResourceViewValue, WorldViewValue}
 use Rattle.iam_shape.specs.First.{IsFirstAt, with_paths}
 use Rattle.iam_world.specs.WorldFault.{IsOfUnknownAccount, IsRequesterAt, Owner, of_principal, of_resource, has_account, owners}
 use Rattle.iam_shape.specs.declared.path.Name.TheVariants.{Principals, Resources}
@@ -23,7 +23,7 @@ not-false : (b : Bool) → not b ≡ false → b ≡ true
 not-false true e = refl
 not-false false e = cc
 
-module _ (world : WorldView) (ids : Places) (has : HasTexts ids (map (λ account. account.id) world.accounts)) where
+module _ (world : WorldViewValue) (ids : Places) (has : HasTexts ids (map (λ account. account.id) world.accounts)) where
   told : (id : List ℕ) → has_text ids id ≡ has_account world id
   told id = ap is_some (has id) ∙ has-place (bytes_eq id) 0 (map (λ account. account.id) world.accounts)
 
@@ -34,9 +34,9 @@ module _ (world : WorldView) (ids : Places) (has : HasTexts ids (map (λ account
   known id e = sym (told id) ∙ not-false (has_text ids id) e
 
   abbrev User : Owner → RequesterValue → Type 0
-  User owner r = (principal : PrincipalView) × (owner ≡ of_principal principal) × IsRequesterAt principal r
+  User owner r = (principal : PrincipalViewValue) × (owner ≡ of_principal principal) × IsRequesterAt principal r
 
-  users : (ps : List PrincipalView) (rs : List RequesterValue) → AllZip IsRequesterAt ps rs → AllZip User (map of_principal ps) rs
+  users : (ps : List PrincipalViewValue) (rs : List RequesterValue) → AllZip IsRequesterAt ps rs → AllZip User (map of_principal ps) rs
   users [] [] zip = zip
   users [] (r ∷ rs) zip = zip
   users (p ∷ ps) [] zip = zip
@@ -62,7 +62,7 @@ module _ (world : WorldView) (ids : Places) (has : HasTexts ids (map (λ account
           at_p.2 (subst (λ id. IsTrue (has_account world id)) account (known r.account e))
 
   -- the first resource of an unknown account, where the code holds the resources as `vs`
-  pub first_resource : {V : Type 0} (f : V → ResourceView) (vs : List V) → map f vs ≡ world.resources
+  pub first_resource : {V : Type 0} (f : V → ResourceViewValue) (vs : List V) → map f vs ≡ world.resources
       → FindsFirst (IsOfUnknownAccount world) (with_paths (Item Resources) 0 (map of_resource world.resources))
       (option_map (Item Resources) (position_from (λ v. not (has_text ids (f v).account)) 0 vs))
   first_resource {V} f vs are =

@@ -16,7 +16,7 @@ use Rattle.iam_policy.specs.declared.fault.Kind.TheVariants as kind
 use Rattle.iam_policy.specs.declared.fault.Refused.{Refused}
 use Rattle.iam_world.specs.Reads.{IsWorld, ReadsAccount, ReadsOptional, ReadsPrincipal, ReadsResource, ReadsWorld}
 use Rattle.iam_shape.specs.Shape.{first_bad, shape_checks}
-use Rattle.iam_shape.specs.View.{AccountView, PrincipalView, ResourceView, WorldView, IsView}
+use Rattle.iam_shape.specs.View.{AccountViewValue, PrincipalViewValue, ResourceViewValue, WorldViewValue, IsView}
 use Rattle.iam_world.specs.World.{AccountValue, PrincipalValue, ResourceValue, WorldValue}
 use Rattle.iam_world_context.specs.Contexts.{Beside, IsFaulty, IsFirstFaulty, parts}
 use Rattle.iam_world.specs.WorldFault.{Document, HasView, IsFirstRefused, IsFirstWorldFault, IsNotAccepted, WorldHasFault, documents, world_number_of}
@@ -48,14 +48,14 @@ module _
     one_optional kind (Some d) (Some p) None one two = absurd two
     one_optional kind (Some d) (Some p) (Some q) one two = ap Some (policy kind d p q one two)
 
-    one_account : (v : AccountView) (a b : AccountValue) → ReadsAccount v a → ReadsAccount v b → a ≡ b
+    one_account : (v : AccountViewValue) (a b : AccountValue) → ReadsAccount v a → ReadsAccount v b → a ≡ b
     one_account v a b one two =
         let id : a.id ≡ b.id = one.id ∙ sym two.id in
         let management : a.management ≡ b.management = one.management ∙ sym two.management in
         let org : a.org ≡ b.org = one_levels kind.Org v.org a.org b.org one.org two.org in
         λ i. record { id = id i; management = management i; org = org i }
 
-    one_resource : (v : ResourceView) (a b : ResourceValue) → ReadsResource v a → ReadsResource v b → a ≡ b
+    one_resource : (v : ResourceViewValue) (a b : ResourceValue) → ReadsResource v a → ReadsResource v b → a ≡ b
     one_resource v a b one two =
         let arn : a.arn ≡ b.arn = one.arn ∙ sym two.arn in
         let account : a.account ≡ b.account = one.account ∙ sym two.account in
@@ -72,7 +72,7 @@ module _
           control = control i;
         }
 
-    one_principal : (v : PrincipalView) (p q : PrincipalValue) → ReadsPrincipal v p → ReadsPrincipal v q → p ≡ q
+    one_principal : (v : PrincipalViewValue) (p q : PrincipalValue) → ReadsPrincipal v p → ReadsPrincipal v q → p ≡ q
     one_principal v p q one two =
         let asker : p.requester ≡ q.requester = requester v.arn v.session p.requester q.requester one.requester two.requester in
         let identity : p.identity ≡ q.identity = one_list kind.Identity v.identity p.identity q.identity one.identity two.identity in
@@ -81,7 +81,7 @@ module _
         let context : p.context ≡ q.context = one.context ∙ sym two.context in
         λ i. record { requester = asker i; identity = identity i; boundary = boundary i; session = session i; context = context i }
 
-    one_reading : (view : WorldView) (v w : WorldValue) → ReadsWorld view v → ReadsWorld view w → v ≡ w
+    one_reading : (view : WorldViewValue) (v w : WorldValue) → ReadsWorld view v → ReadsWorld view w → v ≡ w
     one_reading view v w one two =
         let moment : v.moment ≡ w.moment = one.moment ∙ sym two.moment in
         let accounts : v.accounts ≡ w.accounts = zip_unique ReadsAccount one_account view.accounts v.accounts w.accounts one.accounts two.accounts in
@@ -108,7 +108,7 @@ module _
 -- ---- one first fault
 
 -- two things that a view makes equal
-same_view : (one_view : OneView) {A : Type 0} (bytes : List ℕ) (P Q : WorldView → Type 0) (x y : A) → ((world : WorldView) → P world → Q world → x ≡ y) → HasView bytes P → HasView bytes Q → x ≡ y
+same_view : (one_view : OneView) {A : Type 0} (bytes : List ℕ) (P Q : WorldViewValue → Type 0) (x y : A) → ((world : WorldViewValue) → P world → Q world → x ≡ y) → HasView bytes P → HasView bytes Q → x ≡ y
 same_view one_view bytes P Q x y step one two = step one.2.0 one.2.2 (view_is one_view bytes one.0 one.2.0 one.1 one.2.1 Q two)
 
 module _

@@ -10,7 +10,7 @@ use Rattle.iam_policy.specs.declared.fault.Kind.TheVariants as kind
 use Rattle.iam_policy.specs.Reading.{Reads, PolicyValue}
 use Rattle.iam_shape.specs.Texts.{HasTexts, Places}
 use Rattle.iam_shape.specs.Few.{HasFewDocuments, HasFewLevels, HasFewLists}
-use Rattle.iam_shape.specs.View.{AccountView, PrincipalView, ResourceView, WorldView}
+use Rattle.iam_shape.specs.View.{AccountViewValue, PrincipalViewValue, ResourceViewValue, WorldViewValue}
 use Rattle.iam_world_context.specs.Clean.{AllClean, AreClean}
 use Rattle.iam_world.specs.Invariants.{CanJoin, HasFewPolicies, IsSized}
 use Rattle.iam_world.specs.Code.Made.{bare_account, bare_resource, made_account, made_principal, made_resource}
@@ -24,14 +24,14 @@ use Rattle.iam_world.proofs.Walks.{zip-length}
 
 -- ---- putting together
 
-pub reads_accounts : {Y : Type 0} (g : Y → List (List PolicyValue)) (vs : List AccountView) (org : List Y) → AllZip (λ v o. AllZip (AllZip (Reads kind.Org)) v.org (g o)) vs org
+pub reads_accounts : {Y : Type 0} (g : Y → List (List PolicyValue)) (vs : List AccountViewValue) (org : List Y) → AllZip (λ v o. AllZip (AllZip (Reads kind.Org)) v.org (g o)) vs org
     → AllZip ReadsAccount vs (map (λ p. made_account (p.0, g p.1)) (zip (map bare_account vs) org))
 reads_accounts g [] [] zip = tt
 reads_accounts g [] (o ∷ org) zip = absurd zip
 reads_accounts g (v ∷ vs) [] zip = absurd zip
 reads_accounts g (v ∷ vs) (o ∷ org) zip = (record { id = refl; management = refl; org = zip.0 }, reads_accounts g vs org zip.1)
 
-pub reads_resources : {X Y : Type 0} (f : X → List (List PolicyValue)) (g : Y → ContextValue) (vs : List ResourceView) (ps : List (Option PolicyValue)) (ls : List X) (cs : List Y)
+pub reads_resources : {X Y : Type 0} (f : X → List (List PolicyValue)) (g : Y → ContextValue) (vs : List ResourceViewValue) (ps : List (Option PolicyValue)) (ls : List X) (cs : List Y)
     → AllZip (λ v p. ReadsOptional kind.Resource v.policy p) vs ps → AllZip (λ v l. AllZip (AllZip (Reads kind.Control)) v.control (f l)) vs ls
     → map g cs ≡ map (λ v. part_of v.context) vs
     → AllZip ReadsResource vs (map (λ p. made_resource ((p.0.0, f p.0.1), g p.1)) (zip (zip (zip (map bare_resource vs) ps) ls) cs))
@@ -46,7 +46,7 @@ reads_resources f g (v ∷ vs) (x ∷ ps) (y ∷ ls) (c ∷ cs) p l same =
     let rest : map g cs ≡ map (λ v. part_of v.context) vs = cc in
     (record { arn = refl; account = refl; policy = p.0; sealed = refl; context = here; control = l.0 }, reads_resources f g vs ps ls cs p.1 l.1 rest)
 
-pub reads_principals : {Y : Type 0} (g : Y → ContextValue) (vs : List PrincipalView) (rs : List RequesterValue) (identity : List (List PolicyValue))
+pub reads_principals : {Y : Type 0} (g : Y → ContextValue) (vs : List PrincipalViewValue) (rs : List RequesterValue) (identity : List (List PolicyValue))
     (boundary : List (Option PolicyValue)) (session : List (List PolicyValue)) (cs : List Y)
     → AllZip IsRequesterAt vs rs → AllZip (λ v own. AllZip (Reads kind.Identity) v.identity own) vs identity
     → AllZip (λ v p. ReadsOptional kind.Identity v.boundary p) vs boundary → AllZip (λ v own. AllZip (Reads kind.Identity) v.session_policies own) vs session
@@ -69,13 +69,13 @@ reads_principals g (v ∷ vs) (x ∷ rs) (y ∷ is) (z ∷ bs) (w ∷ ss) (c ∷
 
 -- ---- sizes
 
-cells-are : (view : WorldView) (world : WorldValue) → ReadsWorld view world → cell_count view ≡ world_cells world
+cells-are : (view : WorldViewValue) (world : WorldValue) → ReadsWorld view world → cell_count view ≡ world_cells world
 cells-are view world reads =
     ap (λ n. n * length view.actions * length view.resources) (zip-length ReadsPrincipal view.principals world.principals reads.principals)
     ∙ ap (λ n. length world.principals * n * length view.resources) (ap length (sym reads.actions))
     ∙ ap (λ n. length world.principals * length world.actions * n) (zip-length ReadsResource view.resources world.resources reads.resources)
 
-few : (vs : List PrincipalView) (principals : List PrincipalValue) → AllByRecursion HasFewDocuments vs → AllZip ReadsPrincipal vs principals → AllByRecursion HasFewPolicies principals
+few : (vs : List PrincipalViewValue) (principals : List PrincipalValue) → AllByRecursion HasFewDocuments vs → AllZip ReadsPrincipal vs principals → AllByRecursion HasFewPolicies principals
 few [] [] small zip = tt
 few [] (p ∷ rest) small zip = absurd zip
 few (v ∷ vs) [] small zip = absurd zip
@@ -142,7 +142,7 @@ flat-map : {X Y Z : Type 0} (f : Y → List Z) (g : X → Y) (xs : List X) → f
 flat-map f g [] = refl
 flat-map f g (x ∷ xs) = ap (λ rest. f (g x) ++ rest) (flat-map f g xs)
 
-can_join : (view : WorldView) (world : WorldValue) → ReadsWorld view world → AllClean (part_of view.context) (principal_parts view) (resource_parts view) → CanJoin world
+can_join : (view : WorldViewValue) (world : WorldValue) → ReadsWorld view world → AllClean (part_of view.context) (principal_parts view) (resource_parts view) → CanJoin world
 can_join view world reads clean =
     let own = clean.own in
     let ps = clean.principals_clean in
@@ -169,14 +169,14 @@ can_join view world reads clean =
 
 -- ---- the whole
 
-same_ids : (vs : List AccountView) (accounts : List AccountValue) → AllZip ReadsAccount vs accounts → map (λ account. account.id) accounts ≡ map (λ account. account.id) vs
+same_ids : (vs : List AccountViewValue) (accounts : List AccountValue) → AllZip ReadsAccount vs accounts → map (λ account. account.id) accounts ≡ map (λ account. account.id) vs
 same_ids [] [] zip = refl
 same_ids [] (a ∷ accounts) zip = absurd zip
 same_ids (v ∷ vs) [] zip = absurd zip
 same_ids (v ∷ vs) (a ∷ accounts) zip = ap (λ id. id ∷ map (λ (account : AccountValue). account.id) accounts) zip.0.id ∙ ap (λ rest. v.id ∷ rest) (same_ids vs accounts zip.1)
 
 -- a world that is read of a document within the limits is within them
-pub sized : (view : WorldView) (world : WorldValue) (cells statements : ℕ) (numbers : Places) → ReadsWorld view world → HasFewLists view → view.moment ≤ 253402300799
+pub sized : (view : WorldViewValue) (world : WorldValue) (cells statements : ℕ) (numbers : Places) → ReadsWorld view world → HasFewLists view → view.moment ≤ 253402300799
     → cells ≡ cell_count view → statements ≡ statement_count view → (¬ IsOverLimits view)
     → AllClean (part_of view.context) (principal_parts view) (resource_parts view) → HasTexts numbers (map (λ account. account.id) view.accounts)
     → IsSized world cells statements numbers

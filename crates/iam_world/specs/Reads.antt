@@ -5,7 +5,7 @@ use Rattle.serde_json.specs.Data.{Data}
 use Rattle.iam_policy.specs.declared.fault.Kind.{Kind}
 use Rattle.iam_policy.specs.declared.fault.Kind.TheVariants as kind
 use Rattle.iam_policy.specs.Reading.{PolicyValue, Reads}
-use Rattle.iam_shape.specs.View.{AccountView, PrincipalView, ResourceView, WorldView, IsView}
+use Rattle.iam_shape.specs.View.{AccountViewValue, PrincipalViewValue, ResourceViewValue, WorldViewValue, IsView}
 use Rattle.iam_world_context.specs.Part.{part_of}
 use Rattle.iam_world.specs.World.{WorldValue, AccountValue, PrincipalValue, ResourceValue}
 use Rattle.iam_world.specs.WorldFault.{IsJson, IsRequesterAt, IsAcceptable}
@@ -17,19 +17,19 @@ ReadsOptional kind None (Some policy) = ⊥
 ReadsOptional kind (Some d) None = ⊥
 ReadsOptional kind (Some d) (Some policy) = Reads kind d policy
 
-pub record ReadsAccount (view : AccountView) (account : AccountValue) : Type 0 where
+pub record ReadsAccount (view : AccountViewValue) (account : AccountValue) : Type 0 where
   pub id : account.id ≡ view.id
   pub management : account.management ≡ view.management
   pub org : AllZip (AllZip (Reads kind.Org)) view.org account.org
 
-pub record ReadsPrincipal (view : PrincipalView) (principal : PrincipalValue) : Type 0 where
+pub record ReadsPrincipal (view : PrincipalViewValue) (principal : PrincipalValue) : Type 0 where
   pub requester : IsRequesterAt view principal.requester
   pub identity : AllZip (Reads kind.Identity) view.identity principal.identity
   pub boundary : ReadsOptional kind.Identity view.boundary principal.boundary
   pub session : AllZip (Reads kind.Identity) view.session_policies principal.session
   pub context : principal.context ≡ part_of view.context
 
-pub record ReadsResource (view : ResourceView) (resource : ResourceValue) : Type 0 where
+pub record ReadsResource (view : ResourceViewValue) (resource : ResourceValue) : Type 0 where
   pub arn : resource.arn ≡ view.arn
   pub account : resource.account ≡ view.account
   pub policy : ReadsOptional kind.Resource view.policy resource.policy
@@ -37,7 +37,7 @@ pub record ReadsResource (view : ResourceView) (resource : ResourceValue) : Type
   pub context : resource.context ≡ part_of view.context
   pub control : AllZip (AllZip (Reads kind.Control)) view.control resource.control
 
-pub record ReadsWorld (view : WorldView) (world : WorldValue) : Type 0 where
+pub record ReadsWorld (view : WorldViewValue) (world : WorldValue) : Type 0 where
   pub moment : world.moment ≡ view.moment
   pub accounts : AllZip ReadsAccount view.accounts world.accounts
   pub principals : AllZip ReadsPrincipal view.principals world.principals
@@ -50,6 +50,6 @@ pub record IsWorld (bytes : List ℕ) (world : WorldValue) : Type 0 where
   pub acceptable : IsAcceptable bytes
   pub value : Data
   pub json : IsJson bytes value
-  pub view : WorldView
+  pub view : WorldViewValue
   pub says : IsView value view
   pub reads : ReadsWorld view world

@@ -27,7 +27,7 @@ use Rattle.iam_world.specs.declared.fault.WorldFault.{WorldFault}
 use Rattle.iam_world.specs.declared.fault.WorldFault.TheVariants.{NotJson, BadShape, BadRequester, BadAction, BadResourceArn, UnknownAccount, Context, Policy, TooLarge, OutOfMemory}
 use Rattle.iam_shape.specs.First.{IsFirst, IsFirstAt, with_paths}
 use Rattle.iam_shape.specs.Shape.{first_bad, shape_checks}
-use Rattle.iam_shape.specs.View.{AccountView, PrincipalView, ResourceView, WorldView, IsView}
+use Rattle.iam_shape.specs.View.{AccountViewValue, PrincipalViewValue, ResourceViewValue, WorldViewValue, IsView}
 use Rattle.iam_world_context.specs.Contexts.{IsFirstFaulty, parts}
 
 -- the number of a fault
@@ -76,10 +76,10 @@ world_text fault = decimal (world_number_of fault) ++ (codes " " ++ (world_name_
 -- ---- requesters
 
 -- this is the requester of the principal
-abbrev pub IsRequesterAt : PrincipalView → RequesterValue → Type 0
+abbrev pub IsRequesterAt : PrincipalViewValue → RequesterValue → Type 0
 IsRequesterAt principal r = IsRequesterOf principal.arn principal.session r
 
-abbrev pub IsNoRequester : PrincipalView → Type 0
+abbrev pub IsNoRequester : PrincipalViewValue → Type 0
 IsNoRequester principal = (r : RequesterValue) → ¬ IsRequesterAt principal r
 
 -- ---- actions and resources
@@ -100,18 +100,18 @@ abbrev pub is_resource : List ℕ → Bool
 is_resource text =
     bytes_eq text (codes "*") || (starts_with nat_eq text (codes "arn:") && not (nat_lt (colons text) 5))
 
-abbrev pub HasNoResourceArn : ResourceView → Type 0
+abbrev pub HasNoResourceArn : ResourceViewValue → Type 0
 HasNoResourceArn resource = ¬ IsTrue (is_resource resource.arn)
 
 -- ---- accounts
 
 -- whoever must belong to an account of the world
 pub data Owner : Type 0 where
-  of_principal : PrincipalView → Owner
-  of_resource : ResourceView → Owner
+  of_principal : PrincipalViewValue → Owner
+  of_resource : ResourceViewValue → Owner
 
 -- the principals, then the resources
-abbrev pub owners : WorldView → List (Path × Owner)
+abbrev pub owners : WorldViewValue → List (Path × Owner)
 owners world =
     with_paths (Item Principals) 0 (map of_principal world.principals)
     ++ with_paths (Item Resources) 0 (map of_resource world.resources)
@@ -123,11 +123,11 @@ BelongsTo (of_principal principal) account =
 BelongsTo (of_resource resource) account = account ≡ resource.account
 
 -- the world has an account of this id
-abbrev pub has_account : WorldView → List ℕ → Bool
+abbrev pub has_account : WorldViewValue → List ℕ → Bool
 has_account world id = is_one_of (map (λ account. account.id) world.accounts) id
 
 -- it belongs to an account that the world does not have
-abbrev pub IsOfUnknownAccount : WorldView → Owner → Type 0
+abbrev pub IsOfUnknownAccount : WorldViewValue → Owner → Type 0
 IsOfUnknownAccount world owner =
     (account : List ℕ) × BelongsTo owner account × ¬ IsTrue (has_account world account)
 
@@ -154,32 +154,32 @@ abbrev pub level_documents : Kind → Name → ℕ → Name → List (List Data)
 level_documents kind list i name levels = of_each (λ j level. numbered kind (Leaf list i name j) 0 level) 0 levels
 
 -- the organisation policies of account i
-abbrev pub org_documents : ℕ → AccountView → List Document
+abbrev pub org_documents : ℕ → AccountViewValue → List Document
 org_documents i account = level_documents kind.Org Accounts i Org account.org
 
 -- the resource control policies of resource i
-abbrev pub control_documents : ℕ → ResourceView → List Document
+abbrev pub control_documents : ℕ → ResourceViewValue → List Document
 control_documents i resource = level_documents kind.Control Resources i Control resource.control
 
 -- the policy of resource i
-abbrev pub resource_documents : ℕ → ResourceView → List Document
+abbrev pub resource_documents : ℕ → ResourceViewValue → List Document
 resource_documents i resource =
     numbered kind.Resource (λ j. Field Resources i name.Policy) 0 (option_to_list resource.policy)
 
 -- the identity policies of principal i, its boundary, and its session policies
-abbrev pub identity_documents : ℕ → PrincipalView → List Document
+abbrev pub identity_documents : ℕ → PrincipalViewValue → List Document
 identity_documents i principal = numbered kind.Identity (Entry Principals i Identity) 0 principal.identity
 
-abbrev pub boundary_documents : ℕ → PrincipalView → List Document
+abbrev pub boundary_documents : ℕ → PrincipalViewValue → List Document
 boundary_documents i principal =
     numbered kind.Identity (λ j. Field Principals i Boundary) 0 (option_to_list principal.boundary)
 
-abbrev pub session_documents : ℕ → PrincipalView → List Document
+abbrev pub session_documents : ℕ → PrincipalViewValue → List Document
 session_documents i principal =
     numbered kind.Identity (Entry Principals i SessionPolicies) 0 principal.session_policies
 
 -- the policy documents of a world, layer by layer
-abbrev pub documents : WorldView → List Document
+abbrev pub documents : WorldViewValue → List Document
 documents world =
     of_each org_documents 0 world.accounts
     ++ (of_each control_documents 0 world.resources
@@ -200,14 +200,14 @@ IsFirstRefused ds path refused =
 -- ---- limits
 
 -- how many cells the matrix has
-abbrev pub cell_count : WorldView → ℕ
+abbrev pub cell_count : WorldViewValue → ℕ
 cell_count world = length world.principals * length world.actions * length world.resources
 
 -- how many statements the documents have
-abbrev pub statement_count : WorldView → ℕ
+abbrev pub statement_count : WorldViewValue → ℕ
 statement_count world = sum_by (λ document. length (statements_in document.value)) (documents world)
 
-abbrev pub IsOverLimits : WorldView → Type 0
+abbrev pub IsOverLimits : WorldViewValue → Type 0
 IsOverLimits world = (16777216 < cell_count world) ⊎ (4096 < statement_count world)
 
 -- ---- the faults
@@ -217,8 +217,8 @@ abbrev pub IsJson : List ℕ → Data → Type 0
 IsJson bytes d = IsUtf8 bytes × (read bytes ≡ Some d)
 
 -- the bytes are a text of a JSON value that says something of which P holds
-abbrev pub HasView : List ℕ → (WorldView → Type 0) → Type 0
-HasView bytes P = (d : Data) × IsJson bytes d × ((world : WorldView) × IsView d world × P world)
+abbrev pub HasView : List ℕ → (WorldViewValue → Type 0) → Type 0
+HasView bytes P = (d : Data) × IsJson bytes d × ((world : WorldViewValue) × IsView d world × P world)
 
 -- the set of faults, each by itself
 abbrev pub WorldHasFault : List ℕ → WorldFault → Type 0

@@ -3,7 +3,7 @@ use Rattle.std.specs.Prelude.{◌≡◌, ℕ, List, [], ◌++◌, map}
 use Rattle.std.specs.List.{AllByRecursion, flat_map}
 use Rattle.iam_context.specs.Context.{ContextValue, keys_of}
 use Rattle.iam_context.specs.ContextFault.{IsClean}
-use Rattle.iam_shape.specs.View.{WorldView}
+use Rattle.iam_shape.specs.View.{WorldViewValue}
 use Rattle.iam_world_context.specs.Part.{part_of}
 use Rattle.iam_world_context.specs.Contexts.{principal_parts, resource_parts}
 use Rattle.iam_world_context.specs.declared.contexts.Contexts.{Contexts}
@@ -19,7 +19,7 @@ pub record AllClean (world : ContextValue) (principals resources : List ContextV
   pub resources_clean : AreClean (keys_of world ++ flat_map keys_of principals) resources
 
 -- the contexts of the view, none of which has a fault
-pub record HasContexts (view : WorldView) (contexts : Contexts) : Type 0 where
+pub record HasContexts (view : WorldViewValue) (contexts : Contexts) : Type 0 where
   pub world : contexts.world.items ≡ part_of view.context
   pub principals : map (λ part. part.items) contexts.principals.items ≡ principal_parts view
   pub resources : map (λ part. part.items) contexts.resources.items ≡ resource_parts view

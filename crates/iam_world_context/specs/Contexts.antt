@@ -5,7 +5,7 @@ use Rattle.iam_context.specs.Context.{ContextValue, keys_of}
 use Rattle.iam_context.specs.ContextFault.{IsClean, IsPartFault}
 use Rattle.iam_context.specs.declared.fault.ContextFault.{ContextFault}
 use Rattle.iam_shape.specs.First.{IsFirst, with_paths}
-use Rattle.iam_shape.specs.View.{WorldView}
+use Rattle.iam_shape.specs.View.{WorldViewValue}
 use Rattle.iam_shape.specs.declared.path.Name.{Name}
 use Rattle.iam_shape.specs.declared.path.Name.TheVariants.{Principals, Resources}
 use Rattle.iam_shape.specs.declared.path.Name.TheVariants as name
@@ -27,10 +27,10 @@ parts_of list others parts =
     with_paths (λ i. Field list i name.Context) 0 (map (λ part. record { others = others; part = part }) parts)
 
 -- the contexts of the principals, and those of the resources
-abbrev pub principal_parts : WorldView → List ContextValue
+abbrev pub principal_parts : WorldViewValue → List ContextValue
 principal_parts world = map (λ principal. part_of principal.context) world.principals
 
-abbrev pub resource_parts : WorldView → List ContextValue
+abbrev pub resource_parts : WorldViewValue → List ContextValue
 resource_parts world = map (λ resource. part_of resource.context) world.resources
 
 -- the parts, in order: that of the world; those of the principals, beside it; those of the resources, beside it and all
@@ -41,7 +41,7 @@ all_parts world principals resources =
     ∷ (parts_of Principals (keys_of world) principals
     ++ parts_of Resources (keys_of world ++ flat_map keys_of principals) resources)
 
-abbrev pub parts : WorldView → List (Path × Beside)
+abbrev pub parts : WorldViewValue → List (Path × Beside)
 parts world = all_parts (part_of world.context) (principal_parts world) (resource_parts world)
 
 -- the first faulty part stands at this path, and this is its first fault

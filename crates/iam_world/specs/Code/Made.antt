@@ -3,14 +3,14 @@ use Rattle.std.specs.Prelude.{List, [], Option, None}
 use Rattle.iam_context.specs.Context.{ContextValue}
 use Rattle.iam_match.specs.Requester.{RequesterValue}
 use Rattle.iam_policy.specs.Reading.{PolicyValue}
-use Rattle.iam_shape.specs.View.{AccountView, ResourceView}
+use Rattle.iam_shape.specs.View.{AccountViewValue, ResourceViewValue}
 use Rattle.iam_world.specs.World.{AccountValue, PrincipalValue, ResourceValue}
 
 -- without policies and context
-abbrev pub bare_account : AccountView → AccountValue
+abbrev pub bare_account : AccountViewValue → AccountValue
 bare_account view = record { id = view.id; management = view.management; org = [] }
 
-abbrev pub bare_resource : ResourceView → ResourceValue
+abbrev pub bare_resource : ResourceViewValue → ResourceValue
 bare_resource view = record {
   arn = view.arn;
   account = view.account;

@@ -1,7 +1,7 @@
 -- The faults that a document of the right shape has, by what it says alone: those of numbers 3 to 9.
 use Rattle.std.specs.Prelude.{◌≡◌, ℕ, ◌≤◌, List, Option, MatchOption}
 use Rattle.std.specs.List.{AllByRecursion}
-use Rattle.iam_shape.specs.View.{WorldView}
+use Rattle.iam_shape.specs.View.{WorldViewValue}
 use Rattle.iam_shape.specs.First.{IsFirstAt, with_paths}
 use Rattle.iam_world_context.specs.Contexts.{parts, IsFirstFaulty}
 use Rattle.iam_world.specs.WorldFault.{world_number_of, IsNoRequester, IsNoAction, HasNoResourceArn, owners, IsOfUnknownAccount, documents, IsFirstRefused, IsOverLimits}
@@ -15,7 +15,7 @@ use Rattle.iam_world_context.specs.declared.fault.PartFault.TheVariants as part
 use Rattle.iam_world.specs.declared.fault.WorldFault.{WorldFault}
 use Rattle.iam_world.specs.declared.fault.WorldFault.TheVariants.{NotJson, BadShape, BadRequester, BadAction, BadResourceArn, UnknownAccount, Context, Policy, TooLarge, OutOfMemory}
 
-abbrev pub ViewHasFault : WorldView → WorldFault → Type 0
+abbrev pub ViewHasFault : WorldViewValue → WorldFault → Type 0
 ViewHasFault world NotJson = ⊥
 ViewHasFault world (BadShape path) = ⊥
 ViewHasFault world (BadRequester path) = IsFirstAt IsNoRequester (with_paths (Item Principals) 0 world.principals) path
@@ -28,11 +28,11 @@ ViewHasFault world TooLarge = IsOverLimits world
 ViewHasFault world OutOfMemory = ⊥
 
 -- no fault has a lesser number
-abbrev pub IsClearBelow : ℕ → WorldView → Type 0
+abbrev pub IsClearBelow : ℕ → WorldViewValue → Type 0
 IsClearBelow n world = (fault : WorldFault) → ViewHasFault world fault → n ≤ world_number_of fault
 
 -- the fault with the least number
-pub record IsFirstViewFault (world : WorldView) (fault : WorldFault) : Type 0 where
+pub record IsFirstViewFault (world : WorldViewValue) (fault : WorldFault) : Type 0 where
   pub holds : ViewHasFault world fault
   pub least : IsClearBelow (world_number_of fault) world
 

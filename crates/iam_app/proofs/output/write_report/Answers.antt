@@ -1,7 +1,7 @@
-use Rattle.std.proofs.Common.{◌≡◌, ◌≤◌, ℕ, List, Option, Result, Ok, Err, OnOk, OnErr, length, take, sym, subst, arith}
+use Rattle.std.proofs.Common.{◌≤◌, ℕ, List, Option, Result, Ok, Err, OnOk, OnErr, length, sym, subst, arith}
 use Rattle.std.proofs.KnownBytes.{Appends-kept}
 use Rattle.std.proofs.lemmas.List.{take_all}
-use Rattle.std.specs.Io.KnownBytes.{Appends, Keeps}
+use Rattle.std.specs.Io.KnownBytes.{Appends}
 use Rattle.iam_app.specs.Code.Pieces.{report_text}
 use Rattle.iam_report.specs.Streams.{AppendsBeginning}
 use Rattle.iam_app.proofs.output.write_report.Goals as goal

@@ -7,7 +7,7 @@ use Rattle.iam_json.specs.Look.{is_one_of}
 use Rattle.iam_shape.specs.Texts.{HasTexts}
 use Rattle.iam_shape.specs.Lent.{account_of}
 use Rattle.iam_shape.specs.Shape.{text_at, nth_account_checks}
-use Rattle.iam_shape.specs.View.{AccountView, IsAccountView}
+use Rattle.iam_shape.specs.View.{AccountViewValue, IsAccountView}
 use Rattle.iam_shape.specs.declared.path.Name.TheVariants.{Id}
 use Rattle.iam_shape.proofs.AccountIds.{earlier-ids, fresh-id}
 use Rattle.iam_shape.proofs.Walks.{each_here, each_later, zip_more_of}
@@ -37,9 +37,9 @@ loop-i-preserved c =
     let earlier = earlier-ids view vs i (map account_of views) c.loop-i.invariant.said in
     let known : HasTexts c.loop-i.ids (filter_map (text_at Id) (take i (map view vs))) = subst (HasTexts c.loop-i.ids) earlier c.loop-i.invariant.known in
     let walked = c.in_ok-view.ensures (filter_map (text_at Id) (take i (map view vs))) known in
-    let ids : List AccountView → List (List ℕ) = map (λ (account : AccountView). account.id) in
+    let ids : List AccountViewValue → List (List ℕ) = map (λ (account : AccountViewValue). account.id) in
     let number : i ≡ length (ids (map account_of views)) =
-    sym (length-map (map account_of views) (λ (account : AccountView). account.id) ∙ length-map views account_of ∙ c.loop-i.invariant.count) in
+    sym (length-map (map account_of views) (λ (account : AccountViewValue). account.id) ∙ length-map views account_of ∙ c.loop-i.invariant.count) in
     record {
       count = rw c.in_ok-push.ensures.items (length_push views c.in_ok-view.view ∙ ap (λ n. n + 1) c.loop-i.invariant.count);
       left =
@@ -50,7 +50,7 @@ loop-i-preserved c =
           (zip_more_of IsAccountView view account_of vs i c.index-accounts-i.result views c.in_ok-view.view c.loop-i-test.true c.index-accounts-i.is
           c.loop-i.invariant.said walked.1);
       known =
-          rw (c.in_ok-push.ensures.items, map-append account_of views _, map-append (λ (account : AccountView). account.id) (map account_of views) _)
+          rw (c.in_ok-push.ensures.items, map-append account_of views _, map-append (λ (account : AccountViewValue). account.id) (map account_of views) _)
           (c.in_ok-keep.ensures (ids (map account_of views)) c.loop-i.invariant.known number
           (subst (λ ids. is_one_of ids c.in_ok-view.view.id.now ≡ false) (sym earlier)
           (fresh-id (filter_map (text_at Id) (take i (map view vs))) i (view c.index-accounts-i.result) c.in_ok-view.view.id.now walked.0 walked.1.id)));

@@ -5,7 +5,7 @@ use Rattle.iam_policy.specs.declared.fault.Kind.TheVariants as kind
 use Rattle.iam_policy.specs.Reading.{Reads}
 use Rattle.iam_shape.specs.Lent.{account_of, principal_of, resource_of}
 use Rattle.iam_shape.specs.LentWorld.{world_of}
-use Rattle.iam_shape.specs.View.{WorldView}
+use Rattle.iam_shape.specs.View.{WorldViewValue}
 use Rattle.iam_world.specs.Reads.{ReadsOptional}
 use Rattle.iam_world.specs.WorldFault.{Document, boundary_documents, control_documents, identity_documents, of_each, org_documents, resource_documents, session_documents}
 use Rattle.iam_world.proofs.DocumentLemmas.{cleared-append, cleared-lent, refused-lent, refused_here, refused_later}
@@ -13,34 +13,34 @@ use Rattle.iam_world.proofs.Walks.{zip-map}
 use Rattle.iam_world.proofs.documents.read_documents.Goals as goal
 
 -- the documents of each layer, and those behind it
-abbrev orgs : WorldView → List Document
+abbrev orgs : WorldViewValue → List Document
 orgs world = of_each org_documents 0 world.accounts
 
-abbrev controls : WorldView → List Document
+abbrev controls : WorldViewValue → List Document
 controls world = of_each control_documents 0 world.resources
 
-abbrev attached : WorldView → List Document
+abbrev attached : WorldViewValue → List Document
 attached world = of_each resource_documents 0 world.resources
 
-abbrev own : WorldView → List Document
+abbrev own : WorldViewValue → List Document
 own world = of_each identity_documents 0 world.principals
 
-abbrev boundaries : WorldView → List Document
+abbrev boundaries : WorldViewValue → List Document
 boundaries world = of_each boundary_documents 0 world.principals
 
-abbrev sessions : WorldView → List Document
+abbrev sessions : WorldViewValue → List Document
 sessions world = of_each session_documents 0 world.principals
 
-abbrev behind_own : WorldView → List Document
+abbrev behind_own : WorldViewValue → List Document
 behind_own world = boundaries world ++ sessions world
 
-abbrev behind_attached : WorldView → List Document
+abbrev behind_attached : WorldViewValue → List Document
 behind_attached world = own world ++ behind_own world
 
-abbrev behind_controls : WorldView → List Document
+abbrev behind_controls : WorldViewValue → List Document
 behind_controls world = attached world ++ behind_attached world
 
-abbrev behind_orgs : WorldView → List Document
+abbrev behind_orgs : WorldViewValue → List Document
 behind_orgs world = controls world ++ behind_controls world
 
 pub returns-in_err-read_each-clause-fault : goal.returns-in_err-read_each-clause-fault

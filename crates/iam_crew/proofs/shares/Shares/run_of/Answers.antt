@@ -1,4 +1,4 @@
-use Rattle.std.proofs.Common.{◌≡◌, ℕ, ◌+◌, ap, ◌∙◌, arith}
+use Rattle.std.proofs.Common.{ℕ, ◌+◌, ap, ◌∙◌, arith}
 use Rattle.iam_crew.specs.Code.Shares.{start_of}
 use Rattle.iam_crew.proofs.Starts.{start_up, start_within, start_first, start_last, start_least, start_most}
 use Rattle.iam_crew.proofs.shares.Shares.run_of.Goals as goal
