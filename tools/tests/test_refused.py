@@ -112,7 +112,7 @@ def test_refused_threads():
 
 def test_an_engine_that_was_refused():
     # One engine decides the cells of a world, and is asked once more where it was refused: no refused call spoils a verdict.
-    program = os.path.join(os.path.dirname(TOOLS), "crates", "iam_run_tests", "out", "iam_run_tests_tests")
+    program = os.path.join(os.path.dirname(TOOLS), "crates", "iam_tests", "out", "iam_tests_tests")
     if not os.path.exists(program):
         raise Skipped("the tests of calls are not built")
     program, library = shutil.copy(program, os.environ["TOOLS_TEST_ROOM"]), shim()

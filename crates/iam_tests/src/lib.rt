@@ -1,15 +1,24 @@
-//! Tests of calls that no command of the program reaches: texts, values, contexts, policies and matching.
+//! Tests of what no command of the program shows: lanes, work, engines, cuts, gates, options, streams that fail, and calls that
+//! none makes.
 #![tactic(auto)]
 
 #[cfg(test)]
-mod contexts;
+mod calls;
 #[cfg(test)]
-mod drafts;
+mod crew;
 #[cfg(test)]
-mod matching;
+mod engine;
 #[cfg(test)]
-mod policy;
+mod gates;
 #[cfg(test)]
-mod text;
+mod lanes;
 #[cfg(test)]
-mod value;
+mod matrix;
+#[cfg(test)]
+mod options;
+#[cfg(test)]
+mod sharing;
+#[cfg(test)]
+mod streams;
+#[cfg(test)]
+mod work;

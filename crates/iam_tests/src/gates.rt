@@ -1,8 +1,8 @@
 // The gate that is told before each tile: in which order, by which workers, and what they steal from one another.
 
-use crate::matrix::{CSV, DENIED, HOME};
+use crate::matrix::{CSV, DENIED, HOME, are_verdicts};
 use iam_layers::World;
-use iam_matrix::{Cut, Format, Gate, first, matrix_report};
+use iam_matrix::{Cut, Format, Gate, first, matrix, matrix_report};
 use std::alloc::Global;
 use std::hint::spin_loop;
 use std::sync::atomic::{AtomicBool, AtomicU64, Ordering};
@@ -23,15 +23,15 @@ fn reaches(count: &AtomicU64, least: u64) -> bool {
 
 /// A gate that notes the tiles in the order in which they begin, and holds each until so many have begun.
 #[derive(Drop)]
-pub struct Record<'a, R: Wait> {
+struct Record<'a, R: Wait> {
     rt: &'a R,
     least: u64,
     begun: AtomicU64,
-    pub tiles: Mutex<Vec<u64>>,
+    tiles: Mutex<Vec<u64>>,
 }
 
 impl<'a, R: Wait> Record<'a, R> {
-    pub fn of(rt: &'a R, alloc: Global, least: u64) -> Record<'a, R> {
+    fn of(rt: &'a R, alloc: Global, least: u64) -> Record<'a, R> {
         Record {
             rt,
             least,
@@ -147,14 +147,20 @@ fn one_worker_halves_its_runs_and_takes_them_from_the_front(rt: HostRuntime) -> 
 }
 
 #[test]
-fn the_gate_of_a_report_is_told_of_each_tile_once(rt: HostRuntime) -> Result<(), Fail> {
+fn the_gate_is_told_of_each_tile_once(rt: HostRuntime) -> Result<(), Fail> {
+    let alloc = rt.alloc();
+    let world = World::read(alloc, HOME.as_bytes())?;
+    let cut = Cut::even(alloc, 1, world.cells())?;
     for workers in [1, 4, 64] {
-        let gate = Record::of(&rt, rt.alloc(), 1);
-        assert!(rt; is_reported(&rt, rt.alloc(), workers, &gate)?);
-        let mut tiles = gate.tiles.lock(&rt);
-        tiles.sort_unstable();
-        let each = [0, 1, 2, 3, 4, 5, 6, 7, 8, 9, 10, 11];
-        assert_eq!(rt; tiles.as_slice(), each.as_slice());
+        let gates = [Record::of(&rt, alloc, 1), Record::of(&rt, alloc, 1)];
+        assert!(rt; is_reported(&rt, alloc, workers, &gates[0])?);
+        assert!(rt; are_verdicts(&matrix(&rt, alloc, &world, &cut, workers, &gates[1])?));
+        for gate in &gates {
+            let mut tiles = gate.tiles.lock(&rt);
+            tiles.sort_unstable();
+            let each = [0, 1, 2, 3, 4, 5, 6, 7, 8, 9, 10, 11];
+            assert_eq!(rt; tiles.as_slice(), each.as_slice());
+        }
     }
     Ok(())
 }
@@ -208,14 +214,10 @@ fn are_stolen<R: Threads + Sync>(
 }
 
 #[test]
-fn tiles_of_a_worker_that_waits_are_stolen_by_the_other(rt: HostRuntime) -> Result<(), Fail> {
-    assert!(rt; are_stolen(&rt, rt.alloc(), 2, [0, 1], [0, 1])?);
-    Ok(())
-}
-
-#[test]
-fn tiles_of_two_workers_that_wait_are_stolen_by_the_third(rt: HostRuntime) -> Result<(), Fail> {
-    assert!(rt; are_stolen(&rt, rt.alloc(), 3, [0, 8], [1, 9])?);
+fn tiles_of_workers_that_wait_are_stolen_by_another(rt: HostRuntime) -> Result<(), Fail> {
+    for (workers, held, awaited) in [(2, [0, 1], [0, 1]), (3, [0, 8], [1, 9])] {
+        assert!(rt; are_stolen(&rt, rt.alloc(), workers, held, awaited)?);
+    }
     Ok(())
 }
 

@@ -239,30 +239,16 @@ fn fills(
 }
 
 #[test]
-fn a_writer_that_fails_at_each_write(rt: HostRuntime) -> Result<(), Fail> {
+fn a_writer_that_fails_at_each_write_and_at_the_flush(rt: HostRuntime) -> Result<(), Fail> {
     for (options, report) in RUNS {
+        let all = report.len();
         for full in [Full::Fails, Full::TakesNothing] {
-            for room in 0..report.len() {
+            for room in 0..all {
                 fills(&rt, &options, report, room, full, true, "fault 4 Write")?;
             }
-            fills(&rt, &options, report, report.len(), full, true, "")?;
+            fills(&rt, &options, report, all, full, true, "")?;
+            fills(&rt, &options, report, all, full, false, "fault 4 Write")?;
         }
-    }
-    Ok(())
-}
-
-#[test]
-fn each_report_is_whole_before_the_flush(rt: HostRuntime) -> Result<(), Fail> {
-    for (options, report) in RUNS {
-        fills(
-            &rt,
-            &options,
-            report,
-            report.len(),
-            Full::Fails,
-            false,
-            "fault 4 Write",
-        )?;
     }
     Ok(())
 }
@@ -309,17 +295,4 @@ fn a_report_whose_tails_all_differ(rt: HostRuntime) -> Result<(), Fail> {
     let outcome = run(&rt, rt.alloc(), &options, &mut reader, &mut writer);
     assert_eq!(rt; writer.as_slice(), report.as_bytes());
     ends_by(&rt, &outcome, "")
-}
-
-#[test]
-fn lines_of_faults_without_a_place(rt: HostRuntime) -> Result<(), Fail> {
-    for (fault, line) in [
-        (RunFault::Read, "fault 1 Read"),
-        (RunFault::Write, "fault 4 Write"),
-        (RunFault::NoSuchCell, "fault 5 NoSuchCell"),
-        (RunFault::OutOfMemory, "fault 7 OutOfMemory"),
-    ] {
-        assert_eq!(rt; fault_line(rt.alloc(), &fault)?.as_str(), line);
-    }
-    Ok(())
 }

@@ -1,0 +1,62 @@
+// Calls that take memory and that the program does not make, each of which has to succeed; and the letters of base64, which no
+// command tells from other letters.
+use iam_context::{Context, Derived, Part};
+use iam_text::{Draft, Glob, Items, Sign, Text};
+use iam_value::bytes;
+use std::test::Fail;
+
+#[test]
+fn the_signs_of_a_pattern_are_a_pattern(rt: HostRuntime) -> Result<(), Fail> {
+    let plain = Glob::plain(rt.alloc(), "a*?")?;
+    let again = Glob::of(rt.alloc(), plain.signs())?;
+    let signs = [Sign::Given('a'), Sign::Given('*'), Sign::Given('?')];
+    assert_eq!(rt; again.signs(), signs.as_slice());
+    Ok(())
+}
+
+#[test]
+fn a_literal_draft_has_no_form(rt: HostRuntime) -> Result<(), Fail> {
+    let draft = Draft::literal(rt.alloc(), "${*}", true)?;
+    let stretches = draft.stretches();
+    assert!(rt; stretches.first_form().is_none() && stretches.text() == "${*}");
+    Ok(())
+}
+
+#[test]
+fn a_part_is_joined(rt: HostRuntime) -> Result<(), Fail> {
+    let alloc = rt.alloc();
+    let mut values = Vec::new(alloc);
+    values.push(Text::read(alloc, "a*")?)?;
+    let mut given: Part = Vec::new(alloc);
+    given.push((Text::read(alloc, "Dept")?, Items::from_vec(values)))?;
+    let derived: Derived = Vec::new(alloc);
+    let context = Context::join(alloc, &[&given], &derived)?;
+    assert_eq!(rt; context.values("dEPT").len(), 1);
+    Ok(())
+}
+
+// Table 1 of RFC 4648: the letters of the values 0 to 63, so the bytes are the numbers 0 to 63 of 6 bits each. Before them a
+// vector of its section 10.
+#[test]
+fn letters_of_base64(rt: HostRuntime) -> Result<(), Fail> {
+    let numbers = [
+        0x00, 0x10, 0x83, 0x10, 0x51, 0x87, 0x20, 0x92, 0x8b, 0x30, 0xd3, 0x8f, 0x41, 0x14, 0x93,
+        0x51, 0x55, 0x97, 0x61, 0x96, 0x9b, 0x71, 0xd7, 0x9f, 0x82, 0x18, 0xa3, 0x92, 0x59, 0xa7,
+        0xa2, 0x9a, 0xab, 0xb2, 0xdb, 0xaf, 0xc3, 0x1c, 0xb3, 0xd3, 0x5d, 0xb7, 0xe3, 0x9e, 0xbb,
+        0xf3, 0xdf, 0xbf,
+    ];
+    let rows: [(&str, &[u8]); 4] = [
+        ("", b""),
+        ("aGk=", b"hi"),
+        ("Zm9vYg==", b"foob"),
+        (
+            "ABCDEFGHIJKLMNOPQRSTUVWXYZabcdefghijklmnopqrstuvwxyz0123456789+/",
+            &numbers,
+        ),
+    ];
+    for (text, want) in rows {
+        let found = bytes(rt.alloc(), text)?.ok_or("no bytes")?;
+        assert_eq!(rt; found.as_slice(), want, "at {text}");
+    }
+    Ok(())
+}
