@@ -9,7 +9,7 @@ try:
 
 # The rows of FILE=name of crates/iam_rows/data/, or of all its files, unproved.
 rows:
-	@cd crates/iam_rows && rt try $(foreach it,$(notdir $(wildcard crates/iam_rows/data/*.json)),--data $(it)=data/$(it)) -- $(FILE:%=%.json)
+	@cd crates/iam_rows && rt try --seconds 900 $(foreach it,$(notdir $(wildcard crates/iam_rows/data/*.json)),--data $(it)=data/$(it)) -- $(FILE:%=%.json)
 
 # The proof of the crate CRATE=name, and of what it needs.
 check:

@@ -106,8 +106,8 @@ IsReportOf t.Matrix options world text = CanWork options world × IsMatrixReport
 IsReportOf t.First options world text = CanWork options world × IsFirstReport world text
 
 -- the report that the options ask for, of this world
-abbrev pub IsReport : Options → WorldValue → List ℕ → Type 0
-IsReport options world text = IsReportOf options.task options world text
+abbrev pub IsAskedReport : Options → WorldValue → List ℕ → Type 0
+IsAskedReport options world text = IsReportOf options.task options world text
 
 -- the options ask for a cell that the world does not have
 abbrev pub LacksCell : Options → WorldValue → Type 0
@@ -127,7 +127,7 @@ pub record LacksCut (options : Options) (world : WorldValue) (fault : CutFault) 
 
 -- the same, of the world of these bytes
 abbrev pub IsOutput : Options → List ℕ → List ℕ → Type 0
-IsOutput options bytes text = (world : WorldValue) × IsWorld bytes world × IsReport options world text
+IsOutput options bytes text = (world : WorldValue) × IsWorld bytes world × IsAskedReport options world text
 
 abbrev pub HasNoCell : Options → List ℕ → Type 0
 HasNoCell options bytes = (world : WorldValue) × IsWorld bytes world × LacksCell options world

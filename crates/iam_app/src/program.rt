@@ -2,7 +2,7 @@
 ghost use Rattle.std.specs.Prelude.{◌≡◌, ◌≢◌, ◌↔◌, IsTrue, IfOk, IfErr, OnOk, string_bytes};
 ghost use Rattle.iam_app.specs.Code.Pieces.{report_text};
 ghost use Rattle.iam_app.specs.Code.Refusal.{IsWorldRefusal};
-ghost use Rattle.iam_app.specs.Output.{EndsBy, HasTriple, IsAnswer, IsOutput, IsRefusal, IsReport, WritesOutput, check_text, counts_text, fault_of_input};
+ghost use Rattle.iam_app.specs.Output.{EndsBy, HasTriple, IsAnswer, IsOutput, IsRefusal, IsAskedReport, WritesOutput, check_text, counts_text, fault_of_input};
 ghost use Rattle.iam_app.specs.Streams.{ConsumesAtMost};
 ghost use Rattle.iam_app.specs.declared.fault.RunFault.TheVariants as f;
 ghost use Rattle.iam_world.specs.Reads.{IsWorld};
@@ -79,7 +79,7 @@ fn report<T: Threads + Sync>(
     options: &Options,
     world: &World,
 ) -> Result<Report, RunFault>
-    ensures ok { IfOk result (λ report. IsReport options.now world.now (report_text report)) }
+    ensures ok { IfOk result (λ report. IsAskedReport options.now world.now (report_text report)) }
     ensures fault { IfErr result (λ fault. IsWorldRefusal options.now world.now fault) }
 {
     match options.task {

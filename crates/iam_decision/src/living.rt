@@ -61,7 +61,7 @@ fn is_same(one: &Living<'_>, other: &Living<'_>) -> bool
     one.matched == other.matched && one.action.equals(other.action)
 }
 
-/// Whether both lists have the same statements in the same order.
+/// `true` only where both lists have the same statements in the same order.
 pub fn are_same(ones: &[Living<'_>], others: &[Living<'_>]) -> bool
     ensures { IsTrue result → map living_value ones.now ≡ map living_value others.now }
 {

@@ -45,7 +45,7 @@ impl Ruling {
         })
     }
 
-    /// Whether it follows from just this.
+    /// `true` only where it follows from just this; `false` says nothing.
     pub fn is_on(&self, frame: Frame, found: &[Matched]) -> bool
         ensures { IsTrue result → IsRuling frame found.now self.now }
     {

@@ -61,7 +61,7 @@ impl<'a> Shared<'a> {
         print
     }
 
-    /// Whether both are the same, so that they share whatever either does.
+    /// `true` only where both are the same, so that they share whatever either does; `false` says nothing.
     pub fn equals(&self, other: &Shared<'_>) -> bool
         ensures { IsTrue result → self.now ≡ other.now }
     {

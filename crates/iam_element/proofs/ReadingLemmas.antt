@@ -9,7 +9,7 @@ use Rattle.serde_json.specs.Find.{get}
 use Rattle.iam_text.specs.declared.version.Version.{Version}
 use Rattle.iam_text.specs.Draft.{IsDraftIn}
 use Rattle.iam_element.specs.Element.{texts_of}
-use Rattle.iam_element.specs.Reading.{ResourceElement, ReadsResource, ReadsText, resource_name}
+use Rattle.iam_element.specs.Reading.{ResourceElement, ReadsResourceElement, ReadsText, resource_name}
 use Rattle.iam_element.proofs.ElementLemmas.{filter_map-next}
 
 zip_push : {A B : Type 0} (R : A → B → Type 0) (xs : List A) (ys : List B) (x : A) (y : B) → AllZip R xs ys → R x y → AllZip R (xs ++ (x ∷ [])) (ys ++ (y ∷ []))
@@ -46,7 +46,7 @@ flat_map_next {K} {N} f ks i d whole done next here below all more is =
 
 -- the resource element that stands in a statement
 pub resource_read : (version : Version) (s : Data) (r : ResourceElement) (negated : Bool) (value : Data) → get (resource_name negated) s ≡ Some value → r.negated ≡ negated
-    → AllZip (IsDraftIn version true) (texts_of (Some value)) r.texts → ReadsResource version s (Some r)
+    → AllZip (IsDraftIn version true) (texts_of (Some value)) r.texts → ReadsResourceElement version s (Some r)
 resource_read version s r negated value stands same texts =
     let P : Bool → Type 0 = λ n. IsSome (get (resource_name n) s) × AllZip (ReadsText version) (texts_of (get (resource_name n) s)) r.texts in
     let Q : Option Data → Type 0 = λ o. AllZip (ReadsText version) (texts_of o) r.texts in

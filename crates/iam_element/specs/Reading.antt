@@ -59,9 +59,9 @@ abbrev pub ReadsText : Version → List ℕ → List Piece → Type 0
 ReadsText version text pieces = IsDraftIn version true text pieces
 
 -- neither element stands there, or the one does and each of its texts is read
-abbrev pub ReadsResource : Version → Data → Option ResourceElement → Type 0
-ReadsResource version s None = (get (resource_name false) s ≡ None) × (get (resource_name true) s ≡ None)
-ReadsResource version s (Some r) =
+abbrev pub ReadsResourceElement : Version → Data → Option ResourceElement → Type 0
+ReadsResourceElement version s None = (get (resource_name false) s ≡ None) × (get (resource_name true) s ≡ None)
+ReadsResourceElement version s (Some r) =
     IsSome (get (resource_name r.negated) s)
     × AllZip (ReadsText version) (texts_of (get (resource_name r.negated) s)) r.texts
 

@@ -50,7 +50,7 @@ impl Actions {
         self.patterns.as_slice()
     }
 
-    /// Whether both elements are the same.
+    /// `true` only where both elements are the same; `false` says nothing.
     pub fn equals(&self, other: &Actions) -> bool
         ensures { IsTrue result → self.now ≡ other.now }
     {

@@ -7,7 +7,7 @@ ghost use Rattle.iam_text.specs.Draft.{IsDraftIn};
 ghost use Rattle.iam_text.specs.Variables.{is_draft_in};
 ghost use Rattle.iam_element.specs.Element.{is_text};
 ghost use Rattle.iam_element.specs.Grammar.{is_bad_variable};
-ghost use Rattle.iam_element.specs.Reading.{ReadsResource};
+ghost use Rattle.iam_element.specs.Reading.{ReadsResourceElement};
 ghost use Rattle.iam_element.specs.Resource.{has_bad_variable};
 
 use crate::OutOfMemory;
@@ -78,7 +78,7 @@ pub fn read_resource(
     version: Version,
 ) -> Result<Option<Resources>, OutOfMemory>
     requires { has_bad_variable version (view statement.now) ≡ false }
-    ensures { IfOk result (λ r. ReadsResource version (view statement.now) r) }
+    ensures { IfOk result (λ r. ReadsResourceElement version (view statement.now) r) }
 {
     match either(statement, "Resource", "NotResource") {
         Some(element) => Ok(Some(Resources::read(alloc, element, version)?)),

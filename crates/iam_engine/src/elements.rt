@@ -182,7 +182,7 @@ fn print_of(action: &Actions) -> u64 {
     let mut print: u64 = if action.is_negated() { 1 } else { 0 };
     for pattern in action.patterns() {
         for sign in pattern.signs() {
-            print = (print ^ number_of(*sign))
+            print = (print ^ sign_number(*sign))
                 .wrapping_mul(0x9e37_79b9_7f4a_7c15)
                 .rotate_left(23);
         }
@@ -190,7 +190,7 @@ fn print_of(action: &Actions) -> u64 {
     print
 }
 
-fn number_of(sign: Sign) -> u64 {
+fn sign_number(sign: Sign) -> u64 {
     match sign {
         Sign::Given(character) => character as u64,
         Sign::One => 1 << 32,

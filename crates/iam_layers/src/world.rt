@@ -186,8 +186,8 @@ impl World {
         )
     }
 
-    /// Whether the keys that follow from a principal, a resource and the moment are the same for these two resources, whoever
-    /// asks: where both are of one account. Each has to be below the number of resources.
+    /// `true` only where the keys that follow from a principal, a resource and the moment are the same for these two resources,
+    /// whoever asks: where both are of one account. Each has to be below the number of resources.
     pub fn has_same_derived(&self, r: u64, other: u64) -> bool
         requires resource { r < length self.now.resources }
         requires other { other < length self.now.resources }
@@ -298,7 +298,8 @@ impl World {
     }
 
     /// The verdict on principal p's request for action a on resource r, each below the number of its kind, by a scan of
-    /// all statements that apply. `OutOfMemory` comes where the found statements or the answer find no memory.
+    /// all statements that apply. `OutOfMemory` comes where the derived keys, the context, a resolved pattern, the
+    /// found statements or the answer find no memory.
     ///
     /// AWS IAM User Guide, "Policy evaluation logic"; the deciding statements and the lacks are our choices.
     pub fn decide_plain(

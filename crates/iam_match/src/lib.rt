@@ -14,7 +14,6 @@ mod resource;
 mod statement;
 
 pub use entry::holds;
-pub use iam_context::Context;
 pub use iam_text::OutOfMemory;
 pub use laws::one_requester;
 pub use principal::{Grant, grant_kind};

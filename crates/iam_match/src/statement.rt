@@ -34,8 +34,7 @@ pub fn statement_matches<'c>(
     }
 }
 
-/// Whether the statement matches requests for this access, whose action its action element matches. What needs no memory
-/// is tested first.
+/// Whether the statement matches requests for this access, whose action its action element matches.
 pub fn rest_matches<'c>(
     alloc: Global,
     statement: &'c Statement,

@@ -16,7 +16,7 @@ use Rattle.iam_policy.specs.declared.fault.Kind.TheVariants.{Identity, Resource,
 use Rattle.iam_element.specs.Element.{both, stands_as, texts_of}
 use Rattle.iam_element.specs.Principal.{is_everyone}
 use Rattle.iam_policy.specs.Fault.{IsAccepted, IsLeastFault, IsNotAfter, place_rank, statements_in}
-use Rattle.iam_element.specs.Reading.{ActionElement, ResourceElement, PrincipalElement, PrincipalText, action_name, resource_name, principal_name, pattern_of, names_of, ReadsAction, ReadsText, ReadsResource, ReadsPrincipalElement}
+use Rattle.iam_element.specs.Reading.{ActionElement, ResourceElement, PrincipalElement, PrincipalText, action_name, resource_name, principal_name, pattern_of, names_of, ReadsAction, ReadsText, ReadsResourceElement, ReadsPrincipalElement}
 use Rattle.iam_policy.specs.Reading.{StatementValue, PolicyValue, ReadsConditions, ReadsStatement, Reads}
 use Rattle.iam_policy.specs.Table.{number_of}
 use Rattle.iam_policy.proofs.FaultLaws.{accepted_line}
@@ -79,7 +79,7 @@ abbrev OneDraft : Type 0
 OneDraft = (version : Version) (wild : Bool) (text : List ℕ) (pieces other : List Piece) → IsDraftIn version wild text pieces → IsDraftIn version wild text other → pieces ≡ other
 
 resource_is_one : OneDraft → (version : Version) (s : Data) (a b : Option ResourceElement) → both (get (codes "Resource") s) (get (codes "NotResource") s) ≡ false
-    → ReadsResource version s a → ReadsResource version s b → a ≡ b
+    → ReadsResourceElement version s a → ReadsResourceElement version s b → a ≡ b
 resource_is_one one version s None None single p q = refl
 resource_is_one one version s None (Some b) single p q = absurd (none_stands resource_name s b.negated p.0 p.1 q.0)
 resource_is_one one version s (Some a) None single p q = absurd (none_stands resource_name s a.negated q.0 q.1 p.0)

@@ -97,7 +97,7 @@ has_bad_principal s =
 abbrev pub allows_by_not_principal : Data → Bool
 allows_by_not_principal s = is_some (get (codes "NotPrincipal") s) && is_this (codes "Allow") (get (codes "Effect") s)
 
--- `Principal` stands there and is `*`, and `NotPrincipal` does not
+-- `Principal` stands there and is everyone, `*` alone or under `AWS`, and `NotPrincipal` does not
 abbrev pub names_everyone : Data → Bool
 names_everyone s = stands_as is_everyone (get (codes "Principal") s) && is_none (get (codes "NotPrincipal") s)
 

@@ -7,7 +7,7 @@ use Rattle.serde_json.specs.Find.{get}
 use Rattle.iam_text.specs.declared.version.Version.{Version}
 use Rattle.iam_condition.specs.Condition.{ReadsCondition}
 use Rattle.iam_condition.specs.Entry.{EntryValue}
-use Rattle.iam_element.specs.Reading.{ActionElement, ResourceElement, PrincipalElement, ReadsAction, ReadsResource, ReadsPrincipalElement}
+use Rattle.iam_element.specs.Reading.{ActionElement, ResourceElement, PrincipalElement, ReadsAction, ReadsResourceElement, ReadsPrincipalElement}
 use Rattle.iam_policy.specs.declared.effect.Effect.{Effect}
 use Rattle.iam_policy.specs.declared.fault.Kind.{Kind}
 use Rattle.iam_policy.specs.Fault.{IsAccepted, statements_in}
@@ -38,7 +38,7 @@ pub record ReadsStatement (version : Version) (s : Data) (r : StatementValue) : 
   pub sid : r.sid ≡ sid_of s
   pub effect : effect_of s ≡ Some r.effect
   pub action : ReadsAction s r.action
-  pub resource : ReadsResource version s r.resource
+  pub resource : ReadsResourceElement version s r.resource
   pub principal : ReadsPrincipalElement s r.principal
   pub conditions : ReadsConditions version (get (codes "Condition") s) r.conditions
 

@@ -127,7 +127,7 @@ pub enum PrincipalRule {
     Nobody,
     /// It has one of them.
     Somebody,
-    /// It has `Principal`, which is `*`.
+    /// It has `Principal`, which is everyone: `*`, alone or under `AWS`.
     Everyone,
 }
 

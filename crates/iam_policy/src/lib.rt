@@ -19,5 +19,5 @@ pub use iam_element::{Actions, PrincipalKind, PrincipalName, Principals, Resourc
 pub use laws::{one_least_fault, one_policy};
 pub use policy::Policy;
 pub use statement::Statement;
-/// The texts of `Resource` and `NotResource`, the versions, and the allocator's refusal of a growth.
-pub use iam_text::{OutOfMemory, Template, TemplateForm, Version};
+/// The versions, and the allocator's refusal of a growth.
+pub use iam_text::{OutOfMemory, Version};

@@ -111,7 +111,7 @@ pub fn allows_by_not_principal(statement: &Value) -> bool
     statement.get("NotPrincipal").is_some() && is_this(statement, "Effect", "Allow")
 }
 
-/// Whether `Principal` is `*`, and `NotPrincipal` does not stand there.
+/// Whether `Principal` is everyone, `*` alone or under `AWS`, and `NotPrincipal` does not stand there.
 pub fn names_everyone(statement: &Value) -> bool
     ensures { result ≡ names_everyone (view statement.now) }
 {

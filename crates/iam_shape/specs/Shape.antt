@@ -41,8 +41,8 @@ is_object d = is_some (as_object d)
 abbrev pub is_absent_or : (Data → Bool) → Name → Data → Bool
 is_absent_or test name d = option_map_or test (member name d) true
 
-abbrev pub is_text : Data → Bool
-is_text d = is_some (as_str d)
+abbrev pub is_string : Data → Bool
+is_string d = is_some (as_str d)
 
 abbrev pub is_list : Data → Bool
 is_list d = is_some (values d)
@@ -133,8 +133,8 @@ is_session principal = is_some (member Role principal) && is_none (member User p
 -- who asks: the ARN of a user, or that of a role and the name of a session
 abbrev pub given_checks : ℕ → Data → List Check
 given_checks i principal =
-    if is_user principal then (Field Principals i User, is_absent_or is_text User principal) ∷ []
-    else ((Field Principals i Role, is_absent_or is_text Role principal)
+    if is_user principal then (Field Principals i User, is_absent_or is_string User principal) ∷ []
+    else ((Field Principals i Role, is_absent_or is_string Role principal)
     ∷ ((Field Principals i Session, is_some (text_at Session principal))
     ∷ []))
 
@@ -157,7 +157,7 @@ principal_checks i principal =
 -- ---- actions and resources
 
 abbrev pub action_checks : ℕ → Data → List Check
-action_checks i action = (Item Actions i, is_text action) ∷ []
+action_checks i action = (Item Actions i, is_string action) ∷ []
 
 abbrev pub resource_checks : ℕ → Data → List Check
 resource_checks i resource =

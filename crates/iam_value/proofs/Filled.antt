@@ -5,12 +5,12 @@ use Rattle.std.proofs.Math.Nat.{pow-succ', pow-le-pow_right}
 use Rattle.std.proofs.lemmas.Nat.{mul-add-lt, pow-add}
 use Rattle.std.proofs.lemmas.List.{length-append, length-replicate}
 use Rattle.std.proofs.lemmas.List.Sums.{fold-append}
-use Rattle.iam_value.specs.Address.{IsOneOrPair, IsJoined, number_after, number_of}
+use Rattle.iam_value.specs.Address.{IsOneOrPair, IsJoined, number_after, groups_number}
 use Rattle.iam_value.specs.Groups.{IsRest, IsFilled}
 use Rattle.iam_value.proofs.Groups.{group_below, dotted_below}
 
 -- what comes before groups stands above them
-pub number_split : (n : ℕ) (groups : List ℕ) → number_after n groups ≡ n * 65_536 ^ length groups + number_of groups
+pub number_split : (n : ℕ) (groups : List ℕ) → number_after n groups ≡ n * 65_536 ^ length groups + groups_number groups
 number_split n [] = omega arith
 number_split n (g ∷ gs) =
     let front = number_split (n * 65_536 + g) gs in
@@ -19,16 +19,16 @@ number_split n (g ∷ gs) =
     let spread : n * 65_536 ^ suc (length gs) ≡ n * 65_536 * 65_536 ^ length gs = ap (λ x. n * x) power ∙ omega arith in
     omega (arith, front, back, spread)
 
-zeros_number : (count : ℕ) → number_of (replicate count 0) ≡ 0
+zeros_number : (count : ℕ) → groups_number (replicate count 0) ≡ 0
 zeros_number zero = refl
 zeros_number (suc count) = zeros_number count
 
 -- groups of zeros, and groups
-pub filled_number : (n zeros : ℕ) (back : List ℕ) → number_after n (replicate zeros 0 ++ back) ≡ n * 65_536 ^ (zeros + length back) + number_of back
+pub filled_number : (n zeros : ℕ) (back : List ℕ) → number_after n (replicate zeros 0 ++ back) ≡ n * 65_536 ^ (zeros + length back) + groups_number back
 filled_number n zeros back =
     let split = number_split n (replicate zeros 0 ++ back) in
     let long : length (replicate zeros 0 ++ back) ≡ zeros + length back = omega (arith, length-append (replicate zeros 0) back, length-replicate {A = ℕ} zeros 0) in
-    let low : number_of (replicate zeros 0 ++ back) ≡ number_of back = fold-append (λ m g. m * 65_536 + g) 0 (replicate zeros 0) back ∙ ap (λ m. number_after m back) (zeros_number zeros) in
+    let low : groups_number (replicate zeros 0 ++ back) ≡ groups_number back = fold-append (λ m g. m * 65_536 + g) 0 (replicate zeros 0) back ∙ ap (λ m. number_after m back) (zeros_number zeros) in
     rw (long, low) at split
 
 -- each group is of 16 bits
@@ -98,7 +98,7 @@ filled_groups count value front total text r few is rest sum = record {
       omega (arith, whole, is, sum, rest.4);
 }
 
-pub groups_filled : (count value total : ℕ) (text : List ℕ) → text ≢ [] → (is : IsFilled count value text total) → IsRest (count + 1) 0 text (count + 1 + length is.back, number_of is.back)
+pub groups_filled : (count value total : ℕ) (text : List ℕ) → text ≢ [] → (is : IsFilled count value text total) → IsRest (count + 1) 0 text (count + 1 + length is.back, groups_number is.back)
 groups_filled count value total text some is = elim is.back_is [
   | inl w ↦ absurd (some w.0)
   | inr w ↦ (is.back, w, refl, omega (arith, is.some, is.eight), refl)

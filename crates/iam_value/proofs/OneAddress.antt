@@ -3,7 +3,7 @@ use Rattle.std.proofs.Common.{◌≡◌, ◌⊎◌, ℕ, ◌<◌, ◌+◌, ◌*�
 use Rattle.std.specs.Fmt.{decimal}
 use Rattle.std.proofs.lemmas.Fmt.{decimal_injective}
 use Rattle.iam_value.specs.Pieces.{Lacks, IsCut}
-use Rattle.iam_value.specs.Address.{AddressBits, Block, IsOctet, IsDotted, IsGroup, IsOne, IsOneOrPair, IsJoined, IsSide, IsFull, IsCompressed, IsAddress, IsHost, IsRange, number_of}
+use Rattle.iam_value.specs.Address.{AddressBits, Block, IsOctet, IsDotted, IsGroup, IsOne, IsOneOrPair, IsJoined, IsSide, IsFull, IsCompressed, IsAddress, IsHost, IsRange, groups_number}
 use Rattle.iam_value.proofs.Cuts.{same_cut, not_lacking}
 use Rattle.iam_value.proofs.Octets.{dotted_parts, octet_lacks}
 use Rattle.iam_value.proofs.Colons.{colon_is, group_lacks, end_lacks, same_group, one_not_pair}
@@ -221,7 +221,7 @@ same_compressed text m n a b =
 same_grouped : (text : List ℕ) (m n : ℕ) → IsFull text m ⊎ IsCompressed text m → IsFull text n ⊎ IsCompressed text n → m ≡ n
 same_grouped text m n a b = elim a [
   | inl v ↦ elim b [
-    | inl w ↦ v.3 ∙ ap number_of (same_groups text v.0 w.0 v.1 w.1) ∙ sym w.3
+    | inl w ↦ v.3 ∙ ap groups_number (same_groups text v.0 w.0 v.1 w.1) ∙ sym w.3
     | inr w ↦ absurd (full_not_compressed text m n v w)
   ]
   | inr v ↦ elim b [

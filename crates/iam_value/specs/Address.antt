@@ -65,14 +65,14 @@ abbrev pub number_after : ℕ → List ℕ → ℕ
 number_after n groups = fold (λ m g. m * 65_536 + g) n groups
 
 -- the number that the groups make, of 128 bits where they are eight
-abbrev pub number_of : List ℕ → ℕ
-number_of groups = number_after 0 groups
+abbrev pub groups_number : List ℕ → ℕ
+groups_number groups = number_after 0 groups
 
 -- all eight groups
 abbrev pub IsFull : List ℕ → ℕ → Type 0
 IsFull text number =
     (groups : List ℕ) × IsJoined IsOneOrPair text groups × (length groups ≡ 8)
-    × (number ≡ number_of groups)
+    × (number ≡ groups_number groups)
 
 -- groups, `::` for one or more groups of zeros, and groups
 pub record IsCompressed (text : List ℕ) (number : ℕ) : Type 0 where
@@ -86,7 +86,7 @@ pub record IsCompressed (text : List ℕ) (number : ℕ) : Type 0 where
   pub back_is : IsSide IsOneOrPair after back
   pub some : 1 ≤ zeros
   pub eight : length front + zeros + length back ≡ 8
-  pub value : number ≡ number_of (front ++ (replicate zeros 0 ++ back))
+  pub value : number ≡ groups_number (front ++ (replicate zeros 0 ++ back))
 
 -- an IPv4 address in 32 bits, or an IPv6 address in 128
 abbrev pub IsAddress : List ℕ → AddressBits → Type 0

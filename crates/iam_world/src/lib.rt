@@ -15,7 +15,6 @@ mod parts;
 mod world;
 
 pub use fault::WorldFault;
-pub use iam_shape::{Name, Path};
 pub use laws::{no_world_and_fault, one_first_fault, one_world};
 pub use parts::{Account, Principal, Resource};
 pub use world::WorldParts;

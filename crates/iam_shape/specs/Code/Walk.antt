@@ -7,7 +7,7 @@ use Rattle.iam_shape.specs.declared.path.Path.{Path}
 use Rattle.iam_shape.specs.declared.path.Path.TheVariants.{Item, Field}
 use Rattle.iam_shape.specs.declared.fault.ShapeFault.{ShapeFault}
 use Rattle.iam_shape.specs.declared.fault.ShapeFault.TheVariants.{At, OutOfMemory}
-use Rattle.iam_shape.specs.Shape.{Check, first_bad, has_only, is_absent_or, is_bool, is_context, is_list, is_new_id, is_object, is_text, text_at}
+use Rattle.iam_shape.specs.Shape.{Check, first_bad, has_only, is_absent_or, is_bool, is_context, is_list, is_new_id, is_object, is_string, text_at}
 
 -- no check fails, and P holds of what was found; or this is the path of the first that fails
 abbrev pub Walks : {A : Type 0} → List Check → (A → Type 0) → Result A Path → Type 0
@@ -21,7 +21,7 @@ IsShapeFault checks OutOfMemory = ⊥
 -- what is left to check of a principal that has a member `user` alone
 abbrev pub user_checks : ℕ → Data → List Check
 user_checks i user =
-    (Field Principals i User, is_absent_or is_text User user)
+    (Field Principals i User, is_absent_or is_string User user)
     ∷ ((Field Principals i Identity, is_absent_or is_list Identity user)
     ∷ ((Field Principals i Context, is_absent_or is_context Context user)
     ∷ ((Item Principals i, has_only (User ∷ (Identity ∷ (Boundary ∷ (Context ∷ [])))) user)
@@ -30,7 +30,7 @@ user_checks i user =
 -- what is left to check of a principal that has a member `role` alone
 abbrev pub session_checks : ℕ → Data → List Check
 session_checks i session =
-    (Field Principals i Role, is_absent_or is_text Role session)
+    (Field Principals i Role, is_absent_or is_string Role session)
     ∷ ((Field Principals i Session, is_some (text_at Session session))
     ∷ ((Field Principals i Identity, is_absent_or is_list Identity session)
     ∷ ((Field Principals i SessionPolicies, is_absent_or is_list SessionPolicies session)

@@ -1,7 +1,7 @@
 use Rattle.std.proofs.Common.{◌≡◌, ◌≢◌, ◌+◌, [], length, arith}
 use Rattle.std.proofs.lemmas.List.{nil_from_length}
 use Rattle.std.proofs.lemmas.Bool.Decides.{nat_tests}
-use Rattle.iam_value.specs.Address.{number_of}
+use Rattle.iam_value.specs.Address.{groups_number}
 use Rattle.iam_value.proofs.Filled.{filled_empty, filled_groups, groups_filled, filled_fits, back_below}
 use Rattle.iam_value.proofs.addresses.filled.Goals as goal
 
@@ -13,7 +13,7 @@ returns-then-is_empty c =
 pub returns-in_err-back : goal.returns-in_err-back
 returns-in_err-back c =
     let some : c.args.bytes.now ≢ [] = λ e. let test = rw e at c.if-is_empty.ensures in cc in
-    rw c.from_residual.ensures (λ n is. c.in_err-back.ensures (c.args.count + 1 + length is.back, number_of is.back) (groups_filled c.args.count c.args.value n c.args.bytes.now some is))
+    rw c.from_residual.ensures (λ n is. c.in_err-back.ensures (c.args.count + 1 + length is.back, groups_number is.back) (groups_filled c.args.count c.args.value n c.args.bytes.now some is))
 
 pub overflow_add-result : goal.overflow_add-result
 overflow_add-result c =
