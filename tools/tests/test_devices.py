@@ -1,5 +1,7 @@
 """Streams that fail and command lines, on the program as it is built: statuses, and the stream that a text goes to."""
 
+import itertools
+import json
 import os
 import subprocess
 
@@ -111,6 +113,21 @@ def test_the_longest_input():
         same(answer(words.split(), SMALLEST.ljust(8_388_608)), (0, text.encode(), b""), words)
         same(answer(words.split(), SMALLEST.ljust(8_388_609)), too_large, words)
         same(shell(words, "< /dev/zero"), too_large, words)
+
+
+def test_a_report_of_a_million_rows():
+    """No contract says that a device on which nothing fails is never told to have failed: here a long report is whole."""
+    actions, resources = [f"s3:A{i}" for i in range(1024)], [f"arn:aws:s3:::b{i}" for i in range(1100)]
+    account = "111122223333"
+    world = json.dumps({
+        "moment": 0, "accounts": [{"id": account}], "principals": [{"user": ANN}], "actions": actions,
+        "resources": [{"arn": it, "account": account} for it in resources],
+    }).encode()
+    pairs = enumerate(itertools.product(actions, resources))
+    text = BRIEF_HEADER + "".join(f"{cell},{ANN},{action},{resource},implicitDeny\n" for cell, (action, resource) in pairs)
+    for workers in ("1", "4"):
+        found = answer(["matrix", "--brief", "--workers", workers], world)
+        assert found == (0, text.encode(), b""), f"{workers} workers: status {found[0]}, {len(found[1])} bytes, {found[2]}"
 
 
 def test_a_small_stack():
