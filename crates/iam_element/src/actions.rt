@@ -100,7 +100,7 @@ fn are_same(ones: &[Glob], others: &[Glob]) -> bool
         return false;
     }
     for i in 0..ones.len() {
-        if ones[i].signs() != others[i].signs() {
+        if !ones[i].is_same(&others[i]) {
             return false;
         }
     }

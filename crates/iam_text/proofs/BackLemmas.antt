@@ -1,6 +1,7 @@
 -- The last sign of a pattern stands for the last character of the text, or the pattern does not match.
 use Rattle.std.proofs.Common.{◌≡◌, ◌≢◌, ◌↔◌, ◌⊎◌, inl, inr, ℕ, List, [], ◌∷◌, ◌++◌, refl, sym, ap, ◌∙◌, subst}
-use Rattle.std.proofs.Common.{append-nil}
+use Rattle.std.proofs.Common.{append-nil, arith, get_or, length, take, ◌+◌, ◌-◌, ◌<◌, ◌≤◌}
+use Rattle.std.proofs.lemmas.List.{take_more}
 use Rattle.std.proofs.lemmas.Str.{encodes-append, encodes-chars, encodes_same}
 use Rattle.std.specs.Prelude.{encode_utf8}
 use Rattle.std.specs.Str.{chars, IsUtf8, encode_utf8_all}
@@ -75,6 +76,14 @@ walks_shorter f (One ∷ signs) sign (e ∷ text) d one w = walks_shorter f sign
 walks_shorter f (Any ∷ signs) sign text d one w =
     later_shorter (Walks f (signs ++ (sign ∷ []))) (Walks f signs) (Covers f sign d) d (last_none f signs sign one)
     (λ t h. walks_shorter f signs sign t d one h) text w
+
+-- the signs up to a place end with the sign before it
+pub take_last : (signs : List Sign) (len : ℕ) (sign d : Sign) → 0 < len → len ≤ length signs → sign ≡ get_or signs (len - 1) d
+    → take len signs ≡ take (len - 1) signs ++ (sign ∷ [])
+take_last signs len sign d some within is =
+    let S : ℕ → Type 0 = λ n. take n signs ≡ take (len - 1) signs ++ (sign ∷ []) in
+    let next : len - 1 + 1 ≡ len = omega arith in
+    subst S next (rw is (take_more signs (len - 1) d (omega arith)))
 
 -- the last sign and the last character are walked, and what is left decides
 pub back_step : (f : ℕ → ℕ) (P : Type 0) (signs before : List Sign) (sign : Sign) (text rest : List ℕ) → sign ≢ Any

@@ -5,6 +5,7 @@ pub mod DraftLemmas
 pub mod FormLemmas
 pub mod GivenLemmas
 pub mod KeptLemmas
+pub mod SignLemmas
 pub mod VariableLemmas
 pub mod VersionLemmas
 pub mod WalkLemmas

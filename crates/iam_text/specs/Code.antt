@@ -1,5 +1,6 @@
 pub mod Cut
 pub mod Forms
+pub mod Globs
 pub mod Kept
 pub mod Templates
 pub mod Walk

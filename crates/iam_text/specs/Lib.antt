@@ -5,6 +5,7 @@ pub mod Code
 pub mod Draft
 pub mod Glob
 pub mod Parts
+pub mod Signs
 pub mod Stretches
 pub mod Template
 pub mod Variables

@@ -1,9 +1,11 @@
 // Patterns against ASCII text, byte by byte.
 ghost use Rattle.std.specs.Prelude.{◌≡◌, ◌↔◌, ◌≤◌, ◌<◌, IsTrue, length, slice_index};
+ghost use Rattle.iam_text.specs.Signs.{signs_in};
 ghost use Rattle.iam_text.specs.Code.Walk.{Begins, Covers, char_in, Walks, found_at, IsFront, Settles, Later, signs_left};
 
 use crate::case::{Case, covers};
 use crate::sign::Sign;
+use crate::signs::Signs;
 
 /// How far the front of a pattern was walked along a text of ASCII characters.
 #[derive(Clone, Copy)]
@@ -11,7 +13,7 @@ pub enum Place<'a> {
     /// The signs and the text ended together.
     Whole,
     /// The signs before the first `Any` fit: the signs behind it, and the text that is left.
-    Star(&'a [Sign], &'a [u8]),
+    Star(Signs<'a>, &'a [u8]),
     /// They do not fit.
     Off,
 }
@@ -33,12 +35,12 @@ pub fn covers_at(sign: Sign, text: &[u8], i: usize, case: Case) -> bool
 }
 
 /// How many signs stand before the first `Any`.
-fn front_len(signs: &[Sign]) -> usize
-    ensures within { result ≤ length signs.now }
-    ensures begins { Begins signs.now result }
+fn front_len(signs: Signs<'_>) -> usize
+    ensures within { result ≤ length (signs_in signs.entry) }
+    ensures begins { Begins (signs_in signs.entry) result }
 {
-    for (i, sign) in signs.iter().enumerate() {
-        if let Sign::Any = *sign {
+    for i in 0..signs.len() {
+        if let Sign::Any = signs.at(i) {
             return i;
         }
     }
@@ -47,14 +49,15 @@ fn front_len(signs: &[Sign]) -> usize
 
 /// Walks the signs before the first `Any`, each of which stands for one character.
 #[inline(always)]
-fn walk_front<'a>(signs: &'a [Sign], text: &'a [u8], case: Case) -> Place<'a>
-    ensures { IsFront (char_in case) signs.entry.now text.entry.now (found_at result) }
+fn walk_front<'a>(signs: Signs<'a>, text: &'a [u8], case: Case) -> Place<'a>
+    ensures { IsFront (char_in case) (signs_in signs.entry) text.entry.now (found_at result) }
 {
-    for (i, sign) in signs.iter().enumerate() {
-        if let Sign::Any = *sign {
-            return Place::Star(&signs[i + 1..], &text[i..]);
+    for i in 0..signs.len() {
+        let sign = signs.at(i);
+        if let Sign::Any = sign {
+            return Place::Star(signs.from(i + 1), &text[i..]);
         }
-        if !covers_at(*sign, text, i, case) {
+        if !covers_at(sign, text, i, case) {
             return Place::Off;
         }
     }
@@ -67,12 +70,12 @@ fn walk_front<'a>(signs: &'a [Sign], text: &'a [u8], case: Case) -> Place<'a>
 
 /// Walks the signs before the first `Any`, of which there are so many: the last of them first, which often does not fit.
 #[inline(always)]
-fn try_front<'a>(signs: &'a [Sign], len: usize, text: &'a [u8], case: Case) -> Place<'a>
-    requires within { len ≤ length signs.now }
-    requires begins { Begins signs.now len }
-    ensures { IsFront (char_in case) signs.entry.now text.entry.now (found_at result) }
+fn try_front<'a>(signs: Signs<'a>, len: usize, text: &'a [u8], case: Case) -> Place<'a>
+    requires within { len ≤ length (signs_in signs) }
+    requires begins { Begins (signs_in signs) len }
+    ensures { IsFront (char_in case) (signs_in signs.entry) text.entry.now (found_at result) }
 {
-    if len > 0 && !covers_at(signs[len - 1], text, len - 1, case) {
+    if len > 0 && !covers_at(signs.at(len - 1), text, len - 1, case) {
         Place::Off
     } else {
         walk_front(signs, text, case)
@@ -81,9 +84,9 @@ fn try_front<'a>(signs: &'a [Sign], len: usize, text: &'a [u8], case: Case) -> P
 
 /// The first place in the text from which the front of the signs can be walked.
 #[inline(always)]
-fn first_place<'a>(signs: &'a [Sign], text: &'a [u8], case: Case) -> Place<'a>
-    ensures settles { Settles (char_in case) (Later (Walks (char_in case) signs.entry.now) text.entry.now) (found_at result) }
-    ensures fewer { signs_left (found_at result) ≤ length signs.entry.now }
+fn first_place<'a>(signs: Signs<'a>, text: &'a [u8], case: Case) -> Place<'a>
+    ensures settles { Settles (char_in case) (Later (Walks (char_in case) (signs_in signs.entry)) text.entry.now) (found_at result) }
+    ensures fewer { signs_left (found_at result) ≤ length (signs_in signs.entry) }
 {
     let len = front_len(signs);
     let mut text = text;
@@ -103,8 +106,8 @@ fn first_place<'a>(signs: &'a [Sign], text: &'a [u8], case: Case) -> Place<'a>
 ///
 /// Each `Any` gives up its text for good once the signs up to the next `Any` fit somewhere, so at each
 /// position a character is compared at most once with each sign (the count is not proved).
-pub fn match_end(signs: &[Sign], text: &[u8], case: Case) -> bool
-    ensures { IsTrue result ↔ Later (Walks (char_in case) signs.now) text.now }
+pub fn match_end(signs: Signs<'_>, text: &[u8], case: Case) -> bool
+    ensures { IsTrue result ↔ Later (Walks (char_in case) (signs_in signs.entry)) text.now }
 {
     let mut place = Place::Star(signs, text);
     while let Place::Star(signs, text) = place {

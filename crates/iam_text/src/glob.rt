@@ -1,29 +1,43 @@
 // A pattern, and whether it matches a text.
-ghost use Rattle.std.specs.Prelude.{◌≡◌, ◌↔◌, List, IsTrue, IfOk, map};
+ghost use Rattle.std.specs.Prelude.{◌≡◌, ◌↔◌, IsTrue, IfOk, map};
 ghost use Rattle.std.specs.Str.{chars};
-ghost use Rattle.iam_text.specs.declared.sign.Sign.{Sign};
 ghost use Rattle.iam_text.specs.Draft.{sign_of};
 ghost use Rattle.iam_text.specs.Glob.{wild_sign, plain_sign, Equals, EqualsFold, Matches, MatchesFold};
+ghost use Rattle.iam_text.specs.Signs.{signs_in};
 
 use crate::OutOfMemory;
 use crate::case::Case;
-use crate::sign::{Sign, add_signs};
+use crate::sign::{Sign, add_characters};
+use crate::signs::Signs;
 use crate::walk::{equals, matches};
 use std::alloc::Global;
 use std::marker::Model;
 
 /// A pattern over texts: a list of signs.
 ///
-/// A character is one Unicode scalar value.
+/// A character is one Unicode scalar value. The pattern of an ASCII text, as most are, is kept in a byte a character.
 #[derive(Debug, Drop)]
 pub struct Glob {
-    signs: Vec<Sign>,
+    kind: Kind,
+}
+
+#[derive(Debug, Drop)]
+enum Kind {
+    /// The signs of an ASCII text in which `*` and `?` are wildcards.
+    Wild(Vec<u8>),
+    /// The signs of an ASCII text whose characters are all given.
+    Plain(Vec<u8>),
+    Listed(Vec<Sign>),
 }
 
 impl Model for Glob {
+    ghost use Rattle.std.specs.Prelude.{List};
+    ghost use Rattle.iam_text.specs.declared.sign.Sign.{Sign};
+    ghost use Rattle.iam_text.specs.Code.Globs.{kept_signs};
+
     ghost Value = { List Sign };
 
-    ghost view = { λ g. g.signs.items };
+    ghost view = { λ g. kept_signs g.kind };
 }
 
 impl Glob {
@@ -31,16 +45,24 @@ impl Glob {
     pub fn read(alloc: Global, text: &str) -> Result<Glob, OutOfMemory>
         ensures { IfOk result (λ g. g ≡ map wild_sign (chars text.now)) }
     {
-        let signs = read_signs(alloc, text, true)?;
-        Ok(Glob { signs })
+        let kind = if text.is_ascii() {
+            Kind::Wild(Vec::from_slice(alloc, text.as_bytes())?)
+        } else {
+            Kind::Listed(read_signs(alloc, text, true)?)
+        };
+        Ok(Glob { kind })
     }
 
     /// The pattern of a text whose characters are all given, `*` and `?` too.
     pub fn plain(alloc: Global, text: &str) -> Result<Glob, OutOfMemory>
         ensures { IfOk result (λ g. g ≡ map plain_sign (chars text.now)) }
     {
-        let signs = read_signs(alloc, text, false)?;
-        Ok(Glob { signs })
+        let kind = if text.is_ascii() {
+            Kind::Plain(Vec::from_slice(alloc, text.as_bytes())?)
+        } else {
+            Kind::Listed(read_signs(alloc, text, false)?)
+        };
+        Ok(Glob { kind })
     }
 
     /// The pattern of these signs.
@@ -48,49 +70,82 @@ impl Glob {
         ensures { IfOk result (λ g. g ≡ signs.now) }
     {
         let signs = Vec::from_slice(alloc, signs)?;
-        Ok(Glob { signs })
+        Ok(Glob {
+            kind: Kind::Listed(signs),
+        })
     }
 
     /// The pattern of these signs, uncopied.
     pub fn from_vec(signs: Vec<Sign>) -> Glob
         ensures { result ≡ signs.items }
     {
-        Glob { signs }
+        Glob {
+            kind: Kind::Listed(signs),
+        }
     }
 
     /// The signs, in order.
-    pub fn signs(&self) -> &[Sign]
-        ensures { result.now ≡ self.now }
+    #[inline(always)]
+    pub fn signs(&self) -> Signs<'_>
+        ensures { signs_in result ≡ self.now }
     {
-        self.signs.as_slice()
+        match &self.kind {
+            Kind::Wild(text) => Signs::wild(text.as_slice()),
+            Kind::Plain(text) => Signs::plain(text.as_slice()),
+            Kind::Listed(signs) => Signs::listed(signs.as_slice()),
+        }
     }
 
     /// Whether the whole text matches, with regard to case.
     pub fn matches(&self, text: &str) -> bool
         ensures { IsTrue result ↔ Matches self.now (chars text.now) }
     {
-        matches(self.signs.as_slice(), text, Case::Kept)
+        matches(self.signs(), text, Case::Kept)
     }
 
     /// Whether the whole text matches once the ASCII letters of both sides are folded.
     pub fn matches_fold(&self, text: &str) -> bool
         ensures { IsTrue result ↔ MatchesFold self.now (chars text.now) }
     {
-        matches(self.signs.as_slice(), text, Case::Folded)
+        matches(self.signs(), text, Case::Folded)
     }
 
     /// Whether the pattern is the text itself, without a wildcard, with regard to case.
     pub fn equals(&self, text: &str) -> bool
         ensures { IsTrue result ↔ Equals self.now (chars text.now) }
     {
-        equals(self.signs.as_slice(), text, Case::Kept)
+        equals(self.signs(), text, Case::Kept)
     }
 
     /// Whether the pattern is the text itself, without a wildcard, once the ASCII letters of both sides are folded.
     pub fn equals_fold(&self, text: &str) -> bool
         ensures { IsTrue result ↔ EqualsFold self.now (chars text.now) }
     {
-        equals(self.signs.as_slice(), text, Case::Folded)
+        equals(self.signs(), text, Case::Folded)
+    }
+
+    /// Whether both are read alike from the same text, or made of the same signs, and so the same pattern.
+    pub fn is_same(&self, other: &Glob) -> bool
+        ensures { IsTrue result → self.now ≡ other.now }
+    {
+        match (&self.kind, &other.kind) {
+            (Kind::Wild(one), Kind::Wild(other)) => one.as_slice() == other.as_slice(),
+            (Kind::Plain(one), Kind::Plain(other)) => one.as_slice() == other.as_slice(),
+            (Kind::Listed(one), Kind::Listed(other)) => one.as_slice() == other.as_slice(),
+            _ => false,
+        }
+    }
+
+    /// A number that tells most patterns apart, on top of that of others.
+    pub fn print(&self, print: u64) -> u64 {
+        let mut print = print;
+        let signs = self.signs();
+        for i in 0..signs.len() {
+            print = (print ^ sign_number(signs.at(i)))
+                .wrapping_mul(0x9e37_79b9_7f4a_7c15)
+                .rotate_left(23);
+        }
+        print
     }
 }
 
@@ -99,14 +154,15 @@ fn read_signs(alloc: Global, text: &str, wild: bool) -> Result<Vec<Sign>, OutOfM
     ensures { IfOk result (λ signs. signs.items ≡ map (sign_of wild) (chars text.now)) }
 {
     let mut signs = Vec::with_capacity(alloc, text.len())?;
-    add_signs(&mut signs, text, wild)?;
+    add_characters(&mut signs, text, wild)?;
     signs.shrink_to_fit();
     Ok(signs)
 }
 
-/// Whether the signs match the whole text, with regard to case.
-pub fn signs_match(signs: &[Sign], text: &str) -> bool
-    ensures { IsTrue result ↔ Matches signs.now (chars text.now) }
-{
-    matches(signs, text, Case::Kept)
+fn sign_number(sign: Sign) -> u64 {
+    match sign {
+        Sign::Given(character) => character as u64,
+        Sign::One => 1 << 32,
+        Sign::Any => 1 << 33,
+    }
 }

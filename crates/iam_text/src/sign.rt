@@ -20,6 +20,7 @@ impl Sign {
     ghost use Rattle.iam_text.specs.Glob.{wild_sign};
 
     /// The sign of a character where wildcards stand.
+    #[inline(always)]
     pub fn wild(character: char) -> Sign
         ensures { result ≡ wild_sign character }
     {
@@ -66,7 +67,8 @@ fn add_bytes(signs: &mut Vec<Sign>, text: &[u8], wild: bool) -> Result<(), OutOf
     Ok(())
 }
 
-fn add_characters(signs: &mut Vec<Sign>, text: &str, wild: bool) -> Result<(), OutOfMemory>
+/// Adds the signs of the characters of a text, read character by character.
+pub fn add_characters(signs: &mut Vec<Sign>, text: &str, wild: bool) -> Result<(), OutOfMemory>
     ensures { OnOk result (signs.new.items ≡ signs.old.items ++ map (sign_of wild) (chars text.now)) }
 {
     signs.reserve(text.len())?;

@@ -2,6 +2,7 @@
 use Rattle.std.specs.Prelude.{◌≡◌, ◌↔◌, ℕ, zero, suc, List, [], ◌∷◌, ◌++◌, ⊤, ◌⊎◌, length, All}
 use Rattle.std.specs.Str.{chars}
 use Rattle.iam_text.specs.Glob.{folded}
+use Rattle.iam_text.specs.Signs.{signs_in}
 use Rattle.iam_text.specs.declared.sign.Sign.{Sign}
 use Rattle.iam_text.specs.declared.sign.Sign.TheVariants.{Given, One, Any}
 use Rattle.iam_text.specs.declared.case.Case.{Case}
@@ -72,12 +73,12 @@ pub data Found : Type 0 where
 -- what was found along a text, and along one of ASCII characters
 abbrev pub found_in : Front → Found
 found_in front.Whole = whole
-found_in (front.Star signs text) = star signs.now (chars text.now)
+found_in (front.Star signs text) = star (signs_in signs) (chars text.now)
 found_in front.Off = off
 
 abbrev pub found_at : Place → Found
 found_at place.Whole = whole
-found_at (place.Star signs text) = star signs.now text.now
+found_at (place.Star signs text) = star (signs_in signs) text.now
 found_at place.Off = off
 
 -- what a walk of the front tells of signs and a text

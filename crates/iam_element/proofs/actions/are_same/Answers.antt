@@ -1,6 +1,6 @@
 use Rattle.std.proofs.Common.{arith, below_more, sym, ◌∙◌}
 use Rattle.std.proofs.lemmas.Option.{get_or_from_slice_get, slice_get_within}
-use Rattle.iam_element.proofs.SameLemmas.{SameAt, same-lists, same-signs}
+use Rattle.iam_element.proofs.SameLemmas.{SameAt, same-lists}
 use Rattle.iam_element.proofs.actions.are_same.Goals as goal
 
 pub loop-i-preserved : goal.loop-i-preserved
@@ -10,9 +10,8 @@ loop-i-preserved c =
     let i = c.loop-i.i in
     below_more (SameAt ones others) i c.loop-i.invariant
     (λ x y at there.
-    sym (get_or_from_slice_get ones i x c.index-ones-i.result at) ∙ sym c.index-ones-i.is ∙ sym c.signs.ensures
-    ∙ same-signs c.signs.result.now c.signs-in-loop-i.result.now c.if-ne.ensures
-    ∙ c.signs-in-loop-i.ensures ∙ c.index-others-i.is ∙ get_or_from_slice_get others i y c.index-others-i.result there)
+    sym (get_or_from_slice_get ones i x c.index-ones-i.result at) ∙ sym c.index-ones-i.is ∙ c.is_same.ensures c.if-not-is_same.false
+    ∙ c.index-others-i.is ∙ get_or_from_slice_get others i y c.index-others-i.result there)
 
 pub returns : goal.returns
 returns c = λ _.

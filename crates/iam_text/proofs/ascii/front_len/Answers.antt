@@ -1,6 +1,9 @@
-use Rattle.std.proofs.Common.{add-one}
+use Rattle.std.proofs.Common.{◌<◌, add-one, arith, length}
+use Rattle.iam_text.specs.Signs.{signs_in}
 use Rattle.iam_text.proofs.AsciiLemmas.{begins_more}
 use Rattle.iam_text.proofs.ascii.front_len.Goals as goal
 
 pub loop-i-preserved : goal.loop-i-preserved
-loop-i-preserved c = rw add-one (begins_more _ _ _ c.loop-i-test.true c.in_default.not-Any c.loop-i.invariant)
+loop-i-preserved c =
+    let below : c.loop-i.i < length (signs_in c.args.signs) = omega (arith, c.loop-i-test.true, c.len-i-end.ensures) in
+    rw add-one (begins_more _ _ _ below (rw c.at.ensures at c.in_default.not-Any) c.loop-i.invariant)

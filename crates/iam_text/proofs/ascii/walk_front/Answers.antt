@@ -1,6 +1,9 @@
-use Rattle.std.proofs.Common.{arith}
+use Rattle.std.proofs.Common.{arith, length, ◌≤◌}
+use Rattle.iam_text.specs.Signs.{signs_in}
 use Rattle.iam_text.proofs.AsciiLemmas.{along_rest}
 use Rattle.iam_text.proofs.ascii.walk_front.Goals as goal
 
-pub returns-else-signs-text : goal.returns-else-signs-text
-returns-else-signs-text c = along_rest _ _ _ _ c.loop-i-test.false (omega arith) c.loop-i.invariant.1
+pub returns-else-len-text : goal.returns-else-len-text
+returns-else-len-text c =
+    let all : length (signs_in c.args.signs) ≤ c.loop-i.i = omega arith in
+    along_rest _ _ _ _ all (omega arith) c.loop-i.invariant.1

@@ -1,9 +1,10 @@
 use Rattle.std.proofs.Common.{◌≤◌, drop, length}
 use Rattle.std.specs.Str.{chars, IsUtf8}
 use Rattle.iam_text.specs.Code.Walk.{char_in}
+use Rattle.iam_text.specs.Signs.{signs_in}
 use Rattle.iam_text.proofs.WalkLemmas.{Along}
 use Rattle.iam_text.proofs.walk.walk_ascii.Given as goal
 
 abbrev pub invariant-loop-i : goal.invariant-loop-i
 invariant-loop-i l =
-    (l.i ≤ length l.text) × IsUtf8 (drop l.i l.text) × Along (char_in l.case) l.signs (chars l.text) (drop l.i l.signs) (chars (drop l.i l.text))
+    (l.i ≤ length l.text) × IsUtf8 (drop l.i l.text) × Along (char_in l.case) (signs_in l.signs) (chars l.text) (drop l.i (signs_in l.signs)) (chars (drop l.i l.text))

@@ -1,4 +1,4 @@
-use Rattle.std.proofs.Common.{◌↔◌, List, IsTrue, subst, ◌∙◌, map, ℕ}
+use Rattle.std.proofs.Common.{◌↔◌, List, IsTrue, subst, map, ℕ}
 use Rattle.std.specs.Str.{chars}
 use Rattle.iam_text.specs.declared.sign.Sign.{Sign}
 use Rattle.iam_text.specs.Glob.{Equals, sign_by}
@@ -11,4 +11,4 @@ returns c =
     let P : List Sign → Type 0 = λ s. IsTrue c.equals.result ↔ Equals (map (sign_by (λ d. d)) s) (map (λ d. d) text) in
     let Q : List Sign → Type 0 = λ s. IsTrue c.equals.result ↔ Equals s (map (λ d. d) text) in
     let R : List ℕ → Type 0 = λ t. IsTrue c.equals.result ↔ Equals c.args.self.now t in
-    subst R (map_same text) (subst Q (signs_same c.args.self.now) (subst P (c.as_slice.ensures.value ∙ c.self.view_is) c.equals.ensures))
+    subst R (map_same text) (subst Q (signs_same c.args.self.now) (subst P (c.signs.ensures) c.equals.ensures))

@@ -1,4 +1,4 @@
-use Rattle.std.proofs.Common.{◌↔◌, List, IsTrue, subst, ◌∙◌, map}
+use Rattle.std.proofs.Common.{◌↔◌, List, IsTrue, subst, map}
 use Rattle.std.specs.Str.{chars}
 use Rattle.iam_text.specs.declared.sign.Sign.{Sign}
 use Rattle.iam_text.specs.Glob.{Equals, folded, sign_by}
@@ -8,4 +8,4 @@ pub returns : goal.returns
 returns c =
     let text = map folded (chars c.args.text.now) in
     let P : List Sign → Type 0 = λ s. IsTrue c.equals.result ↔ Equals (map (sign_by folded) s) text in
-    subst P (c.as_slice.ensures.value ∙ c.self.view_is) c.equals.ensures
+    subst P (c.signs.ensures) c.equals.ensures

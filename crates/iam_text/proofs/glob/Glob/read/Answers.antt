@@ -1,0 +1,15 @@
+use Rattle.std.proofs.Common.{◌∙◌, ap, map, sym}
+use Rattle.std.proofs.lemmas.Str.{chars-IsAscii}
+use Rattle.iam_text.specs.Code.Globs.{kept_signs}
+use Rattle.iam_text.specs.Glob.{wild_sign}
+use Rattle.iam_text.proofs.glob.Glob.read.Goals as goal
+use Rattle.iam_text.proofs.glob.Glob.read.Goals.{then-is_ascii+in_ok-from_slice, else-is_ascii+in_ok-read_signs}
+
+pub returns : goal.returns
+returns c = elim c.if-is_ascii.branch [
+  | then-is_ascii+in_ok-from_slice w ↦
+      ap kept_signs w.kind-is
+      ∙ ap (λ t. map wild_sign t)
+      ((w.in_ok-from_slice.ensures).items ∙ w.as_bytes.ensures.value ∙ sym (chars-IsAscii c.args.text.now w.if-is_ascii.ensures.cases))
+  | else-is_ascii+in_ok-read_signs w ↦ ap kept_signs w.kind-is ∙ w.in_ok-read_signs.ensures
+]

@@ -1,0 +1,121 @@
+// The signs of a pattern, as they are lent.
+ghost use Rattle.std.specs.Prelude.{◌≡◌, ◌<◌, ◌≤◌, ◌↔◌, ◌==◌, IsTrue, drop, length, map, slice_index_or, take};
+ghost use Rattle.std.specs.Str.{chars};
+ghost use Rattle.iam_text.specs.Glob.{Matches, plain_sign, wild_sign};
+ghost use Rattle.iam_text.specs.Signs.{signs_in};
+ghost use Rattle.iam_text.specs.declared.sign.Sign.TheVariants as sign;
+
+use crate::case::Case;
+use crate::sign::Sign;
+use crate::walk::matches;
+
+/// The signs of a pattern, or some of them in a row, lent.
+#[derive(Clone, Copy)]
+pub struct Signs<'a> {
+    kind: Lent<'a>,
+}
+
+#[derive(Clone, Copy)]
+enum Lent<'a> {
+    /// Those of an ASCII text in which `*` and `?` are wildcards.
+    Wild(&'a [u8]),
+    /// Those of an ASCII text whose characters are all given.
+    Plain(&'a [u8]),
+    Listed(&'a [Sign]),
+}
+
+impl<'a> Signs<'a> {
+    /// The signs of an ASCII text in which `*` and `?` are wildcards.
+    #[inline(always)]
+    pub(crate) fn wild(text: &'a [u8]) -> Signs<'a>
+        ensures { signs_in result ≡ map wild_sign text.entry.now }
+    {
+        Signs {
+            kind: Lent::Wild(text),
+        }
+    }
+
+    /// The signs of an ASCII text whose characters are all given.
+    #[inline(always)]
+    pub(crate) fn plain(text: &'a [u8]) -> Signs<'a>
+        ensures { signs_in result ≡ map plain_sign text.entry.now }
+    {
+        Signs {
+            kind: Lent::Plain(text),
+        }
+    }
+
+    /// These signs.
+    #[inline(always)]
+    pub(crate) fn listed(signs: &'a [Sign]) -> Signs<'a>
+        ensures { signs_in result ≡ signs.entry.now }
+    {
+        Signs {
+            kind: Lent::Listed(signs),
+        }
+    }
+
+    #[inline(always)]
+    pub fn len(self) -> usize
+        ensures { result ≡ length (signs_in self.entry) }
+    {
+        match self.kind {
+            Lent::Wild(text) => text.len(),
+            Lent::Plain(text) => text.len(),
+            Lent::Listed(signs) => signs.len(),
+        }
+    }
+
+    #[inline(always)]
+    pub fn is_empty(self) -> bool
+        ensures { result ≡ (length (signs_in self.entry) == 0) }
+    {
+        self.len() == 0
+    }
+
+    /// The sign at this place.
+    #[inline(always)]
+    pub fn at(self, i: usize) -> Sign
+        requires within { i < length (signs_in self) }
+        ensures { result ≡ slice_index_or (signs_in self.entry) i sign.Any }
+    {
+        match self.kind {
+            Lent::Wild(text) => Sign::wild(char::from(text[i])),
+            Lent::Plain(text) => Sign::Given(char::from(text[i])),
+            Lent::Listed(signs) => signs[i],
+        }
+    }
+
+    /// The signs from this place on.
+    #[inline(always)]
+    pub fn from(self, i: usize) -> Signs<'a>
+        requires within { i ≤ length (signs_in self) }
+        ensures { signs_in result ≡ drop i (signs_in self.entry) }
+    {
+        match self.kind {
+            Lent::Wild(text) => Signs::wild(&text[i..]),
+            Lent::Plain(text) => Signs::plain(&text[i..]),
+            Lent::Listed(signs) => Signs::listed(&signs[i..]),
+        }
+    }
+
+    /// The signs before this place.
+    #[inline(always)]
+    pub fn until(self, i: usize) -> Signs<'a>
+        requires within { i ≤ length (signs_in self) }
+        ensures { signs_in result ≡ take i (signs_in self.entry) }
+    {
+        match self.kind {
+            Lent::Wild(text) => Signs::wild(&text[..i]),
+            Lent::Plain(text) => Signs::plain(&text[..i]),
+            Lent::Listed(signs) => Signs::listed(&signs[..i]),
+        }
+    }
+
+    /// Whether the signs match the whole text, with regard to case.
+    pub fn matches(self, text: &str) -> bool
+        ensures { IsTrue result ↔ Matches (signs_in self.entry) (chars text.now) }
+    {
+        matches(self, text, Case::Kept)
+    }
+}
