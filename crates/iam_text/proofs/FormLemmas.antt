@@ -1,7 +1,8 @@
 -- What a text begins with is determined.
 use Rattle.std.proofs.Common.{◌≡◌, ◌≢◌, ℕ, ◌<◌, ◌≤◌, zero, suc, List, [], ◌∷◌, ◌++◌, Bool, true, false, ◌&&◌, ◌||◌, ◌==◌, not, length, drop, replicate, Option, Some, None, refl, sym, ap, ◌∙◌, subst, arith, IsTrue, eqb-true, eq-eqb, get_or, inl, inr, ◌⊎◌, MatchOption, nat_lt, codes, take, ◌+◌}
 use Rattle.std.proofs.lemmas.Bool.{and_parts, cases_lt}
-use Rattle.std.proofs.lemmas.List.{append-nil, append_cancel_left, drop_at}
+use Rattle.std.proofs.Math.ListN.{get_or-append}
+use Rattle.std.proofs.lemmas.List.{append-nil, append_cancel_left, drop_at, get_or_at}
 use Rattle.std.proofs.lemmas.Str.{cons_from_encodes}
 use Rattle.std.proofs.lemmas.Str.Pattern.{split_text_parts}
 use Rattle.std.specs.Str.{encode_utf8_all}
@@ -172,6 +173,16 @@ default-cut (Variable key (Some default)) text rest (behind, is, joined, quoted)
 pub match-weaker : {X : Type 0} (r : Option X) (P P' : Type 0) (Q Q' : X → Type 0) → (P → P') → ((x : X) → Q x → Q' x) → MatchOption r P Q → MatchOption r P' Q'
 match-weaker None P P' Q Q' none some m = none m
 match-weaker (Some x) P P' Q Q' none some m = some x m
+
+-- none begins in what holds no `$`
+pub none-before : (front rest : List ℕ) → ((i : ℕ) → i < length front → get_or front i 0 ≢ 36) → NoneBegins front rest
+none-before front rest off before behind e = go (cases_lt (length before) (length front))
+  where
+    go : (length before < length front) ⊎ (length front ≤ length before) → length front ≤ length before
+    go (inr later) = later
+    go (inl earlier) =
+        absurd (off (length before) earlier
+        (sym (get_or-append front rest 0 (length before) earlier) ∙ ap (λ t. get_or t (length before) 0) e ∙ get_or_at before 36 (123 ∷ behind) 0 (length before) refl))
 
 -- the first `${` of a text
 pub first-form : (text : List ℕ) (r : Option (Bor (List ℕ) × Bor (List ℕ)))

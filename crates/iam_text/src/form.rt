@@ -1,10 +1,11 @@
 // Variables as they stand in a text: `${key}`, and with a default.
-ghost use Rattle.std.specs.Prelude.{◌≡◌, ◌≢◌, ℕ, List, [], ◌∷◌, ◌++◌, replicate, MatchOption};
+ghost use Rattle.std.specs.Prelude.{◌≡◌, ◌≢◌, ℕ, List, [], ◌∷◌, ◌++◌, true, replicate, MatchOption};
 ghost use Rattle.std.specs.List.{list_all};
 ghost use Rattle.iam_text.specs.declared.draft.Piece.{Piece};
 ghost use Rattle.iam_text.specs.Draft.{is_key, is_key_character};
 ghost use Rattle.iam_text.specs.Code.Forms.{HasClosed, HasDefault, HasForm, IsClosed, IsCutAtForm, IsQuoted, NoneBegins};
 ghost use Rattle.iam_text.specs.Stretches.{piece_of};
+ghost use Rattle.iam_text.specs.Variables.{is_draft, is_draft_from, opened};
 
 /// What a `${` begins in a text of version 2012-10-17.
 ///
@@ -18,10 +19,17 @@ pub enum Form<'a> {
 }
 
 /// What stands before the first `${` of the text, and what behind it.
+///
+/// The first `$` mostly begins one; where it does not, they are sought together.
 pub fn cut_form(text: &str) -> Option<(&str, &str)>
-    ensures { MatchOption result (NoneBegins text.entry.now []) (λ p. IsCutAtForm text.entry.now p.0.now p.1.now) }
+    ensures cut { MatchOption result (NoneBegins text.entry.now []) (λ p. IsCutAtForm text.entry.now p.0.now p.1.now) }
+    ensures grammar { MatchOption result (is_draft text.entry.now ≡ true) (λ p. is_draft text.entry.now ≡ is_draft_from opened p.1.now) }
 {
-    text.split_once("${")
+    let (front, behind) = text.split_once('$')?;
+    match behind.strip_prefix('{') {
+        Some(inside) => Some((front, inside)),
+        None => text.split_once("${"),
+    }
 }
 
 /// The form whose `${` stands before the text, and what is left behind its `}`.
