@@ -10,7 +10,8 @@ use Rattle.iam_text.specs.declared.draft.Piece.{Piece}
 use Rattle.iam_text.specs.declared.draft.Piece.TheVariants.{Plain, Escaped, Variable}
 use Rattle.iam_text.specs.declared.sign.Sign.{Sign}
 use Rattle.iam_text.specs.Draft.{BeginsWith, IsApart, IsDraft, IsWritten, is_key, is_key_character, plain_draft, sign_of}
-use Rattle.iam_text.specs.Code.Forms.{HasClosed, HasDefault, HasForm, IsClosed, IsCutAtForm, IsQuoted, NoneBegins}
+use Rattle.iam_text.specs.Code.Forms.{HasClosed, HasDefault, HasForm, IsClosed, IsQuoted}
+use Rattle.iam_text.specs.Stretches.{IsCutAtForm, NoneBegins}
 use Rattle.iam_text.proofs.FormLemmas.{all-absent, closed-avoids, default-cut, key-all, literal-no_key, one_character, run-unique, spaces-unique}
 
 -- each piece is written with one character at least

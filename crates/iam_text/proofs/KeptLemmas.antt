@@ -9,7 +9,8 @@ use Rattle.iam_text.specs.contracts.draft.Piece.{the_row}
 use Rattle.iam_text.specs.declared.draft.Piece.{Piece}
 use Rattle.iam_text.specs.declared.version.Version.{Version}
 use Rattle.iam_text.specs.declared.version.Version.TheVariants.{V2012, V2008}
-use Rattle.iam_text.specs.Code.Forms.{HasForm, IsCutAtForm, NoneBegins}
+use Rattle.iam_text.specs.Code.Forms.{HasForm}
+use Rattle.iam_text.specs.Stretches.{IsCutAtForm, NoneBegins}
 use Rattle.iam_text.specs.Code.Kept.{OneDraft, OneDraft-prop}
 use Rattle.iam_text.specs.Draft.{IsDraft, IsDraftIn, plain_draft, sign_of}
 use Rattle.iam_text.proofs.DraftLemmas.{Along, along-cut, along-form, along-off, none-read, plain-drafted}

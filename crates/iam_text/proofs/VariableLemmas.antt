@@ -12,7 +12,8 @@ use Rattle.iam_text.specs.declared.draft.Piece.{Piece}
 use Rattle.iam_text.specs.declared.draft.Piece.TheVariants.{Plain, Escaped, Variable}
 use Rattle.iam_text.specs.Draft.{BeginsWith, IsDraft, is_key, is_key_character, sign_of}
 use Rattle.iam_text.specs.declared.sign.Sign.{Sign}
-use Rattle.iam_text.specs.Code.Forms.{HasForm, IsCutAtForm, IsQuoted, NoneBegins}
+use Rattle.iam_text.specs.Code.Forms.{HasForm, IsQuoted}
+use Rattle.iam_text.specs.Stretches.{IsCutAtForm, NoneBegins}
 use Rattle.iam_text.specs.Variables.{State, outside, dollar, opened, escaped, key, spaces, default, closing, is_draft, is_draft_from, is_end, step}
 use Rattle.iam_text.proofs.DraftLemmas.{begins-from_form, begins-shorter, form-from_begins, none-behind, none-here, piece-cases}
 use Rattle.iam_text.proofs.FormLemmas.{all-absent, default-cut, key-all, literal-no_key, match-weaker}
