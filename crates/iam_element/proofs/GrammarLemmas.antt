@@ -1,12 +1,14 @@
 -- What stands before the first `${` of a text.
-use Rattle.std.proofs.Common.{◌≡◌, ℕ, ◌<◌, ◌≤◌, zero, suc, List, [], ◌∷◌, ◌++◌, Bool, true, false, ◌==◌, ◌&&◌, not, IsTrue, Some, None, refl, ap, ◌∙◌, arith, codes, eqb-true, cond, option_map, length, take, drop}
-use Rattle.std.specs.List.{list_any}
-use Rattle.std.specs.Str.Pattern.{LacksTextAt}
+use Rattle.std.proofs.Common.{◌≡◌, ℕ, List, [], ◌∷◌, ◌++◌, Bool, true, false, ◌==◌, ◌&&◌, ◌||◌, ◌≢◌, not, nat_lt, IsTrue, Some, None, refl, ap, ◌∙◌, arith, codes, eqb-true, cond, option_map}
+use Rattle.std.specs.Option.{option_map_or}
+use Rattle.std.proofs.lemmas.List.{append-nil}
 use Rattle.iam_element.specs.Grammar.{before_variable, has_early_variable, is_bad_variable}
 use Rattle.iam_text.specs.declared.version.Version.{Version}
 use Rattle.iam_text.specs.declared.version.Version.TheVariants.{V2012, V2008}
-use Rattle.iam_text.specs.Variables.{is_draft, is_draft_in}
-use Rattle.iam_element.proofs.ElementLemmas.{first_false, second_false}
+use Rattle.iam_text.specs.Variables.{is_draft, is_draft_from, is_draft_in, opened}
+use Rattle.iam_text.specs.Arn.{colons}
+use Rattle.iam_text.specs.Code.Forms.{IsCutAtForm, NoneBegins}
+use Rattle.iam_element.proofs.ElementLemmas.{first_false}
 
 -- a text whose first two characters are the sign, or are not
 sign-here : (c d : ℕ) (text : List ℕ) → (c == 36 && d == 123) ≡ true → c ∷ (d ∷ text) ≡ codes "${" ++ text
@@ -17,14 +19,8 @@ sign-here c d text is = go (c == 36) (d == 123) refl refl is
     go true false e f h = cc
     go false y e f h = cc
 
-sign-test : (c d : ℕ) (text rest : List ℕ) → c ∷ (d ∷ text) ≡ codes "${" ++ rest → (c == 36 && d == 123) ≡ true
-sign-test c d text rest e =
-    let dollar : c ≡ 36 = cc in
-    let brace : d ≡ 123 = cc in
-    ap (λ x. x == 36 && d == 123) dollar ∙ ap (λ x. 36 == 36 && x == 123) brace
-
 -- where `${` does not stand at the front, the first one is that of the rest
-before-next : (c d : ℕ) (text : List ℕ) → LacksTextAt (codes "${") (c ∷ (d ∷ text)) 0
+before-next : (c d : ℕ) (text : List ℕ) → ((inside : List ℕ) → c ∷ (d ∷ text) ≢ codes "${" ++ inside)
     → before_variable (c ∷ (d ∷ text)) ≡ option_map (λ front. c ∷ front) (before_variable (d ∷ text))
 before-next c d text off = go (c == 36 && d == 123) refl
   where
@@ -32,33 +28,37 @@ before-next c d text off = go (c == 36 && d == 123) refl
     go true e = absurd (off text (sign-here c d text e))
     go false e = ap (λ b. cond b (Some []) (option_map (λ front. c ∷ front) (before_variable (d ∷ text)))) e
 
-pub before-some : (text rest : List ℕ) (i : ℕ) → drop i text ≡ codes "${" ++ rest → ((k : ℕ) → k < i → LacksTextAt (codes "${") text k)
-    → before_variable text ≡ Some (take i text)
-before-some [] rest zero at off = let no : ⊥ = cc in absurd no
-before-some [] rest (suc i) at off = let no : ⊥ = cc in absurd no
-before-some (c ∷ []) rest zero at off = let no : ⊥ = cc in absurd no
-before-some (c ∷ []) rest (suc zero) at off = let no : ⊥ = cc in absurd no
-before-some (c ∷ []) rest (suc (suc i)) at off = let no : ⊥ = cc in absurd no
-before-some (c ∷ d ∷ text) rest zero at off = ap (λ b. cond b (Some []) (option_map (λ front. c ∷ front) (before_variable (d ∷ text)))) (sign-test c d text rest at)
-before-some (c ∷ d ∷ text) rest (suc i) at off =
-    before-next c d text (off 0 (omega arith))
-    ∙ ap (option_map (λ front. c ∷ front)) (before-some (d ∷ text) rest i at (λ k below. off (suc k) (omega arith)))
+none-here : (c : ℕ) (front rest : List ℕ) → NoneBegins (c ∷ front) rest → (inside : List ℕ) → (c ∷ front) ++ rest ≢ codes "${" ++ inside
+none-here c front rest none inside e = omega (arith, none [] inside e)
 
-pub before-none : (text : List ℕ) → ((i : ℕ) → i ≤ length text → LacksTextAt (codes "${") text i) → before_variable text ≡ None
-before-none [] off = refl
-before-none (c ∷ []) off = refl
-before-none (c ∷ d ∷ text) off =
-    before-next c d text (off 0 (omega arith)) ∙ ap (option_map (λ front. c ∷ front)) (before-none (d ∷ text) (λ i below. off (suc i) (omega arith)))
+none-behind : (c : ℕ) (front rest : List ℕ) → NoneBegins (c ∷ front) rest → NoneBegins front rest
+none-behind c front rest none before inside e = omega (arith, none (c ∷ before) inside (ap (λ t. c ∷ t) e))
 
--- and none stands in a text without `$`
-pub no-dollar : (text : List ℕ) → list_any (λ c. c == 36) text ≡ false → before_variable text ≡ None
-no-dollar [] off = refl
-no-dollar (c ∷ []) off = refl
-no-dollar (c ∷ d ∷ text) off =
-    let here = first_false (c == 36) (list_any (λ x. x == 36) (d ∷ text)) off in
-    let behind = second_false (c == 36) (list_any (λ x. x == 36) (d ∷ text)) off in
-    ap (λ b. cond (b && d == 123) (Some []) (option_map (λ front. c ∷ front) (before_variable (d ∷ text)))) here
-    ∙ ap (option_map (λ front. c ∷ front)) (no-dollar (d ∷ text) behind)
+before-some : (front inside : List ℕ) → NoneBegins front (codes "${" ++ inside) → before_variable (front ++ (codes "${" ++ inside)) ≡ Some front
+before-some [] inside none = refl
+before-some (c ∷ []) inside none = before-next c 36 (123 ∷ inside) (none-here c [] (codes "${" ++ inside) none)
+before-some (c ∷ d ∷ front) inside none =
+    before-next c d (front ++ (codes "${" ++ inside)) (none-here c (d ∷ front) (codes "${" ++ inside) none)
+    ∙ ap (option_map (λ front. c ∷ front)) (before-some (d ∷ front) inside (none-behind c (d ∷ front) (codes "${" ++ inside) none))
+
+before-none : (text : List ℕ) → NoneBegins text [] → before_variable text ≡ None
+before-none [] none = refl
+before-none (c ∷ []) none = refl
+before-none (c ∷ d ∷ text) none =
+    before-next c d text (λ inside e. none-here c (d ∷ text) [] none inside (append-nil (c ∷ (d ∷ text)) ∙ e))
+    ∙ ap (option_map (λ front. c ∷ front)) (before-none (d ∷ text) (none-behind c (d ∷ text) [] none))
+
+-- a text in which no variable begins
+pub none-bad : (text : List ℕ) → is_draft text ≡ true → NoneBegins text [] → (not (is_draft text) || has_early_variable text) ≡ false
+none-bad text drafted none =
+    ap (λ b. not b || has_early_variable text) drafted ∙ ap (λ o. option_map_or (λ front. nat_lt (colons front) 5) o false) (before-none text none)
+
+-- a text that is cut at its first variable
+pub cut-bad : (text front inside : List ℕ) → IsCutAtForm text front inside → is_draft text ≡ is_draft_from opened inside
+    → (not (is_draft text) || has_early_variable text) ≡ (not (is_draft_from opened inside) || nat_lt (colons front) 5)
+cut-bad text front inside (joined, none) same =
+    ap (λ b. not b || has_early_variable text) same
+    ∙ ap (λ o. not (is_draft_from opened inside) || option_map_or (λ f. nat_lt (colons f) 5) o false) (ap before_variable joined ∙ before-some front inside none)
 
 pub turned : (b : Bool) → not b ≡ false → b ≡ true
 turned true e = cc

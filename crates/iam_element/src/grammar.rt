@@ -1,12 +1,15 @@
 // The grammars of the texts of resource and principal elements.
-ghost use Rattle.std.specs.Prelude.{◌≡◌, nat_le, ◌&&◌, not};
+ghost use Rattle.std.specs.Prelude.{◌≡◌, nat_le, ◌&&◌, ◌||◌, not};
 ghost use Rattle.std.specs.List.{list_all, list_any};
 ghost use Rattle.std.specs.Char.{is_ascii_alphanumeric};
 ghost use Rattle.iam_text.specs.Arn.{colons};
 ghost use Rattle.iam_text.specs.Action.{is_wildcard};
+ghost use Rattle.iam_text.specs.Variables.{is_draft};
 ghost use Rattle.iam_element.specs.Grammar.{begins_as_arn, is_resource_pattern, has_early_variable, is_bad_variable, is_whole_arn, is_unique_id, is_aws_name};
 
-use iam_text::{Arn, Version, has_dollar, has_draft, is_account, is_action_pattern, is_wildcard};
+use iam_text::{
+    Arn, Version, cut_form, has_forms_behind, is_account, is_action_pattern, is_wildcard,
+};
 
 /// A form that a text of a statement may have.
 #[derive(Clone, Copy)]
@@ -56,19 +59,17 @@ fn is_bad_variable(text: &str, version: Version) -> bool
     ensures { result ≡ is_bad_variable version text.now }
 {
     match version {
-        Version::V2012 => !has_draft(text, version) || has_early_variable(text),
+        Version::V2012 => has_bad_variable(text),
         Version::V2008 => false,
     }
 }
 
-fn has_early_variable(text: &str) -> bool
-    ensures { result ≡ has_early_variable text.now }
+/// Whether some variable of the text is off the grammar, or stands before its fifth colon.
+fn has_bad_variable(text: &str) -> bool
+    ensures { result ≡ (not (is_draft text.now) || has_early_variable text.now) }
 {
-    if !has_dollar(text.as_bytes()) {
-        return false;
-    }
-    match text.split_once("${") {
-        Some((front, _)) => Arn::cut(front).is_none(),
+    match cut_form(text) {
+        Some((front, inside)) => !has_forms_behind(inside) || Arn::cut(front).is_none(),
         None => false,
     }
 }

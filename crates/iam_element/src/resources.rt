@@ -1,10 +1,9 @@
 // The resource element of a statement.
-ghost use Rattle.std.specs.Prelude.{◌≡◌, IfOk, IsTrue, false, true, map};
+ghost use Rattle.std.specs.Prelude.{◌≡◌, IfOk, false, true, map};
 ghost use Rattle.std.specs.List.{AllZip, filter_map, list_any};
 ghost use Rattle.serde_json.specs.Find.{as_str};
 ghost use Rattle.serde_json.specs.View.{view};
 ghost use Rattle.iam_text.specs.Draft.{IsDraftIn};
-ghost use Rattle.iam_text.specs.Variables.{is_draft_in};
 ghost use Rattle.iam_element.specs.Element.{is_text};
 ghost use Rattle.iam_element.specs.Grammar.{is_bad_variable};
 ghost use Rattle.iam_element.specs.Reading.{ReadsResourceElement};
@@ -13,7 +12,7 @@ ghost use Rattle.iam_element.specs.Resource.{has_bad_variable};
 use crate::OutOfMemory;
 use crate::element::{Element, either, has_text, values_in};
 use crate::grammar::Form;
-use iam_text::{Template, Version, drafts_are_tested};
+use iam_text::{Template, Version};
 use serde_json::Value;
 use std::alloc::Global;
 use std::marker::Model;
@@ -107,16 +106,8 @@ fn templates(
     let mut templates = Vec::new(alloc);
     for value in values {
         if let Some(text) = value.as_str() {
-            templates.push(template(alloc, text, version)?)?;
+            templates.push(Template::of(alloc, text, true, version)?)?;
         }
     }
     Ok(templates)
-}
-
-fn template(alloc: Global, text: &str, version: Version) -> Result<Template, OutOfMemory>
-    requires { IsTrue (is_draft_in version text.now) }
-    ensures { IfOk result (λ template. IsDraftIn version true text.now template) }
-{
-    drafts_are_tested();
-    Ok(Template::read(alloc, text, true, version)?.unwrap())
 }

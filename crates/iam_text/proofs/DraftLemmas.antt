@@ -10,7 +10,8 @@ use Rattle.iam_text.specs.declared.draft.Piece.{Piece}
 use Rattle.iam_text.specs.declared.draft.Piece.TheVariants.{Plain, Escaped, Variable}
 use Rattle.iam_text.specs.declared.sign.Sign.{Sign}
 use Rattle.iam_text.specs.Draft.{BeginsWith, IsApart, IsDraft, IsWritten, is_key, is_key_character, plain_draft, sign_of}
-use Rattle.iam_text.specs.Code.Forms.{HasClosed, HasDefault, HasForm, IsClosed, IsCutAtForm, IsQuoted, NoneBegins}
+use Rattle.iam_text.specs.Code.Forms.{HasClosed, HasDefault, HasForm, IsClosed, IsQuoted}
+use Rattle.iam_text.specs.Stretches.{IsCutAtForm, NoneBegins}
 use Rattle.iam_text.proofs.FormLemmas.{all-absent, closed-avoids, default-cut, key-all, literal-no_key, one_character, run-unique, spaces-unique}
 
 -- each piece is written with one character at least
@@ -219,6 +220,10 @@ pub record Along (wild : Bool) (text : List ℕ) (pieces : List Piece) (rest : L
   pub on : (tail : List Piece) → IsDraft wild rest tail → IsDraft wild text (pieces ++ tail)
   pub back : (all : List Piece) → IsDraft wild text all → (tail : List Piece) × IsDraft wild rest tail
 
+-- where nothing was read yet
+pub none-read : (wild : Bool) (text : List ℕ) → Along wild text [] text
+none-read wild text = record { on = λ tail draft. draft; back = λ all draft. (all, draft) }
+
 along-more : (wild : Bool) (text : List ℕ) (pieces : List Piece) (rest behind : List ℕ) (piece : Piece) → Along wild text pieces rest
     → BeginsWith wild rest piece behind → Along wild text (pieces ++ piece ∷ []) behind
 along-more wild text pieces rest behind piece a begins = record {
@@ -296,6 +301,11 @@ along-end wild text pieces grown rest a utf8 none is =
     let Q : List Piece → Type 0 = λ all. IsDraft wild text all in
     let whole = along-front wild text pieces rest [] utf8 none (subst P (sym (append-nil rest)) a) in
     subst Q (append-nil _ ∙ sym is) (whole.on [] refl)
+
+-- where no `${` stands, each character of the text is a piece
+pub plain-drafted : (wild : Bool) (text : List ℕ) → IsUtf8 text → NoneBegins text [] → IsDraft wild text (plain_draft (map (sign_of wild) (chars text)))
+plain-drafted wild text utf8 none =
+    along-end wild text [] (plain_draft (map (sign_of wild) (chars text))) text (none-read wild text) utf8 none refl
 
 -- where no form stands behind a `${`
 pub along-off : (wild : Bool) (text : List ℕ) (pieces : List Piece) (inside : List ℕ) → Along wild text pieces (codes "${" ++ inside)

@@ -1,7 +1,8 @@
 -- What a text begins with is determined.
 use Rattle.std.proofs.Common.{◌≡◌, ◌≢◌, ℕ, ◌<◌, ◌≤◌, zero, suc, List, [], ◌∷◌, ◌++◌, Bool, true, false, ◌&&◌, ◌||◌, ◌==◌, not, length, drop, replicate, Option, Some, None, refl, sym, ap, ◌∙◌, subst, arith, IsTrue, eqb-true, eq-eqb, get_or, inl, inr, ◌⊎◌, MatchOption, nat_lt, codes, take, ◌+◌}
 use Rattle.std.proofs.lemmas.Bool.{and_parts, cases_lt}
-use Rattle.std.proofs.lemmas.List.{append-nil, append_cancel_left, drop_at}
+use Rattle.std.proofs.Math.ListN.{get_or-append}
+use Rattle.std.proofs.lemmas.List.{append-nil, append_cancel_left, drop_at, get_or_at}
 use Rattle.std.proofs.lemmas.Str.{cons_from_encodes}
 use Rattle.std.proofs.lemmas.Str.Pattern.{split_text_parts}
 use Rattle.std.specs.Str.{encode_utf8_all}
@@ -11,7 +12,8 @@ use Rattle.std.specs.Str.Pattern.{FindsText}
 use Rattle.iam_text.specs.declared.draft.Piece.{Piece}
 use Rattle.iam_text.specs.declared.draft.Piece.TheVariants.{Plain, Escaped, Variable}
 use Rattle.iam_text.specs.Draft.{is_key, is_key_character}
-use Rattle.iam_text.specs.Code.Forms.{HasDefault, IsClosed, IsCutAtForm, IsQuoted, NoneBegins}
+use Rattle.iam_text.specs.Code.Forms.{HasDefault, HasForm, HasLiteral, IsClosed, IsCutKey, IsQuoted}
+use Rattle.iam_text.specs.Stretches.{IsCutAtForm, NoneBegins}
 use denote.Ref.{Bor}
 
 -- a run of characters that pass, up to one that does not, is the only one
@@ -168,10 +170,63 @@ default-cut (Escaped c) text rest has = absurd has
 default-cut (Variable key None) text rest has = absurd has
 default-cut (Variable key (Some default)) text rest (behind, is, joined, quoted) = (key, default, behind, is, joined, quoted)
 
+-- a cut behind all that pass is the only one before what does not
+cut-unique : (test : ℕ → Bool) (xs behind ys : List ℕ) (d : ℕ) (rest : List ℕ) → list_all test xs ≡ true
+    → ((c : ℕ) (more : List ℕ) → behind ≡ c ∷ more → test c ≡ false) → list_all test ys ≡ true → test d ≡ false → xs ++ behind ≡ ys ++ (d ∷ rest)
+    → (xs ≡ ys) × (behind ≡ d ∷ rest)
+cut-unique test [] behind [] d rest all end all' off e = (refl, e)
+cut-unique test [] behind (y ∷ ys) d rest all end all' off e =
+    let wrong : true ≡ false = sym (and_parts (test y) (list_all test ys) all').0 ∙ end y (ys ++ (d ∷ rest)) e in
+    absurd (let no : ⊥ = cc in no)
+cut-unique test (x ∷ xs) behind [] d rest all end all' off e =
+    let heads : x ≡ d = cc in
+    let wrong : true ≡ false = sym (and_parts (test x) (list_all test xs) all).0 ∙ ap test heads ∙ off in
+    absurd (let no : ⊥ = cc in no)
+cut-unique test (x ∷ xs) behind (y ∷ ys) d rest all end all' off e =
+    let heads : x ≡ y = cc in
+    let more = cut-unique test xs behind ys d rest (and_parts (test x) (list_all test xs) all).1 end (and_parts (test y) (list_all test ys) all').1 off
+    (let tails : xs ++ behind ≡ ys ++ (d ∷ rest) = cc in tails) in
+    let same : xs ≡ ys = more.0 in
+    ((let whole : x ∷ xs ≡ y ∷ ys = cc in whole), more.1)
+
+-- a form by the key at its front
+pub data FormCut (key behind rest : List ℕ) : Type 0 where
+  literal : (c : ℕ) → key ≡ [] → HasLiteral c behind rest → FormCut key behind rest
+  plain : IsTrue (is_key key) → behind ≡ 125 ∷ rest → FormCut key behind rest
+  fallback : (default more : List ℕ) → IsTrue (is_key key) → behind ≡ 44 ∷ more → IsQuoted more default rest → FormCut key behind rest
+
+pub form-cut : (text key behind : List ℕ) → IsCutKey text key behind → (piece : Piece) (rest : List ℕ) → HasForm piece text rest → FormCut key behind rest
+form-cut text key behind cut (Plain sign) rest (inl (inside, closed, joined)) = absurd closed
+form-cut text key behind cut (Plain sign) rest (inr has) = absurd has
+form-cut text key behind cut (Escaped c) rest (inl (inside, (is, one), joined)) =
+    let same = cut-unique is_key_character key behind [] c (125 ∷ rest) cut.all cut.end refl (literal-no_key c is)
+    (sym cut.joined ∙ joined ∙ ap (λ t. t ++ (125 ∷ rest)) one) in
+    literal c same.0 (is, same.1)
+form-cut text key behind cut (Escaped c) rest (inr has) = absurd has
+form-cut text key behind cut (Variable k None) rest (inl (inside, (is, one), joined)) =
+    let same = cut-unique is_key_character key behind k 125 rest cut.all cut.end (key-all k is) refl
+    (sym cut.joined ∙ joined ∙ ap (λ t. t ++ (125 ∷ rest)) one) in
+    plain (ap is_key same.0 ∙ is) same.1
+form-cut text key behind cut (Variable k None) rest (inr has) = absurd has
+form-cut text key behind cut (Variable k (Some d)) rest (inl (inside, closed, joined)) = absurd closed
+form-cut text key behind cut (Variable k (Some d)) rest (inr (more, is, joined, quoted)) =
+    let same = cut-unique is_key_character key behind k 44 more cut.all cut.end (key-all k is) refl (sym cut.joined ∙ joined) in
+    fallback d more (ap is_key same.0 ∙ is) same.1 quoted
+
 -- what follows on both sides
 pub match-weaker : {X : Type 0} (r : Option X) (P P' : Type 0) (Q Q' : X → Type 0) → (P → P') → ((x : X) → Q x → Q' x) → MatchOption r P Q → MatchOption r P' Q'
 match-weaker None P P' Q Q' none some m = none m
 match-weaker (Some x) P P' Q Q' none some m = some x m
+
+-- none begins in what holds no `$`
+pub none-before : (front rest : List ℕ) → ((i : ℕ) → i < length front → get_or front i 0 ≢ 36) → NoneBegins front rest
+none-before front rest off before behind e = go (cases_lt (length before) (length front))
+  where
+    go : (length before < length front) ⊎ (length front ≤ length before) → length front ≤ length before
+    go (inr later) = later
+    go (inl earlier) =
+        absurd (off (length before) earlier
+        (sym (get_or-append front rest 0 (length before) earlier) ∙ ap (λ t. get_or t (length before) 0) e ∙ get_or_at before 36 (123 ∷ behind) 0 (length before) refl))
 
 -- the first `${` of a text
 pub first-form : (text : List ℕ) (r : Option (Bor (List ℕ) × Bor (List ℕ)))

@@ -9,10 +9,11 @@ use Rattle.iam_text.specs.contracts.draft.Piece.{the_row}
 use Rattle.iam_text.specs.declared.draft.Piece.{Piece}
 use Rattle.iam_text.specs.declared.version.Version.{Version}
 use Rattle.iam_text.specs.declared.version.Version.TheVariants.{V2012, V2008}
-use Rattle.iam_text.specs.Code.Forms.{HasForm, IsCutAtForm, NoneBegins}
+use Rattle.iam_text.specs.Code.Forms.{HasForm}
+use Rattle.iam_text.specs.Stretches.{IsCutAtForm, NoneBegins}
 use Rattle.iam_text.specs.Code.Kept.{OneDraft, OneDraft-prop}
 use Rattle.iam_text.specs.Draft.{IsDraft, IsDraftIn, plain_draft, sign_of}
-use Rattle.iam_text.proofs.DraftLemmas.{Along, along-cut, along-end, along-form, along-off}
+use Rattle.iam_text.proofs.DraftLemmas.{Along, along-cut, along-form, along-off, none-read, plain-drafted}
 use Rattle.iam_text.proofs.VersionLemmas.{draft_unique_in}
 
 pub kept : (version : Version) (wild : Bool) (text : List ℕ) (pieces : List Piece) → IsDraftIn version wild text pieces → OneDraft version wild text
@@ -37,10 +38,6 @@ pub kept-same : (version : Version) (wild : Bool) (text other : List ℕ) → ot
 kept-same version wild text other same one again =
     let P : List ℕ → Type 0 = λ t. IsDraftIn version wild t one.0 in
     ∥∥₁_elim one.1 (Coded-set (coded_list the_row.coded) again.0 one.0) (λ x. kept-is version wild other again one.0 (subst P (sym same) x.0))
-
--- where nothing was read yet
-none-read : (wild : Bool) (text : List ℕ) → Along wild text [] text
-none-read wild text = record { on = λ tail draft. draft; back = λ all draft. (all, draft) }
 
 -- up to the form that stands behind the first `${`
 over : (wild : Bool) (text front inside behind : List ℕ) (piece : Piece) → IsUtf8 front → IsCutAtForm text front inside → HasForm piece inside behind
@@ -82,7 +79,7 @@ pub kept-plain : (version : Version) (wild : Bool) (text : List ℕ) → version
     → one.0 ≡ plain_draft (map (sign_of wild) (chars text))
 kept-plain version wild text is utf8 none one =
     let plain = plain_draft (map (sign_of wild) (chars text)) in
-    kept-is version wild text one plain (draft_in version wild text plain is (along-end wild text [] plain text (none-read wild text) utf8 none refl))
+    kept-is version wild text one plain (draft_in version wild text plain is (plain-drafted wild text utf8 none))
 
 -- and so in version 2008-10-17
 pub kept-literal : (version : Version) (wild : Bool) (text : List ℕ) → version ≡ V2008 → (one : OneDraft version wild text)

@@ -1,22 +1,23 @@
 -- The test of the grammar of variables tells whether a text has a draft.
-use Rattle.std.proofs.Common.{◌≡◌, ◌≢◌, ℕ, ◌<◌, ◌≤◌, zero, suc, List, [], ◌∷◌, ◌++◌, Bool, true, false, ◌&&◌, ◌||◌, ◌==◌, not, length, replicate, Some, None, refl, sym, ap, ◌∙◌, subst, arith, codes, IsTrue, inl, inr, ◌⊎◌, eqb-true, cond, get_or, drop, ◌+◌, length-append, nat_lt, ◌↔◌, map}
+use Rattle.std.proofs.Common.{◌≡◌, ◌≢◌, ℕ, ◌<◌, ◌≤◌, zero, suc, List, [], ◌∷◌, ◌++◌, Bool, true, false, ◌&&◌, ◌||◌, ◌==◌, not, length, replicate, Some, None, refl, sym, ap, ◌∙◌, subst, arith, codes, IsTrue, inl, inr, ◌⊎◌, eqb-true, cond, get_or, drop, take, ◌+◌, length-append, nat_lt, ◌↔◌, Option, MatchOption}
 use Rattle.std.proofs.lemmas.Bool.{and_parts, lt-ltb}
-use Rattle.std.proofs.lemmas.List.{append-nil, append_assoc, drop_at, get_or_at}
+use Rattle.std.proofs.lemmas.List.{append-nil, append_assoc, drop_at, get_or_at, take_at}
 use Rattle.std.proofs.lemmas.List.Folds.{list_any-append}
-use Rattle.std.proofs.lemmas.Str.{inside_one, IsUtf8-drop, IsUtf8-past_char, chars_from_encodes, IsCharBoundary-after_ascii}
+use Rattle.std.proofs.lemmas.Str.{inside_one, IsUtf8-drop, IsUtf8-past_char, IsUtf8-take, IsCharBoundary-after_ascii, IsCharBoundary-before_ascii}
 use Rattle.std.specs.Char.{encode_utf8}
 use Rattle.std.specs.List.{list_all, list_any}
 use Rattle.std.specs.Option.{option_map_or}
-use Rattle.std.specs.Str.{IsUtf8, chars, encode_utf8_all}
-use Rattle.std.specs.Str.Iter.{HasSubslice}
+use Rattle.std.specs.Str.{IsUtf8, encode_utf8_all}
 use Rattle.iam_text.specs.declared.draft.Piece.{Piece}
 use Rattle.iam_text.specs.declared.draft.Piece.TheVariants.{Plain, Escaped, Variable}
-use Rattle.iam_text.specs.Draft.{BeginsWith, IsDraft, is_key, is_key_character, plain_draft, sign_of}
+use Rattle.iam_text.specs.Draft.{BeginsWith, IsDraft, is_key, is_key_character, sign_of}
 use Rattle.iam_text.specs.declared.sign.Sign.{Sign}
-use Rattle.iam_text.specs.Code.Forms.{HasForm, IsCutAtForm, IsQuoted, NoneBegins}
+use Rattle.iam_text.specs.Code.Forms.{HasForm, IsQuoted}
+use Rattle.iam_text.specs.Stretches.{IsCutAtForm, NoneBegins}
 use Rattle.iam_text.specs.Variables.{State, outside, dollar, opened, escaped, key, spaces, default, closing, is_draft, is_draft_from, is_end, step}
 use Rattle.iam_text.proofs.DraftLemmas.{begins-from_form, begins-shorter, form-from_begins, none-behind, none-here, piece-cases}
-use Rattle.iam_text.proofs.FormLemmas.{all-absent, default-cut, key-all, literal-no_key}
+use Rattle.iam_text.proofs.FormLemmas.{all-absent, default-cut, key-all, literal-no_key, match-weaker}
+use denote.Ref.{Bor}
 
 -- one character on
 next : (s t : State) (c : ℕ) (text : List ℕ) → step s c ≡ Some t → is_draft_from s (c ∷ text) ≡ is_draft_from t text
@@ -66,7 +67,7 @@ run-literal c rest literal =
     (ap (λ b. cond b (Some key) (cond (c == 42 || c == 63 || c == 36) (Some escaped) None)) (literal-no_key c literal) ∙ ap (λ b. cond b (Some escaped) None) literal)
 
 -- over a form that stands behind `${`
-run-form : (piece : Piece) (inside rest : List ℕ) → HasForm piece inside rest → is_draft_from opened inside ≡ is_draft_from outside rest
+pub run-form : (piece : Piece) (inside rest : List ℕ) → HasForm piece inside rest → is_draft_from opened inside ≡ is_draft_from outside rest
 run-form (Plain sign) inside rest (inl (between, closed, joined)) = absurd closed
 run-form (Plain sign) inside rest (inr has) = absurd has
 run-form (Escaped c) inside rest (inl (between, (literal, is), joined)) =
@@ -292,13 +293,12 @@ pub draft_tested : (wild : Bool) (text : List ℕ) → IsUtf8 text → IsTrue (i
 draft_tested wild text utf8 = (λ holds. pieces-of (length text) wild text (omega arith) utf8 holds, λ d. drafted wild text d.0 d.1)
 
 -- where no form stands behind a `${`, the text does not pass
-pub no-form : (text inside : List ℕ) → is_draft text ≡ is_draft (codes "${" ++ inside) → ((piece : Piece) (rest : List ℕ) → ¬ HasForm piece inside rest)
-    → false ≡ is_draft text
-no-form text inside same off = go (is_draft_from opened inside) refl
+pub no-form : (inside : List ℕ) → ((piece : Piece) (rest : List ℕ) → ¬ HasForm piece inside rest) → is_draft_from opened inside ≡ false
+no-form inside off = go (is_draft_from opened inside) refl
   where
-    go : (b : Bool) → is_draft_from opened inside ≡ b → false ≡ is_draft text
+    go : (b : Bool) → is_draft_from opened inside ≡ b → is_draft_from opened inside ≡ false
     go true e = let form = form-ends inside e in absurd (off form.0 form.1 form.2)
-    go false e = sym (same ∙ e)
+    go false e = e
 
 -- over the characters before a `${`, or before the end
 run-characters : (cs rest : List ℕ) → NoneBegins (encode_utf8_all cs) rest → is_draft (encode_utf8_all cs ++ rest) ≡ is_draft rest
@@ -316,40 +316,32 @@ run-front front rest (cs, (scalars, is)) =
 pub run-all : (text : List ℕ) → IsUtf8 text → NoneBegins text [] → is_draft text ≡ true
 run-all text utf8 none = ap is_draft (sym (append-nil text)) ∙ run-front text [] utf8 none
 
+-- what stands before an ASCII character of a text is one
+utf8-before : (bs front rest : List ℕ) (c : ℕ) → c < 128 → bs ≡ front ++ (c ∷ rest) → IsUtf8 bs → IsUtf8 front
+utf8-before bs front rest c small is utf8 =
+    let i = length front in
+    let at : get_or bs i 0 ≡ c = ap (λ xs. get_or xs i 0) is ∙ get_or_at front c rest 0 i refl in
+    let long : length bs ≡ i + suc (length rest) = ap length is ∙ length-append front (c ∷ rest) in
+    let cut : IsUtf8 (take i bs) = IsUtf8-take bs i utf8 (IsCharBoundary-before_ascii bs i (omega arith) (omega (arith, at))) in
+    let P : List ℕ → Type 0 = λ t. IsUtf8 t in
+    subst P (ap (take i) is ∙ take_at front (c ∷ rest) i refl) cut
+
 -- up to the first `${`
-pub run-cut : (text front inside : List ℕ) → IsUtf8 front → IsCutAtForm text front inside → is_draft text ≡ is_draft (codes "${" ++ inside)
-run-cut text front inside utf8 (joined, none) = ap is_draft joined ∙ run-front front (codes "${" ++ inside) utf8 none
+run-cut : (text front inside : List ℕ) → IsUtf8 text → IsCutAtForm text front inside → is_draft text ≡ is_draft_from opened inside
+run-cut text front inside utf8 (joined, none) =
+    ap is_draft joined ∙ run-front front (codes "${" ++ inside) (utf8-before text front (123 ∷ inside) 36 (omega arith) joined utf8) none
 
--- over a form that stands behind a `${`
-pub run-inside : (piece : Piece) (inside rest : List ℕ) → HasForm piece inside rest → is_draft (codes "${" ++ inside) ≡ is_draft rest
-run-inside piece inside rest has = run-form piece inside rest has
-
--- in a text without `${` each character is a piece
-plain-characters : (wild : Bool) (cs : List ℕ) → ¬ HasSubslice (encode_utf8_all cs) (codes "${") → IsDraft wild (encode_utf8_all cs) (plain_draft (map (sign_of wild) cs))
-plain-characters wild [] off = refl
-plain-characters wild (c ∷ cs) off = (
-  encode_utf8_all cs,
-  record {
-    part = encode_utf8 c;
-    written = (c, refl, refl);
-    joined = refl;
-    apart = λ same more e. off ([], more, ap (λ x. x ++ encode_utf8_all cs) same ∙ ap (λ x. 36 ∷ x) e);
-  },
-  plain-characters wild cs
-      (λ h. off (encode_utf8 c ++ h.0, h.1, ap (λ x. encode_utf8 c ++ x) h.2 ∙ sym (append_assoc (encode_utf8 c) h.0 (codes "${" ++ h.1)))),
-)
-
-pub plain-drafted : (wild : Bool) (text : List ℕ) → IsUtf8 text → ¬ HasSubslice text (codes "${") → IsDraft wild text (plain_draft (map (sign_of wild) (chars text)))
-plain-drafted wild text (cs, (scalars, is)) off =
-    let P : List ℕ → Type 0 = λ t. ¬ HasSubslice t (codes "${") in
-    let Q : List ℕ → Type 0 = λ t. IsDraft wild t (plain_draft (map (sign_of wild) cs)) in
-    let R : List ℕ → Type 0 = λ ds. IsDraft wild text (plain_draft (map (sign_of wild) ds)) in
-    subst R (chars_from_encodes cs text (cs, (scalars, is)) is) (subst Q is (plain-characters wild cs (subst P (sym is) off)))
+-- what a cut at the first `${` tells of the grammar
+pub cut-told : (text : List ℕ) (r : Option (Bor (List ℕ) × Bor (List ℕ))) → IsUtf8 text
+    → MatchOption r (NoneBegins text []) (λ x. IsCutAtForm text x.0.now x.1.now)
+    → MatchOption r (is_draft text ≡ true) (λ x. is_draft text ≡ is_draft_from opened x.1.now)
+cut-told text r utf8 cut = match-weaker r _ _ _ _ (run-all text utf8) (λ x at. run-cut text x.0.now x.1.now utf8 at) cut
 
 -- a text without `$` has no `${`
-pub no-dollar : (text : List ℕ) → list_any (λ c. c == 36) text ≡ false → ¬ HasSubslice text (codes "${")
-no-dollar text none (front, inside, is) =
-    some (list_any (λ c. c == 36) front) (sym (ap (list_any (λ c. c == 36)) is ∙ list_any-append (λ c. c == 36) front (codes "${" ++ inside)) ∙ none)
+pub no-dollar : (text : List ℕ) → list_any (λ c. c == 36) text ≡ false → NoneBegins text []
+no-dollar text none before behind is =
+    absurd (some (list_any (λ c. c == 36) before)
+    (sym (ap (list_any (λ c. c == 36)) (sym (append-nil text) ∙ is) ∙ list_any-append (λ c. c == 36) before (codes "${" ++ behind)) ∙ none))
   where
     some : (b : Bool) → (b || true) ≡ false → ⊥
     some true e = let no : ⊥ = cc in no

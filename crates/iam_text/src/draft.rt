@@ -5,7 +5,7 @@ ghost use Rattle.std.specs.Str.{chars};
 ghost use Rattle.iam_text.specs.declared.draft.Piece.{Piece};
 ghost use Rattle.iam_text.specs.Code.Kept.{OneDraft, OneDraft-prop};
 ghost use Rattle.iam_text.specs.Draft.{IsDraftIn, plain_draft, sign_of};
-ghost use Rattle.iam_text.specs.Variables.{is_draft, is_draft_in};
+ghost use Rattle.iam_text.specs.Variables.{is_draft, is_draft_from, is_draft_in, opened};
 
 use crate::OutOfMemory;
 use crate::form::{cut_form, form_behind};
@@ -48,24 +48,22 @@ impl Model for Draft {
 }
 
 impl Draft {
-    ghost use Rattle.std.specs.Prelude.{◌≡◌, List, MatchOption, IfOk, map};
+    ghost use Rattle.std.specs.Prelude.{◌≡◌, IfOk, IsTrue, map};
     ghost use Rattle.std.specs.Str.{chars};
-    ghost use Rattle.iam_text.specs.declared.draft.Piece.{Piece};
     ghost use Rattle.iam_text.specs.Draft.{IsDraft, plain_draft, sign_of};
+    ghost use Rattle.iam_text.specs.Variables.{is_draft};
 
-    /// The one draft of a text of version 2012-10-17, in which `*` and `?` are wildcards where `wild` says so; `None`
-    /// where some `${` begins none of `${*}`, `${?}`, `${$}`, `${key}` and `${key, 'default'}`.
-    pub fn read(alloc: Global, text: &str, wild: bool) -> Result<Option<Draft>, OutOfMemory>
-        ensures { IfOk result (λ found. MatchOption found ((pieces : List Piece) → ¬ IsDraft wild text.now pieces) (IsDraft wild text.now)) }
+    /// The one draft of a text of version 2012-10-17 that is on the grammar of variables; `*` and `?` are wildcards there
+    /// where `wild` says so.
+    pub fn of(alloc: Global, text: &str, wild: bool) -> Result<Draft, OutOfMemory>
+        requires { IsTrue (is_draft text.now) }
+        ensures { IfOk result (IsDraft wild text.now) }
     {
-        if !has_forms(text) {
-            return Ok(None);
-        }
-        Ok(Some(Draft {
+        Ok(Draft {
             text: Text::read(alloc, text)?,
             wild,
             version: Version::V2012,
-        }))
+        })
     }
 
     /// The draft of a text of version 2008-10-17: its characters one by one, where `${` begins no variable.
@@ -97,7 +95,10 @@ pub fn has_draft(text: &str, version: Version) -> bool
     ensures value { result ≡ is_draft_in version text.now }
     ensures drafts { (wild : Bool) → IsTrue result ↔ ((pieces : List Piece) × IsDraftIn version wild text.now pieces) }
 {
-    is_plain(text, version) || has_forms(text)
+    match version {
+        Version::V2012 => !has_dollar(text.as_bytes()) || has_forms(text),
+        Version::V2008 => true,
+    }
 }
 
 /// Whether no variable begins in the text: it has a draft, whose pieces are its characters.
@@ -106,7 +107,7 @@ pub fn is_plain(text: &str, version: Version) -> bool
     ensures other { result ≡ false → version ≡ Version.V2012 }
 {
     match version {
-        Version::V2012 => !has_dollar(text.as_bytes()) || !text.contains("${"),
+        Version::V2012 => !has_dollar(text.as_bytes()) || cut_form(text).is_none(),
         Version::V2008 => true,
     }
 }
@@ -122,12 +123,22 @@ pub fn has_dollar(text: &[u8]) -> bool
 fn has_forms(text: &str) -> bool
     ensures { result ≡ is_draft text.now }
 {
-    let mut rest = text;
-    while let Some((_, inside)) = cut_form(rest) {
-        match form_behind(inside) {
-            Some((_, behind)) => rest = behind,
-            None => return false,
+    match cut_form(text) {
+        Some((_, inside)) => has_forms_behind(inside),
+        None => true,
+    }
+}
+
+/// Whether the `${` that stands before the text begins a form, and each `${` behind that one too.
+pub fn has_forms_behind(text: &str) -> bool
+    ensures { result ≡ is_draft_from opened text.now }
+{
+    let mut inside = text;
+    while let Some((_, behind)) = form_behind(inside) {
+        match cut_form(behind) {
+            Some((_, next)) => inside = next,
+            None => return true,
         }
     }
-    true
+    false
 }

@@ -1,10 +1,11 @@
 // Variables as they stand in a text: `${key}`, and with a default.
-ghost use Rattle.std.specs.Prelude.{◌≡◌, ◌≢◌, ℕ, List, [], ◌∷◌, ◌++◌, replicate, MatchOption};
+ghost use Rattle.std.specs.Prelude.{◌≡◌, ◌≢◌, ◌≤◌, ◌<◌, ℕ, List, [], ◌∷◌, ◌++◌, IsTrue, true, false, length, replicate, slice_index, take, MatchOption};
 ghost use Rattle.std.specs.List.{list_all};
 ghost use Rattle.iam_text.specs.declared.draft.Piece.{Piece};
-ghost use Rattle.iam_text.specs.Draft.{is_key, is_key_character};
-ghost use Rattle.iam_text.specs.Code.Forms.{HasClosed, HasDefault, HasForm, IsClosed, IsCutAtForm, IsQuoted, NoneBegins};
-ghost use Rattle.iam_text.specs.Stretches.{piece_of};
+ghost use Rattle.iam_text.specs.Draft.{is_key_character};
+ghost use Rattle.iam_text.specs.Code.Forms.{HasForm, HasLiteral, IsCutKey, IsLiteral, IsQuoted};
+ghost use Rattle.iam_text.specs.Stretches.{IsCutAtForm, NoneBegins, piece_of};
+ghost use Rattle.iam_text.specs.Variables.{is_draft, is_draft_from, opened};
 
 /// What a `${` begins in a text of version 2012-10-17.
 ///
@@ -18,10 +19,17 @@ pub enum Form<'a> {
 }
 
 /// What stands before the first `${` of the text, and what behind it.
+///
+/// The first `$` mostly begins one; where it does not, they are sought together.
 pub fn cut_form(text: &str) -> Option<(&str, &str)>
-    ensures { MatchOption result (NoneBegins text.entry.now []) (λ p. IsCutAtForm text.entry.now p.0.now p.1.now) }
+    ensures cut { MatchOption result (NoneBegins text.entry.now []) (λ p. IsCutAtForm text.entry.now p.0.now p.1.now) }
+    ensures grammar { MatchOption result (is_draft text.entry.now ≡ true) (λ p. is_draft text.entry.now ≡ is_draft_from opened p.1.now) }
 {
-    text.split_once("${")
+    let (front, behind) = text.split_once('$')?;
+    match behind.strip_prefix('{') {
+        Some(inside) => Some((front, inside)),
+        None => text.split_once("${"),
+    }
 }
 
 /// The form whose `${` stands before the text, and what is left behind its `}`.
@@ -29,50 +37,40 @@ pub fn form_behind(text: &str) -> Option<(Form<'_>, &str)>
     ensures { MatchOption result ((piece : Piece) (rest : List ℕ) → ¬ HasForm piece text.entry.now rest)
         (λ p. HasForm (piece_of p.0) text.entry.now p.1.now) }
 {
-    match without_default(text) {
-        Some(found) => Some(found),
-        None => with_default(text),
+    let (key, behind) = cut_key(text);
+    if key.is_empty() {
+        let (character, rest) = literal(text)?;
+        return Some((Form::Literal(character), rest));
     }
+    if let Some(rest) = behind.strip_prefix('}') {
+        return Some((Form::Named(key, None), rest));
+    }
+    let (default, rest) = quoted(behind.strip_prefix(',')?)?;
+    Some((Form::Named(key, Some(default)), rest))
 }
 
-/// The form without a default whose `${` stands before the text, and what is left behind its `}`.
-fn without_default(text: &str) -> Option<(Form<'_>, &str)>
-    ensures { MatchOption result ((piece : Piece) (rest : List ℕ) → ¬ HasClosed piece text.entry.now rest)
-        (λ p. HasClosed (piece_of p.0) text.entry.now p.1.now) }
+/// The character of `${*}`, `${?}` or `${$}`, whose `${` stands before the text, and what is left behind its `}`.
+fn literal(text: &str) -> Option<(char, &str)>
+    ensures { MatchOption result ((c : ℕ) (rest : List ℕ) → ¬ HasLiteral c text.entry.now rest) (λ p. HasLiteral p.0 text.entry.now p.1.now) }
 {
     let (inside, rest) = text.split_once('}')?;
-    let form = closed(inside)?;
-    Some((form, rest))
+    let character = literal_of(inside)?;
+    Some((character, rest))
 }
 
-/// The form that has this between its `${` and its `}`, and no default.
-fn closed(inside: &str) -> Option<Form<'_>>
-    ensures { MatchOption result ((piece : Piece) → ¬ IsClosed piece inside.entry.now) (λ form. IsClosed (piece_of form) inside.entry.now) }
+/// The character that the text is, where it is `*`, `?` or `$`.
+fn literal_of(text: &str) -> Option<char>
+    ensures { MatchOption result ((c : ℕ) → ¬ IsLiteral c text.now) (λ c. IsLiteral c text.now) }
 {
-    if inside == "*" {
-        Some(Form::Literal('*'))
-    } else if inside == "?" {
-        Some(Form::Literal('?'))
-    } else if inside == "$" {
-        Some(Form::Literal('$'))
-    } else if is_key(inside) {
-        Some(Form::Named(inside, None))
+    if text == "*" {
+        Some('*')
+    } else if text == "?" {
+        Some('?')
+    } else if text == "$" {
+        Some('$')
     } else {
         None
     }
-}
-
-/// The variable with a default whose `${` stands before the text, and what is left behind its `}`.
-fn with_default(text: &str) -> Option<(Form<'_>, &str)>
-    ensures { MatchOption result ((piece : Piece) (rest : List ℕ) → ¬ HasDefault piece text.entry.now rest)
-        (λ p. HasDefault (piece_of p.0) text.entry.now p.1.now) }
-{
-    let (key, rest) = text.split_once(',')?;
-    if !is_key(key) {
-        return None;
-    }
-    let (default, rest) = quoted(rest)?;
-    Some((Form::Named(key, Some(default)), rest))
 }
 
 /// The default in quotes, behind spaces, and what is left behind the `}`.
@@ -96,17 +94,26 @@ fn without_spaces(text: &str) -> &str
     rest
 }
 
-/// Whether the text is the key of a variable.
-fn is_key(text: &str) -> bool
-    ensures { result ≡ is_key text.now }
+/// The characters of a key that the text begins with, and what is left behind them.
+fn cut_key(text: &str) -> (&str, &str)
+    ensures { IsCutKey text.entry.now result.0.now result.1.now }
 {
-    !text.is_empty() && all_key_characters(text.as_bytes())
+    let len = key_len(text.as_bytes());
+    (&text[..len], &text[len..])
 }
 
-fn all_key_characters(text: &[u8]) -> bool
-    ensures { result ≡ list_all is_key_character text.now }
+/// How many characters of a key the text begins with.
+fn key_len(text: &[u8]) -> usize
+    ensures within { result ≤ length text.now }
+    ensures all { IsTrue (list_all is_key_character (take result text.now)) }
+    ensures end { result < length text.now → is_key_character (slice_index text.now result) ≡ false }
 {
-    text.iter().all(|&character| is_key_character(character))
+    for (i, character) in text.iter().enumerate() {
+        if !is_key_character(*character) {
+            return i;
+        }
+    }
+    text.len()
 }
 
 fn is_key_character(character: u8) -> bool

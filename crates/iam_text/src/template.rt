@@ -44,33 +44,32 @@ impl Model for Template {
 }
 
 impl Template {
-    ghost use Rattle.std.specs.Prelude.{◌≡◌, List, MatchOption, IfOk};
-    ghost use Rattle.iam_text.specs.declared.draft.Piece.{Piece};
+    ghost use Rattle.std.specs.Prelude.{IfOk, IsTrue};
     ghost use Rattle.iam_text.specs.Draft.{IsDraftIn};
     ghost use Rattle.iam_text.specs.Template.{IsFormOf};
+    ghost use Rattle.iam_text.specs.Variables.{is_draft_in};
 
-    /// The one draft of the text in a document of the version, in which `*` and `?` are wildcards where `wild` says so;
-    /// `None` where it has none, as [`Draft::read`] says of version 2012-10-17.
-    pub fn read(
+    /// The one draft of a text that has one in a document of the version, in which `*` and `?` are wildcards where `wild`
+    /// says so.
+    pub fn of(
         alloc: Global,
         text: &str,
         wild: bool,
         version: Version,
-    ) -> Result<Option<Template>, OutOfMemory>
-        ensures { IfOk result (λ found. MatchOption found ((pieces : List Piece) → ¬ IsDraftIn version wild text.now pieces) (IsDraftIn version wild text.now)) }
+    ) -> Result<Template, OutOfMemory>
+        requires { IsTrue (is_draft_in version text.now) }
+        ensures { IfOk result (IsDraftIn version wild text.now) }
     {
         if is_plain(text, version) {
             let glob = pattern(alloc, text, wild)?;
-            return Ok(Some(Template {
+            return Ok(Template {
                 kind: Kind::Fixed(glob),
-            }));
+            });
         }
-        match Draft::read(alloc, text, wild)? {
-            Some(draft) => Ok(Some(Template {
-                kind: Kind::Open(draft),
-            })),
-            None => Ok(None),
-        }
+        let draft = Draft::of(alloc, text, wild)?;
+        Ok(Template {
+            kind: Kind::Open(draft),
+        })
     }
 
     /// How it is kept: as the pattern of a text in which no variable stands, or as its draft.

@@ -1,17 +1,9 @@
 -- How the code reads the forms of a text, beside the definition that it meets (`Draft`).
-use Rattle.std.specs.Prelude.{◌≡◌, ◌≤◌, ◌⊎◌, ℕ, List, [], ◌∷◌, ◌++◌, ◌||◌, not, ◌==◌, Some, None, IsTrue, codes, length, replicate}
+use Rattle.std.specs.Prelude.{◌≡◌, ◌⊎◌, ℕ, List, [], ◌∷◌, ◌++◌, ◌||◌, not, ◌==◌, Some, None, IsTrue, false, replicate}
 use Rattle.std.specs.List.{list_all}
 use Rattle.iam_text.specs.declared.draft.Piece.{Piece}
 use Rattle.iam_text.specs.declared.draft.Piece.TheVariants.{Plain, Escaped, Variable}
-use Rattle.iam_text.specs.Draft.{is_key}
-
--- no `${` begins in the front of a text, which the rest follows
-abbrev pub NoneBegins : List ℕ → List ℕ → Type 0
-NoneBegins front rest = (before behind : List ℕ) → front ++ rest ≡ before ++ (codes "${" ++ behind) → length front ≤ length before
-
--- the text is cut at its first `${`, into what stands before it and behind it
-abbrev pub IsCutAtForm : List ℕ → List ℕ → List ℕ → Type 0
-IsCutAtForm text front inside = (text ≡ front ++ (codes "${" ++ inside)) × NoneBegins front (codes "${" ++ inside)
+use Rattle.iam_text.specs.Draft.{is_key, is_key_character}
 
 -- what stands between `${` and `}` is this piece, which has no default
 abbrev pub IsClosed : Piece → List ℕ → Type 0
@@ -41,3 +33,17 @@ HasClosed piece text rest = (inside : List ℕ) × IsClosed piece inside × (tex
 -- the text behind `${` is this piece and the rest
 abbrev pub HasForm : Piece → List ℕ → List ℕ → Type 0
 HasForm piece text rest = HasClosed piece text rest ⊎ HasDefault piece text rest
+
+-- the text is `*`, `?` or `$`
+abbrev pub IsLiteral : ℕ → List ℕ → Type 0
+IsLiteral c text = IsTrue (c == 42 || c == 63 || c == 36) × (text ≡ c ∷ [])
+
+-- the text behind `${` is this character, a `}` and the rest
+abbrev pub HasLiteral : ℕ → List ℕ → List ℕ → Type 0
+HasLiteral c text rest = IsTrue (c == 42 || c == 63 || c == 36) × (text ≡ c ∷ (125 ∷ rest))
+
+-- the text is cut behind the characters of a key that it begins with
+pub record IsCutKey (text key behind : List ℕ) : Type 0 where
+  pub joined : text ≡ key ++ behind
+  pub all : IsTrue (list_all is_key_character key)
+  pub end : (c : ℕ) (rest : List ℕ) → behind ≡ c ∷ rest → is_key_character c ≡ false

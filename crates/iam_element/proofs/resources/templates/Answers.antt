@@ -11,10 +11,10 @@ use Rattle.iam_element.proofs.ElementLemmas.{item_at, none_at}
 use Rattle.iam_element.proofs.GrammarLemmas.{drafted}
 use Rattle.iam_element.proofs.ReadingLemmas.{zip_none, zip_some}
 use Rattle.iam_element.proofs.resources.templates.Goals as goal
-use Rattle.iam_element.proofs.resources.templates.Goals.{in-Some+in_ok-template+in_ok-push, in_default}
+use Rattle.iam_element.proofs.resources.templates.Goals.{in-Some+in_ok-of+in_ok-push, in_default}
 
-pub template-requires : goal.template-requires
-template-requires c =
+pub of-requires : goal.of-requires
+of-requires c =
     let values = map view c.args.values.now in
     let at : slice_get values c.loop-value.value-index ≡ Some (view c.value-item.result) =
     item_at view c.args.values.now values c.loop-value.value-index c.value-item.result refl c.loop-value-test.true c.value-item.is in
@@ -29,10 +29,10 @@ loop-value-preserved c =
     item_at view c.args.values.now values i c.value-item.result refl c.loop-value-test.true c.value-item.is in
     let P : List (List Piece) → Type 0 = λ ys. AllZip (IsDraftIn c.args.version true) (filter_map as_str (take (i + 1) values)) ys in
     elim c.match-as_str.branch [
-      | in-Some+in_ok-template+in_ok-push w ↦ (
-          let pushed : c.match-as_str.templates.items ≡ c.loop-value.templates.items ++ (w.in_ok-template.field-0 ∷ []) = ap (λ v. v.items) w.templates-is ∙ w.in_ok-push.ensures.items in
+      | in-Some+in_ok-of+in_ok-push w ↦ (
+          let pushed : c.match-as_str.templates.items ≡ c.loop-value.templates.items ++ (w.in_ok-of.field-0 ∷ []) = ap (λ v. v.items) w.templates-is ∙ w.in_ok-push.ensures.items in
           subst P (sym pushed)
-          (zip_some (IsDraftIn c.args.version true) as_str values i (view c.value-item.result) c.loop-value.templates.items w.in-Some.text.now w.in_ok-template.field-0 at (sym w.in-Some.ensures) c.loop-value.invariant w.in_ok-template.ensures)
+          (zip_some (IsDraftIn c.args.version true) as_str values i (view c.value-item.result) c.loop-value.templates.items w.in-Some.text.now w.in_ok-of.field-0 at (sym w.in-Some.ensures) c.loop-value.invariant w.in_ok-of.ensures)
           )
       | in_default w ↦ (
           let none : as_str (view c.value-item.result) ≡ None = sym w.in_default.ensures in

@@ -1,7 +1,7 @@
 use Rattle.std.proofs.Common.{List, subst, sym}
 use Rattle.iam_text.specs.declared.sign.Sign.{Sign}
 use Rattle.iam_text.specs.Draft.{IsDraftIn, plain_draft}
-use Rattle.iam_text.proofs.template.Template.read.Goals as goal
+use Rattle.iam_text.proofs.template.Template.of.Goals as goal
 
 pub returns-then-is_plain : goal.returns-then-is_plain
 returns-then-is_plain c =
