@@ -3,8 +3,7 @@ use Rattle.std.proofs.Common.{◌≡◌, ℕ, suc, zero, ◌+◌, ◌<◌, List,
 use Rattle.std.specs.List.{AllZip}
 use Rattle.std.proofs.lemmas.List.{at_drop_more, map-append}
 use Rattle.serde_json.specs.Data.{Data}
-use Rattle.iam_shape.specs.Shape.{Check, first_bad, each}
-use Rattle.iam_shape.specs.Code.Walk.{IsShapeFault}
+use Rattle.iam_shape.specs.Shape.{Check, IsShapeFault, first_bad, each}
 use Rattle.iam_shape.specs.declared.fault.ShapeFault.{ShapeFault}
 use Rattle.iam_shape.specs.declared.fault.ShapeFault.TheVariants.{At, OutOfMemory}
 use Rattle.iam_shape.specs.declared.path.Path.{Path}

@@ -5,8 +5,8 @@ ghost use Rattle.serde_json.specs.View.{view};
 ghost use Rattle.iam_json.specs.Look.{is_one_of};
 ghost use Rattle.iam_shape.specs.Texts.{HasTexts};
 ghost use Rattle.iam_shape.specs.Lent.{account_of};
-ghost use Rattle.iam_shape.specs.Code.Walk.{IsShapeFault, Walks, account_front};
-ghost use Rattle.iam_shape.specs.Shape.{account_checks, all_account_checks, first_bad, has_only, is_new_id};
+ghost use Rattle.iam_shape.specs.Code.Walk.{Walks, account_front};
+ghost use Rattle.iam_shape.specs.Shape.{IsShapeFault, account_checks, all_account_checks, first_bad, has_only, is_new_id};
 ghost use Rattle.iam_shape.specs.View.{HasText, IsAccountView, is_true_at};
 ghost use Rattle.iam_shape.specs.declared.fault.ShapeFault.TheVariants as s;
 

@@ -8,7 +8,7 @@ use Rattle.std.proofs.lemmas.List.Sums.{fold-append}
 use Rattle.iam_value.specs.Reading.{IsReading}
 use Rattle.iam_value.specs.Pieces.{IsCut, Lacks}
 use Rattle.iam_value.specs.Address.{IsDotted, IsGroup, IsOne, IsOneOrPair, IsJoined, IsCompressed, number_after}
-use Rattle.iam_value.specs.Groups.{IsRest, IsLast, IsFilled, IsClosed, IsOpen, IsLeading}
+use Rattle.iam_value.specs.Code.Groups.{IsRest, IsLast, IsFilled, IsClosed, IsOpen, IsLeading}
 use Rattle.iam_value.proofs.Numerals.{digit_within}
 use Rattle.iam_value.proofs.Cuts.{at_cut, not_lacking, same_reading}
 use Rattle.iam_value.proofs.Octets.{dotted_lacks}

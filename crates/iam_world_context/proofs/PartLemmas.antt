@@ -10,8 +10,8 @@ use Rattle.iam_shape.specs.declared.path.Name.TheVariants.{Context, Principals, 
 use Rattle.iam_shape.specs.declared.path.Path.{Path}
 use Rattle.iam_shape.specs.declared.path.Path.TheVariants.{Field, Member}
 use Rattle.iam_world_context.specs.Clean.{AllClean, AreClean}
-use Rattle.iam_world_context.specs.Code.Contexts.{IsFaultyAmong, IsFaultyPart}
-use Rattle.iam_world_context.specs.Contexts.{Beside, IsFaulty, all_parts, parts_of}
+use Rattle.iam_world_context.specs.Code.Contexts.{IsFaultyPart}
+use Rattle.iam_world_context.specs.Contexts.{Beside, IsFaulty, IsFaultyAmong, all_parts, parts_of}
 use Rattle.iam_world_context.specs.declared.fault.PartFault.{PartFault}
 use Rattle.iam_world_context.proofs.Lists.{drop-at, first_here, first_later, none-append}
 
