@@ -10,10 +10,10 @@ use mir.Val.{bool_byte}
 use Rattle.atomic_table.specs.Table.{Final, Seen}
 use Rattle.atomic_table.specs.Seated.{TableId}
 use Rattle.iam_lanes.specs.declared.view.LaneView.{LaneView}
-use Rattle.iam_lanes.specs.LaneRule.{no_cell, times, times_taken, LaneState, IsSeated, LaneRule, joined}
+use Rattle.iam_lanes.specs.Code.LaneRule.{LaneState, IsSeated, LaneRule, joined}
 use Rattle.iam_lanes.specs.Code.Words.{state_of, IsRuled}
 use Rattle.iam_lanes.specs.declared.rule.Plan.{Plan}
-use Rattle.iam_lanes.specs.Lanes.{LanesId, lanes_id, SeatView, taken_by, ends_by, offers_by, looks_by, ended_below}
+use Rattle.iam_lanes.specs.Lanes.{LanesId, lanes_id, SeatView, taken_by, ends_by, offers_by, looks_by, ended_below, no_cell, times, times_taken}
 use Rattle.iam_lanes.specs.Code.Fields.{seat_view}
 use Rattle.iam_lanes.specs.Code.Closing.{Gathers, passed_below}
 use Rattle.iam_lanes.proofs.Counts.{times_append, taken_append}

@@ -6,7 +6,8 @@ use mathlib.Core.Option.{some, some-injective, some-ne-none}
 use lib.ListN.{get_elem?}
 use Rattle.atomic_table.proofs.Lists.{at_set, at_snoc, set_else}
 use Rattle.iam_lanes.specs.declared.view.LaneView.{LaneView}
-use Rattle.iam_lanes.specs.LaneRule.{no_cell, times, times_taken, LaneState, taken_in, ends_in, offers_in, looks_in, seats_in, IsSeated, LaneRule, joined, empty_view, without_seat, one_seat, unseated}
+use Rattle.iam_lanes.specs.Code.LaneRule.{LaneState, taken_in, ends_in, offers_in, looks_in, seats_in, IsSeated, LaneRule, joined, empty_view, without_seat, one_seat, unseated}
+use Rattle.iam_lanes.specs.Lanes.{no_cell, times, times_taken}
 use Rattle.iam_lanes.proofs.Counts.{times_append, taken_append}
 use Rattle.iam_lanes.proofs.Sums.{sum_set}
 

@@ -7,7 +7,8 @@ use mathlib.Core.Option.{some}
 use lib.ListN.{get_elem?}
 use Rattle.atomic_table.specs.Table.{Me, keeps, Allows, Splits, Joins}
 use Rattle.iam_lanes.specs.declared.view.LaneView.{LaneView}
-use Rattle.iam_lanes.specs.LaneRule.{no_cell, times, times_taken, LaneRule, take, with_number, with_end, with_offer, with_look, joined, without_seat, one_seat, unseated}
+use Rattle.iam_lanes.specs.Code.LaneRule.{LaneRule, take, with_number, with_end, with_offer, with_look, joined, without_seat, one_seat, unseated}
+use Rattle.iam_lanes.specs.Lanes.{no_cell, times, times_taken}
 use Rattle.iam_lanes.specs.Code.Words.{state_of, IsRuled, opened, FindsCount, tells_take, tells_offer, tells_look}
 use Rattle.iam_lanes.proofs.Events as event
 use Rattle.iam_lanes.proofs.Bounds as bound

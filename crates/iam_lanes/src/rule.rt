@@ -2,7 +2,7 @@
 //
 // Word 0 is the bound, and word `lane + 1` is the count of a lane.
 ghost use Rattle.std.specs.Prelude.{◌≡◌};
-ghost use Rattle.iam_lanes.specs.LaneRule.{without_seat, one_seat, unseated, joined};
+ghost use Rattle.iam_lanes.specs.Code.LaneRule.{without_seat, one_seat, unseated, joined};
 ghost use Rattle.iam_lanes.specs.Code.Words.{tells_take, tells_offer, tells_look};
 
 use crate::view::LaneView;

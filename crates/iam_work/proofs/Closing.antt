@@ -12,8 +12,8 @@ use Rattle.atomic_table.specs.Table.{Final, Seen}
 use Rattle.atomic_table.specs.Seated.{TableId}
 use Rattle.iam_work.specs.declared.view.MarkView.{MarkView}
 use Rattle.iam_work.specs.declared.marks.Plan.{Plan}
-use Rattle.iam_work.specs.MarkRule.{times, MarkState, IsSeated, MarkRule, joined}
-use Rattle.iam_work.specs.Work.{WorkId, SeatView, work_id, marked_by, found_by, marked_below}
+use Rattle.iam_work.specs.Code.MarkRule.{MarkState, IsSeated, MarkRule, joined}
+use Rattle.iam_work.specs.Work.{WorkId, SeatView, work_id, marked_by, found_by, marked_below, times}
 use Rattle.iam_work.specs.Code.Words.{bit_of, state_of, IsRuled}
 use Rattle.iam_work.specs.Code.Closing.{Gathers, set_below}
 use Rattle.iam_work.proofs.Sums.{found_at, sum_alone, times_append}

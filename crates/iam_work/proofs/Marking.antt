@@ -7,7 +7,8 @@ use mathlib.Core.Option.{some, some-injective, some-ne-none}
 use lib.ListN.{get_elem?}
 use Rattle.atomic_table.proofs.Lists.{at_set, at_snoc, set_else}
 use Rattle.iam_work.specs.declared.view.MarkView.{MarkView}
-use Rattle.iam_work.specs.MarkRule.{times, MarkState, marked_in, found_in, seats_in, with_mark, with_found, mark, IsSeated, MarkRule, joined, empty_view, without_seat, one_seat, unseated}
+use Rattle.iam_work.specs.Code.MarkRule.{MarkState, marked_in, found_in, seats_in, with_mark, with_found, mark, IsSeated, MarkRule, joined, empty_view, without_seat, one_seat, unseated}
+use Rattle.iam_work.specs.Work.{times}
 use Rattle.iam_work.proofs.Sums.{sum_set, at_most, times_push_same, times_push_other, times_append}
 
 -- an empty view is seated

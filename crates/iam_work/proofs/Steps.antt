@@ -8,7 +8,7 @@ use Rattle.std.proofs.lemmas.Nat.Bits.{bit_at-zero, bit_at_set_same, bit_at_set_
 use mir.Syntax.{w64}
 use Rattle.atomic_table.specs.Table.{Me, keeps, Allows, Splits, Joins}
 use Rattle.iam_work.specs.declared.view.MarkView.{MarkView}
-use Rattle.iam_work.specs.MarkRule.{MarkState, MarkRule, mark, after_mark, joined, without_seat, one_seat, unseated}
+use Rattle.iam_work.specs.Code.MarkRule.{MarkState, MarkRule, mark, after_mark, joined, without_seat, one_seat, unseated}
 use Rattle.iam_work.specs.Code.Words.{bit_of, words_for, state_of, IsRuled, opened, FindsBit, tells_mark}
 use Rattle.iam_work.proofs.Marking as event
 

@@ -2,7 +2,7 @@
 //
 // The bit of grain g is bit `g % 64` of word `g / 64`.
 ghost use Rattle.std.specs.Prelude.{◌≡◌};
-ghost use Rattle.iam_work.specs.MarkRule.{without_seat, one_seat, unseated, joined};
+ghost use Rattle.iam_work.specs.Code.MarkRule.{without_seat, one_seat, unseated, joined};
 ghost use Rattle.iam_work.specs.Code.Words.{tells_mark};
 
 use crate::view::MarkView;
