@@ -1,7 +1,7 @@
 -- Policies under which what has to allow does so only where it does under others, and what follows from that.
 use Rattle.std.proofs.Common.{◌≡◌, ◌⊎◌, inl, inr, ℕ, suc, zero, ◌<◌, ◌≤◌, List, [], ◌∷◌, Some, true, false, length, get_or, refl, sym, ap, ◌∙◌, subst, arith}
 use Rattle.std.specs.List.{Contains}
-use Rattle.std.specs.Option.{is_some}
+use Rattle.std.specs.Option.{is_some, option_to_list}
 use Rattle.std.proofs.lemmas.List.{append-nil, get_or_default}
 use Rattle.std.proofs.lemmas.List.Elements.{Contains-get_or}
 use Rattle.iam_policy.specs.Reading.{PolicyValue, StatementValue}
@@ -15,7 +15,6 @@ use Rattle.iam_decision.specs.Applicable.{ApplicableValue, frame_of, has_policie
 use Rattle.iam_decision.specs.Decision.{Allows, BoundaryHolds, Denies, Grants, IsAllowed, IsDecision, LevelsHold, SessionHolds}
 use Rattle.iam_decision.specs.Laws
 use Rattle.iam_decision.specs.Laws.{HasFurtherLimits, IsGrantedInAccount, SomeGrants, SomeSays, levels_of, statements_at, statements_of}
-use Rattle.iam_decision.specs.Matched.{as_list}
 use Rattle.iam_decision.specs.declared.frame.Frame.{Frame}
 use Rattle.iam_decision.specs.declared.place.Layer.{Layer}
 use Rattle.iam_decision.specs.declared.place.Layer.TheVariants.{Org, Control, Resource, Identity, Boundary, Session}
@@ -68,7 +67,7 @@ boundary-allows : (a : ApplicableValue) (q : RequestValue) (boundary : PolicyVal
 boundary-allows a q boundary is (inl none) = absurd (let some : is_some a.boundary ≡ true = ap is_some is in let wrong : ⊥ = cc in wrong)
 boundary-allows a q boundary is (inr allows) =
     subst (SomeSays Allow q) (append-nil boundary.statements)
-    (subst (λ b. SomeSays Allow q (statements_of (as_list b))) is ((allows-same a q Boundary 0).0 allows))
+    (subst (λ b. SomeSays Allow q (statements_of (option_to_list b))) is ((allows-same a q Boundary 0).0 allows))
 
 pub boundary_binds : Laws.BoundaryBinds
 boundary_binds a q boundary is h = elim (bound-or-direct a q h) [
@@ -140,7 +139,7 @@ denies-there : (a b : ApplicableValue) (q : RequestValue)
 denies-there a b q on d = let there = (denies-same a q).0 d in (denies-same b q).1 (on there.0 there.1 there.2)
 
 grants-there : (a b : ApplicableValue) (q : RequestValue) (least : Grant)
-    → (SomeGrants least q (statements_of (as_list b.resource)) → SomeGrants least q (statements_of (as_list a.resource)))
+    → (SomeGrants least q (statements_of (option_to_list b.resource)) → SomeGrants least q (statements_of (option_to_list a.resource)))
     → Grants b q least → Grants a q least
 grants-there a b q least on g = (grants-same a q least).1 (on ((grants-same b q least).0 g))
 
@@ -263,11 +262,11 @@ module _ (a b : ApplicableValue) (q : RequestValue) (more : HasFurtherLimits a b
   limits-deny : (layer : Layer) (level : ℕ) → SomeSays Deny q (statements_at a layer level) → DeniesSomewhere b q
   limits-deny Org level some = levels-deny Org more.org level some
   limits-deny Control level some = levels-deny Control more.control level some
-  limits-deny Resource level some = (Resource, level, alone-deny level _ _ (inr (ap as_list more.resource)) some)
+  limits-deny Resource level some = (Resource, level, alone-deny level _ _ (inr (ap option_to_list more.resource)) some)
   limits-deny Identity level some = (Identity, level, alone-deny level _ _ (inr more.identity) some)
   limits-deny Boundary level some =
-      let was : (as_list a.boundary ≡ []) ⊎ (as_list b.boundary ≡ as_list a.boundary) =
-      elim more.boundary [ inl none ↦ inl (ap as_list none) | inr same ↦ inr (ap as_list same) ] in
+      let was : (option_to_list a.boundary ≡ []) ⊎ (option_to_list b.boundary ≡ option_to_list a.boundary) =
+      elim more.boundary [ inl none ↦ inl (ap option_to_list none) | inr same ↦ inr (ap option_to_list same) ] in
       (Boundary, level, alone-deny level _ _ was some)
   limits-deny Session level some = (Session, level, alone-deny level _ _ more.session some)
 
@@ -276,7 +275,7 @@ module _ (a b : ApplicableValue) (q : RequestValue) (more : HasFurtherLimits a b
     | inl none ↦ inl (ap is_some none)
     | inr same ↦ elim h [
       | inl without ↦ inl (sym (ap is_some same) ∙ without)
-      | inr allows ↦ inr (allows-there a b q Boundary 0 (subst (λ p. SomeSays Allow q (statements_of (as_list p))) same) allows)
+      | inr allows ↦ inr (allows-there a b q Boundary 0 (subst (λ p. SomeSays Allow q (statements_of (option_to_list p))) same) allows)
     ]
   ]
 
@@ -297,7 +296,7 @@ module _ (a b : ApplicableValue) (q : RequestValue) (more : HasFurtherLimits a b
     identity = allows-there a b q Identity 0 (subst (λ policies. SomeSays Allow q (statements_of policies)) more.identity);
     boundary = further-boundary;
     session = further-session;
-    grants = λ least. grants-there a b q least (subst (λ p. SomeGrants least q (statements_of (as_list p))) more.resource);
+    grants = λ least. grants-there a b q least (subst (λ p. SomeGrants least q (statements_of (option_to_list p))) more.resource);
     account = more.same_account;
     sealed = more.sealed;
   }

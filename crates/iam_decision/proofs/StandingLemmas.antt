@@ -1,6 +1,7 @@
 -- The placed statements of a layer and a level are those that stand there.
 use Rattle.std.proofs.Common.{◌≡◌, ◌⊎◌, inl, inr, ◌↔◌, ℕ, suc, zero, ◌≤◌, List, [], ◌∷◌, ◌++◌, get_or, refl, subst, arith}
 use Rattle.std.specs.List.{enumerate_from}
+use Rattle.std.specs.Option.{option_to_list}
 use Rattle.iam_policy.specs.Reading.{PolicyValue, StatementValue}
 use Rattle.iam_policy.specs.declared.effect.Effect.TheVariants.{Allow, Deny}
 use Rattle.iam_match.specs.Principal.{grant_of, rank}
@@ -9,7 +10,7 @@ use Rattle.iam_match.specs.declared.principal.Grant.{Grant}
 use Rattle.iam_decision.specs.Applicable.{ApplicableValue}
 use Rattle.iam_decision.specs.Decision.{Allows, Denies, Grants, Says}
 use Rattle.iam_decision.specs.Laws.{SomeGrants, SomeSays, levels_of, statements_at, statements_of}
-use Rattle.iam_decision.specs.Matched.{Placed, as_list, in_layer, in_level, in_policy, placed}
+use Rattle.iam_decision.specs.Matched.{Placed, in_layer, in_level, in_policy, placed}
 use Rattle.iam_decision.specs.declared.place.Layer.{Layer}
 use Rattle.iam_decision.specs.declared.place.Layer.TheVariants.{Org, Control, Resource, Identity, Boundary, Session}
 use Rattle.iam_decision.proofs.SomeLemmas.{SomeOf, any-from_some, any-same, at-numbered, iff-trans, numbered-at, right-same, some-append, some-fact, some-flat, some-from_any, some-numbered, some-same, some-weaker}
@@ -72,14 +73,14 @@ placed-parts : (P : Placed → Type 0) (a : ApplicableValue)
     → SomeOf P (placed a)
     ↔ (SomeOf P (in_layer Org a.org)
     ⊎ (SomeOf P (in_layer Control a.control)
-    ⊎ (SomeOf P (in_level Resource 0 (as_list a.resource))
+    ⊎ (SomeOf P (in_level Resource 0 (option_to_list a.resource))
     ⊎ (SomeOf P (in_level Identity 0 a.identity)
-    ⊎ (SomeOf P (in_level Boundary 0 (as_list a.boundary)) ⊎ SomeOf P (in_level Session 0 a.session))))))
+    ⊎ (SomeOf P (in_level Boundary 0 (option_to_list a.boundary)) ⊎ SomeOf P (in_level Session 0 a.session))))))
 placed-parts P a =
     let session = in_level Session 0 a.session in
-    let boundary = in_level Boundary 0 (as_list a.boundary) in
+    let boundary = in_level Boundary 0 (option_to_list a.boundary) in
     let identity = in_level Identity 0 a.identity in
-    let resource = in_level Resource 0 (as_list a.resource) in
+    let resource = in_level Resource 0 (option_to_list a.resource) in
     let control = in_layer Control a.control in
     iff-trans (some-append P (in_layer Org a.org) (control ++ (resource ++ (identity ++ (boundary ++ session)))))
     (
@@ -111,11 +112,11 @@ standing-from R a layer level h =
       | inr rest ↦ elim rest [
         | inl control ↦ in-levels Control control
         | inr rest ↦ elim rest [
-          | inl resource ↦ single Resource (as_list a.resource) (λ s. s) resource
+          | inl resource ↦ single Resource (option_to_list a.resource) (λ s. s) resource
           | inr rest ↦ elim rest [
             | inl identity ↦ single Identity a.identity (λ s. s) identity
             | inr rest ↦ elim rest [
-              | inl boundary ↦ single Boundary (as_list a.boundary) (λ s. s) boundary
+              | inl boundary ↦ single Boundary (option_to_list a.boundary) (λ s. s) boundary
               | inr session ↦ single Session a.session (λ s. s) session
             ]
           ]
@@ -129,12 +130,12 @@ standing-to R a Org level h = (placed-parts (Stands R Org level) a).1 (inl ((lay
 standing-to R a Control level h =
     (placed-parts (Stands R Control level) a).1 (inr (inl ((layer-same R Control level Control a.control).1 (h, refl))))
 standing-to R a Resource zero h =
-    (placed-parts (Stands R Resource 0) a).1 (inr (inr (inl ((level-same R Resource 0 Resource 0 (as_list a.resource)).1 (h, (refl, refl))))))
+    (placed-parts (Stands R Resource 0) a).1 (inr (inr (inl ((level-same R Resource 0 Resource 0 (option_to_list a.resource)).1 (h, (refl, refl))))))
 standing-to R a Identity zero h =
     (placed-parts (Stands R Identity 0) a).1 (inr (inr (inr (inl ((level-same R Identity 0 Identity 0 a.identity).1 (h, (refl, refl)))))))
 standing-to R a Boundary zero h =
     (placed-parts (Stands R Boundary 0) a).1
-    (inr (inr (inr (inr (inl ((level-same R Boundary 0 Boundary 0 (as_list a.boundary)).1 (h, (refl, refl))))))))
+    (inr (inr (inr (inr (inl ((level-same R Boundary 0 Boundary 0 (option_to_list a.boundary)).1 (h, (refl, refl))))))))
 standing-to R a Session zero h =
     (placed-parts (Stands R Session 0) a).1
     (inr (inr (inr (inr (inr ((level-same R Session 0 Session 0 a.session).1 (h, (refl, refl))))))))
@@ -159,17 +160,17 @@ allows-same a q layer level =
 
 -- the policies of the resource are at level 0
 root-alone : (R : StatementValue → Type 0) (a : ApplicableValue) (level : ℕ)
-    → SomeOf R (statements_at a Resource level) → SomeOf R (statements_of (as_list a.resource))
+    → SomeOf R (statements_at a Resource level) → SomeOf R (statements_of (option_to_list a.resource))
 root-alone R a zero h = h
 root-alone R a (suc level) h = absurd h
 
 pub grants-same : (a : ApplicableValue) (q : RequestValue) (least : Grant)
-    → Grants a q least ↔ SomeGrants least q (statements_of (as_list a.resource))
+    → Grants a q least ↔ SomeGrants least q (statements_of (option_to_list a.resource))
 grants-same a q least =
     let R : StatementValue → Type 0 = λ s. StatementMatches s q × (s.effect ≡ Allow) × (rank least ≤ rank (grant_of s.principal q.requester)) in
     let G : Placed → Type 0 = λ s. Says q Allow s × (s.place.layer ≡ Resource) × (rank least ≤ rank (grant_of s.statement.principal q.requester)) in
     let out : (s : Placed) → Stands R Resource 0 s → G s = λ s h. ((h.0.0, h.0.1), h.1.0, h.0.2) in (
-      λ g. any-from_some R (statements_of (as_list a.resource)) (
+      λ g. any-from_some R (statements_of (option_to_list a.resource)) (
           root-alone R a g.1.place.level (
           standing-from R a Resource g.1.place.level (
           some-from_any (Stands R Resource g.1.place.level) (placed a)
@@ -178,7 +179,7 @@ grants-same a q least =
           )
           ),
       λ g. any-from_some G (placed a)
-          (some-weaker (Stands R Resource 0) G out (placed a) (standing-to R a Resource 0 (some-from_any R (statements_of (as_list a.resource)) g))),
+          (some-weaker (Stands R Resource 0) G out (placed a) (standing-to R a Resource 0 (some-from_any R (statements_of (option_to_list a.resource)) g))),
     )
 
 -- some statement of some layer denies
