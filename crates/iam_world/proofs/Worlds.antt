@@ -1,6 +1,7 @@
 -- What a world keeps of the document that it is read from.
 use Rattle.std.proofs.Common.{◌≡◌, inl, inr, ℕ, ◌*◌, ◌<◌, ◌≤◌, ◌^◌, List, [], ◌∷◌, ◌++◌, map, length, Bool, true, false, cond, Option, Some, None, option_map, IfSome, refl, sym, ap, ◌∙◌, subst, arith}
 use Rattle.std.specs.List.{AllByRecursion, AllZip, find, flat_map, zip}
+use Rattle.std.proofs.lemmas.List.Folds.{flat_map-map}
 use Rattle.serde_json.specs.Data.{Data}
 use Rattle.iam_context.specs.Context.{ContextValue, keys_of}
 use Rattle.iam_context.specs.ContextFault.{IsClean}
@@ -138,10 +139,6 @@ of_map : {X Y : Type 0} (P : Y → Type 0) (g : X → Y) (xs : List X) → AllBy
 of_map P g [] all = tt
 of_map P g (x ∷ xs) all = (all.0, of_map P g xs all.1)
 
-flat-map : {X Y Z : Type 0} (f : Y → List Z) (g : X → Y) (xs : List X) → flat_map f (map g xs) ≡ flat_map (λ x. f (g x)) xs
-flat-map f g [] = refl
-flat-map f g (x ∷ xs) = ap (λ rest. f (g x) ++ rest) (flat-map f g xs)
-
 can_join : (view : WorldViewValue) (world : WorldValue) → ReadsWorld view world → AllClean (part_of view.context) (principal_parts view) (resource_parts view) → CanJoin world
 can_join view world reads clean =
     let own = clean.own in
@@ -155,7 +152,7 @@ can_join view world reads clean =
     let all : keys_of (part_of view.context) ++ flat_map keys_of (principal_parts view) ≡ keys_of world.context ++ flat_map (λ (p : PrincipalValue). keys_of p.context) world.principals =
     ap (λ ks. ks ++ flat_map keys_of (principal_parts view)) keys
     ∙ ap (λ parts. keys_of world.context ++ flat_map keys_of parts) (sym principals)
-    ∙ ap (λ ks. keys_of world.context ++ ks) (flat-map keys_of (λ (p : PrincipalValue). p.context) world.principals) in
+    ∙ ap (λ ks. keys_of world.context ++ ks) (flat_map-map keys_of (λ (p : PrincipalValue). p.context) world.principals) in
     record {
       own = subst (IsClean []) (sym reads.context) own;
       principals =

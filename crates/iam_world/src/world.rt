@@ -4,7 +4,7 @@ ghost use Rattle.std.specs.List.{AllZip, find};
 ghost use Rattle.std.specs.Str.{bytes_eq};
 ghost use Rattle.serde_json.specs.Data.{Data};
 ghost use Rattle.serde_json.specs.View.{view};
-ghost use Rattle.iam_world.specs.Code.ViewFault.{IsFirstViewFault, ViewHasFault};
+ghost use Rattle.iam_world.specs.Code.ViewFault.{IsFirstViewFault};
 ghost use Rattle.iam_world_context.specs.Clean.{HasContexts};
 ghost use Rattle.iam_world.specs.Code.Documents.{HasPolicies};
 ghost use Rattle.iam_shape.specs.Texts.{HasTexts};
@@ -12,7 +12,7 @@ ghost use Rattle.iam_shape.specs.Few.{HasFewLists};
 ghost use Rattle.iam_shape.specs.Lent.{principal_of};
 ghost use Rattle.iam_shape.specs.LentWorld.{world_of};
 ghost use Rattle.iam_world.specs.Reads.{ReadsWorld};
-ghost use Rattle.iam_world.specs.WorldFault.{IsJson, IsOverLimits, IsRequesterAt, cell_count, statement_count};
+ghost use Rattle.iam_world.specs.WorldFault.{IsJson, IsOverLimits, IsRequesterAt, ViewHasFault, cell_count, statement_count};
 ghost use Rattle.iam_world.specs.declared.fault.WorldFault.{WorldFault};
 ghost use Rattle.iam_world.specs.declared.fault.WorldFault.TheVariants as w;
 
