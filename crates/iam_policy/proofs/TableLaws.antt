@@ -29,17 +29,17 @@ find_passes p (y ∷ xs) x e = go (p y) refl (find_passes p xs x) e
     go false same later e = later e
 
 -- the faults of the list have the numbers from n on
-abbrev IsNumbered : ℕ → List Fault → Type 0
-IsNumbered n [] = Unit {0}
-IsNumbered n (f ∷ fs) = (number_of f ≡ n) × IsNumbered (suc n) fs
+abbrev HaveNumbersFrom : ℕ → List Fault → Type 0
+HaveNumbersFrom n [] = Unit {0}
+HaveNumbersFrom n (f ∷ fs) = (number_of f ≡ n) × HaveNumbersFrom (suc n) fs
 
-numbered-at : (n : ℕ) (fs : List Fault) (k : ℕ) (f : Fault) → IsNumbered n fs → slice_get fs k ≡ Some f → number_of f ≡ n + k
+numbered-at : (n : ℕ) (fs : List Fault) (k : ℕ) (f : Fault) → HaveNumbersFrom n fs → slice_get fs k ≡ Some f → number_of f ≡ n + k
 numbered-at n [] k f h at = cc
 numbered-at n (g ∷ fs) zero f h at = let here : g ≡ f = cc in let number : number_of g ≡ n = h.0 in let same : number_of g ≡ number_of f = ap number_of here in omega arith
 numbered-at n (g ∷ fs) (suc k) f h at = let later : number_of f ≡ suc n + k = numbered-at (suc n) fs k f h.1 at in omega arith
 
 -- the first that passes has the least number of those that pass
-find_least : (p : Fault → Bool) (n : ℕ) (fs : List Fault) (f g : Fault) (k : ℕ) → IsNumbered n fs → find p fs ≡ Some f → slice_get fs k ≡ Some g
+find_least : (p : Fault → Bool) (n : ℕ) (fs : List Fault) (f g : Fault) (k : ℕ) → HaveNumbersFrom n fs → find p fs ≡ Some f → slice_get fs k ≡ Some g
     → p g ≡ true → number_of f ≤ number_of g
 find_least p n [] f g k h e at passes = cc
 find_least p n (x ∷ fs) f g k h e at passes = go (p x) refl (λ found j rest. find_least p (suc n) fs f g j h.1 found rest passes) e
@@ -56,7 +56,7 @@ find_least p n (x ∷ fs) f g k h e at passes = go (p x) refl (λ found j rest. 
     go true same later e = let here : x ≡ f = cc in let least : number_of x ≤ number_of g = first k h.0 at in let equal : number_of x ≡ number_of f = ap number_of here in omega arith
     go false same later e = let rest = at_rest k same at in later e rest.0 rest.1
 
-numbered : IsNumbered 1 table
+numbered : HaveNumbersFrom 1 table
 numbered = (refl, (refl, (refl, (refl, (refl, (refl, (refl, (refl, (refl, (refl, (refl, (refl, (refl, (refl, (refl, (refl, (refl, (refl, (refl, (refl, (refl, tt)))))))))))))))))))))
 
 -- each fault but want of memory stands in the table

@@ -9,7 +9,7 @@ use Rattle.std.specs.String.{string_eq}
 use Rattle.std.specs.declared.alloc.Global.{Global}
 use Rattle.std.proofs.lemmas.Map.Text.{hash_map_updates_text}
 use Rattle.std.proofs.lemmas.Slice.Eq.{bytes_eq-Decides}
-use Rattle.iam_shape.specs.Texts.{HasTexts, Places}
+use Rattle.iam_shape.specs.Texts.{AreFirstPlaces, Places}
 
 -- a text has a place where it is one of the texts
 pub has-place : (test : List ℕ → Bool) (i : ℕ) (texts : List (List ℕ)) → is_some (position_from test i texts) ≡ list_any test texts
@@ -38,7 +38,7 @@ place-more test i (t ∷ texts) text =
 -- the map with a new text has one text more
 pub has_more : (id : String Global) (old new : Places) (text : List ℕ) (number : ℕ) → string_bytes id ≡ text
     → UpdatesBy string_eq (λ k. bytes_eq (string_bytes id) (string_bytes k)) old new (Some number)
-    → (texts : List (List ℕ)) → HasTexts old texts → number ≡ length texts → list_any (bytes_eq text) texts ≡ false → HasTexts new (texts ++ (text ∷ []))
+    → (texts : List (List ℕ)) → AreFirstPlaces old texts → number ≡ length texts → list_any (bytes_eq text) texts ≡ false → AreFirstPlaces new (texts ++ (text ∷ []))
 has_more id old new text number is updates texts has last fresh other =
     hash_map_updates_text (string_bytes id) old new (Some number) updates other
     ∙ ap (λ t. cond (bytes_eq t other) (Some number) (get_by_text old other)) is

@@ -6,7 +6,7 @@ use Rattle.std.proofs.lemmas.List.Sums.{sum_by-append}
 use Rattle.serde_json.specs.Data.{Data}
 use Rattle.iam_policy.specs.Fault.{statements_in}
 use Rattle.iam_world.specs.Code.Budget.{Leaves}
-use Rattle.iam_world.specs.Code.Documents.{IsCleared, IsRefusedAmong, document_at, path_at, statements_of}
+use Rattle.iam_world.specs.Code.Documents.{IsCleared, IsRefusedAmong, document_at, path_at, statement_total}
 use Rattle.iam_world.specs.WorldFault.{Document, IsNotAccepted, numbered, of_each}
 use Rattle.iam_world.specs.declared.documents.Documents.{Documents}
 use Rattle.iam_world.specs.declared.fault.WorldFault.{WorldFault}
@@ -33,12 +33,12 @@ pub cleared-append : (xs ys : List Document) (a b c : Budget) → IsCleared xs a
 cleared-append xs ys a b c one two = record {
   accepted = none-append (λ d. ¬ IsNotAccepted d) xs ys one.accepted two.accepted;
   counted = λ total leaves.
-      subst (Leaves c) (sums total) (two.counted (total + statements_of xs) (one.counted total leaves));
+      subst (Leaves c) (sums total) (two.counted (total + statement_total xs) (one.counted total leaves));
 }
   where
-    sums : (total : ℕ) → total + statements_of xs + statements_of ys ≡ total + statements_of (xs ++ ys)
+    sums : (total : ℕ) → total + statement_total xs + statement_total ys ≡ total + statement_total (xs ++ ys)
     sums total =
-        let whole : statements_of (xs ++ ys) ≡ statements_of xs + statements_of ys = sum_by-append (λ (d : Document). length (statements_in d.value)) xs ys in
+        let whole : statement_total (xs ++ ys) ≡ statement_total xs + statement_total ys = sum_by-append (λ (d : Document). length (statements_in d.value)) xs ys in
         omega (arith, whole)
 
 -- ---- the documents of each member of a list

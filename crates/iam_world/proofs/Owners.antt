@@ -4,7 +4,7 @@ use Rattle.std.specs.List.{AllByRecursion, AllZip, position_from}
 use Rattle.std.specs.Prelude.{IsTrue}
 use Rattle.iam_match.specs.Requester.{RequesterValue, IsRequesterOf}
 use Rattle.iam_world.specs.Code.ViewFault.{FindsFirst}
-use Rattle.iam_shape.specs.Texts.{HasTexts, Places, has_text}
+use Rattle.iam_shape.specs.Texts.{AreFirstPlaces, Places, has_text}
 use Rattle.iam_shape.specs.View.{PrincipalViewValue, ResourceViewValue, WorldViewValue}
 use Rattle.iam_shape.specs.First.{IsFirstAt, with_paths}
 use Rattle.iam_world.specs.WorldFault.{IsOfUnknownAccount, IsRequesterAt, Owner, of_principal, of_resource, has_account, owners}
@@ -23,7 +23,7 @@ not-false : (b : Bool) → not b ≡ false → b ≡ true
 not-false true e = refl
 not-false false e = cc
 
-module _ (world : WorldViewValue) (ids : Places) (has : HasTexts ids (map (λ account. account.id) world.accounts)) where
+module _ (world : WorldViewValue) (ids : Places) (has : AreFirstPlaces ids (map (λ account. account.id) world.accounts)) where
   told : (id : List ℕ) → has_text ids id ≡ has_account world id
   told id = ap is_some (has id) ∙ has-place (bytes_eq id) 0 (map (λ account. account.id) world.accounts)
 
@@ -57,7 +57,7 @@ module _ (world : WorldViewValue) (ids : Places) (has : HasTexts ids (map (λ ac
       fails : (owner : Owner) (r : RequesterValue) → User owner r → not (has_text ids r.account) ≡ false → ¬ IsOfUnknownAccount world owner
       fails owner r (p, is, at) e off =
           let at_p = subst (IsOfUnknownAccount world) is off in
-          let same : at_p.1.0 ≡ r = one p.arn p.session at_p.1.0 r at_p.1.1 at in
+          let same : at_p.1.0 ≡ r = one p.arn p.session_name at_p.1.0 r at_p.1.1 at in
           let account : r.account ≡ at_p.0 = sym (at_p.1.2 ∙ ap (λ (x : RequesterValue). x.account) same) in
           at_p.2 (subst (λ id. IsTrue (has_account world id)) account (known r.account e))
 

@@ -9,7 +9,7 @@ use Rattle.iam_match.specs.Requester.{RequesterValue}
 use Rattle.iam_policy.specs.declared.fault.Kind.{Kind}
 use Rattle.iam_policy.specs.declared.fault.Kind.TheVariants as kind
 use Rattle.iam_policy.specs.Reading.{Reads, PolicyValue}
-use Rattle.iam_shape.specs.Texts.{HasTexts, Places}
+use Rattle.iam_shape.specs.Texts.{AreFirstPlaces, Places}
 use Rattle.iam_shape.specs.Few.{HasFewDocuments, HasFewLevels, HasFewLists}
 use Rattle.iam_shape.specs.View.{AccountViewValue, PrincipalViewValue, ResourceViewValue, WorldViewValue}
 use Rattle.iam_world_context.specs.Clean.{AllClean, AreClean}
@@ -175,7 +175,7 @@ same_ids (v ∷ vs) (a ∷ accounts) zip = ap (λ id. id ∷ map (λ (account : 
 -- a world that is read of a document within the limits is within them
 pub sized : (view : WorldViewValue) (world : WorldValue) (cells statements : ℕ) (numbers : Places) → ReadsWorld view world → HasFewLists view → view.moment ≤ 253402300799
     → cells ≡ cell_count view → statements ≡ statement_count view → (¬ IsOverLimits view)
-    → AllClean (part_of view.context) (principal_parts view) (resource_parts view) → HasTexts numbers (map (λ account. account.id) view.accounts)
+    → AllClean (part_of view.context) (principal_parts view) (resource_parts view) → AreFirstPlaces numbers (map (λ account. account.id) view.accounts)
     → IsSized world cells statements numbers
 sized view world cells statements numbers reads small moment cells_is statements_is within clean numbered = record {
   cells_are = cells_is ∙ cells-are view world reads;
@@ -188,7 +188,7 @@ sized view world cells statements numbers reads small moment cells_is statements
       few_levels kind.Control (λ v. v.control) (λ r. r.control) ReadsResource (λ v r read. read.control) view.resources world.resources small.resources reads.resources;
   moment = subst (λ n. n ≤ 253402300799) (sym reads.moment) moment;
   contexts = can_join view world reads clean;
-  numbered = subst (HasTexts numbers) (sym (same_ids view.accounts world.accounts reads.accounts)) numbered;
+  numbered = subst (AreFirstPlaces numbers) (sym (same_ids view.accounts world.accounts reads.accounts)) numbered;
 }
   where
     at_most : (n m : ℕ) → (¬ (m < n)) → n ≤ m

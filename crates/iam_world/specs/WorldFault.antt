@@ -77,7 +77,7 @@ world_text fault = decimal (world_number_of fault) ++ (codes " " ++ (world_name_
 
 -- this is the requester of the principal
 abbrev pub IsRequesterAt : PrincipalViewValue → RequesterValue → Type 0
-IsRequesterAt principal r = IsRequesterOf principal.arn principal.session r
+IsRequesterAt principal r = IsRequesterOf principal.arn principal.session_name r
 
 abbrev pub IsNoRequester : PrincipalViewValue → Type 0
 IsNoRequester principal = (r : RequesterValue) → ¬ IsRequesterAt principal r

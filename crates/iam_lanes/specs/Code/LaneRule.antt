@@ -107,8 +107,8 @@ pub record LaneRule (lengths : List ℕ) (all : ℕ) (s : LaneState) : Type 0 wh
   pub looks : (cell : ℕ) → cell < no_cell → 0 < looks_in cell s → 0 < offers_in cell s
 
 -- two views as one: seats added, lists one after the other
-abbrev pub joined : LaneView → LaneView → LaneView
-joined v w = record v {
+abbrev pub joined_view : LaneView → LaneView → LaneView
+joined_view v w = record v {
   seats = v.seats + w.seats;
   taken = v.taken ++ w.taken;
   ends = v.ends ++ w.ends;

@@ -63,8 +63,8 @@ pub record MarkRule (grains all : ℕ) (s : MarkState) : Type 0 where
   pub seats : SeatsAddUp all s
 
 -- two views as one: seats added, lists one after the other
-abbrev pub joined : MarkView → MarkView → MarkView
-joined v w = record v { seats = v.seats + w.seats; marked = v.marked ++ w.marked; found = v.found ++ w.found }
+abbrev pub joined_view : MarkView → MarkView → MarkView
+joined_view v w = record v { seats = v.seats + w.seats; marked = v.marked ++ w.marked; found = v.found ++ w.found }
 
 -- an empty view in which so many seats stand
 abbrev pub empty_view : ℕ → ℕ → ℕ → MarkView
