@@ -18,7 +18,7 @@ use Rattle.iam_world.specs.Code.Documents.{statement_total}
 use Rattle.iam_world.specs.Reads.{ReadsAccount, ReadsOptional, ReadsPrincipal, ReadsResource, ReadsWorld}
 use Rattle.iam_world.specs.World.{AccountValue, PrincipalValue, ResourceValue, WorldValue, world_statements}
 use Rattle.iam_world.specs.WorldFault.{Document, boundary_documents, control_documents, identity_documents, level_documents, numbered, of_each, org_documents, resource_documents, session_documents, statement_count}
-use Rattle.iam_world.proofs.Walks.{zip-length}
+use Rattle.iam_world.proofs.Walks.{zip_length}
 
 abbrev document_statements : Document → ℕ
 document_statements document = length (statements_in document.value)
@@ -43,7 +43,7 @@ of_list kind at i (d ∷ ds) [] zip = absurd zip
 of_list kind at i (d ∷ ds) (p ∷ ps) zip =
     let rest : List Document = numbered kind at (i + 1) ds in
     sum_by-cons document_statements (record { path = at i; kind = kind; value = d }) rest
-    ∙ ap (λ n. n + statement_total rest) (zip-length _ _ p.statements zip.0.statements)
+    ∙ ap (λ n. n + statement_total rest) (zip_length _ _ p.statements zip.0.statements)
     ∙ ap (λ n. length p.statements + n) (of_list kind at (i + 1) ds ps zip.1)
     ∙ sym (sum_by-cons policy_statements p ps)
 
@@ -71,8 +71,8 @@ of_levels kind list i name levels policies zip =
     of_members (λ j ds. numbered kind (Leaf list i name j) 0 ds) (λ (level : List PolicyValue). level) (AllZip (Reads kind))
     (λ j ds ps reads. of_list kind (Leaf list i name j) 0 ds ps reads) 0 levels policies zip
 
-pub statements-are : (view : WorldViewValue) (world : WorldValue) → ReadsWorld view world → statement_count view ≡ world_statements world
-statements-are view world reads =
+pub statements_same : (view : WorldViewValue) (world : WorldValue) → ReadsWorld view world → statement_count view ≡ world_statements world
+statements_same view world reads =
     let orgs = λ (a : AccountValue). flat_map (λ (level : List PolicyValue). level) a.org in
     let controls = λ (x : ResourceValue). flat_map (λ (level : List PolicyValue). level) x.control in
     let attached = λ (x : ResourceValue). option_to_list x.policy in

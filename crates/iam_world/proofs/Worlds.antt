@@ -20,8 +20,8 @@ use Rattle.iam_world.specs.Reads.{ReadsAccount, ReadsOptional, ReadsPrincipal, R
 use Rattle.iam_world.specs.World.{AccountValue, PrincipalValue, ResourceValue, WorldValue, world_cells}
 use Rattle.iam_world_context.specs.Contexts.{principal_parts, resource_parts}
 use Rattle.iam_world.specs.WorldFault.{IsOverLimits, IsRequesterAt, cell_count, statement_count}
-use Rattle.iam_world.proofs.Counts.{statements-are}
-use Rattle.iam_world.proofs.Walks.{zip-length}
+use Rattle.iam_world.proofs.Counts.{statements_same}
+use Rattle.iam_world.proofs.Walks.{zip_length}
 
 -- ---- putting together
 
@@ -70,19 +70,19 @@ reads_principals g (v ∷ vs) (x ∷ rs) (y ∷ is) (z ∷ bs) (w ∷ ss) (c ∷
 
 -- ---- sizes
 
-cells-are : (view : WorldViewValue) (world : WorldValue) → ReadsWorld view world → cell_count view ≡ world_cells world
-cells-are view world reads =
-    ap (λ n. n * length view.actions * length view.resources) (zip-length ReadsPrincipal view.principals world.principals reads.principals)
+cells_same : (view : WorldViewValue) (world : WorldValue) → ReadsWorld view world → cell_count view ≡ world_cells world
+cells_same view world reads =
+    ap (λ n. n * length view.actions * length view.resources) (zip_length ReadsPrincipal view.principals world.principals reads.principals)
     ∙ ap (λ n. length world.principals * n * length view.resources) (ap length (sym reads.actions))
-    ∙ ap (λ n. length world.principals * length world.actions * n) (zip-length ReadsResource view.resources world.resources reads.resources)
+    ∙ ap (λ n. length world.principals * length world.actions * n) (zip_length ReadsResource view.resources world.resources reads.resources)
 
 few : (vs : List PrincipalViewValue) (principals : List PrincipalValue) → AllByRecursion HasFewDocuments vs → AllZip ReadsPrincipal vs principals → AllByRecursion HasFewPolicies principals
 few [] [] small zip = tt
 few [] (p ∷ rest) small zip = absurd zip
 few (v ∷ vs) [] small zip = absurd zip
 few (v ∷ vs) (p ∷ rest) small zip =
-    let identity : length v.identity ≡ length p.identity = zip-length (Reads kind.Identity) v.identity p.identity zip.0.identity in
-    let session : length v.session_policies ≡ length p.session = zip-length (Reads kind.Identity) v.session_policies p.session zip.0.session in
+    let identity : length v.identity ≡ length p.identity = zip_length (Reads kind.Identity) v.identity p.identity zip.0.identity in
+    let session : length v.session_policies ≡ length p.session = zip_length (Reads kind.Identity) v.session_policies p.session zip.0.session in
     (record { identity = omega (arith, small.0.identity, identity); session = omega (arith, small.0.session, session) }, few vs rest small.1 zip.1)
 
 few_in : (kind : Kind) (levels : List (List Data)) (policies : List (List PolicyValue)) → AllByRecursion (λ level. length level < 2 ^ 32) levels
@@ -91,7 +91,7 @@ few_in kind [] [] small zip = tt
 few_in kind [] (p ∷ policies) small zip = absurd zip
 few_in kind (l ∷ levels) [] small zip = absurd zip
 few_in kind (l ∷ levels) (p ∷ policies) small zip =
-    let same : length l ≡ length p = zip-length (Reads kind) l p zip.0 in (omega (arith, small.0, same), few_in kind levels policies small.1 zip.1)
+    let same : length l ≡ length p = zip_length (Reads kind) l p zip.0 in (omega (arith, small.0, same), few_in kind levels policies small.1 zip.1)
 
 -- what is read of few levels is few
 few_levels : {V X : Type 0} (kind : Kind) (f : V → List (List Data)) (g : X → List (List PolicyValue)) (R : V → X → Type 0)
@@ -102,7 +102,7 @@ few_levels kind f g R step [] (x ∷ xs) small zip = absurd zip
 few_levels kind f g R step (v ∷ vs) [] small zip = absurd zip
 few_levels kind f g R step (v ∷ vs) (x ∷ xs) small zip =
     let read = step v x zip.0 in
-    let same : length (f v) ≡ length (g x) = zip-length (AllZip (Reads kind)) (f v) (g x) read in (
+    let same : length (f v) ≡ length (g x) = zip_length (AllZip (Reads kind)) (f v) (g x) read in (
       record { levels_few = omega (arith, small.0.levels_few, same); policies_few = few_in kind (f v) (g x) small.0.policies_few read },
       few_levels kind f g R step vs xs small.1 zip.1,
     )
@@ -178,8 +178,8 @@ pub sized : (view : WorldViewValue) (world : WorldValue) (cells statements : ℕ
     → AllClean (part_of view.context) (principal_parts view) (resource_parts view) → AreFirstPlaces numbers (map (λ account. account.id) view.accounts)
     → IsSized world cells statements numbers
 sized view world cells statements numbers reads small moment cells_is statements_is within clean numbered = record {
-  cells_are = cells_is ∙ cells-are view world reads;
-  statements_are = statements_is ∙ statements-are view world reads;
+  cells_are = cells_is ∙ cells_same view world reads;
+  statements_are = statements_is ∙ statements_same view world reads;
   few_cells = at_most cells 16777216 (λ many. within (inl (subst (λ n. 16777216 < n) cells_is many)));
   few_statements = at_most statements 4096 (λ many. within (inr (subst (λ n. 4096 < n) statements_is many)));
   policies = few view.principals world.principals small.principals reads.principals;
