@@ -29,24 +29,24 @@ pub record Given : Type 0 where
   pub reports : OneReport
   pub firsts : OneFirstReport
 
-one-answer : Given → (world : WorldValue) (p a r : ℕ) (text other : List ℕ) → IsAnswer world p a r text → IsAnswer world p a r other → text ≡ other
-one-answer g world p a r text other (cell, is, (verdict, at, row)) (cell', is', (verdict', at', row')) =
+one_answer : Given → (world : WorldValue) (p a r : ℕ) (text other : List ℕ) → IsAnswer world p a r text → IsAnswer world p a r other → text ≡ other
+one_answer g world p a r text other (cell, is, (verdict, at, row)) (cell', is', (verdict', at', row')) =
     let number : cell ≡ cell' = is.number ∙ sym is'.number in
     let same : verdict ≡ verdict' = g.verdicts world p a r verdict verdict' at at' in
     g.rows world cell' p a r verdict' text other
     (subst (λ v. IsCsvRow world cell' p a r v text) same (subst (λ c. IsCsvRow world c p a r verdict text) number row)) row'
 
-one-report : Given → (task : Task) (options other : Options) (world : WorldValue) (text text' : List ℕ) → format_of options ≡ format_of other
+one_asked_report : Given → (task : Task) (options other : Options) (world : WorldValue) (text text' : List ℕ) → format_of options ≡ format_of other
     → options.brief ≡ other.brief → IsReportOf task options world text → IsReportOf task other world text' → text ≡ text'
-one-report g t.Check options other world text text' format brief h k = h ∙ sym k
-one-report g (t.Decide p a r) options other world text text' format brief h k = one-answer g world p a r text text' h k
-one-report g t.Matrix options other world text text' format brief h k =
+one_asked_report g t.Check options other world text text' format brief h k = h ∙ sym k
+one_asked_report g (t.Decide p a r) options other world text text' format brief h k = one_answer g world p a r text text' h k
+one_asked_report g t.Matrix options other world text text' format brief h k =
     let was = subst (λ b. IsMatrixReport (format_of other) b world text) brief (subst (λ f. IsMatrixReport f options.brief world text) format h.1) in
     g.reports (format_of other) other.brief world text text' was k.1
-one-report g t.First options other world text text' format brief h k = g.firsts world text text' h.1 k.1
+one_asked_report g t.First options other world text text' format brief h k = g.firsts world text text' h.1 k.1
 
-other-way : (options other : Options) → AskTheSame options other → AskTheSame other options
-other-way options other same = ap (λ (o : Options). record o { tile = options.tile; workers = options.workers }) (sym same)
+other_way : (options other : Options) → AskTheSame options other → AskTheSame other options
+other_way options other same = ap (λ (o : Options). record o { tile = options.tile; workers = options.workers }) (sym same)
 
 pub one_output : Given → Laws.OneOutput
 one_output g options other bytes text text' same (world, is, h) (world', is', k) =
@@ -54,40 +54,40 @@ one_output g options other bytes text text' same (world, is, h) (world', is', k)
     let format : format_of options ≡ format_of other = sym (ap format_of same) in
     let brief : options.brief ≡ other.brief = sym (ap (λ (o : Options). o.brief) same) in
     let one : world' ≡ world = g.worlds bytes world' world is' is in
-    one-report g options.task options other world text text' format brief h
+    one_asked_report g options.task options other world text text' format brief h
     (subst (λ w. IsReportOf options.task other w text') one (subst (λ x. IsReportOf x other world' text') task k))
 
 -- a command that has a report has its cell
-has-cell : (task : Task) (options : Options) (world : WorldValue) (text : List ℕ) → IsReportOf task options world text → ¬ LacksCellOf task world
-has-cell t.Check options world text h lacks = lacks
-has-cell (t.Decide p a r) options world text (cell, is, h) lacks =
+has_cell : (task : Task) (options : Options) (world : WorldValue) (text : List ℕ) → IsReportOf task options world text → ¬ LacksCellOf task world
+has_cell t.Check options world text h lacks = lacks
+has_cell (t.Decide p a r) options world text (cell, is, h) lacks =
     lacks (record { principal = is.principal; action = is.action; resource = is.resource })
-has-cell t.Matrix options world text h lacks = lacks
-has-cell t.First options world text h lacks = lacks
+has_cell t.Matrix options world text h lacks = lacks
+has_cell t.First options world text h lacks = lacks
 
 -- bytes that have a report have no fault
-no-fault : Given → (options other : Options) (bytes text : List ℕ) (fault : RunFault) → AskTheSame options other → IsOfInput fault
+no_fault : Given → (options other : Options) (bytes text : List ℕ) (fault : RunFault) → AskTheSame options other → IsOfInput fault
     → IsOutput options bytes text → ¬ IsRefusal other bytes fault
-no-fault g options other bytes text fault same (inl (of_world, some, is)) (world, read, h) refused =
+no_fault g options other bytes text fault same (inl (of_world, some, is)) (world, read, h) refused =
     g.not_both bytes world of_world read (subst (IsRefusal other bytes) is refused some)
-no-fault g options other bytes text fault same (inr is) (world, read, h) refused =
+no_fault g options other bytes text fault same (inr is) (world, read, h) refused =
     let (world', read', lacks) = subst (IsRefusal other bytes) is refused in
     let task : other.task ≡ options.task = ap (λ (o : Options). o.task) same in
-    has-cell options.task options world text h
+    has_cell options.task options world text h
     (subst (λ w. LacksCellOf options.task w) (g.worlds bytes world' world read' read) (subst (λ x. LacksCellOf x world') task lacks))
 
 -- bytes have one fault
-one-fault : Given → (options other : Options) (bytes : List ℕ) (fault fault' : RunFault) → IsOfInput fault → IsOfInput fault'
+one_fault : Given → (options other : Options) (bytes : List ℕ) (fault fault' : RunFault) → IsOfInput fault → IsOfInput fault'
     → IsRefusal options bytes fault → IsRefusal other bytes fault' → fault ≡ fault'
-one-fault g options other bytes fault fault' (inl (x, some, is)) (inl (y, some', is')) h k =
+one_fault g options other bytes fault fault' (inl (x, some, is)) (inl (y, some', is')) h k =
     is ∙ ap World (g.faults bytes x y (subst (IsRefusal options bytes) is h some) (subst (IsRefusal other bytes) is' k some')) ∙ sym is'
-one-fault g options other bytes fault fault' (inl (x, some, is)) (inr is') h k =
+one_fault g options other bytes fault fault' (inl (x, some, is)) (inr is') h k =
     let (world, read, lacks) = subst (IsRefusal other bytes) is' k in
     absurd (g.not_both bytes world x read (subst (IsRefusal options bytes) is h some))
-one-fault g options other bytes fault fault' (inr is) (inl (y, some', is')) h k =
+one_fault g options other bytes fault fault' (inr is) (inl (y, some', is')) h k =
     let (world, read, lacks) = subst (IsRefusal options bytes) is h in
     absurd (g.not_both bytes world y read (subst (IsRefusal other bytes) is' k some'))
-one-fault g options other bytes fault fault' (inr is) (inr is') h k = is ∙ sym is'
+one_fault g options other bytes fault fault' (inr is) (inr is') h k = is ∙ sym is'
 
 -- what a run on these bytes left, where it had its report
 written : (options : Options) (input held new : List ℕ) → WritesOutput options (Some input) (Some held) (Some new)
@@ -117,14 +117,14 @@ one_end g options other input held new new' (Ok done) (Ok done') same at at' h k
     (refl, left ∙ ap (λ t. held ++ t) (one_output g options other input text text' same is is') ∙ sym left')
 one_end g options other input held new new' (Ok done) (Err fault) same at at' h k =
     let (text, is, left) = written options input held new h in
-    absurd (no-fault g options other input text fault same at' is (refused other input held new' fault at' k).1)
+    absurd (no_fault g options other input text fault same at' is (refused other input held new' fault at' k).1)
 one_end g options other input held new new' (Err fault) (Ok done) same at at' h k =
     let (text, is, left) = written other input held new' k in
-    absurd (no-fault g other options input text fault (other-way options other same) at is (refused options input held new fault at h).1)
+    absurd (no_fault g other options input text fault (other_way options other same) at is (refused options input held new fault at h).1)
 one_end g options other input held new new' (Err fault) (Err fault') same at at' h k =
     let (kept, is) = refused options input held new fault at h in
     let (kept', is') = refused other input held new' fault' at' k in
-    (ap Err (one-fault g options other input fault fault' at at' is is'), kept ∙ sym kept')
+    (ap Err (one_fault g options other input fault fault' at at' is is'), kept ∙ sym kept')
 
 pub one_beginning : Given → Laws.OneBeginning
 one_beginning g options other input held new new' same h (bytes, all, (text', is', (n, few, left'))) =

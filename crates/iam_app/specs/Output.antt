@@ -125,10 +125,11 @@ pub record LacksCut (options : Options) (world : WorldValue) (fault : CutFault) 
   pub command : CutsCells options.task
   pub is : HasCutFault options world fault
 
--- the same, of the world of these bytes
+-- the bytes are a world, and this is the report of it that the options ask for
 abbrev pub IsOutput : Options → List ℕ → List ℕ → Type 0
 IsOutput options bytes text = (world : WorldValue) × IsWorld bytes world × IsAskedReport options world text
 
+-- the bytes are a world that does not have the cell, and so for the workers and the cut
 abbrev pub HasNoCell : Options → List ℕ → Type 0
 HasNoCell options bytes = (world : WorldValue) × IsWorld bytes world × LacksCell options world
 

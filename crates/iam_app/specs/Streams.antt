@@ -18,8 +18,8 @@ abbrev pub ConsumesAtMost : Option (List ℕ) → Option (List ℕ) → ℕ → 
 ConsumesAtMost old new most = (bytes : List ℕ) × (length bytes ≤ most) × Consumes old new bytes
 
 -- a reader lost at least one byte, and these bytes were kept
-abbrev pub Gains : Option (List ℕ) → Option (List ℕ) → List ℕ → List ℕ → Type 0
-Gains old new kept_old kept_new =
+abbrev pub ReadsSome : Option (List ℕ) → Option (List ℕ) → List ℕ → List ℕ → Type 0
+ReadsSome old new kept_old kept_new =
     (bytes : List ℕ) × (0 < length bytes) × (kept_new ≡ kept_old ++ bytes) × Consumes old new bytes
 
 -- a reader had no byte left, and nothing more was kept

@@ -1,6 +1,6 @@
 // Reading the input: at most one byte more than a world may have.
 ghost use Rattle.std.specs.Prelude.{◌≡◌, ◌≢◌, ◌+◌, ◌-◌, ◌≤◌, IfOk, OnOk, Ok, Err, true, false, length};
-ghost use Rattle.iam_app.specs.Streams.{AllRemained, ConsumesAtMost, Gains, IsEnd, MoreRemained};
+ghost use Rattle.iam_app.specs.Streams.{AllRemained, ConsumesAtMost, IsEnd, MoreRemained, ReadsSome};
 ghost use Rattle.iam_app.specs.declared.input.InputFault.TheVariants as InputFault;
 
 use std::alloc::Global;
@@ -27,7 +27,7 @@ pub enum InputFault {
 /// not. At most 8,388,609 bytes are kept.
 fn turn<R: Read>(reader: &mut R, bytes: &mut Vec<u8>) -> Result<bool, InputFault>
     requires { length bytes.old.items ≤ MOST }
-    ensures more { result ≡ Ok true → Gains (R.remaining reader.old) (R.remaining reader.new) bytes.old.items bytes.new.items }
+    ensures more { result ≡ Ok true → ReadsSome (R.remaining reader.old) (R.remaining reader.new) bytes.old.items bytes.new.items }
     ensures end { result ≡ Ok false → IsEnd (R.remaining reader.old) (R.remaining reader.new) bytes.old.items bytes.new.items }
     ensures fits { OnOk result (length bytes.new.items ≤ MOST + 1) }
     ensures most { ConsumesAtMost (R.remaining reader.old) (R.remaining reader.new) (MOST + 1 - length bytes.old.items) }

@@ -28,9 +28,9 @@ before_word text word (Some x) strips =
     rw (sym ends) (ap Some (strips.2 ∙ ap (λ n. take (length text - n) text) is.0))
 
 -- what is found in a list of images is the image of what is found
-find-map : {X Y : Type 0} (f : X → Y) (p : Y → Bool) (xs : List X) → find p (map f xs) ≡ option_map f (find (λ x. p (f x)) xs)
-find-map f p [] = refl
-find-map f p (x ∷ xs) = go (p (f x)) (find-map f p xs)
+find_map : {X Y : Type 0} (f : X → Y) (p : Y → Bool) (xs : List X) → find p (map f xs) ≡ option_map f (find (λ x. p (f x)) xs)
+find_map f p [] = refl
+find_map f p (x ∷ xs) = go (p (f x)) (find_map f p xs)
   where
     go : (b : Bool) → find p (map f xs) ≡ option_map f (find (λ x. p (f x)) xs)
         → (if b then Some (f x) else find p (map f xs)) ≡ option_map f (if b then Some x else find (λ x. p (f x)) xs)
@@ -42,7 +42,7 @@ pub base_found : (table : List (Bor (List ℕ) × Base × Bool)) (name : List �
     → r ≡ find (λ row. bytes_eq name row.0.now) table → option_map {U = Base × Bool} (λ row. (row.1, row.2)) r ≡ base_among (map row_of table) name
 base_found table name r is =
     rw is (
-    rw (find-map row_of (λ row. bytes_eq name row.name) table)
+    rw (find_map row_of (λ row. bytes_eq name row.name) table)
     (twice (find (λ row. bytes_eq name row.0.now) table)))
   where
     twice : (found : Option (Bor (List ℕ) × Base × Bool)) → option_map {U = Base × Bool} (λ row. (row.1, row.2)) found ≡ option_map (λ row. (row.base, row.negated)) (option_map row_of found)

@@ -9,20 +9,20 @@ use Rattle.iam_condition.specs.Code.Walks.{given, given_has, key_has, member_has
 use Rattle.iam_condition.specs.Condition.{given_in, given_under, members_of}
 use Rattle.iam_condition.specs.Operator.{operator_of}
 
-pub any-map : {X Y : Type 0} (f : X → Y) (p : Y → Bool) (xs : List X) → list_any p (map f xs) ≡ list_any (λ x. p (f x)) xs
-any-map f p [] = refl
-any-map f p (x ∷ xs) = ap (λ b. p (f x) || b) (any-map f p xs)
+pub any_map : {X Y : Type 0} (f : X → Y) (p : Y → Bool) (xs : List X) → list_any p (map f xs) ≡ list_any (λ x. p (f x)) xs
+any_map f p [] = refl
+any_map f p (x ∷ xs) = ap (λ b. p (f x) || b) (any_map f p xs)
 
-pub any-flat_map : {X Y : Type 0} (f : X → List Y) (p : Y → Bool) (xs : List X) → list_any p (flat_map f xs) ≡ list_any (λ x. list_any p (f x)) xs
-any-flat_map f p [] = refl
-any-flat_map f p (x ∷ xs) = list_any-append p (f x) (flat_map f xs) ∙ ap (λ b. list_any p (f x) || b) (any-flat_map f p xs)
+pub any_flat_map : {X Y : Type 0} (f : X → List Y) (p : Y → Bool) (xs : List X) → list_any p (flat_map f xs) ≡ list_any (λ x. list_any p (f x)) xs
+any_flat_map f p [] = refl
+any_flat_map f p (x ∷ xs) = list_any-append p (f x) (flat_map f xs) ∙ ap (λ b. list_any p (f x) || b) (any_flat_map f p xs)
 
 -- the keys under an operator
 pub under_name : (fault : KeyFault) (operator : Operator) (m : List ℕ × Data) → operator_of m.0 ≡ Some operator
     → list_any (λ k. key_has fault operator.base k.1) (members_of m.1) ≡ member_has fault m
 under_name fault operator m is =
-    rw is (sym (any-map (given operator) (given_has fault) (members_of m.1)))
+    rw is (sym (any_map (given operator) (given_has fault) (members_of m.1)))
 
 -- all keys
 pub under_all : (fault : KeyFault) (d : Data) → list_any (member_has fault) (members_of d) ≡ list_any (given_has fault) (given_in d)
-under_all fault d = sym (any-flat_map given_under (given_has fault) (members_of d))
+under_all fault d = sym (any_flat_map given_under (given_has fault) (members_of d))

@@ -1,7 +1,7 @@
 //! Whether the values of a `Condition` are on the grammars of their operators.
-ghost use Rattle.std.specs.Prelude.{IfOk, map};
+ghost use Rattle.std.specs.Prelude.{◌↔◌, IfOk, IsTrue, map};
 ghost use Rattle.serde_json.specs.View.{members_view, view};
-ghost use Rattle.iam_condition.specs.Code.Values.{AnyOf, Decides, IsBadMember, IsBadUnder};
+ghost use Rattle.iam_condition.specs.Code.Values.{AnyOf, IsBadMember, IsBadUnder};
 ghost use Rattle.iam_condition.specs.Condition.{HasBadValue, IsBadValue, member_list, members_of};
 ghost use Rattle.iam_condition.specs.Operand.{IsOffGrammar};
 
@@ -16,7 +16,7 @@ use std::alloc::Global;
 
 /// Whether a text is off the grammar of the operator's values.
 fn is_off_grammar(alloc: Global, base: Base, text: &str) -> Result<bool, OutOfMemory>
-    ensures { IfOk result (Decides (IsOffGrammar base text.now)) }
+    ensures { IfOk result (λ bad. IsTrue bad ↔ IsOffGrammar base text.now) }
 {
     if base.has_texts() {
         return Ok(false);
@@ -26,7 +26,7 @@ fn is_off_grammar(alloc: Global, base: Base, text: &str) -> Result<bool, OutOfMe
 
 /// Whether a value is not a text, a Boolean or a whole number, or its text is off the grammar. A text is not copied.
 fn is_bad_value(alloc: Global, base: Base, value: &Value) -> Result<bool, OutOfMemory>
-    ensures { IfOk result (Decides (IsBadValue base (view value.now))) }
+    ensures { IfOk result (λ bad. IsTrue bad ↔ IsBadValue base (view value.now)) }
 {
     if let Some(text) = value.as_str() {
         return is_off_grammar(alloc, base, text);
@@ -38,7 +38,7 @@ fn is_bad_value(alloc: Global, base: Base, value: &Value) -> Result<bool, OutOfM
 }
 
 fn is_some_value_bad(alloc: Global, base: Base, values: &[Value]) -> Result<bool, OutOfMemory>
-    ensures { IfOk result (Decides (AnyOf (IsBadValue base) (map view values.now))) }
+    ensures { IfOk result (λ bad. IsTrue bad ↔ AnyOf (IsBadValue base) (map view values.now)) }
 {
     for value in values {
         if is_bad_value(alloc, base, value)? {
@@ -54,7 +54,7 @@ fn is_some_key_bad(
     base: Base,
     members: &Map<String, Value>,
 ) -> Result<bool, OutOfMemory>
-    ensures { IfOk result (Decides (AnyOf (IsBadUnder base) (member_list (members_view members.now.entries)))) }
+    ensures { IfOk result (λ bad. IsTrue bad ↔ AnyOf (IsBadUnder base) (member_list (members_view members.now.entries))) }
 {
     for (_, value) in members.iter() {
         if is_some_value_bad(alloc, base, values_under(value))? {
@@ -65,7 +65,7 @@ fn is_some_key_bad(
 }
 
 fn are_keys_bad(alloc: Global, base: Base, keys: &Value) -> Result<bool, OutOfMemory>
-    ensures { IfOk result (Decides (AnyOf (IsBadUnder base) (members_of (view keys.now)))) }
+    ensures { IfOk result (λ bad. IsTrue bad ↔ AnyOf (IsBadUnder base) (members_of (view keys.now))) }
 {
     match keys.as_object() {
         Some(members) => is_some_key_bad(alloc, base, members),
@@ -75,7 +75,7 @@ fn are_keys_bad(alloc: Global, base: Base, keys: &Value) -> Result<bool, OutOfMe
 
 /// Whether a name is that of an operator, of whose keys some has a bad value.
 fn is_bad_member(alloc: Global, name: &str, keys: &Value) -> Result<bool, OutOfMemory>
-    ensures { IfOk result (Decides (IsBadMember (name.now, view keys.now))) }
+    ensures { IfOk result (λ bad. IsTrue bad ↔ IsBadMember (name.now, view keys.now)) }
 {
     match operator_of(name) {
         Some(operator) => are_keys_bad(alloc, operator.base, keys),
@@ -84,7 +84,7 @@ fn is_bad_member(alloc: Global, name: &str, keys: &Value) -> Result<bool, OutOfM
 }
 
 fn is_some_member_bad(alloc: Global, members: &Map<String, Value>) -> Result<bool, OutOfMemory>
-    ensures { IfOk result (Decides (AnyOf IsBadMember (member_list (members_view members.now.entries)))) }
+    ensures { IfOk result (λ bad. IsTrue bad ↔ AnyOf IsBadMember (member_list (members_view members.now.entries))) }
 {
     for (name, keys) in members.iter() {
         if is_bad_member(alloc, name.as_str(), keys)? {
@@ -97,7 +97,7 @@ fn is_some_member_bad(alloc: Global, members: &Map<String, Value>) -> Result<boo
 /// Whether a value of the `Condition` is not a text, a Boolean or a whole number, or its text is off the grammar of its
 /// operator. Memory is asked for base64 and for the texts of numbers and Booleans alone.
 pub fn has_bad_value(alloc: Global, condition: &Value) -> Result<bool, OutOfMemory>
-    ensures { IfOk result (Decides (HasBadValue (view condition.now))) }
+    ensures { IfOk result (λ bad. IsTrue bad ↔ HasBadValue (view condition.now)) }
 {
     match condition.as_object() {
         Some(members) => is_some_member_bad(alloc, members),

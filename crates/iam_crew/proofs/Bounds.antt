@@ -3,8 +3,7 @@ use Rattle.std.proofs.Common.{◌≡◌, ℕ, ◌+◌, ◌<◌, ◌≤◌, min, 
 use Rattle.std.proofs.lemmas.Bool.{cases_eq, cases_lt, eq-eqb, ne_eqb}
 use Rattle.std.proofs.lemmas.List.Elements.{All-head, All-tail}
 use Rattle.std.proofs.lemmas.List.Sums.{sum_by-cons, get_or-le-sum_by}
-use Rattle.iam_lanes.specs.LaneRule.{no_cell, times}
-use Rattle.iam_lanes.specs.Lanes.{SeatView, gains_offer, gains_look, offers_by, looks_by}
+use Rattle.iam_lanes.specs.Lanes.{SeatView, gains_offer, gains_look, offers_by, looks_by, no_cell, times}
 use Rattle.iam_crew.specs.Bound.{least_of, floor_of, bound_of}
 
 -- the least of some cells and one more

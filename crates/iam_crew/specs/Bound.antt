@@ -1,7 +1,6 @@
 -- What a worker and a whole crew know of the bound. LOGIC 11.7.
 use Rattle.std.specs.Prelude.{◌≡◌, ℕ, ◌≤◌, min, Option, unwrap_or, List, [], ◌∷◌}
-use Rattle.iam_lanes.specs.LaneRule.{no_cell}
-use Rattle.iam_lanes.specs.Lanes.{LanesId, SeatView}
+use Rattle.iam_lanes.specs.Lanes.{LanesId, SeatView, no_cell}
 
 -- the least of some cells, or no_cell where there is none
 abbrev pub least_of : List ℕ → ℕ

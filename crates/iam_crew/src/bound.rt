@@ -1,6 +1,6 @@
 // The shared bound, as one worker sees it.
 ghost use Rattle.std.specs.Prelude.{◌≡◌, ◌<◌, ◌≤◌, ◌++◌, ◌∷◌, [], IfSome};
-ghost use Rattle.iam_lanes.specs.LaneRule.{no_cell};
+ghost use Rattle.iam_lanes.specs.Lanes.{no_cell};
 ghost use Rattle.iam_crew.specs.Bound.{bound_of, view_of, Lowers};
 
 use iam_lanes::{LaneSeat, Lanes};

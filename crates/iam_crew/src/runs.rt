@@ -1,6 +1,6 @@
 // How a worker comes by a run of tiles, and how it shares one.
 ghost use Rattle.std.specs.Prelude.{◌≡◌, ◌+◌, ◌-◌, ◌%◌, ◌<◌, ◌≤◌, IfNone, IfSome, Some};
-ghost use Rattle.iam_work.specs.RunRule.{IsWithin};
+ghost use Rattle.iam_work.specs.Work.{IsWithin};
 ghost use Rattle.iam_crew.specs.Code.Runs.{IsFound, IsHalved, IsSpent};
 
 use iam_work::{Run, Stolen, Work, WorkSeat};

@@ -1,6 +1,6 @@
 // A worker and its turns.
 ghost use Rattle.std.specs.Prelude.{◌≡◌, ℕ, ◌+◌, ◌<◌, ◌≤◌, IfOk, OnOk};
-ghost use Rattle.iam_work.specs.RunRule.{IsWithin};
+ghost use Rattle.iam_work.specs.Work.{IsWithin};
 ghost use Rattle.iam_crew.specs.Code.Runs.{IsAsReady, IsMarked, IsOver, IsTurn};
 ghost use Rattle.iam_crew.specs.Code.Worker.{IsAtWork, IsDone, IsReady};
 

@@ -1,7 +1,7 @@
 -- Policies under which what has to allow does so only where it does under others, and what follows from that.
 use Rattle.std.proofs.Common.{◌≡◌, ◌⊎◌, inl, inr, ℕ, suc, zero, ◌<◌, ◌≤◌, List, [], ◌∷◌, Some, true, false, length, get_or, refl, sym, ap, ◌∙◌, subst, arith}
 use Rattle.std.specs.List.{Contains}
-use Rattle.std.specs.Option.{is_some}
+use Rattle.std.specs.Option.{is_some, option_to_list}
 use Rattle.std.proofs.lemmas.List.{append-nil, get_or_default}
 use Rattle.std.proofs.lemmas.List.Elements.{Contains-get_or}
 use Rattle.iam_policy.specs.Reading.{PolicyValue, StatementValue}
@@ -15,26 +15,25 @@ use Rattle.iam_decision.specs.Applicable.{ApplicableValue, frame_of, has_policie
 use Rattle.iam_decision.specs.Decision.{Allows, BoundaryHolds, Denies, Grants, IsAllowed, IsDecision, LevelsHold, SessionHolds}
 use Rattle.iam_decision.specs.Laws
 use Rattle.iam_decision.specs.Laws.{HasFurtherLimits, IsGrantedInAccount, SomeGrants, SomeSays, levels_of, statements_at, statements_of}
-use Rattle.iam_decision.specs.Matched.{as_list}
 use Rattle.iam_decision.specs.declared.frame.Frame.{Frame}
 use Rattle.iam_decision.specs.declared.place.Layer.{Layer}
 use Rattle.iam_decision.specs.declared.place.Layer.TheVariants.{Org, Control, Resource, Identity, Boundary, Session}
 use Rattle.iam_decision.specs.declared.verdict.Decision.{Decision}
 use Rattle.iam_decision.specs.declared.verdict.Decision.TheVariants.{Allowed, ExplicitDeny, ImplicitDeny}
-use Rattle.iam_decision.proofs.StandingLemmas.{DeniesSomewhere, allows-same, denies-same, grants-same}
+use Rattle.iam_decision.proofs.StandingLemmas.{DeniesSomewhere, allows_same, denies_same, grants_same}
 
 -- the decision where a statement denies
 pub deny_wins : Laws.DenyWins
 deny_wins a q layer level ExplicitDeny some h = refl
-deny_wins a q layer level Allowed some h = absurd (h.0 ((denies-same a q).1 (layer, level, some)))
-deny_wins a q layer level ImplicitDeny some h = absurd (h.0 ((denies-same a q).1 (layer, level, some)))
+deny_wins a q layer level Allowed some h = absurd (h.0 ((denies_same a q).1 (layer, level, some)))
+deny_wins a q layer level ImplicitDeny some h = absurd (h.0 ((denies_same a q).1 (layer, level, some)))
 
 pub only_deny_denies : Laws.OnlyDenyDenies
-only_deny_denies a q h = (denies-same a q).0 h
+only_deny_denies a q h = (denies_same a q).0 h
 
 -- a grant of the resource's policy, where requester and resource are of one account
-granted-in-account : (a : ApplicableValue) (q : RequestValue) (least : Grant) → a.same_account ≡ true → Grants a q least → IsGrantedInAccount least a q
-granted-in-account a q least same g = (same, (grants-same a q least).0 g)
+granted_in_account : (a : ApplicableValue) (q : RequestValue) (least : Grant) → a.same_account ≡ true → Grants a q least → IsGrantedInAccount least a q
+granted_in_account a q least same g = (same, (grants_same a q least).0 g)
 
 -- who is granted more is granted less
 fewer : (a : ApplicableValue) (q : RequestValue) (more less : Grant) → rank less ≤ rank more → Grants a q more → Grants a q less
@@ -43,48 +42,48 @@ fewer a q more less below g = (g.0, g.1, g.2, g.3, (g.4.0, g.4.1, (let enough : 
 pub allowed_is_granted : Laws.AllowedIsGranted
 allowed_is_granted a q h = elim h.1.2 [
   | inl g ↦ elim g.1 [
-    | inl direct ↦ inr (granted-in-account a q Role g.0 (fewer a q Direct Role (omega arith) direct))
-    | inr role ↦ inr (granted-in-account a q Role g.0 role.0)
+    | inl direct ↦ inr (granted_in_account a q Role g.0 (fewer a q Direct Role (omega arith) direct))
+    | inr role ↦ inr (granted_in_account a q Role g.0 role.0)
   ]
-  | inr all ↦ inl ((allows-same a q Identity 0).0 all.0)
+  | inr all ↦ inl ((allows_same a q Identity 0).0 all.0)
 ]
 
 pub each_org_level_allows : Laws.EachLevelAllows (λ a. a.org)
-each_org_level_allows a q level h below = (allows-same a q Org level).0 (h.1.0 level below)
+each_org_level_allows a q level h below = (allows_same a q Org level).0 (h.1.0 level below)
 
 pub each_control_level_allows : Laws.EachLevelAllows (λ a. a.control)
-each_control_level_allows a q level h below = (allows-same a q Control level).0 (h.1.1 level below)
+each_control_level_allows a q level h below = (allows_same a q Control level).0 (h.1.1 level below)
 
 -- what holds binds unless a grant is direct
-bound-or-direct : (a : ApplicableValue) (q : RequestValue) → IsDecision a q Allowed
+bound_or_direct : (a : ApplicableValue) (q : RequestValue) → IsDecision a q Allowed
     → (BoundaryHolds (Allows a q) (frame_of a) × SessionHolds (Allows a q) (frame_of a)) ⊎ IsGrantedInAccount Direct a q
-bound-or-direct a q h = elim h.1.2 [
-  | inl g ↦ elim g.1 [ inl direct ↦ inr (granted-in-account a q Direct g.0 direct) | inr role ↦ inl (role.1, role.2) ]
+bound_or_direct a q h = elim h.1.2 [
+  | inl g ↦ elim g.1 [ inl direct ↦ inr (granted_in_account a q Direct g.0 direct) | inr role ↦ inl (role.1, role.2) ]
   | inr all ↦ inl (all.1, all.2)
 ]
 
-boundary-allows : (a : ApplicableValue) (q : RequestValue) (boundary : PolicyValue) → a.boundary ≡ Some boundary
+boundary_allows : (a : ApplicableValue) (q : RequestValue) (boundary : PolicyValue) → a.boundary ≡ Some boundary
     → BoundaryHolds (Allows a q) (frame_of a) → SomeSays Allow q boundary.statements
-boundary-allows a q boundary is (inl none) = absurd (let some : is_some a.boundary ≡ true = ap is_some is in let wrong : ⊥ = cc in wrong)
-boundary-allows a q boundary is (inr allows) =
+boundary_allows a q boundary is (inl none) = absurd (let some : is_some a.boundary ≡ true = ap is_some is in let wrong : ⊥ = cc in wrong)
+boundary_allows a q boundary is (inr allows) =
     subst (SomeSays Allow q) (append-nil boundary.statements)
-    (subst (λ b. SomeSays Allow q (statements_of (as_list b))) is ((allows-same a q Boundary 0).0 allows))
+    (subst (λ b. SomeSays Allow q (statements_of (option_to_list b))) is ((allows_same a q Boundary 0).0 allows))
 
 pub boundary_binds : Laws.BoundaryBinds
-boundary_binds a q boundary is h = elim (bound-or-direct a q h) [
-  | inl bound ↦ inl (boundary-allows a q boundary is bound.0)
+boundary_binds a q boundary is h = elim (bound_or_direct a q h) [
+  | inl bound ↦ inl (boundary_allows a q boundary is bound.0)
   | inr direct ↦ inr direct
 ]
 
-without-policies : (session : List PolicyValue) → has_policies session ≡ false → session ≡ []
-without-policies [] none = refl
-without-policies (policy ∷ session) none = absurd (let wrong : ⊥ = cc in wrong)
+without_policies : (session : List PolicyValue) → has_policies session ≡ false → session ≡ []
+without_policies [] none = refl
+without_policies (policy ∷ session) none = absurd (let wrong : ⊥ = cc in wrong)
 
 pub session_binds : Laws.SessionBinds
-session_binds a q some h = elim (bound-or-direct a q h) [
+session_binds a q some h = elim (bound_or_direct a q h) [
   | inl bound ↦ elim bound.1 [
-    | inl none ↦ absurd (some (without-policies a.session none))
-    | inr allows ↦ inl ((allows-same a q Session 0).0 allows)
+    | inl none ↦ absurd (some (without_policies a.session none))
+    | inr allows ↦ inl ((allows_same a q Session 0).0 allows)
   ]
   | inr direct ↦ inr direct
 ]
@@ -92,7 +91,7 @@ session_binds a q some h = elim (bound-or-direct a q h) [
 pub both_accounts_allow : Laws.BothAccountsAllow
 both_accounts_allow a q differ h = elim h.1.2 [
   | inl g ↦ absurd (let wrong : ⊥ = cc (differ, g.0) in wrong)
-  | inr all ↦ ((allows-same a q Identity 0).0 all.0, (grants-same a q Account).0 (all.3 (inl differ)))
+  | inr all ↦ ((allows_same a q Identity 0).0 all.0, (grants_same a q Account).0 (all.3 (inl differ)))
 ]
 
 -- each check that holds for b holds for a, and what denies for a denies for b
@@ -107,9 +106,9 @@ record Tighter (a b : ApplicableValue) (q : RequestValue) : Type 0 where
   account : b.same_account ≡ a.same_account
   sealed : b.sealed ≡ a.sealed
 
-allowed-under : (a b : ApplicableValue) (q : RequestValue) → Tighter a b q
+allowed_under : (a b : ApplicableValue) (q : RequestValue) → Tighter a b q
     → IsAllowed (Allows b q) (Grants b q) (frame_of b) → IsAllowed (Allows a q) (Grants a q) (frame_of a)
-allowed-under a b q t h = (
+allowed_under a b q t h = (
   t.org h.0,
   t.control h.1,
   elim h.2 [
@@ -126,23 +125,23 @@ allowed-under a b q t h = (
   ],
 )
 
-tighter-allows-no-more : (a b : ApplicableValue) (q : RequestValue) → Tighter a b q → IsDecision b q Allowed → IsDecision a q Allowed
-tighter-allows-no-more a b q t h = ((λ d. h.0 (t.denies d)), allowed-under a b q t h.1)
+tighter_allows_no_more : (a b : ApplicableValue) (q : RequestValue) → Tighter a b q → IsDecision b q Allowed → IsDecision a q Allowed
+tighter_allows_no_more a b q t h = ((λ d. h.0 (t.denies d)), allowed_under a b q t h.1)
 
 -- where the statements of a layer and level are the same, both allow there
-allows-there : (a b : ApplicableValue) (q : RequestValue) (layer : Layer) (level : ℕ)
+allows_there : (a b : ApplicableValue) (q : RequestValue) (layer : Layer) (level : ℕ)
     → (SomeSays Allow q (statements_at b layer level) → SomeSays Allow q (statements_at a layer level))
     → Allows b q layer level → Allows a q layer level
-allows-there a b q layer level on h = (allows-same a q layer level).1 (on ((allows-same b q layer level).0 h))
+allows_there a b q layer level on h = (allows_same a q layer level).1 (on ((allows_same b q layer level).0 h))
 
-denies-there : (a b : ApplicableValue) (q : RequestValue)
+denies_there : (a b : ApplicableValue) (q : RequestValue)
     → ((layer : Layer) (level : ℕ) → SomeSays Deny q (statements_at a layer level) → DeniesSomewhere b q) → Denies a q → Denies b q
-denies-there a b q on d = let there = (denies-same a q).0 d in (denies-same b q).1 (on there.0 there.1 there.2)
+denies_there a b q on d = let there = (denies_same a q).0 d in (denies_same b q).1 (on there.0 there.1 there.2)
 
-grants-there : (a b : ApplicableValue) (q : RequestValue) (least : Grant)
-    → (SomeGrants least q (statements_of (as_list b.resource)) → SomeGrants least q (statements_of (as_list a.resource)))
+grants_there : (a b : ApplicableValue) (q : RequestValue) (least : Grant)
+    → (SomeGrants least q (statements_of (option_to_list b.resource)) → SomeGrants least q (statements_of (option_to_list a.resource)))
     → Grants b q least → Grants a q least
-grants-there a b q least on g = (grants-same a q least).1 (on ((grants-same b q least).0 g))
+grants_there a b q least on g = (grants_same a q least).1 (on ((grants_same b q least).0 g))
 
 -- with the same levels, boundary, session and accounts, and each statement that matters where it was
 module _ (a b : ApplicableValue) (q : RequestValue) (same : frame_of b ≡ frame_of a)
@@ -150,23 +149,23 @@ module _ (a b : ApplicableValue) (q : RequestValue) (same : frame_of b ≡ frame
     → Contains (statements_at a layer level) s → Contains (statements_at b layer level) s)
     (gains : (layer : Layer) (level : ℕ) (s : StatementValue) → s.effect ≡ Allow
     → Contains (statements_at b layer level) s → Contains (statements_at a layer level) s) where
-  allows-still : (layer : Layer) (level : ℕ) → Allows b q layer level → Allows a q layer level
-  allows-still layer level = allows-there a b q layer level
+  allows_still : (layer : Layer) (level : ℕ) → Allows b q layer level → Allows a q layer level
+  allows_still layer level = allows_there a b q layer level
       (λ h. let there = gains layer level h.1 h.4.1 (h.0, h.2, h.3) in (there.0, h.1, there.1, there.2, h.4))
 
-  levels-still : (layer : Layer) (n m : ℕ) → m ≡ n → LevelsHold (Allows b q) layer m → LevelsHold (Allows a q) layer n
-  levels-still layer n m is h = λ level below. allows-still layer level (h level (omega arith))
+  levels_still : (layer : Layer) (n m : ℕ) → m ≡ n → LevelsHold (Allows b q) layer m → LevelsHold (Allows a q) layer n
+  levels_still layer n m is h = λ level below. allows_still layer level (h level (omega arith))
 
   tighter : Tighter a b q
   tighter = record {
-    denies = denies-there a b q (λ layer level h.
+    denies = denies_there a b q (λ layer level h.
         let there = keeps layer level h.1 h.4.1 (h.0, h.2, h.3) in (layer, level, (there.0, h.1, there.1, there.2, h.4)));
-    org = levels-still Org (length a.org) (length b.org) (ap (λ (f : Frame). f.org) same);
-    control = levels-still Control (length a.control) (length b.control) (ap (λ (f : Frame). f.control) same);
-    identity = allows-still Identity 0;
-    boundary = λ h. elim h [ inl none ↦ inl (sym (ap (λ (f : Frame). f.boundary) same) ∙ none) | inr allows ↦ inr (allows-still Boundary 0 allows) ];
-    session = λ h. elim h [ inl none ↦ inl (sym (ap (λ (f : Frame). f.session) same) ∙ none) | inr allows ↦ inr (allows-still Session 0 allows) ];
-    grants = λ least. grants-there a b q least
+    org = levels_still Org (length a.org) (length b.org) (ap (λ (f : Frame). f.org) same);
+    control = levels_still Control (length a.control) (length b.control) (ap (λ (f : Frame). f.control) same);
+    identity = allows_still Identity 0;
+    boundary = λ h. elim h [ inl none ↦ inl (sym (ap (λ (f : Frame). f.boundary) same) ∙ none) | inr allows ↦ inr (allows_still Boundary 0 allows) ];
+    session = λ h. elim h [ inl none ↦ inl (sym (ap (λ (f : Frame). f.session) same) ∙ none) | inr allows ↦ inr (allows_still Session 0 allows) ];
+    grants = λ least. grants_there a b q least
         (λ g. let there = gains Resource 0 g.1 g.4.1 (g.0, g.2, g.3) in (there.0, g.1, there.1, there.2, g.4));
     account = ap (λ (f : Frame). f.same_account) same;
     sealed = ap (λ (f : Frame). f.sealed) same;
@@ -174,7 +173,7 @@ module _ (a b : ApplicableValue) (q : RequestValue) (same : frame_of b ≡ frame
 
 pub further_deny_allows_no_more : Laws.FurtherDenyAllowsNoMore
 further_deny_allows_no_more a b q more =
-    tighter-allows-no-more a b q
+    tighter_allows_no_more a b q
     (
     tighter a b q more.frame (λ layer level s deny. more.keeps layer level s)
     (λ layer level s allow here. elim (more.gains layer level s here) [ inl there ↦ there | inr deny ↦ absurd (let wrong : ⊥ = cc (allow, deny) in wrong) ])
@@ -182,7 +181,7 @@ further_deny_allows_no_more a b q more =
 
 pub further_allow_takes_nothing : Laws.FurtherAllowTakesNothing
 further_allow_takes_nothing a b q more =
-    tighter-allows-no-more b a q
+    tighter_allows_no_more b a q
     (
     tighter b a q (sym more.frame)
     (λ layer level s deny here. elim (more.gains layer level s here) [ inl there ↦ there | inr allow ↦ absurd (let wrong : ⊥ = cc (allow, deny) in wrong) ])
@@ -197,16 +196,16 @@ order_is_free a b q decision h =
   where
     decided : (decision : Decision) → Tighter a b q → Tighter b a q → IsDecision a q decision → IsDecision b q decision
     decided ExplicitDeny on back d = on.denies d
-    decided Allowed on back d = tighter-allows-no-more b a q back d
-    decided ImplicitDeny on back d = ((λ denies. d.0 (back.denies denies)), (λ allowed. d.1 (allowed-under a b q on allowed)))
+    decided Allowed on back d = tighter_allows_no_more b a q back d
+    decided ImplicitDeny on back d = ((λ denies. d.0 (back.denies denies)), (λ allowed. d.1 (allowed_under a b q on allowed)))
 
 pub sealed_resource_grants : Laws.SealedResourceGrants
 sealed_resource_grants a q sealed h = elim h.1.2 [
-  | inl g ↦ (grants-same a q Account).0 (elim g.1 [
+  | inl g ↦ (grants_same a q Account).0 (elim g.1 [
     | inl direct ↦ fewer a q Direct Account (omega arith) direct
     | inr role ↦ fewer a q Role Account (omega arith) role.0
   ])
-  | inr all ↦ (grants-same a q Account).0 (all.3 (inr sealed))
+  | inr all ↦ (grants_same a q Account).0 (all.3 (inr sealed))
 ]
 
 pub one_decision : Laws.OneDecision
@@ -226,81 +225,81 @@ within P d [] i none p = absurd (none p)
 within P d (x ∷ xs) zero none p = omega arith
 within P d (x ∷ xs) (suc i) none p = let below : i < length xs = within P d xs i none p in omega arith
 
-says-nothing : (effect : Effect) (q : RequestValue) → ¬ SomeSays effect q []
-says-nothing effect q (k, s, below, at, says) = omega arith
+says_nothing : (effect : Effect) (q : RequestValue) → ¬ SomeSays effect q []
+says_nothing effect q (k, s, below, at, says) = omega arith
 
 -- a level that is in the other list too stands there at some height
-level-in : {X : Type 0} (xs ys : List X) (d : X) → ((x : X) → Contains xs x → Contains ys x) → (i : ℕ) → i < length xs
+level_in : {X : Type 0} (xs ys : List X) (d : X) → ((x : X) → Contains xs x → Contains ys x) → (i : ℕ) → i < length xs
     → (k : ℕ) × (k < length ys) × (get_or ys k d ≡ get_or xs i d)
-level-in xs ys d on i below =
+level_in xs ys d on i below =
     let found = on (get_or xs i d) (Contains-get_or xs i d below) in
     (found.0, found.1, get_or_default ys found.0 d (get_or xs i d) found.1 ∙ found.2)
 
 module _ (a b : ApplicableValue) (q : RequestValue) (more : HasFurtherLimits a b) where
-  levels-hold : (layer : Layer) → ((level : List PolicyValue) → Contains (levels_of a layer) level → Contains (levels_of b layer) level)
+  levels_held : (layer : Layer) → ((level : List PolicyValue) → Contains (levels_of a layer) level → Contains (levels_of b layer) level)
       → LevelsHold (Allows b q) layer (length (levels_of b layer)) → LevelsHold (Allows a q) layer (length (levels_of a layer))
-  levels-hold layer on h level below =
-      let there = level-in (levels_of a layer) (levels_of b layer) [] on level below in
-      (allows-same a q layer level).1
-      (subst (λ policies. SomeSays Allow q (statements_of policies)) there.2 ((allows-same b q layer there.0).0 (h there.0 there.1)))
+  levels_held layer on h level below =
+      let there = level_in (levels_of a layer) (levels_of b layer) [] on level below in
+      (allows_same a q layer level).1
+      (subst (λ policies. SomeSays Allow q (statements_of policies)) there.2 ((allows_same b q layer there.0).0 (h there.0 there.1)))
 
-  levels-deny : (layer : Layer) → ((level : List PolicyValue) → Contains (levels_of a layer) level → Contains (levels_of b layer) level)
+  levels_deny : (layer : Layer) → ((level : List PolicyValue) → Contains (levels_of a layer) level → Contains (levels_of b layer) level)
       → (level : ℕ) → SomeSays Deny q (statements_at a layer level) → DeniesSomewhere b q
-  levels-deny layer on level some =
+  levels_deny layer on level some =
       let P : List PolicyValue → Type 0 = λ policies. SomeSays Deny q (statements_of policies) in
-      let there = level-in (levels_of a layer) (levels_of b layer) [] on level (within P [] (levels_of a layer) level (says-nothing Deny q) some) in
+      let there = level_in (levels_of a layer) (levels_of b layer) [] on level (within P [] (levels_of a layer) level (says_nothing Deny q) some) in
       (layer, there.0, subst P (sym there.2) some)
 
   -- the policies of a layer without levels were none, or are the same
-  alone-deny : (level : ℕ) (before after : List PolicyValue) → (before ≡ []) ⊎ (after ≡ before)
+  alone_deny : (level : ℕ) (before after : List PolicyValue) → (before ≡ []) ⊎ (after ≡ before)
       → SomeSays Deny q (statements_of (get_or (before ∷ []) level [])) → SomeSays Deny q (statements_of (get_or (after ∷ []) level []))
-  alone-deny zero before after (inl none) some =
-      absurd (says-nothing Deny q (subst (λ policies. SomeSays Deny q (statements_of policies)) none some))
-  alone-deny (suc level) before after (inl none) some = absurd (says-nothing Deny q some)
-  alone-deny level before after (inr same) some =
+  alone_deny zero before after (inl none) some =
+      absurd (says_nothing Deny q (subst (λ policies. SomeSays Deny q (statements_of policies)) none some))
+  alone_deny (suc level) before after (inl none) some = absurd (says_nothing Deny q some)
+  alone_deny level before after (inr same) some =
       subst (λ policies. SomeSays Deny q (statements_of (get_or (policies ∷ []) level []))) (sym same) some
 
-  limits-deny : (layer : Layer) (level : ℕ) → SomeSays Deny q (statements_at a layer level) → DeniesSomewhere b q
-  limits-deny Org level some = levels-deny Org more.org level some
-  limits-deny Control level some = levels-deny Control more.control level some
-  limits-deny Resource level some = (Resource, level, alone-deny level _ _ (inr (ap as_list more.resource)) some)
-  limits-deny Identity level some = (Identity, level, alone-deny level _ _ (inr more.identity) some)
-  limits-deny Boundary level some =
-      let was : (as_list a.boundary ≡ []) ⊎ (as_list b.boundary ≡ as_list a.boundary) =
-      elim more.boundary [ inl none ↦ inl (ap as_list none) | inr same ↦ inr (ap as_list same) ] in
-      (Boundary, level, alone-deny level _ _ was some)
-  limits-deny Session level some = (Session, level, alone-deny level _ _ more.session some)
+  limits_deny : (layer : Layer) (level : ℕ) → SomeSays Deny q (statements_at a layer level) → DeniesSomewhere b q
+  limits_deny Org level some = levels_deny Org more.org level some
+  limits_deny Control level some = levels_deny Control more.control level some
+  limits_deny Resource level some = (Resource, level, alone_deny level _ _ (inr (ap option_to_list more.resource)) some)
+  limits_deny Identity level some = (Identity, level, alone_deny level _ _ (inr more.identity) some)
+  limits_deny Boundary level some =
+      let was : (option_to_list a.boundary ≡ []) ⊎ (option_to_list b.boundary ≡ option_to_list a.boundary) =
+      elim more.boundary [ inl none ↦ inl (ap option_to_list none) | inr same ↦ inr (ap option_to_list same) ] in
+      (Boundary, level, alone_deny level _ _ was some)
+  limits_deny Session level some = (Session, level, alone_deny level _ _ more.session some)
 
-  further-boundary : BoundaryHolds (Allows b q) (frame_of b) → BoundaryHolds (Allows a q) (frame_of a)
-  further-boundary h = elim more.boundary [
+  further_boundary : BoundaryHolds (Allows b q) (frame_of b) → BoundaryHolds (Allows a q) (frame_of a)
+  further_boundary h = elim more.boundary [
     | inl none ↦ inl (ap is_some none)
     | inr same ↦ elim h [
       | inl without ↦ inl (sym (ap is_some same) ∙ without)
-      | inr allows ↦ inr (allows-there a b q Boundary 0 (subst (λ p. SomeSays Allow q (statements_of (as_list p))) same) allows)
+      | inr allows ↦ inr (allows_there a b q Boundary 0 (subst (λ p. SomeSays Allow q (statements_of (option_to_list p))) same) allows)
     ]
   ]
 
-  further-session : SessionHolds (Allows b q) (frame_of b) → SessionHolds (Allows a q) (frame_of a)
-  further-session h = elim more.session [
+  further_session : SessionHolds (Allows b q) (frame_of b) → SessionHolds (Allows a q) (frame_of a)
+  further_session h = elim more.session [
     | inl none ↦ inl (ap has_policies none)
     | inr same ↦ elim h [
       | inl without ↦ inl (sym (ap has_policies same) ∙ without)
-      | inr allows ↦ inr (allows-there a b q Session 0 (subst (λ policies. SomeSays Allow q (statements_of policies)) same) allows)
+      | inr allows ↦ inr (allows_there a b q Session 0 (subst (λ policies. SomeSays Allow q (statements_of policies)) same) allows)
     ]
   ]
 
-  limits-tighter : Tighter a b q
-  limits-tighter = record {
-    denies = denies-there a b q limits-deny;
-    org = levels-hold Org more.org;
-    control = levels-hold Control more.control;
-    identity = allows-there a b q Identity 0 (subst (λ policies. SomeSays Allow q (statements_of policies)) more.identity);
-    boundary = further-boundary;
-    session = further-session;
-    grants = λ least. grants-there a b q least (subst (λ p. SomeGrants least q (statements_of (as_list p))) more.resource);
+  limits_tighter : Tighter a b q
+  limits_tighter = record {
+    denies = denies_there a b q limits_deny;
+    org = levels_held Org more.org;
+    control = levels_held Control more.control;
+    identity = allows_there a b q Identity 0 (subst (λ policies. SomeSays Allow q (statements_of policies)) more.identity);
+    boundary = further_boundary;
+    session = further_session;
+    grants = λ least. grants_there a b q least (subst (λ p. SomeGrants least q (statements_of (option_to_list p))) more.resource);
     account = more.same_account;
     sealed = more.sealed;
   }
 
 pub further_limits_allow_no_more : Laws.FurtherLimitsAllowNoMore
-further_limits_allow_no_more a b q more = tighter-allows-no-more a b q (limits-tighter a b q more)
+further_limits_allow_no_more a b q more = tighter_allows_no_more a b q (limits_tighter a b q more)

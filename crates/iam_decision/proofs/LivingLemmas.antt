@@ -15,26 +15,26 @@ abbrev pub SameAt : List Living → List Living → ℕ → Type 0
 SameAt ones others i =
     (x y : Living) → slice_get ones i ≡ Some x → slice_get others i ≡ Some y → living_value x ≡ living_value y
 
-pub same-lists : (ones others : List Living) → length ones ≡ length others → ((i : ℕ) → SameAt ones others i)
+pub same_lists : (ones others : List Living) → length ones ≡ length others → ((i : ℕ) → SameAt ones others i)
     → map living_value ones ≡ map living_value others
-same-lists [] [] long same = refl
-same-lists [] (y ∷ others) long same = absurd (let wrong : ⊥ = cc in wrong)
-same-lists (x ∷ ones) [] long same = absurd (let wrong : ⊥ = cc in wrong)
-same-lists (x ∷ ones) (y ∷ others) long same =
+same_lists [] [] long same = refl
+same_lists [] (y ∷ others) long same = absurd (let wrong : ⊥ = cc in wrong)
+same_lists (x ∷ ones) [] long same = absurd (let wrong : ⊥ = cc in wrong)
+same_lists (x ∷ ones) (y ∷ others) long same =
     ap (λ z. z ∷ map living_value ones) (same 0 x y refl refl)
-    ∙ ap (λ zs. living_value y ∷ zs) (same-lists ones others (omega (arith, long)) (λ i. same (suc i)))
+    ∙ ap (λ zs. living_value y ∷ zs) (same_lists ones others (omega (arith, long)) (λ i. same (suc i)))
 
 -- what stands in a list with one more is in the list, or is the one more
-get-back : {X : Type 0} (xs : List X) (x : X) (i : ℕ) (y : X) → slice_get (xs ++ x ∷ []) i ≡ Some y → (slice_get xs i ≡ Some y) ⊎ ((i ≡ length xs) × (y ≡ x))
-get-back [] x zero y at = let same : y ≡ x = cc in inr (refl, same)
-get-back [] x (suc i) y at = let wrong : ⊥ = cc in absurd wrong
-get-back (z ∷ xs) x zero y at = inl at
-get-back (z ∷ xs) x (suc i) y at = elim (get-back xs x i y at) [ inl there ↦ inl there | inr (last, same) ↦ inr (ap suc last, same) ]
+get_back : {X : Type 0} (xs : List X) (x : X) (i : ℕ) (y : X) → slice_get (xs ++ x ∷ []) i ≡ Some y → (slice_get xs i ≡ Some y) ⊎ ((i ≡ length xs) × (y ≡ x))
+get_back [] x zero y at = let same : y ≡ x = cc in inr (refl, same)
+get_back [] x (suc i) y at = let wrong : ⊥ = cc in absurd wrong
+get_back (z ∷ xs) x zero y at = inl at
+get_back (z ∷ xs) x (suc i) y at = elim (get_back xs x i y at) [ inl there ↦ inl there | inr (last, same) ↦ inr (ap suc last, same) ]
 
-pub acts-more : (action : List ℕ) (living : List LivingValue) (acts : List Bool) (x : LivingValue) (act : Bool) → slice_get living (length acts) ≡ Some x
+pub acts_more : (action : List ℕ) (living : List LivingValue) (acts : List Bool) (x : LivingValue) (act : Bool) → slice_get living (length acts) ≡ Some x
     → (IsTrue act ↔ ActionMatches x.action action) → AreActs action living acts → AreActs action living (acts ++ act ∷ [])
-acts-more action living acts x act at is all i statement b there here =
-    elim (get-back acts act i b here) [
+acts_more action living acts x act at is all i statement b there here =
+    elim (get_back acts act i b here) [
       | inl before ↦ all i statement b there before
       | inr (last, same) ↦
           let found : slice_get living i ≡ Some x = ap (slice_get living) last ∙ at in
@@ -45,18 +45,18 @@ acts-more action living acts x act at is all i statement b there here =
     ]
 
 -- a place within a list has something
-pub there-is : {X : Type 0} (xs : List X) (i : ℕ) → i < length xs → (x : X) × (x ≡ get_or xs i x)
-there-is [] i below = absurd (omega (arith, below))
-there-is (x ∷ xs) zero below = (x, refl)
-there-is (x ∷ xs) (suc i) below = there-is xs i (omega (arith, below))
+pub there_is : {X : Type 0} (xs : List X) (i : ℕ) → i < length xs → (x : X) × (x ≡ get_or xs i x)
+there_is [] i below = absurd (omega (arith, below))
+there_is (x ∷ xs) zero below = (x, refl)
+there_is (x ∷ xs) (suc i) below = there_is xs i (omega (arith, below))
 
 -- one more living statement is looked at, and is put behind what was found if it acts
-pub acting-next : (action : List ℕ) (living : List Living) (acts : List Bool) (i : ℕ) (y : Living) (found : List Matched) → i < length living
+pub acting_next : (action : List ℕ) (living : List Living) (acts : List Bool) (i : ℕ) (y : Living) (found : List Matched) → i < length living
     → length acts ≡ length living → y ≡ get_or living i y → AreActs action (map living_value living) acts
     → AreActing action (take i (map living_value living)) found
     → (get_or acts i false ≡ true → AreActing action (take (i + 1) (map living_value living)) (found ++ y.matched ∷ []))
     × (get_or acts i false ≡ false → AreActing action (take (i + 1) (map living_value living)) found)
-acting-next action living acts i y found inside long is acting before = (
+acting_next action living acts i y found inside long is acting before = (
   λ yes. acting_more action xs i x found below here before (fact.0 yes),
   λ no. acting_skip action xs i x found below here before (λ matches. let yes = fact.1 matches in let wrong : ⊥ = cc in wrong),
 )

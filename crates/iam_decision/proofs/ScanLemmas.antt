@@ -9,12 +9,12 @@ use Rattle.iam_decision.specs.Matched.{Placed, Selects}
 use Rattle.iam_decision.specs.declared.living.Matched.{Matched}
 
 -- what is chosen of two lists is chosen of the one after the other
-pub selects-append : {X : Type 0} (P : X → Type 0) (xs ys a b : List X) → Selects P xs a → Selects P ys b → Selects P (xs ++ ys) (a ++ b)
-selects-append P [] ys a b h k = let Q : List _ → Type 0 = λ z. Selects P ys (z ++ b) in subst Q (sym h) k
-selects-append P (x ∷ xs) ys a b (inl h) k =
+pub selects_append : {X : Type 0} (P : X → Type 0) (xs ys a b : List X) → Selects P xs a → Selects P ys b → Selects P (xs ++ ys) (a ++ b)
+selects_append P [] ys a b h k = let Q : List _ → Type 0 = λ z. Selects P ys (z ++ b) in subst Q (sym h) k
+selects_append P (x ∷ xs) ys a b (inl h) k =
     let Q : List _ → Type 0 = λ z. Selects P (x ∷ (xs ++ ys)) (z ++ b) in
-    subst Q (sym h.1.1) (inl (h.0, (h.1.0 ++ b, refl, selects-append P xs ys h.1.0 b h.1.2 k)))
-selects-append P (x ∷ xs) ys a b (inr h) k = inr (h.0, selects-append P xs ys a b h.1 k)
+    subst Q (sym h.1.1) (inl (h.0, (h.1.0 ++ b, refl, selects_append P xs ys h.1.0 b h.1.2 k)))
+selects_append P (x ∷ xs) ys a b (inr h) k = inr (h.0, selects_append P xs ys a b h.1 k)
 
 -- nothing was added yet
 pub adds_none : (q : AccessValue) (old : List _) → Adds q [] old old
@@ -24,20 +24,20 @@ adds_none q old = ([], refl, sym (append-nil old))
 pub adds_more : (q : AccessValue) (xs ys : List Placed) (old mid new : List _) → Adds q xs old mid → Adds q ys mid new → Adds q (xs ++ ys) old new
 adds_more q xs ys old mid new h k = (
   h.0 ++ k.0,
-  selects-append (Lives q) xs ys h.0 k.0 h.1 k.1,
+  selects_append (Lives q) xs ys h.0 k.0 h.1 k.1,
   (k.2 ∙ ap (λ m. m ++ map (living_of q.requester) k.0) h.2 ∙ append_assoc old (map (living_of q.requester) h.0) (map (living_of q.requester) k.0) ∙ ap (λ z. old ++ z) (sym (map-append (living_of q.requester) h.0 k.0))),
 )
 
-numbered-suc : {X Y : Type 0} (f : ℕ × X → List Y) (n : ℕ) (xs : List X) (i : ℕ) (x : X) → i < length xs → x ≡ get_or xs i x
+numbered_suc : {X Y : Type 0} (f : ℕ × X → List Y) (n : ℕ) (xs : List X) (i : ℕ) (x : X) → i < length xs → x ≡ get_or xs i x
     → flat_map f (enumerate_from n (take (suc i) xs)) ≡ flat_map f (enumerate_from n (take i xs)) ++ f (n + i, x)
-numbered-suc f n [] i x below is = absurd (omega arith)
-numbered-suc f n (y ∷ xs) zero x below is =
+numbered_suc f n [] i x below is = absurd (omega arith)
+numbered_suc f n (y ∷ xs) zero x below is =
     let number : n ≡ n + 0 = omega arith in
     append-nil (f (n, y)) ∙ ap (λ z. f (n, z)) (sym is) ∙ ap (λ k. f (k, x)) number
-numbered-suc f n (y ∷ xs) (suc i) x below is =
+numbered_suc f n (y ∷ xs) (suc i) x below is =
     let rest : i < length xs = omega arith in
     let number : (n + 1) + i ≡ n + suc i = omega arith in
-    ap (λ z. f (n, y) ++ z) (numbered-suc f (n + 1) xs i x rest is ∙ ap (λ k. flat_map f (enumerate_from (n + 1) (take i xs)) ++ f (k, x)) number)
+    ap (λ z. f (n, y) ++ z) (numbered_suc f (n + 1) xs i x rest is ∙ ap (λ k. flat_map f (enumerate_from (n + 1) (take i xs)) ++ f (k, x)) number)
     ∙ sym (append_assoc (f (n, y)) (flat_map f (enumerate_from (n + 1) (take i xs))) (f (n + suc i, x)))
 
 -- one more element with its number
@@ -46,7 +46,7 @@ pub numbered_more : {X Y : Type 0} (f : ℕ × X → List Y) (xs : List X) (i : 
 numbered_more f xs i x below is =
     let next : i + 1 ≡ suc i = omega arith in
     let number : 0 + i ≡ i = omega arith in
-    ap (λ k. flat_map f (enumerate_from 0 (take k xs))) next ∙ numbered-suc f 0 xs i x below is
+    ap (λ k. flat_map f (enumerate_from 0 (take k xs))) next ∙ numbered_suc f 0 xs i x below is
     ∙ ap (λ k. flat_map f (enumerate_from 0 (take i xs)) ++ f (k, x)) number
 
 -- the scan of numbered elements goes on by one
@@ -79,14 +79,14 @@ pub select_more : {X : Type 0} (P : X → Type 0) (xs : List X) (i : ℕ) (d : X
     → Selects P (take i xs) chosen → P (get_or xs i d) → Selects P (take (i + 1) xs) (chosen ++ (get_or xs i d ∷ []))
 select_more {X} P xs i d chosen below h p =
     let Q : List X → Type 0 = λ z. Selects P z (chosen ++ (get_or xs i d ∷ [])) in
-    subst Q (sym (take_more xs i d below)) (selects-append P (take i xs) (get_or xs i d ∷ []) chosen (get_or xs i d ∷ []) h (inl (p, ([], refl, refl))))
+    subst Q (sym (take_more xs i d below)) (selects_append P (take i xs) (get_or xs i d ∷ []) chosen (get_or xs i d ∷ []) h (inl (p, ([], refl, refl))))
 
 pub select_skip : {X : Type 0} (P : X → Type 0) (xs : List X) (i : ℕ) (d : X) (chosen : List X) → i < length xs
     → Selects P (take i xs) chosen → ¬ P (get_or xs i d) → Selects P (take (i + 1) xs) chosen
 select_skip {X} P xs i d chosen below h p =
     let Q : List X → Type 0 = λ z. Selects P z chosen in
     let R : List X → Type 0 = λ z. Selects P (take i xs ++ (get_or xs i d ∷ [])) z in
-    subst Q (sym (take_more xs i d below)) (subst R (append-nil chosen) (selects-append P (take i xs) (get_or xs i d ∷ []) chosen [] h (inr (p, refl))))
+    subst Q (sym (take_more xs i d below)) (subst R (append-nil chosen) (selects_append P (take i xs) (get_or xs i d ∷ []) chosen [] h (inr (p, refl))))
 
 -- one more living statement, whose action element matches or does not
 pub acting_more : (action : List ℕ) (xs : List LivingValue) (i : ℕ) (x : LivingValue) (found : List Matched) → i < length xs → x ≡ get_or xs i x

@@ -20,164 +20,164 @@ use Rattle.iam_decision.specs.declared.place.Place.{Place}
 use Rattle.iam_decision.specs.declared.living.Matched.{Matched}
 use Rattle.iam_decision.specs.declared.verdict.Decision.{Decision}
 use Rattle.iam_decision.specs.declared.verdict.Decision.TheVariants.{Allowed, ExplicitDeny, ImplicitDeny}
-use Rattle.iam_decision.proofs.SomeLemmas.{SomeOf, any-from_some, some-from_any}
+use Rattle.iam_decision.proofs.SomeLemmas.{SomeOf, any_from_some, some_from_any}
 
 -- chosen elements, seen through f, have what the elements of the list have that pass
-some-chosen : {X Y : Type 0} (P R : X → Type 0) (S : Y → Type 0) (f : X → Y) (on : (x : X) → R x → P x × S (f x)) (xs chosen : List X)
+some_chosen : {X Y : Type 0} (P R : X → Type 0) (S : Y → Type 0) (f : X → Y) (on : (x : X) → R x → P x × S (f x)) (xs chosen : List X)
     → Selects P xs chosen → SomeOf R xs → SomeOf S (map f chosen)
-some-chosen P R S f on [] chosen h some = absurd some
-some-chosen P R S f on (x ∷ xs) chosen (inl (p, (rest, is, h))) (inl r) =
+some_chosen P R S f on [] chosen h some = absurd some
+some_chosen P R S f on (x ∷ xs) chosen (inl (p, (rest, is, h))) (inl r) =
     let Q : List _ → Type 0 = λ z. SomeOf S (map f z) in subst Q (sym is) (inl (on x r).1)
-some-chosen P R S f on (x ∷ xs) chosen (inl (p, (rest, is, h))) (inr some) =
-    let Q : List _ → Type 0 = λ z. SomeOf S (map f z) in subst Q (sym is) (inr (some-chosen P R S f on xs rest h some))
-some-chosen P R S f on (x ∷ xs) chosen (inr (skipped, h)) (inl r) = absurd (skipped (on x r).0)
-some-chosen P R S f on (x ∷ xs) chosen (inr (skipped, h)) (inr some) = some-chosen P R S f on xs chosen h some
+some_chosen P R S f on (x ∷ xs) chosen (inl (p, (rest, is, h))) (inr some) =
+    let Q : List _ → Type 0 = λ z. SomeOf S (map f z) in subst Q (sym is) (inr (some_chosen P R S f on xs rest h some))
+some_chosen P R S f on (x ∷ xs) chosen (inr (skipped, h)) (inl r) = absurd (skipped (on x r).0)
+some_chosen P R S f on (x ∷ xs) chosen (inr (skipped, h)) (inr some) = some_chosen P R S f on xs chosen h some
 
-some-of_chosen : {X Y : Type 0} (P R : X → Type 0) (S : Y → Type 0) (f : X → Y) (back : (x : X) → P x → S (f x) → R x) (xs chosen : List X)
+some_of_chosen : {X Y : Type 0} (P R : X → Type 0) (S : Y → Type 0) (f : X → Y) (back : (x : X) → P x → S (f x) → R x) (xs chosen : List X)
     → Selects P xs chosen → SomeOf S (map f chosen) → SomeOf R xs
-some-of_chosen P R S f back [] chosen h some =
+some_of_chosen P R S f back [] chosen h some =
     let Q : List _ → Type 0 = λ z. SomeOf S (map f z) in absurd (subst Q h some)
-some-of_chosen P R S f back (x ∷ xs) chosen (inl (p, (rest, is, h))) some =
+some_of_chosen P R S f back (x ∷ xs) chosen (inl (p, (rest, is, h))) some =
     let Q : List _ → Type 0 = λ z. SomeOf S (map f z) in
-    elim (subst Q is some) [ inl s ↦ inl (back x p s) | inr later ↦ inr (some-of_chosen P R S f back xs rest h later) ]
-some-of_chosen P R S f back (x ∷ xs) chosen (inr (skipped, h)) some = inr (some-of_chosen P R S f back xs chosen h some)
+    elim (subst Q is some) [ inl s ↦ inl (back x p s) | inr later ↦ inr (some_of_chosen P R S f back xs rest h later) ]
+some_of_chosen P R S f back (x ∷ xs) chosen (inr (skipped, h)) some = inr (some_of_chosen P R S f back xs chosen h some)
 
-any-chosen : {X Y : Type 0} (P R : X → Type 0) (S : Y → Type 0) (f : X → Y) → ((x : X) → R x → P x × S (f x)) → ((x : X) → P x → S (f x) → R x)
+any_chosen : {X Y : Type 0} (P R : X → Type 0) (S : Y → Type 0) (f : X → Y) → ((x : X) → R x → P x × S (f x)) → ((x : X) → P x → S (f x) → R x)
     → (xs chosen : List X) → Selects P xs chosen → Any R xs ↔ Any S (map f chosen)
-any-chosen P R S f on back xs chosen h = (
-  λ any. any-from_some S (map f chosen) (some-chosen P R S f on xs chosen h (some-from_any R xs any)),
-  λ any. any-from_some R xs (some-of_chosen P R S f back xs chosen h (some-from_any S (map f chosen) any)),
+any_chosen P R S f on back xs chosen h = (
+  λ any. any_from_some S (map f chosen) (some_chosen P R S f on xs chosen h (some_from_any R xs any)),
+  λ any. any_from_some R xs (some_of_chosen P R S f back xs chosen h (some_from_any S (map f chosen) any)),
 )
 
 -- elements that pass two tests, one after the other
-select-twice : {X Y : Type 0} (P : X → Type 0) (S : Y → Type 0) (f : X → Y) (xs chosen : List X) (kept : List Y) → Selects P xs chosen
+select_twice : {X Y : Type 0} (P : X → Type 0) (S : Y → Type 0) (f : X → Y) (xs chosen : List X) (kept : List Y) → Selects P xs chosen
     → Selects S (map f chosen) kept → (both : List X) × Selects (λ x. P x × S (f x)) xs both × (kept ≡ map f both)
-select-twice P S f [] chosen kept h k =
+select_twice P S f [] chosen kept h k =
     let Q : List _ → Type 0 = λ z. Selects S (map f z) kept in ([], refl, subst Q h k)
-select-twice {X} {Y} P S f (x ∷ xs) chosen kept (inl (p, (rest, is, h))) k =
+select_twice {X} {Y} P S f (x ∷ xs) chosen kept (inl (p, (rest, is, h))) k =
     let Q : List X → Type 0 = λ z. Selects S (map f z) kept in
     elim (subst Q is k) [
       | inl (s, (others, kept_is, later)) ↦ (
-          let more = select-twice P S f xs rest others h later in
+          let more = select_twice P S f xs rest others h later in
           (x ∷ more.0, inl ((p, s), (more.0, refl, more.1)), kept_is ∙ ap (λ z. f x ∷ z) more.2)
           )
       | inr (fails, later) ↦ (
-          let more = select-twice P S f xs rest kept h later in
+          let more = select_twice P S f xs rest kept h later in
           (more.0, inr ((λ both. fails both.1), more.1), more.2)
           )
     ]
-select-twice P S f (x ∷ xs) chosen kept (inr (skipped, h)) k =
-    let more = select-twice P S f xs chosen kept h k in (more.0, inr ((λ both. skipped both.0), more.1), more.2)
+select_twice P S f (x ∷ xs) chosen kept (inr (skipped, h)) k =
+    let more = select_twice P S f xs chosen kept h k in (more.0, inr ((λ both. skipped both.0), more.1), more.2)
 
-select-same : {X : Type 0} (P Q : X → Type 0) → ((x : X) → P x ↔ Q x) → (xs chosen : List X) → Selects P xs chosen → Selects Q xs chosen
-select-same P Q same [] chosen h = h
-select-same P Q same (x ∷ xs) chosen (inl (p, (rest, is, h))) = inl ((same x).0 p, (rest, is, select-same P Q same xs rest h))
-select-same P Q same (x ∷ xs) chosen (inr (skipped, h)) = inr ((λ q. skipped ((same x).1 q)), select-same P Q same xs chosen h)
+select_same : {X : Type 0} (P Q : X → Type 0) → ((x : X) → P x ↔ Q x) → (xs chosen : List X) → Selects P xs chosen → Selects Q xs chosen
+select_same P Q same [] chosen h = h
+select_same P Q same (x ∷ xs) chosen (inl (p, (rest, is, h))) = inl ((same x).0 p, (rest, is, select_same P Q same xs rest h))
+select_same P Q same (x ∷ xs) chosen (inr (skipped, h)) = inr ((λ q. skipped ((same x).1 q)), select_same P Q same xs chosen h)
 
-items-map : (requester : RequesterValue) (xs : List Placed) → map (λ (l : LivingValue). l.matched) (map (living_of requester) xs) ≡ map (item_of requester) xs
-items-map requester [] = refl
-items-map requester (x ∷ xs) = ap (λ z. item_of requester x ∷ z) (items-map requester xs)
+items_map : (requester : RequesterValue) (xs : List Placed) → map (λ (l : LivingValue). l.matched) (map (living_of requester) xs) ≡ map (item_of requester) xs
+items_map requester [] = refl
+items_map requester (x ∷ xs) = ap (λ z. item_of requester x ∷ z) (items_map requester xs)
 
 -- of the living statements those match a request whose action elements match its action
-pub acting-found : (access : AccessValue) (action : List ℕ) (statements : List Placed) (living : List LivingValue) (found : List Matched)
+pub acting_found : (access : AccessValue) (action : List ℕ) (statements : List Placed) (living : List LivingValue) (found : List Matched)
     → AreLiving access statements living → AreActing action living found → AreFound (request_for access action) statements found
-acting-found access action statements living found (chosen, selected, is) (kept, acting, found_is) =
+acting_found access action statements living found (chosen, selected, is) (kept, acting, found_is) =
     let P : List LivingValue → Type 0 = λ z. Selects (Acts action) z kept in
-    let both = select-twice (Lives access) (Acts action) (living_of access.requester) statements chosen kept selected (subst P is acting) in
+    let both = select_twice (Lives access) (Acts action) (living_of access.requester) statements chosen kept selected (subst P is acting) in
     let same : (x : Placed) → (Lives access x × Acts action (living_of access.requester x)) ↔ IsMatched (request_for access action) x =
     λ x. ((λ h. record { action = h.1; rest = h.0 }), (λ m. (m.rest, m.action))) in (
       both.0,
-      select-same (λ x. Lives access x × Acts action (living_of access.requester x)) (IsMatched (request_for access action)) same statements both.0 both.1,
-      found_is ∙ ap (map (λ (l : LivingValue). l.matched)) both.2 ∙ items-map access.requester both.0,
+      select_same (λ x. Lives access x × Acts action (living_of access.requester x)) (IsMatched (request_for access action)) same statements both.0 both.1,
+      found_is ∙ ap (map (λ (l : LivingValue). l.matched)) both.2 ∙ items_map access.requester both.0,
     )
 
 -- the statements that were found are the matched ones
 module _ (a : ApplicableValue) (q : RequestValue) (f : Frame) (found : List Matched) (scanned : AreFound q (placed a) found) where
-  denies-same : Denies a q ↔ DeniesIn found
-  denies-same =
+  denies_same : Denies a q ↔ DeniesIn found
+  denies_same =
       let P : List Matched → Type 0 = λ z. Denies a q ↔ DeniesIn z in
       subst P (sym scanned.2)
-      (any-chosen (IsMatched q) (Says q Deny) (λ (m : Matched). m.effect ≡ Deny) (item_of q.requester) (λ x r. r) (λ x p s. (p, s)) (placed a) scanned.0 scanned.1)
+      (any_chosen (IsMatched q) (Says q Deny) (λ (m : Matched). m.effect ≡ Deny) (item_of q.requester) (λ x r. r) (λ x p s. (p, s)) (placed a) scanned.0 scanned.1)
 
-  allows-same : (layer : Layer) (level : ℕ) → Allows a q layer level ↔ AllowsIn found layer level
-  allows-same layer level =
+  allows_same : (layer : Layer) (level : ℕ) → Allows a q layer level ↔ AllowsIn found layer level
+  allows_same layer level =
       let P : List Matched → Type 0 = λ z. Allows a q layer level ↔ AllowsIn z layer level in
       subst P (sym scanned.2)
       (
-      any-chosen (IsMatched q) (λ s. Says q Allow s × (s.place.layer ≡ layer) × (s.place.level ≡ level))
+      any_chosen (IsMatched q) (λ s. Says q Allow s × (s.place.layer ≡ layer) × (s.place.level ≡ level))
       (λ (m : Matched). (m.effect ≡ Allow) × (m.place.layer ≡ layer) × (m.place.level ≡ level)) (item_of q.requester)
       (λ x r. (r.0.0, (r.0.1, r.1, r.2))) (λ x p s. ((p, s.0), s.1, s.2)) (placed a) scanned.0 scanned.1
       )
 
-  grants-same : (least : Grant) → Grants a q least ↔ GrantsIn found least
-  grants-same least =
+  grants_same : (least : Grant) → Grants a q least ↔ GrantsIn found least
+  grants_same least =
       let P : List Matched → Type 0 = λ z. Grants a q least ↔ GrantsIn z least in
       subst P (sym scanned.2)
       (
-      any-chosen (IsMatched q) (λ s. Says q Allow s × (s.place.layer ≡ Resource) × (rank least ≤ rank (grant_of s.statement.principal q.requester)))
+      any_chosen (IsMatched q) (λ s. Says q Allow s × (s.place.layer ≡ Resource) × (rank least ≤ rank (grant_of s.statement.principal q.requester)))
       (λ (m : Matched). (m.effect ≡ Allow) × (m.place.layer ≡ Resource) × (rank least ≤ rank m.grant)) (item_of q.requester)
       (λ x r. (r.0.0, (r.0.1, r.1, r.2))) (λ x p s. ((p, s.0), s.1, s.2)) (placed a) scanned.0 scanned.1
       )
 
-  levels-same : (layer : Layer) (levels : ℕ) → LevelsHold (AllowsIn found) layer levels ↔ LevelsHold (Allows a q) layer levels
-  levels-same layer levels = (λ h level below. (allows-same layer level).1 (h level below), λ h level below. (allows-same layer level).0 (h level below))
+  levels_same : (layer : Layer) (levels : ℕ) → LevelsHold (AllowsIn found) layer levels ↔ LevelsHold (Allows a q) layer levels
+  levels_same layer levels = (λ h level below. (allows_same layer level).1 (h level below), λ h level below. (allows_same layer level).0 (h level below))
 
-  boundary-same : BoundaryHolds (AllowsIn found) f ↔ BoundaryHolds (Allows a q) f
-  boundary-same = (
-    λ h. elim h [ inl none ↦ inl none | inr allows ↦ inr ((allows-same Boundary 0).1 allows) ],
-    λ h. elim h [ inl none ↦ inl none | inr allows ↦ inr ((allows-same Boundary 0).0 allows) ],
+  boundary_same : BoundaryHolds (AllowsIn found) f ↔ BoundaryHolds (Allows a q) f
+  boundary_same = (
+    λ h. elim h [ inl none ↦ inl none | inr allows ↦ inr ((allows_same Boundary 0).1 allows) ],
+    λ h. elim h [ inl none ↦ inl none | inr allows ↦ inr ((allows_same Boundary 0).0 allows) ],
   )
 
-  session-same : SessionHolds (AllowsIn found) f ↔ SessionHolds (Allows a q) f
-  session-same = (
-    λ h. elim h [ inl none ↦ inl none | inr allows ↦ inr ((allows-same Session 0).1 allows) ],
-    λ h. elim h [ inl none ↦ inl none | inr allows ↦ inr ((allows-same Session 0).0 allows) ],
+  session_same : SessionHolds (AllowsIn found) f ↔ SessionHolds (Allows a q) f
+  session_same = (
+    λ h. elim h [ inl none ↦ inl none | inr allows ↦ inr ((allows_same Session 0).1 allows) ],
+    λ h. elim h [ inl none ↦ inl none | inr allows ↦ inr ((allows_same Session 0).0 allows) ],
   )
 
-  all-same : AllHold (AllowsIn found) (GrantsIn found) f ↔ AllHold (Allows a q) (Grants a q) f
-  all-same = (
-    λ h. ((allows-same Identity 0).1 h.0, boundary-same.0 h.1, session-same.0 h.2, (λ must. (grants-same Account).1 (h.3 must))),
-    λ h. ((allows-same Identity 0).0 h.0, boundary-same.1 h.1, session-same.1 h.2, (λ must. (grants-same Account).0 (h.3 must))),
+  all_same : AllHold (AllowsIn found) (GrantsIn found) f ↔ AllHold (Allows a q) (Grants a q) f
+  all_same = (
+    λ h. ((allows_same Identity 0).1 h.0, boundary_same.0 h.1, session_same.0 h.2, (λ must. (grants_same Account).1 (h.3 must))),
+    λ h. ((allows_same Identity 0).0 h.0, boundary_same.1 h.1, session_same.1 h.2, (λ must. (grants_same Account).0 (h.3 must))),
   )
 
-  grant-same : GrantSuffices (AllowsIn found) (GrantsIn found) f ↔ GrantSuffices (Allows a q) (Grants a q) f
-  grant-same = (
-    λ h. (h.0, elim h.1 [ inl g ↦ inl ((grants-same Direct).1 g) | inr g ↦ inr ((grants-same Role).1 g.0, boundary-same.0 g.1, session-same.0 g.2) ]),
-    λ h. (h.0, elim h.1 [ inl g ↦ inl ((grants-same Direct).0 g) | inr g ↦ inr ((grants-same Role).0 g.0, boundary-same.1 g.1, session-same.1 g.2) ]),
+  grant_same : GrantSuffices (AllowsIn found) (GrantsIn found) f ↔ GrantSuffices (Allows a q) (Grants a q) f
+  grant_same = (
+    λ h. (h.0, elim h.1 [ inl g ↦ inl ((grants_same Direct).1 g) | inr g ↦ inr ((grants_same Role).1 g.0, boundary_same.0 g.1, session_same.0 g.2) ]),
+    λ h. (h.0, elim h.1 [ inl g ↦ inl ((grants_same Direct).0 g) | inr g ↦ inr ((grants_same Role).0 g.0, boundary_same.1 g.1, session_same.1 g.2) ]),
   )
 
-  allowed-same : IsAllowed (AllowsIn found) (GrantsIn found) f ↔ IsAllowed (Allows a q) (Grants a q) f
-  allowed-same = (
-    λ h. ((levels-same Org f.org).0 h.0, (levels-same Control f.control).0 h.1, elim h.2 [ inl g ↦ inl (grant-same.0 g) | inr all ↦ inr (all-same.0 all) ]),
-    λ h. ((levels-same Org f.org).1 h.0, (levels-same Control f.control).1 h.1, elim h.2 [ inl g ↦ inl (grant-same.1 g) | inr all ↦ inr (all-same.1 all) ]),
+  allowed_same : IsAllowed (AllowsIn found) (GrantsIn found) f ↔ IsAllowed (Allows a q) (Grants a q) f
+  allowed_same = (
+    λ h. ((levels_same Org f.org).0 h.0, (levels_same Control f.control).0 h.1, elim h.2 [ inl g ↦ inl (grant_same.0 g) | inr all ↦ inr (all_same.0 all) ]),
+    λ h. ((levels_same Org f.org).1 h.0, (levels_same Control f.control).1 h.1, elim h.2 [ inl g ↦ inl (grant_same.1 g) | inr all ↦ inr (all_same.1 all) ]),
   )
 
-  pub decided-same : (d : Decision) → IsDecided (DeniesIn found) (AllowsIn found) (GrantsIn found) f d → IsDecided (Denies a q) (Allows a q) (Grants a q) f d
-  decided-same ExplicitDeny h = denies-same.1 h
-  decided-same Allowed h = ((λ denies. h.0 (denies-same.0 denies)), allowed-same.0 h.1)
-  decided-same ImplicitDeny h = ((λ denies. h.0 (denies-same.0 denies)), (λ allowed. h.1 (allowed-same.1 allowed)))
+  pub decided_same : (d : Decision) → IsDecided (DeniesIn found) (AllowsIn found) (GrantsIn found) f d → IsDecided (Denies a q) (Allows a q) (Grants a q) f d
+  decided_same ExplicitDeny h = denies_same.1 h
+  decided_same Allowed h = ((λ denies. h.0 (denies_same.0 denies)), allowed_same.0 h.1)
+  decided_same ImplicitDeny h = ((λ denies. h.0 (denies_same.0 denies)), (λ allowed. h.1 (allowed_same.1 allowed)))
 
-  fails-same : (layer : Layer) → Fails (AllowsIn found) (GrantsIn found) f layer ↔ Fails (Allows a q) (Grants a q) f layer
-  fails-same Org = ((λ h holds. h ((levels-same Org f.org).1 holds)), (λ h holds. h ((levels-same Org f.org).0 holds)))
-  fails-same Control = ((λ h holds. h ((levels-same Control f.control).1 holds)), (λ h holds. h ((levels-same Control f.control).0 holds)))
-  fails-same Resource = ((λ h. (h.0, (λ g. h.1 ((grants-same Account).0 g)))), (λ h. (h.0, (λ g. h.1 ((grants-same Account).1 g)))))
-  fails-same Identity = ((λ h allows. h ((allows-same Identity 0).0 allows)), (λ h allows. h ((allows-same Identity 0).1 allows)))
-  fails-same Boundary = ((λ h holds. h (boundary-same.1 holds)), (λ h holds. h (boundary-same.0 holds)))
-  fails-same Session = ((λ h holds. h (session-same.1 holds)), (λ h holds. h (session-same.0 holds)))
+  fails_same : (layer : Layer) → Fails (AllowsIn found) (GrantsIn found) f layer ↔ Fails (Allows a q) (Grants a q) f layer
+  fails_same Org = ((λ h holds. h ((levels_same Org f.org).1 holds)), (λ h holds. h ((levels_same Org f.org).0 holds)))
+  fails_same Control = ((λ h holds. h ((levels_same Control f.control).1 holds)), (λ h holds. h ((levels_same Control f.control).0 holds)))
+  fails_same Resource = ((λ h. (h.0, (λ g. h.1 ((grants_same Account).0 g)))), (λ h. (h.0, (λ g. h.1 ((grants_same Account).1 g)))))
+  fails_same Identity = ((λ h allows. h ((allows_same Identity 0).0 allows)), (λ h allows. h ((allows_same Identity 0).1 allows)))
+  fails_same Boundary = ((λ h holds. h (boundary_same.1 holds)), (λ h holds. h (boundary_same.0 holds)))
+  fails_same Session = ((λ h holds. h (session_same.1 holds)), (λ h holds. h (session_same.0 holds)))
 
-  pub lacking-same : (d : Decision) (lacks : List Layer) → AreLacking (AllowsIn found) (GrantsIn found) f d lacks → AreLacking (Allows a q) (Grants a q) f d lacks
-  lacking-same ExplicitDeny lacks h = h
-  lacking-same Allowed lacks h = h
-  lacking-same ImplicitDeny lacks h = select-same _ _ fails-same layers_in_order lacks h
+  pub lacking_same : (d : Decision) (lacks : List Layer) → AreLacking (AllowsIn found) (GrantsIn found) f d lacks → AreLacking (Allows a q) (Grants a q) f d lacks
+  lacking_same ExplicitDeny lacks h = h
+  lacking_same Allowed lacks h = h
+  lacking_same ImplicitDeny lacks h = select_same _ _ fails_same layers_in_order lacks h
 
-  pub deciding-same : (d : Decision) (places : List Place) → ArePlaces (deciding_effect d) found places → AreDeciding a q d places
-  deciding-same d places (kept, selected, is) =
+  pub deciding_same : (d : Decision) (places : List Place) → ArePlaces (deciding_effect d) found places → AreDeciding a q d places
+  deciding_same d places (kept, selected, is) =
       let P : List Matched → Type 0 = λ z. Selects (λ m. m.effect ≡ deciding_effect d) z kept in
       let both =
-      select-twice (IsMatched q) (λ (m : Matched). m.effect ≡ deciding_effect d) (item_of q.requester) (placed a) scanned.0 kept scanned.1
+      select_twice (IsMatched q) (λ (m : Matched). m.effect ≡ deciding_effect d) (item_of q.requester) (placed a) scanned.0 kept scanned.1
       (subst P scanned.2 selected) in
-      (both.0, both.1, is ∙ ap (map (λ (m : Matched). m.place)) both.2 ∙ places-map both.0)
+      (both.0, both.1, is ∙ ap (map (λ (m : Matched). m.place)) both.2 ∙ places_map both.0)
     where
-      places-map : (xs : List Placed) → map (λ (m : Matched). m.place) (map (item_of q.requester) xs) ≡ map (λ s. s.place) xs
-      places-map [] = refl
-      places-map (x ∷ xs) = ap (λ z. x.place ∷ z) (places-map xs)
+      places_map : (xs : List Placed) → map (λ (m : Matched). m.place) (map (item_of q.requester) xs) ≡ map (λ s. s.place) xs
+      places_map [] = refl
+      places_map (x ∷ xs) = ap (λ z. x.place ∷ z) (places_map xs)

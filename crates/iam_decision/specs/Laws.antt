@@ -3,6 +3,7 @@
 -- LOGIC 11.2.
 use Rattle.std.specs.Prelude.{◌≡◌, ◌⊎◌, ◌↔◌, ◌<◌, ◌≤◌, ℕ, List, [], ◌∷◌, None, Some, codes, false, true, get_or, length}
 use Rattle.std.specs.List.{Any, Contains, flat_map}
+use Rattle.std.specs.Option.{option_to_list}
 use Rattle.iam_element.specs.Reading.{PrincipalElement}
 use Rattle.iam_element.specs.declared.principals.PrincipalKind.TheVariants.{Aws}
 use Rattle.iam_policy.specs.Reading.{PolicyValue, StatementValue}
@@ -15,7 +16,6 @@ use Rattle.iam_match.specs.declared.principal.Grant.{Grant}
 use Rattle.iam_match.specs.declared.principal.Grant.TheVariants.{Account, Role, Direct}
 use Rattle.iam_decision.specs.Applicable.{ApplicableValue, frame_of}
 use Rattle.iam_decision.specs.Decision.{IsDecision, IsVerdict}
-use Rattle.iam_decision.specs.Matched.{as_list}
 use Rattle.iam_decision.specs.declared.place.Layer.{Layer}
 use Rattle.iam_decision.specs.declared.place.Layer.TheVariants.{Org, Control, Resource, Identity, Boundary, Session}
 use Rattle.iam_decision.specs.declared.verdict.Decision.{Decision}
@@ -26,9 +26,9 @@ use Rattle.iam_decision.specs.declared.verdict.Verdict.{Verdict}
 abbrev pub levels_of : ApplicableValue → Layer → List (List PolicyValue)
 levels_of a Org = a.org
 levels_of a Control = a.control
-levels_of a Resource = as_list a.resource ∷ []
+levels_of a Resource = option_to_list a.resource ∷ []
 levels_of a Identity = a.identity ∷ []
-levels_of a Boundary = as_list a.boundary ∷ []
+levels_of a Boundary = option_to_list a.boundary ∷ []
 levels_of a Session = a.session ∷ []
 
 -- all statements of some policies
@@ -50,7 +50,7 @@ SomeGrants least q statements =
 
 -- requester and resource are of one account, and the resource's policy grants the requester at least this
 abbrev pub IsGrantedInAccount : Grant → ApplicableValue → RequestValue → Type 0
-IsGrantedInAccount least a q = (a.same_account ≡ true) × SomeGrants least q (statements_of (as_list a.resource))
+IsGrantedInAccount least a q = (a.same_account ≡ true) × SomeGrants least q (statements_of (option_to_list a.resource))
 
 -- the statement's `Principal` names the user or the session itself: by its ARN, or by `*`
 abbrev pub NamesItself : RequesterValue → StatementValue → Type 0
@@ -161,13 +161,13 @@ DirectGrantNamesItself =
 abbrev pub BothAccountsAllow : Type 0
 BothAccountsAllow =
     (a : ApplicableValue) (q : RequestValue) → a.same_account ≡ false → IsDecision a q Allowed
-    → SomeSays Allow q (statements_of a.identity) × SomeGrants Account q (statements_of (as_list a.resource))
+    → SomeSays Allow q (statements_of a.identity) × SomeGrants Account q (statements_of (option_to_list a.resource))
 
 -- whatever is allowed on a sealed resource is granted by its policy
 abbrev pub SealedResourceGrants : Type 0
 SealedResourceGrants =
     (a : ApplicableValue) (q : RequestValue) → a.sealed ≡ true → IsDecision a q Allowed
-    → SomeGrants Account q (statements_of (as_list a.resource))
+    → SomeGrants Account q (statements_of (option_to_list a.resource))
 
 -- the order of statements and of policies changes no decision
 abbrev pub OrderIsFree : Type 0

@@ -1,7 +1,8 @@
 -- The statements of the applicable policies, each with its place, and which of them match a request.
 -- LOGIC 10.2 and 11.1.
-use Rattle.std.specs.Prelude.{◌≡◌, ◌⊎◌, ℕ, List, [], ◌∷◌, ◌++◌, Option, Some, None}
+use Rattle.std.specs.Prelude.{◌≡◌, ◌⊎◌, ℕ, List, [], ◌∷◌, ◌++◌}
 use Rattle.std.specs.List.{enumerate_from, flat_map}
+use Rattle.std.specs.Option.{option_to_list}
 use Rattle.iam_policy.specs.Reading.{PolicyValue, StatementValue}
 use Rattle.iam_match.specs.Statement.{RequestValue, StatementMatches}
 use Rattle.iam_decision.specs.Applicable.{ApplicableValue}
@@ -28,19 +29,14 @@ in_level layer level policies = flat_map (λ p. in_policy layer level p.0 p.1) (
 abbrev pub in_layer : Layer → List (List PolicyValue) → List Placed
 in_layer layer levels = flat_map (λ l. in_level layer l.0 l.1) (enumerate_from 0 levels)
 
--- one policy or none, as a list
-abbrev pub as_list : Option PolicyValue → List PolicyValue
-as_list None = []
-as_list (Some policy) = policy ∷ []
-
 -- all statements of the applicable policies, in place order; those of layers without levels stand at level 0
 abbrev pub placed : ApplicableValue → List Placed
 placed a =
     in_layer Org a.org
     ++ (in_layer Control a.control
-    ++ (in_level Resource 0 (as_list a.resource)
+    ++ (in_level Resource 0 (option_to_list a.resource)
     ++ (in_level Identity 0 a.identity
-    ++ (in_level Boundary 0 (as_list a.boundary) ++ in_level Session 0 a.session))))
+    ++ (in_level Boundary 0 (option_to_list a.boundary) ++ in_level Session 0 a.session))))
 
 -- those of a list that have the property, in the order of the list
 abbrev pub Selects : {X : Type 0} → (X → Type 0) → List X → List X → Type 0

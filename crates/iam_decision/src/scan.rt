@@ -1,7 +1,8 @@
 // The walk over the statements of all layers, in place order.
 ghost use Rattle.std.specs.Prelude.{[], ◌∷◌, OnOk, IfOk, map, option_map};
+ghost use Rattle.std.specs.Option.{option_to_list};
 ghost use Rattle.iam_match.specs.Request.{access_of};
-ghost use Rattle.iam_decision.specs.Matched.{as_list, in_layer, in_level, in_policy, placed};
+ghost use Rattle.iam_decision.specs.Matched.{in_layer, in_level, in_policy, placed};
 ghost use Rattle.iam_decision.specs.Applicable.{HasCountableLevels, IsCountable, IsNumbered, value_of};
 ghost use Rattle.iam_decision.specs.Code.Scan.{Adds};
 ghost use Rattle.iam_decision.specs.Living.{living_value};
@@ -94,7 +95,7 @@ fn scan_one<'a: 'c, 'c>(
     layer: Layer,
     access: Access<'_, 'c>,
 ) -> Result<(), OutOfMemory>
-    ensures { OnOk result (Adds (access_of access.entry) (in_level layer 0 (as_list (option_map (λ p. p.now) policy.entry)))
+    ensures { OnOk result (Adds (access_of access.entry) (in_level layer 0 (option_to_list (option_map (λ p. p.now) policy.entry)))
         (map living_value found.old.items) (map living_value found.new.items)) }
 {
     match policy {

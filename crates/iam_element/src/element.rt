@@ -6,7 +6,7 @@ ghost use Rattle.serde_json.specs.View.{view};
 ghost use Rattle.iam_element.specs.Form.{form_of};
 ghost use Rattle.iam_element.specs.Element.{both, neither, listed, is_text, is_no_text, are_texts, is_bad_list, has_text, is_this, is_too_long};
 
-use crate::grammar::Form;
+use crate::grammar::TextForm;
 use serde_json::Value;
 use std::slice;
 
@@ -51,7 +51,7 @@ pub fn values_in(value: &Value) -> &[Value]
 }
 
 /// Whether the value is a text of the form.
-pub fn is_text(value: &Value, form: Form) -> bool
+pub fn is_text(value: &Value, form: TextForm) -> bool
     ensures { result ≡ is_text (form_of form) (view value.now) }
 {
     value.as_str().is_some_and(|text| form.fits(text))
@@ -64,33 +64,33 @@ pub fn is_no_text(of: &Value, name: &str) -> bool
     of.get(name).is_some_and(|value| !value.is_string())
 }
 
-fn all_texts(values: &[Value], form: Form) -> bool
+fn all_texts(values: &[Value], form: TextForm) -> bool
     ensures { result ≡ list_all (λ v. is_text (form_of form) (view v)) values.now }
 {
     values.iter().all(|value| is_text(value, form))
 }
 
-fn are_texts(values: &[Value], form: Form) -> bool
+fn are_texts(values: &[Value], form: TextForm) -> bool
     ensures { result ≡ are_texts (form_of form) (map view values.now) }
 {
     !values.is_empty() && all_texts(values, form)
 }
 
-fn any_text(values: &[Value], form: Form) -> bool
+fn any_text(values: &[Value], form: TextForm) -> bool
     ensures { result ≡ list_any (λ v. is_text (form_of form) (view v)) values.now }
 {
     values.iter().any(|value| is_text(value, form))
 }
 
 /// Whether the element stands there and is not one or more texts of the form.
-pub fn is_bad_list(of: &Value, name: &str, form: Form) -> bool
+pub fn is_bad_list(of: &Value, name: &str, form: TextForm) -> bool
     ensures { result ≡ is_bad_list (form_of form) (get name.now (view of.now)) }
 {
     of.get(name).is_some() && !are_texts(listed(of, name), form)
 }
 
 /// Whether some text of the element has the form.
-pub fn has_text(of: &Value, name: &str, form: Form) -> bool
+pub fn has_text(of: &Value, name: &str, form: TextForm) -> bool
     ensures { result ≡ has_text (form_of form) (get name.now (view of.now)) }
 {
     any_text(listed(of, name), form)

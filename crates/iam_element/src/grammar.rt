@@ -13,7 +13,7 @@ use iam_text::{
 
 /// A form that a text of a statement may have.
 #[derive(Clone, Copy)]
-pub enum Form {
+pub enum TextForm {
     /// An action pattern: `*`, or a service prefix, a colon and a name.
     Action,
     /// A resource text: `*`, or one that begins with `arn:`.
@@ -26,7 +26,7 @@ pub enum Form {
     AnyName,
 }
 
-impl Form {
+impl TextForm {
     ghost use Rattle.std.specs.Prelude.{◌≡◌};
     ghost use Rattle.iam_element.specs.Form.{form_of};
 
@@ -34,11 +34,11 @@ impl Form {
         ensures { result ≡ form_of self text.now }
     {
         match self {
-            Form::Action => is_action_pattern(text),
-            Form::Resource => is_resource_pattern(text),
-            Form::BadVariable(version) => is_bad_variable(text, version),
-            Form::AwsName => is_aws_name(text),
-            Form::AnyName => true,
+            TextForm::Action => is_action_pattern(text),
+            TextForm::Resource => is_resource_pattern(text),
+            TextForm::BadVariable(version) => is_bad_variable(text, version),
+            TextForm::AwsName => is_aws_name(text),
+            TextForm::AnyName => true,
         }
     }
 }

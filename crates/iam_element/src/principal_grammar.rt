@@ -9,7 +9,7 @@ ghost use Rattle.iam_element.specs.Element.{stands_as, is_too_long};
 ghost use Rattle.iam_element.specs.Principal.{principal_kinds, kind_word, name_test, is_bad_kind, has_principals, is_everyone, is_principal, is_single_star, is_star, has_long_kind};
 
 use crate::element::{is_bad_list, is_too_long, listed};
-use crate::grammar::Form;
+use crate::grammar::TextForm;
 use crate::principals::{KINDS, PrincipalKind};
 use iam_json::has_unknown;
 use serde_json::Value;
@@ -53,13 +53,13 @@ fn has_bad_kind(element: &Value) -> bool
         .any(|&kind| is_bad_list(element, kind.word(), form_of(kind)))
 }
 
-fn form_of(kind: PrincipalKind) -> Form
+fn form_of(kind: PrincipalKind) -> TextForm
     ensures { form_of result ≡ name_test kind }
 {
     match kind {
-        PrincipalKind::Aws => Form::AwsName,
+        PrincipalKind::Aws => TextForm::AwsName,
         PrincipalKind::Service | PrincipalKind::Federated | PrincipalKind::CanonicalUser => {
-            Form::AnyName
+            TextForm::AnyName
         }
     }
 }

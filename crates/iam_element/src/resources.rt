@@ -11,7 +11,7 @@ ghost use Rattle.iam_element.specs.Resource.{has_bad_variable};
 
 use crate::OutOfMemory;
 use crate::element::{Element, either, has_text, values_in};
-use crate::grammar::Form;
+use crate::grammar::TextForm;
 use iam_text::{Template, Version};
 use serde_json::Value;
 use std::alloc::Global;
@@ -90,7 +90,7 @@ pub fn read_resource(
 pub fn has_bad_variable(statement: &Value, version: Version) -> bool
     ensures { result ≡ has_bad_variable version (view statement.now) }
 {
-    let form = Form::BadVariable(version);
+    let form = TextForm::BadVariable(version);
     has_text(statement, "Resource", form) || has_text(statement, "NotResource", form)
 }
 

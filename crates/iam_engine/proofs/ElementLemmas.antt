@@ -6,7 +6,7 @@ use Rattle.iam_match.specs.Statement.{ActionMatches}
 use Rattle.iam_decision.specs.Living.{AreActs, LivingValue}
 use Rattle.iam_layers.specs.Cell.{IsAction}
 use Rattle.iam_world.specs.World.{WorldValue}
-use Rattle.iam_engine.specs.Elements.{AreElements, AreRows, HasElement, IsElement, TellActs}
+use Rattle.iam_engine.specs.Elements.{AreElements, AreElementNumbers, HasElement, IsElement, TellActs}
 use Rattle.iam_engine.specs.declared.elements.Element.{Element}
 use Rattle.iam_engine.proofs.ListLemmas.{get-back, get-more, some-same}
 
@@ -35,14 +35,14 @@ elements-more world elements element is all n other at =
 pub element-more : (elements more : List Element) (n : ℕ) (action : ActionElement) → HasElement elements n action → HasElement (elements ++ more) n action
 element-more elements more n action (element, at, is) = (element, get-more elements more n element at, is)
 
-pub rows-grow : (elements more : List Element) (living : List LivingValue) (rows : List (Option ℕ)) → AreRows elements living rows
-    → AreRows (elements ++ more) living rows
+pub rows-grow : (elements more : List Element) (living : List LivingValue) (rows : List (Option ℕ)) → AreElementNumbers elements living rows
+    → AreElementNumbers (elements ++ more) living rows
 rows-grow elements more living rows all i n statement kept at = element-more elements more n statement.action (all i n statement kept at)
 
 -- one more statement
 pub rows-more : (elements : List Element) (living : List LivingValue) (rows : List (Option ℕ)) (x : LivingValue) (row : Option ℕ)
-    → slice_get living (length rows) ≡ Some x → IfSome row (λ n. HasElement elements n x.action) → AreRows elements living rows
-    → AreRows elements living (rows ++ row ∷ [])
+    → slice_get living (length rows) ≡ Some x → IfSome row (λ n. HasElement elements n x.action) → AreElementNumbers elements living rows
+    → AreElementNumbers elements living (rows ++ row ∷ [])
 rows-more elements living rows x row at is all i n statement kept there =
     elim (get-back rows row i (Some n) kept) [
       | inl before ↦ all i n statement before there

@@ -4,7 +4,7 @@ use Rattle.std.proofs.lemmas.Option.{slice_get_within}
 use Rattle.std.specs.List.{slice_get}
 use Rattle.iam_decision.specs.Ruling.{RulingValue}
 use Rattle.iam_world.specs.World.{WorldValue}
-use Rattle.iam_engine.specs.Elements.{AreRows}
+use Rattle.iam_engine.specs.Elements.{AreElementNumbers}
 use Rattle.iam_engine.specs.Memo.{AreAnswers, ArePairs, HasClass, HasNumber, HaveRows}
 use Rattle.iam_engine.specs.declared.elements.Element.{Element}
 use Rattle.iam_engine.specs.declared.memo.Answer.{Answer}
@@ -37,12 +37,12 @@ answers-behind world classes rulings more answers all =
 pub class-rows-grow : (elements more : List Element) (classes : List Class) → HaveRows elements classes → HaveRows (elements ++ more) classes
 class-rows-grow elements more classes all n class at = rows-grow elements more class.shared.living class.rows.items (all n class at)
 
-pub class-rows-more : (elements : List Element) (classes : List Class) (class : Class) → AreRows elements class.shared.living class.rows.items
+pub class-rows-more : (elements : List Element) (classes : List Class) (class : Class) → AreElementNumbers elements class.shared.living class.rows.items
     → HaveRows elements classes → HaveRows elements (classes ++ class ∷ [])
 class-rows-more elements classes class is all n other at =
     elim (get-back classes class n other at) [
       | inl before ↦ all n other before
-      | inr (last, same) ↦ let R : Class → Type 0 = λ c. AreRows elements c.shared.living c.rows.items in subst R (sym same) is
+      | inr (last, same) ↦ let R : Class → Type 0 = λ c. AreElementNumbers elements c.shared.living c.rows.items in subst R (sym same) is
     ]
 
 pub no-rows : (elements : List Element) (classes : List Class) → classes ≡ [] → HaveRows elements classes

@@ -1,9 +1,9 @@
 -- Slots, changed one at a time.
 use Rattle.std.proofs.Common.{◌≡◌, inl, inr, ◌<◌, ◌+◌, ℕ, zero, suc, List, [], ◌∷◌, ◌++◌, Option, Some, None, sym, subst, arith}
 use Rattle.std.proofs.Math.ListN.{set}
-use Rattle.iam_engine.specs.Slots.{AllAre, AreEmpty, Gains, Keeps}
+use Rattle.iam_engine.specs.Slots.{AllAre, AreEmpty, GainsOnly, Keeps}
 
-pub gains-set : {T : Type 0} (slots : List (Option T)) (i : ℕ) (kept : T) → Gains slots (set slots i (Some kept)) kept
+pub gains-set : {T : Type 0} (slots : List (Option T)) (i : ℕ) (kept : T) → GainsOnly slots (set slots i (Some kept)) kept
 gains-set [] i kept j other at = inr at
 gains-set (s ∷ slots) zero kept zero other at = let same : other ≡ kept = cc in inl same
 gains-set (s ∷ slots) zero kept (suc j) other at = inr at
@@ -34,7 +34,7 @@ below-more (suc n) (s ∷ slots) below (suc i) kept less at =
 pub all-empty : {T : Type 0} (P : T → Type 0) (slots : List (Option T)) → AreEmpty slots → AllAre P slots
 all-empty P slots empty i kept at = absurd (empty i kept at)
 
-pub all-gained : {T : Type 0} (P : T → Type 0) (old new : List (Option T)) (more : T) → Gains old new more → AllAre P old → P more → AllAre P new
+pub all-gained : {T : Type 0} (P : T → Type 0) (old new : List (Option T)) (more : T) → GainsOnly old new more → AllAre P old → P more → AllAre P new
 all-gained P old new more gains all one i kept at =
     elim (gains i kept at) [ inl same ↦ subst P (sym same) one | inr there ↦ all i kept there ]
 

@@ -26,6 +26,6 @@ abbrev pub HasElement : List Element → ℕ → ActionElement → Type 0
 HasElement elements n action = (element : Element) × (slice_get elements n ≡ Some element) × (element.action.now ≡ action)
 
 -- the elements of living statements, of those of which they are kept
-abbrev pub AreRows : List Element → List LivingValue → List (Option ℕ) → Type 0
-AreRows elements living rows =
+abbrev pub AreElementNumbers : List Element → List LivingValue → List (Option ℕ) → Type 0
+AreElementNumbers elements living rows =
     (i n : ℕ) (statement : LivingValue) → Keeps rows i n → slice_get living i ≡ Some statement → HasElement elements n statement.action

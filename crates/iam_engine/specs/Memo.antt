@@ -13,7 +13,7 @@ use Rattle.iam_decision.specs.declared.living.Matched.{Matched}
 use Rattle.iam_decision.specs.declared.verdict.Verdict.{Verdict}
 use Rattle.iam_layers.specs.Cell.{IsAction, IsSharedAt}
 use Rattle.iam_world.specs.World.{WorldValue}
-use Rattle.iam_engine.specs.Elements.{AreElements, AreRows}
+use Rattle.iam_engine.specs.Elements.{AreElements, AreElementNumbers}
 use Rattle.iam_engine.specs.Slots.{AllAre}
 use Rattle.iam_engine.specs.declared.elements.Element.{Element}
 use Rattle.iam_engine.specs.declared.memo.Answer.{Answer}
@@ -30,15 +30,15 @@ abbrev pub HasClass : WorldValue → List Class → ℕ → ℕ → ℕ → Type
 HasClass world classes p r n = (class : Class) × (slice_get classes n ≡ Some class) × IsSharedAt world p r class.shared
 
 -- this is the verdict on every request for action a that shares this
-abbrev pub IsAnswer : WorldValue → SharedValue → ℕ → Verdict → Type 0
-IsAnswer world shared a verdict =
+abbrev pub IsSharedVerdict : WorldValue → SharedValue → ℕ → Verdict → Type 0
+IsSharedVerdict world shared a verdict =
     (action : List ℕ) (applicable : ApplicableValue) (access : AccessValue) → IsAction world a action → IsShared applicable access shared
     → IsVerdict applicable (request_for access action) verdict
 
 -- the verdict of this number is the one on requests for action a that share this
 abbrev pub IsNumber : WorldValue → SharedValue → List RulingValue → ℕ → ℕ → Type 0
 IsNumber world shared rulings a number =
-    (ruling : RulingValue) × (slice_get rulings number ≡ Some ruling) × IsAnswer world shared a ruling.verdict
+    (ruling : RulingValue) × (slice_get rulings number ≡ Some ruling) × IsSharedVerdict world shared a ruling.verdict
 
 -- the same of requests of the class
 abbrev pub HasNumber : WorldValue → List Class → List RulingValue → ℕ → ℕ → ℕ → Type 0
@@ -67,7 +67,7 @@ AreAnswers world classes rulings answers =
 -- the kept elements of each class are those of its statements
 abbrev pub HaveRows : List Element → List Class → Type 0
 HaveRows elements classes =
-    (n : ℕ) (class : Class) → slice_get classes n ≡ Some class → AreRows elements class.shared.living class.rows.items
+    (n : ℕ) (class : Class) → slice_get classes n ≡ Some class → AreElementNumbers elements class.shared.living class.rows.items
 
 -- everything that is kept is right
 pub record IsRight (world : WorldValue) (memo : Memo) : Type 0 where

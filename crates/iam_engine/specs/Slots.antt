@@ -15,5 +15,5 @@ abbrev pub AreEmpty : {T : Type 0} → List (Option T) → Type 0
 AreEmpty {T} slots = (i : ℕ) (kept : T) → ¬ Keeps slots i kept
 
 -- nothing more is kept, but this
-abbrev pub Gains : {T : Type 0} → List (Option T) → List (Option T) → T → Type 0
-Gains {T} old new more = (i : ℕ) (kept : T) → Keeps new i kept → (kept ≡ more) ⊎ Keeps old i kept
+abbrev pub GainsOnly : {T : Type 0} → List (Option T) → List (Option T) → T → Type 0
+GainsOnly {T} old new more = (i : ℕ) (kept : T) → Keeps new i kept → (kept ≡ more) ⊎ Keeps old i kept

@@ -4,7 +4,7 @@ ghost use Rattle.iam_decision.specs.Living.{AreActs, living_value};
 ghost use Rattle.iam_layers.specs.Cell.{IsAction};
 ghost use Rattle.iam_match.specs.Statement.{ActionMatches};
 ghost use Rattle.iam_world.specs.World.{WorldValue};
-ghost use Rattle.iam_engine.specs.Elements.{AreElements, AreRows, HasElement, IsElement};
+ghost use Rattle.iam_engine.specs.Elements.{AreElements, AreElementNumbers, HasElement, IsElement};
 ghost use Rattle.iam_element.specs.Reading.{ActionElement};
 ghost use Rattle.iam_engine.specs.declared.elements.Element.{Element};
 
@@ -60,7 +60,7 @@ impl<'a> Elements<'a> {
     ) -> Result<Vec<Option<usize>>, OutOfMemory>
         ensures right { AreElements world.now self.old.elements.items → AreElements world.now self.new.elements.items }
         ensures more { (more : List Element) × (self.new.elements.items ≡ self.old.elements.items ++ more) }
-        ensures rows { IfOk result (λ rows. AreRows self.new.elements.items (map living_value living.now) rows.items) }
+        ensures rows { IfOk result (λ rows. AreElementNumbers self.new.elements.items (map living_value living.now) rows.items) }
     {
         let mut rows = Vec::with_capacity(alloc, living.len())?;
         for statement in living {
@@ -126,7 +126,7 @@ impl<'a> Elements<'a> {
         text: &str,
     ) -> Result<(), OutOfMemory>
         ensures count { OnOk result (length acts.new.items ≡ length living.now) }
-        ensures acts { (world : WorldValue) → AreElements world self.now.elements.items → AreRows self.now.elements.items (map living_value living.now) rows.now
+        ensures acts { (world : WorldValue) → AreElements world self.now.elements.items → AreElementNumbers self.now.elements.items (map living_value living.now) rows.now
             → IsAction world a text.now → OnOk result (AreActs text.now (map living_value living.now) acts.new.items) }
     {
         acts.clear();

@@ -1,6 +1,6 @@
 // Tables of slots, each of which holds what was kept there last.
 ghost use Rattle.std.specs.Prelude.{IfOk, IfSome};
-ghost use Rattle.iam_engine.specs.Slots.{AreEmpty, Gains, Keeps};
+ghost use Rattle.iam_engine.specs.Slots.{AreEmpty, GainsOnly, Keeps};
 
 use iam_text::OutOfMemory;
 use std::alloc::Global;
@@ -46,7 +46,7 @@ pub fn kept<T: Copy>(slots: &[Option<T>], slot: u64) -> Option<T>
 
 /// Puts this into a slot, if there is such a slot.
 pub fn keep<T: Copy>(slots: &mut Vec<Option<T>>, slot: u64, kept: T)
-    ensures { Gains slots.old.items slots.new.items kept }
+    ensures { GainsOnly slots.old.items slots.new.items kept }
 {
     let slot = slot as usize;
     if slot < slots.len() {

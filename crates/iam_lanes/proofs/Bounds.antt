@@ -4,7 +4,8 @@ use Rattle.std.proofs.lemmas.Bool.{cases_eq, cases_lt}
 use mathlib.Core.Option.{some}
 use lib.ListN.{get_elem?}
 use Rattle.iam_lanes.specs.declared.view.LaneView.{LaneView}
-use Rattle.iam_lanes.specs.LaneRule.{no_cell, times, times_taken, LaneState, offers_in, looks_in, with_offer, with_look, offer, look, IsSeated, LaneRule}
+use Rattle.iam_lanes.specs.Code.LaneRule.{LaneState, offers_in, looks_in, with_offer, with_look, offer, look, IsSeated, LaneRule}
+use Rattle.iam_lanes.specs.Lanes.{no_cell, times, times_taken}
 use Rattle.iam_lanes.proofs.Counts.{times_push_same, times_push_other}
 use Rattle.iam_lanes.proofs.Sums.{at_most}
 use Rattle.iam_lanes.proofs.Events.{put, same_sum, more_by_one, seats_kept, numbers_kept, ends_kept}

@@ -7,9 +7,9 @@ use Rattle.atomic_table.specs.Table.{Me, Allows}
 use Rattle.atomic_table.specs.Seated.{TableId}
 use Rattle.iam_lanes.specs.declared.view.LaneView.{LaneView}
 use Rattle.iam_lanes.specs.declared.rule.Plan.{Plan}
-use Rattle.iam_lanes.specs.LaneRule.{no_cell, times, times_taken, after_take, with_number, with_end, with_offer, with_look}
+use Rattle.iam_lanes.specs.Code.LaneRule.{after_take, with_number, with_end, with_offer, with_look}
 use Rattle.iam_lanes.specs.Code.Words.{IsRuled, tells_take, tells_offer, tells_look}
-use Rattle.iam_lanes.specs.Lanes.{LanesId, SeatView, lanes_id, gains_number, sees_end, gains_offer, gains_look, next_number, left_in}
+use Rattle.iam_lanes.specs.Lanes.{LanesId, SeatView, lanes_id, gains_number, sees_end, gains_offer, gains_look, next_number, left_in, no_cell, times, times_taken}
 use Rattle.iam_lanes.specs.Code.Fields.{seat_view, IsFlagged, IsLaid}
 use Rattle.iam_lanes.proofs.Counts.{times_push_same, times_push_other}
 use Rattle.iam_lanes.proofs.Steps as steps

@@ -10,10 +10,10 @@ use mir.Val.{bool_byte}
 use Rattle.atomic_table.specs.Table.{Final, Seen}
 use Rattle.atomic_table.specs.Seated.{TableId}
 use Rattle.iam_lanes.specs.declared.view.LaneView.{LaneView}
-use Rattle.iam_lanes.specs.LaneRule.{no_cell, times, times_taken, LaneState, IsSeated, LaneRule, joined}
+use Rattle.iam_lanes.specs.Code.LaneRule.{LaneState, IsSeated, LaneRule, joined_view}
 use Rattle.iam_lanes.specs.Code.Words.{state_of, IsRuled}
 use Rattle.iam_lanes.specs.declared.rule.Plan.{Plan}
-use Rattle.iam_lanes.specs.Lanes.{LanesId, lanes_id, SeatView, taken_by, ends_by, offers_by, looks_by, ended_below}
+use Rattle.iam_lanes.specs.Lanes.{LanesId, lanes_id, SeatView, taken_by, ends_by, offers_by, looks_by, ended_below, no_cell, times, times_taken}
 use Rattle.iam_lanes.specs.Code.Fields.{seat_view}
 use Rattle.iam_lanes.specs.Code.Closing.{Gathers, passed_below}
 use Rattle.iam_lanes.proofs.Counts.{times_append, taken_append}
@@ -33,7 +33,7 @@ gather_first seats rest s t w split shown alone =
     })
 
 -- one seat more
-pub gather_more : (seats more rest : List SeatView) (v w : LaneView) (s : SeatView) (t : TableId) → Gathers seats more v → more ≡ rest ++ s ∷ [] → seat_view t w ≡ s → w.seats ≡ 1 → Gathers seats rest (joined v w)
+pub gather_more : (seats more rest : List SeatView) (v w : LaneView) (s : SeatView) (t : TableId) → Gathers seats more v → more ≡ rest ++ s ∷ [] → seat_view t w ≡ s → w.seats ≡ 1 → Gathers seats rest (joined_view v w)
 gather_more seats more rest v w s t so_far split shown alone =
     let P : List SeatView → Type 0 = λ xs. Gathers seats xs v in
     let g = subst P split so_far in

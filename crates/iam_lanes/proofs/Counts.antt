@@ -2,7 +2,7 @@
 use Rattle.std.proofs.Common.{◌≡◌, ◌≢◌, ◌⊎◌, ℕ, zero, suc, ◌+◌, false, ◌&&◌, cond, eqb, List, [], ◌∷◌, ◌++◌, get_or, replicate, refl, ap, ◌∙◌, ⊎_elim, arith}
 use Rattle.std.proofs.lemmas.Bool.{eq-eqb, ne_eqb, and_left, and_right}
 use Rattle.std.proofs.lemmas.List.Sums.{sum_by_push, sum_by-append}
-use Rattle.iam_lanes.specs.LaneRule.{times, times_taken}
+use Rattle.iam_lanes.specs.Lanes.{times, times_taken}
 
 -- no flag is set in a list of flags that are not set
 pub no_flags : (n lane : ℕ) → get_or (replicate n false) lane false ≡ false

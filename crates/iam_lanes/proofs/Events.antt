@@ -6,7 +6,8 @@ use mathlib.Core.Option.{some}
 use lib.ListN.{get_elem?}
 use Rattle.atomic_table.proofs.Lists.{at_set}
 use Rattle.iam_lanes.specs.declared.view.LaneView.{LaneView}
-use Rattle.iam_lanes.specs.LaneRule.{no_cell, times, times_taken, LaneState, taken_in, ends_in, offers_in, looks_in, with_number, with_end, take, NumbersStandOnce, IsSeated, SeatsAddUp, BoundIsLeast, LaneRule}
+use Rattle.iam_lanes.specs.Code.LaneRule.{LaneState, taken_in, ends_in, offers_in, looks_in, with_number, with_end, take, NumbersStandOnce, IsSeated, SeatsAddUp, BoundIsLeast, LaneRule}
+use Rattle.iam_lanes.specs.Lanes.{no_cell, times, times_taken}
 use Rattle.iam_lanes.proofs.Counts.{times_push_same, times_push_other, taken_push_same, taken_push_other}
 use Rattle.iam_lanes.proofs.Sums.{sum_set, sum_le}
 

@@ -6,7 +6,8 @@ use mathlib.Core.Option.{some, some-injective, some-ne-none}
 use lib.ListN.{get_elem?}
 use Rattle.atomic_table.proofs.Lists.{at_set, at_snoc, set_else}
 use Rattle.iam_lanes.specs.declared.view.LaneView.{LaneView}
-use Rattle.iam_lanes.specs.LaneRule.{no_cell, times, times_taken, LaneState, taken_in, ends_in, offers_in, looks_in, seats_in, IsSeated, LaneRule, joined, empty_view, without_seat, one_seat, unseated}
+use Rattle.iam_lanes.specs.Code.LaneRule.{LaneState, taken_in, ends_in, offers_in, looks_in, seats_in, IsSeated, LaneRule, joined_view, empty_view, without_seat, one_seat, unseated}
+use Rattle.iam_lanes.specs.Lanes.{no_cell, times, times_taken}
 use Rattle.iam_lanes.proofs.Counts.{times_append, taken_append}
 use Rattle.iam_lanes.proofs.Sums.{sum_set}
 
@@ -63,22 +64,22 @@ begins lengths all counts none = record {
 
 module _ (lengths : List ℕ) (all : ℕ) (s : LaneState) (rule : LaneRule lengths all s) (id : ℕ) (v : LaneView) (at : get_elem? s.views id ≡ some v) where
   -- an amount that a joined view has from both stays the same when a view is joined into another
-  join_sum : (other : ℕ) (w : LaneView) → get_elem? (set s.views id (joined v w)) other ≡ some w
-      → (f : LaneView → ℕ) → f (joined v w) ≡ f v + f w → f unseated ≡ 0
-      → sum_by f (set (set s.views id (joined v w)) other unseated) ≡ sum_by f s.views
+  join_sum : (other : ℕ) (w : LaneView) → get_elem? (set s.views id (joined_view v w)) other ≡ some w
+      → (f : LaneView → ℕ) → f (joined_view v w) ≡ f v + f w → f unseated ≡ 0
+      → sum_by f (set (set s.views id (joined_view v w)) other unseated) ≡ sum_by f s.views
   join_sum other w there f both none =
-      let a = sum_set f s.views id v (joined v w) at in
-      let b = sum_set f (set s.views id (joined v w)) other w unseated there in
+      let a = sum_set f s.views id v (joined_view v w) at in
+      let b = sum_set f (set s.views id (joined_view v w)) other w unseated there in
       omega arith
 
-  pub joins : (other : ℕ) (w : LaneView) → other ≢ id → get_elem? (set s.views id (joined v w)) other ≡ some w
-      → LaneRule lengths all (record { counts = s.counts; bound = s.bound; views = set (set s.views id (joined v w)) other unseated })
+  pub joins : (other : ℕ) (w : LaneView) → other ≢ id → get_elem? (set s.views id (joined_view v w)) other ≡ some w
+      → LaneRule lengths all (record { counts = s.counts; bound = s.bound; views = set (set s.views id (joined_view v w)) other unseated })
   joins other w apart there = same_sums lengths all s _ rule join_sums (λ j u found. ⊎_elim
       (λ t. subst IsSeated t.1 (empty_seated [] 0 0))
-      (λ t. ⊎_elim (λ q. subst IsSeated q.1 both_seated) (λ q. rule.seats.fair j u q.1) (at_set s.views id j (joined v w) u t.1))
-      (at_set (set s.views id (joined v w)) other j unseated u found))
+      (λ t. ⊎_elim (λ q. subst IsSeated q.1 both_seated) (λ q. rule.seats.fair j u q.1) (at_set s.views id j (joined_view v w) u t.1))
+      (at_set (set s.views id (joined_view v w)) other j unseated u found))
     where
-      join_sums : SameSums s (set (set s.views id (joined v w)) other unseated)
+      join_sums : SameSums s (set (set s.views id (joined_view v w)) other unseated)
       join_sums = record {
         numbers = λ lane n. join_sum other w there (λ u. times_taken lane n u.taken) (taken_append lane n v.taken w.taken) refl;
         ends = λ lane. join_sum other w there (λ u. times lane u.ends) (times_append lane v.ends w.ends) refl;
@@ -88,7 +89,7 @@ module _ (lengths : List ℕ) (all : ℕ) (s : LaneState) (rule : LaneRule lengt
       }
 
       theirs : IsSeated w
-      theirs = rule.seats.fair other w (sym (set_else s.views id other (joined v w) apart) ∙ there)
+      theirs = rule.seats.fair other w (sym (set_else s.views id other (joined_view v w) apart) ∙ there)
 
       mine : IsSeated v
       mine = rule.seats.fair id v at
@@ -96,7 +97,7 @@ module _ (lengths : List ℕ) (all : ℕ) (s : LaneState) (rule : LaneRule lengt
       nothing : {A : Type 0} (xs ys : List A) → xs ≡ [] → ys ≡ [] → xs ++ ys ≡ []
       nothing xs ys e f = ap (λ zs. zs ++ ys) e ∙ f
 
-      both_seated : IsSeated (joined v w)
+      both_seated : IsSeated (joined_view v w)
       both_seated = record {
         few = λ lane. let e = times_append lane v.ends w.ends in let a = mine.few lane in let b = theirs.few lane in omega arith;
         idle = λ none.

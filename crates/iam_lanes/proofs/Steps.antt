@@ -7,7 +7,8 @@ use mathlib.Core.Option.{some}
 use lib.ListN.{get_elem?}
 use Rattle.atomic_table.specs.Table.{Me, keeps, Allows, Splits, Joins}
 use Rattle.iam_lanes.specs.declared.view.LaneView.{LaneView}
-use Rattle.iam_lanes.specs.LaneRule.{no_cell, times, times_taken, LaneRule, take, with_number, with_end, with_offer, with_look, joined, without_seat, one_seat, unseated}
+use Rattle.iam_lanes.specs.Code.LaneRule.{LaneRule, take, with_number, with_end, with_offer, with_look, joined_view, without_seat, one_seat, unseated}
+use Rattle.iam_lanes.specs.Lanes.{no_cell, times, times_taken}
 use Rattle.iam_lanes.specs.Code.Words.{state_of, IsRuled, opened, FindsCount, tells_take, tells_offer, tells_look}
 use Rattle.iam_lanes.proofs.Events as event
 use Rattle.iam_lanes.proofs.Bounds as bound
@@ -109,7 +110,7 @@ module _ (lengths : List ℕ) (all : ℕ) where
     rule = seating.splits lengths all (state_of s.words s.views) holds.rule id v at more no_end;
   }
 
-  pub joins : (id : ℕ) (v : LaneView) (other : ℕ) (w : LaneView) → Joins (IsRuled lengths all) id v other w (joined v w) unseated
+  pub joins : (id : ℕ) (v : LaneView) (other : ℕ) (w : LaneView) → Joins (IsRuled lengths all) id v other w (joined_view v w) unseated
   joins id v other w s holds at apart there = record {
     wide = holds.wide;
     rule = seating.joins lengths all (state_of s.words s.views) holds.rule id v at other w apart there;

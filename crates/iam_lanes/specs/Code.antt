@@ -1,3 +1,4 @@
+pub mod LaneRule
 pub mod Words
 pub mod Fields
 pub mod Closing

@@ -1,7 +1,18 @@
 -- Lanes and their seats as callers see them, and what a caller knows once the lanes are closed. LOGIC 11.7.
-use Rattle.std.specs.Prelude.{ℕ, zero, suc, ◌+◌, ◌-◌, ◌<◌, ◌⊎◌, ◌==◌, nat_lt, max, if◌then◌else◌, List, [], ◌∷◌, ◌++◌, length, slice_index, sum, sum_by}
+use Rattle.std.specs.Prelude.{ℕ, zero, suc, ◌+◌, ◌-◌, ◌<◌, ◌⊎◌, ◌==◌, ◌&&◌, nat_lt, max, if◌then◌else◌, List, [], ◌∷◌, ◌++◌, length, slice_index, sum, sum_by, count_by}
 use Rattle.atomic_table.specs.Seated.{TableId}
-use Rattle.iam_lanes.specs.LaneRule.{times, times_taken}
+
+-- the bound while no cell was offered
+abbrev pub no_cell : ℕ
+no_cell = 18446744073709551615
+
+-- how often x stands in a list
+abbrev pub times : ℕ → List ℕ → ℕ
+times x xs = count_by (λ y. x == y) xs
+
+-- how often the number n of a lane stands in a list of numbers with their lanes
+abbrev pub times_taken : ℕ → ℕ → List (ℕ × ℕ) → ℕ
+times_taken lane n pairs = count_by (λ p. (lane == p.0) && (n == p.1)) pairs
 
 -- which lanes they are, with the length of each, and the number of their seats
 pub record LanesId : Type 0 where

@@ -1,3 +1,2 @@
-pub mod LaneRule
 pub mod Lanes
 pub mod Code

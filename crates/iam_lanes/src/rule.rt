@@ -2,7 +2,7 @@
 //
 // Word 0 is the bound, and word `lane + 1` is the count of a lane.
 ghost use Rattle.std.specs.Prelude.{◌≡◌};
-ghost use Rattle.iam_lanes.specs.LaneRule.{without_seat, one_seat, unseated, joined};
+ghost use Rattle.iam_lanes.specs.Code.LaneRule.{without_seat, one_seat, unseated, joined_view};
 ghost use Rattle.iam_lanes.specs.Code.Words.{tells_take, tells_offer, tells_look};
 
 use crate::view::LaneView;
@@ -65,7 +65,7 @@ impl Split<LaneView> for Seats {
 }
 
 impl Join<LaneView> for Seats {
-    ghost both = { joined };
+    ghost both = { joined_view };
 
     ghost spent = { unseated };
 }

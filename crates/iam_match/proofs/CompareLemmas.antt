@@ -16,7 +16,7 @@ use Rattle.iam_condition.specs.declared.operator.Order.{Order}
 use Rattle.iam_condition.specs.Operand.{has_texts}
 use Rattle.iam_condition.specs.Entry.{EntryValue}
 use Rattle.iam_match.specs.Entry.{ArnMatches, HoldsOn, HoldsWith, Ordered, PartsMatch, ResolvesTo, ValueMatches}
-use Rattle.iam_match.specs.Code.Asked.{IsComparison, IsCut, IsThe}
+use Rattle.iam_match.specs.Code.Asked.{IsComparison, IsArnOf, IsThe}
 use Rattle.iam_match.specs.Code.Compared.{ArnFits, IsTextAnswer}
 
 -- the pieces of a text
@@ -70,16 +70,16 @@ comparison context b text (operand.Bytes bytes) P answer means back texts is = o
 comparison context b text (operand.Range range) P answer means back texts is = other context b text (operand.Range range) P answer means (λ pieces e. cc) is
 
 -- the ARN of a text is the one that it is cut into
-arn-fits : (text : List ℕ) (found : Option Arn) → IsCut text found → (signs : List Sign) → ArnMatches signs text → ArnFits found signs
+arn-fits : (text : List ℕ) (found : Option Arn) → IsArnOf text found → (signs : List Sign) → ArnMatches signs text → ArnFits found signs
 arn-fits text None cut signs (parts, is, fits) = absurd (cut parts is)
 arn-fits text (Some a) cut signs (parts, is, inl star) = inl star
 arn-fits text (Some a) cut signs (parts, is, inr fits) = inr (subst (PartsMatch signs) (cut.1 parts is) fits)
 
-fits-arn : (text : List ℕ) (found : Option Arn) → IsCut text found → (signs : List Sign) → ArnFits found signs → ArnMatches signs text
+fits-arn : (text : List ℕ) (found : Option Arn) → IsArnOf text found → (signs : List Sign) → ArnFits found signs → ArnMatches signs text
 fits-arn text None cut signs fits = absurd fits
 fits-arn text (Some a) cut signs fits = (parts_of a, cut.0, fits)
 
-pub arn-comparison : (context : ContextValue) (text : List ℕ) (found : Option Arn) (value : Operand) (answer : Option Bool) → IsCut text found
+pub arn-comparison : (context : ContextValue) (text : List ℕ) (found : Option Arn) (value : Operand) (answer : Option Bool) → IsArnOf text found
     → IsTextAnswer context value (ArnFits found) answer → IsComparison context base.Arn text value answer
 arn-comparison context text found value answer cut is =
     comparison context base.Arn text value (ArnFits found) answer

@@ -1,6 +1,6 @@
 // A text of the context, as an operator reads it.
 ghost use Rattle.std.specs.Prelude.{IfOk};
-ghost use Rattle.iam_match.specs.Code.Asked.{IsAsked, IsCut};
+ghost use Rattle.iam_match.specs.Code.Asked.{IsArnOf, IsAsked};
 
 use iam_condition::{Base, Order, TextTest};
 use iam_text::{Arn, Items, OutOfMemory};
@@ -44,7 +44,7 @@ impl<'t> Asked<'t> {
 }
 
 fn cut<'t>(text: &'t str) -> Option<Arn<'t>>
-    ensures { IsCut text.entry.now result }
+    ensures { IsArnOf text.entry.now result }
 {
     Arn::cut(text)
 }

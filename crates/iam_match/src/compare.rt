@@ -6,7 +6,7 @@ ghost use Rattle.iam_condition.specs.declared.operator.Base.{Base};
 ghost use Rattle.iam_condition.specs.declared.operand.Operand.TheVariants as operand;
 ghost use Rattle.iam_match.specs.Code.Asked.{IsAsked, IsComparison};
 ghost use Rattle.iam_match.specs.Code.Compared.{ArnFits, IsTextAnswer};
-ghost use Rattle.iam_match.specs.Code.Texts.{IsAnswer};
+ghost use Rattle.iam_match.specs.Code.Texts.{TellsOfPattern};
 ghost use Rattle.iam_match.specs.Entry.{Ordered, PatternMatches};
 
 use crate::arn::arn_matches;
@@ -66,7 +66,7 @@ fn open_text<'c>(
     test: TextTest,
     context: &Context<'c>,
 ) -> Result<Option<bool>, OutOfMemory>
-    ensures { IfOk result (IsAnswer (resolved context.now draft.now) (λ signs. PatternMatches test signs text.now)) }
+    ensures { IfOk result (TellsOfPattern (resolved context.now draft.now) (λ signs. PatternMatches test signs text.now)) }
 {
     match resolve(alloc, draft, context)? {
         Some(glob) => Ok(Some(text_matches(&glob, text, test))),
@@ -99,7 +99,7 @@ fn open_arn<'c>(
     arn: &Option<Arn<'_>>,
     context: &Context<'c>,
 ) -> Result<Option<bool>, OutOfMemory>
-    ensures { IfOk result (IsAnswer (resolved context.now draft.now) (ArnFits arn.now)) }
+    ensures { IfOk result (TellsOfPattern (resolved context.now draft.now) (ArnFits arn.now)) }
 {
     match resolve(alloc, draft, context)? {
         Some(glob) => Ok(Some(arn_fits(&glob, arn))),

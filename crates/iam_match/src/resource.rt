@@ -4,7 +4,7 @@ ghost use Rattle.std.specs.Str.{chars};
 ghost use Rattle.iam_text.specs.Glob.{Matches};
 ghost use Rattle.iam_context.specs.Resolve.{resolved};
 ghost use Rattle.iam_match.specs.Statement.{ResourceMatches, TextMatches};
-ghost use Rattle.iam_match.specs.Code.Texts.{IsAnswer, TextDiffers};
+ghost use Rattle.iam_match.specs.Code.Texts.{TellsOfPattern, TextDiffers};
 
 use iam_context::{Context, resolve};
 use iam_policy::{Resources, Statement};
@@ -115,7 +115,7 @@ fn answer<'c>(
     resource: &str,
     context: &Context<'c>,
 ) -> Result<Option<bool>, OutOfMemory>
-    ensures { IfOk result (IsAnswer (resolved context.now text.now) (λ signs. Matches signs (chars resource.now))) }
+    ensures { IfOk result (TellsOfPattern (resolved context.now text.now) (λ signs. Matches signs (chars resource.now))) }
 {
     match text.form() {
         TemplateForm::Fixed(glob) => Ok(Some(glob.matches(resource))),
@@ -130,7 +130,7 @@ fn open_answer<'c>(
     resource: &str,
     context: &Context<'c>,
 ) -> Result<Option<bool>, OutOfMemory>
-    ensures { IfOk result (IsAnswer (resolved context.now draft.now) (λ signs. Matches signs (chars resource.now))) }
+    ensures { IfOk result (TellsOfPattern (resolved context.now draft.now) (λ signs. Matches signs (chars resource.now))) }
 {
     match resolve(alloc, draft, context)? {
         Some(glob) => Ok(Some(glob.matches(resource))),

@@ -170,9 +170,7 @@ fn is_too_many(tile: u64, cells: u64) -> bool
     requires { 0 < tile }
     ensures { IsTrue result ↔ (4096 < length (even_lengths tile cells)) }
 {
-    let whole = cells / tile;
-    let rest = u64::from(cells % tile != 0);
-    whole > 4096 || whole + rest > 4096
+    cells.div_ceil(tile) > MOST_TILES as u64
 }
 
 /// Tiles of this length, of which the last may be shorter.

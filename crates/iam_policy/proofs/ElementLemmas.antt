@@ -26,9 +26,9 @@ take_next xs i x at =
     take_more xs i x (slice_get_within xs i x at) ∙ ap (λ y. take i xs ++ (y ∷ [])) (get_or_from_slice_get xs i x x at)
 
 -- what one more element of a front gives
-pub filter_map-next : {X Y : Type 0} (h : X → Option Y) (xs : List X) (i : ℕ) (x : X) → slice_get xs i ≡ Some x
+pub filter_map_next : {X Y : Type 0} (h : X → Option Y) (xs : List X) (i : ℕ) (x : X) → slice_get xs i ≡ Some x
     → filter_map h (take (i + 1) xs) ≡ filter_map h (take i xs) ++ option_to_list (h x)
-filter_map-next h xs i x at =
+filter_map_next h xs i x at =
     ap (filter_map h) (take_next xs i x at) ∙ filter_map-append h (take i xs) (x ∷ []) ∙ ap (λ ys. filter_map h (take i xs) ++ ys) (one (h x))
   where
     one : {Y : Type 0} (o : Option Y) → cons_option o [] ≡ option_to_list o
@@ -36,8 +36,8 @@ filter_map-next h xs i x at =
     one (Some y) = refl
 
 -- the first element of the rest that passes: the next, or one behind it
-pub find-next : {X : Type 0} (p : X → Bool) (xs : List X) (i : ℕ) (d : X) (b : Bool) → i < length xs → p (get_or xs i d) ≡ b
+pub find_next : {X : Type 0} (p : X → Bool) (xs : List X) (i : ℕ) (d : X) (b : Bool) → i < length xs → p (get_or xs i d) ≡ b
     → find p (drop i xs) ≡ cond b (Some (get_or xs i d)) (find p (drop (i + 1) xs))
-find-next p xs i d b below is =
+find_next p xs i d b below is =
     ap (find p) (drop-cons xs i d below) ∙ ap (λ c. cond c (Some (get_or xs i d)) (find p (drop (suc i) xs))) is
     ∙ ap (λ n. cond b (Some (get_or xs i d)) (find p (drop n xs))) (sym (add-one i))

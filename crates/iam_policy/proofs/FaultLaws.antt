@@ -19,33 +19,33 @@ use Rattle.iam_policy.specs.Version.{version_named, version_of}
 use Rattle.iam_policy.proofs.ElementLemmas.{first_false}
 use Rattle.iam_policy.proofs.TableLaws.{found_not_memory, none_passes, least_passes, found_passes, same_number}
 
-document-memory : (kind : Kind) (d : Data) → document_has kind d OutOfMemory ≡ false
-document-memory kind d = go (is_some (as_object d))
+document_memory : (kind : Kind) (d : Data) → document_has kind d OutOfMemory ≡ false
+document_memory kind d = go (is_some (as_object d))
   where
     go : (b : Bool) → cond b false false ≡ false
     go true = refl
     go false = refl
 
-line-memory : (kind : Kind) (d : Data) (i : ℕ) (s : Data) (bad : Bool) → line_has kind d i s bad OutOfMemory ≡ false
-line-memory kind d i s bad = go (is_some (as_object s))
+line_memory : (kind : Kind) (d : Data) (i : ℕ) (s : Data) (bad : Bool) → line_has kind d i s bad OutOfMemory ≡ false
+line_memory kind d i s bad = go (is_some (as_object s))
   where
     go : (b : Bool) → (cond b false false || false) ≡ false
     go true = refl
     go false = refl
 
 document_clean : (kind : Kind) (d : Data) → document_fault kind d ≡ None → (fault : Fault) → document_has kind d fault ≡ false
-document_clean kind d none = none_passes (document_has kind d) (document-memory kind d) none
+document_clean kind d none = none_passes (document_has kind d) (document_memory kind d) none
 
 line_none : (kind : Kind) (d : Data) (i : ℕ) (s : Data) (bad : Bool) → fault_of kind d i s bad ≡ None → (fault : Fault) → line_has kind d i s bad fault ≡ false
 unfolding fault_of
-line_none kind d i s bad none = none_passes (line_has kind d i s bad) (line-memory kind d i s bad) none
+line_none kind d i s bad none = none_passes (line_has kind d i s bad) (line_memory kind d i s bad) none
 
 -- a fault of the document is the least of all
 pub document_least : (kind : Kind) (d : Data) (fault : Fault) → document_fault kind d ≡ Some fault → IsLeastFault kind d None fault
 document_least kind d fault e = record { holds = found_passes (document_has kind d) fault e; least = least }
   where
     least : (place : Option ℕ) (other : Fault) → HasFault kind d place other → IsNotAfter None fault place other
-    least None other h = inr (refl, least_passes (document_has kind d) (document-memory kind d) fault e other h)
+    least None other h = inr (refl, least_passes (document_has kind d) (document_memory kind d) fault e other h)
     least (Some i) other h = inl (omega arith)
 
 -- what a fault of a statement says of it
@@ -53,9 +53,9 @@ abbrev IsFaultOf : Kind → Data → ℕ → Data → Fault → Type 0
 IsFaultOf kind d i s fault = (statement_has kind d i s fault ≡ true) ⊎ ((fault ≡ BadValue) × HasBadValueIn s)
 
 -- a fault of statement i: what it says of that statement
-statement-holds : (kind : Kind) (d : Data) (i : ℕ) (fault : Fault) → HasFault kind d (Some i) fault
+statement_holds : (kind : Kind) (d : Data) (i : ℕ) (fault : Fault) → HasFault kind d (Some i) fault
     → (s : Data) × (slice_get (statements_in d) i ≡ Some s) × IsFaultOf kind d i s fault
-statement-holds kind d i fault h = elim h [
+statement_holds kind d i fault h = elim h [
   | inl line ↦ go (slice_get (statements_in d) i) refl line
   | inr value ↦ (value.1, value.2, inr (value.0, value.3))
 ]
@@ -104,7 +104,7 @@ line_is_fault kind d i s bad fault decides at holds = go (statement_has kind d i
 -- a statement without a fault has none
 no_fault : (kind : Kind) (d : Data) (i : ℕ) (s : Data) (fault : Fault) → slice_get (statements_in d) i ≡ Some s → HasLeast kind d i s None → ¬ HasFault kind d (Some i) fault
 no_fault kind d i s fault at none h =
-    let found = statement-holds kind d i fault h in
+    let found = statement_holds kind d i fault h in
     let same : found.0 ≡ s = cc in
     let holds : line_has kind d i s none.bad fault ≡ true = line_passes kind d i s none.bad fault none.decides (subst (λ (t : Data). IsFaultOf kind d i t fault) same found.2) in
     let fails : line_has kind d i s none.bad fault ≡ false = line_none kind d i s none.bad none.least fault in
@@ -124,15 +124,15 @@ statement_least kind d i fault none first = record { holds = holds; least = leas
     same_place : (j : ℕ) (other : Fault) → j ≡ i → HasFault kind d (Some j) other → number_of fault ≤ number_of other
     same_place j other same h =
         let P : ℕ → Type 0 = λ k. HasFault kind d (Some k) other in
-        let found = statement-holds kind d i other (subst P same h) in
+        let found = statement_holds kind d i other (subst P same h) in
         let here : found.0 ≡ first.statement = cc in
         let bad = first.fault_is.bad in
-        least_passes (line_has kind d i first.statement bad) (line-memory kind d i first.statement bad) fault first.fault_is.least other
+        least_passes (line_has kind d i first.statement bad) (line_memory kind d i first.statement bad) fault first.fault_is.least other
         (line_passes kind d i first.statement bad other first.fault_is.decides (subst (λ (t : Data). IsFaultOf kind d i t other) here found.2))
 
     earlier : (j : ℕ) (other : Fault) → j < i → HasFault kind d (Some j) other → ⊥
     earlier j other below h =
-        let found = statement-holds kind d j other h in
+        let found = statement_holds kind d j other h in
         no_fault kind d j found.0 other found.1 (first.before j found.0 below found.1) h
 
     least : (place : Option ℕ) (other : Fault) → HasFault kind d place other → IsNotAfter (Some i) fault place other
@@ -162,7 +162,7 @@ accepted kind d none clean None other h =
     let holds : document_has kind d other ≡ true = h in
     cc
 accepted kind d none clean (Some i) other h =
-    let found = statement-holds kind d i other h in
+    let found = statement_holds kind d i other h in
     let below : i < length (statements_in d) = slice_get_within (statements_in d) i found.0 found.1 in
     no_fault kind d i found.0 other found.1 (clean i found.0 below found.1) h
 
@@ -219,7 +219,7 @@ accepted_line kind d i s fault none at = line_clean kind d i s fault (clean BadS
 -- want of memory is no fault of a statement
 pub fault_not_memory : (kind : Kind) (d : Data) (i : ℕ) (s : Data) (bad : Bool) (fault : Fault) → fault_of kind d i s bad ≡ Some fault → fault ≢ OutOfMemory
 unfolding fault_of
-fault_not_memory kind d i s bad = found_not_memory (line_has kind d i s bad) (line-memory kind d i s bad)
+fault_not_memory kind d i s bad = found_not_memory (line_has kind d i s bad) (line_memory kind d i s bad)
 
 -- an accepted document names the version that it is read in
 pub version_is : (kind : Kind) (d : Data) → IsAccepted kind d → version_named (get (codes "Version") d) ≡ Some (version_of d)

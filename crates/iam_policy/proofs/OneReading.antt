@@ -28,12 +28,12 @@ same_rank None (Some i) e = cc
 same_rank (Some i) None e = cc
 same_rank (Some i) (Some j) e = let same : i ≡ j = cc in ap (λ k. Some k) same
 
-not_after-both : (place place' : Option ℕ) (fault fault' : Fault) → IsNotAfter place fault place' fault' → IsNotAfter place' fault' place fault
+not_after_both : (place place' : Option ℕ) (fault fault' : Fault) → IsNotAfter place fault place' fault' → IsNotAfter place' fault' place fault
     → (place ≡ place') × (fault ≡ fault')
-not_after-both place place' fault fault' (inl a) (inl b) = absurd (omega arith)
-not_after-both place place' fault fault' (inl a) (inr b) = let same : place_rank place' ≡ place_rank place = b.0 in absurd (omega arith)
-not_after-both place place' fault fault' (inr a) (inl b) = let same : place_rank place ≡ place_rank place' = a.0 in absurd (omega arith)
-not_after-both place place' fault fault' (inr a) (inr b) =
+not_after_both place place' fault fault' (inl a) (inl b) = absurd (omega arith)
+not_after_both place place' fault fault' (inl a) (inr b) = let same : place_rank place' ≡ place_rank place = b.0 in absurd (omega arith)
+not_after_both place place' fault fault' (inr a) (inl b) = let same : place_rank place ≡ place_rank place' = a.0 in absurd (omega arith)
+not_after_both place place' fault fault' (inr a) (inr b) =
     let low : number_of fault ≤ number_of fault' = a.1 in
     let high : number_of fault' ≤ number_of fault = b.1 in
     let same : number_of fault ≡ number_of fault' = omega arith in
@@ -42,7 +42,7 @@ not_after-both place place' fault fault' (inr a) (inr b) =
 pub least_is_one : (kind : Kind) (d : Data) (place place' : Option ℕ) (fault fault' : Fault) → IsLeastFault kind d place fault → IsLeastFault kind d place' fault'
     → (place ≡ place') × (fault ≡ fault')
 least_is_one kind d place place' fault fault' a b =
-    not_after-both place place' fault fault' (a.least place' fault' b.holds) (b.least place fault a.holds)
+    not_after_both place place' fault fault' (a.least place' fault' b.holds) (b.least place fault a.holds)
 
 -- of two elements of which not both stand there, one stands there
 same_element : (name : Bool → List ℕ) (s : Data) (x y : Bool) → both (get (name false) s) (get (name true) s) ≡ false

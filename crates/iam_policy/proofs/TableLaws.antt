@@ -29,23 +29,23 @@ find_passes p (y ∷ xs) x e = go (p y) refl (find_passes p xs x) e
     go false same later e = later e
 
 -- the faults of the list have the numbers from n on
-abbrev IsNumbered : ℕ → List Fault → Type 0
-IsNumbered n [] = Unit {0}
-IsNumbered n (f ∷ fs) = (number_of f ≡ n) × IsNumbered (suc n) fs
+abbrev HaveNumbersFrom : ℕ → List Fault → Type 0
+HaveNumbersFrom n [] = Unit {0}
+HaveNumbersFrom n (f ∷ fs) = (number_of f ≡ n) × HaveNumbersFrom (suc n) fs
 
-numbered-at : (n : ℕ) (fs : List Fault) (k : ℕ) (f : Fault) → IsNumbered n fs → slice_get fs k ≡ Some f → number_of f ≡ n + k
-numbered-at n [] k f h at = cc
-numbered-at n (g ∷ fs) zero f h at = let here : g ≡ f = cc in let number : number_of g ≡ n = h.0 in let same : number_of g ≡ number_of f = ap number_of here in omega arith
-numbered-at n (g ∷ fs) (suc k) f h at = let later : number_of f ≡ suc n + k = numbered-at (suc n) fs k f h.1 at in omega arith
+numbered_at : (n : ℕ) (fs : List Fault) (k : ℕ) (f : Fault) → HaveNumbersFrom n fs → slice_get fs k ≡ Some f → number_of f ≡ n + k
+numbered_at n [] k f h at = cc
+numbered_at n (g ∷ fs) zero f h at = let here : g ≡ f = cc in let number : number_of g ≡ n = h.0 in let same : number_of g ≡ number_of f = ap number_of here in omega arith
+numbered_at n (g ∷ fs) (suc k) f h at = let later : number_of f ≡ suc n + k = numbered_at (suc n) fs k f h.1 at in omega arith
 
 -- the first that passes has the least number of those that pass
-find_least : (p : Fault → Bool) (n : ℕ) (fs : List Fault) (f g : Fault) (k : ℕ) → IsNumbered n fs → find p fs ≡ Some f → slice_get fs k ≡ Some g
+find_least : (p : Fault → Bool) (n : ℕ) (fs : List Fault) (f g : Fault) (k : ℕ) → HaveNumbersFrom n fs → find p fs ≡ Some f → slice_get fs k ≡ Some g
     → p g ≡ true → number_of f ≤ number_of g
 find_least p n [] f g k h e at passes = cc
 find_least p n (x ∷ fs) f g k h e at passes = go (p x) refl (λ found j rest. find_least p (suc n) fs f g j h.1 found rest passes) e
   where
     first : (k : ℕ) → number_of x ≡ n → slice_get (x ∷ fs) k ≡ Some g → number_of x ≤ number_of g
-    first k number at = let later : number_of g ≡ n + k = numbered-at n (x ∷ fs) k g h at in omega arith
+    first k number at = let later : number_of g ≡ n + k = numbered_at n (x ∷ fs) k g h at in omega arith
 
     at_rest : (k : ℕ) → p x ≡ false → slice_get (x ∷ fs) k ≡ Some g → (j : ℕ) × (slice_get fs j ≡ Some g)
     at_rest zero fails at = let here : x ≡ g = cc in let wrong : true ≡ false = sym passes ∙ ap p (sym here) ∙ fails in cc
@@ -56,7 +56,7 @@ find_least p n (x ∷ fs) f g k h e at passes = go (p x) refl (λ found j rest. 
     go true same later e = let here : x ≡ f = cc in let least : number_of x ≤ number_of g = first k h.0 at in let equal : number_of x ≡ number_of f = ap number_of here in omega arith
     go false same later e = let rest = at_rest k same at in later e rest.0 rest.1
 
-numbered : IsNumbered 1 table
+numbered : HaveNumbersFrom 1 table
 numbered = (refl, (refl, (refl, (refl, (refl, (refl, (refl, (refl, (refl, (refl, (refl, (refl, (refl, (refl, (refl, (refl, (refl, (refl, (refl, (refl, (refl, tt)))))))))))))))))))))
 
 -- each fault but want of memory stands in the table
@@ -86,12 +86,12 @@ found_not_memory p memory f e is =
 abbrev nth : ℕ → Option Fault
 nth n = slice_get (table ++ (OutOfMemory ∷ [])) (n - 1)
 
-nth-number_of : (f : Fault) → nth (number_of f) ≡ Some f
-nth-number_of OutOfMemory = refl
-nth-number_of _ = refl
+nth_number_of : (f : Fault) → nth (number_of f) ≡ Some f
+nth_number_of OutOfMemory = refl
+nth_number_of _ = refl
 
 pub same_number : (f g : Fault) → number_of f ≡ number_of g → f ≡ g
-same_number f g e = some_is f g (sym (nth-number_of f) ∙ ap nth e ∙ nth-number_of g)
+same_number f g e = some_is f g (sym (nth_number_of f) ∙ ap nth e ∙ nth_number_of g)
   where
     some_is : (f g : Fault) → Some f ≡ Some g → f ≡ g
     some_is f g e = cc

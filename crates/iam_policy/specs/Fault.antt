@@ -55,13 +55,13 @@ wants_distinct_sids Org = true
 wants_distinct_sids Control = false
 
 -- one object stands for a list of one statement
-abbrev pub statements_of : Option Data → List Data
-statements_of None = []
-statements_of (Some d) = unwrap_or (values d) (if is_some (as_object d) then d ∷ [] else [])
+abbrev pub statements_under : Option Data → List Data
+statements_under None = []
+statements_under (Some d) = unwrap_or (values d) (if is_some (as_object d) then d ∷ [] else [])
 
 -- the statements of a document
 abbrev pub statements_in : Data → List Data
-statements_in d = statements_of (get (codes "Statement") d)
+statements_in d = statements_under (get (codes "Statement") d)
 
 -- neither a list nor an object
 abbrev pub is_bad_statement : Data → Bool

@@ -4,7 +4,7 @@ ghost use Rattle.serde_json.specs.Find.{get};
 ghost use Rattle.serde_json.specs.View.{view};
 ghost use Rattle.iam_json.specs.Look.{has_unknown};
 ghost use Rattle.iam_element.specs.Element.{stands_as};
-ghost use Rattle.iam_policy.specs.Fault.{document_names, is_bad_statement, statements_of, statements_in};
+ghost use Rattle.iam_policy.specs.Fault.{document_names, is_bad_statement, statements_under, statements_in};
 
 use iam_json::{has_unknown, values};
 use serde_json::Value;
@@ -18,7 +18,7 @@ pub fn statements_in(document: &Value) -> &[Value]
 }
 
 fn objects_in(value: &Value) -> &[Value]
-    ensures { map view result.now ≡ statements_of (Some (view value.entry.now)) }
+    ensures { map view result.now ≡ statements_under (Some (view value.entry.now)) }
 {
     match values(value) {
         Some(values) => values,

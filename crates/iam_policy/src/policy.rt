@@ -14,7 +14,7 @@ use crate::fault::{Fault, Kind, Refused};
 use crate::sids::note_sid;
 use crate::statement::Statement;
 use crate::statement_checks::has_bad_value;
-use crate::table::{Place, document_fault, statement_fault};
+use crate::table::{StatementPlace, document_fault, statement_fault};
 use crate::version::version_of;
 use iam_text::Version;
 use serde_json::Value;
@@ -114,7 +114,7 @@ fn read_statements(alloc: Global, document: &Value, kind: Kind) -> Result<Vec<St
     for (number, statement) in statements_in(document).iter().enumerate() {
         let repeats = note_sid(&mut sids, statement)?;
         let bad_value = has_bad_value(alloc, statement)?;
-        let place = Place {
+        let place = StatementPlace {
             kind,
             version,
             repeats,

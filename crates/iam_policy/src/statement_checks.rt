@@ -12,7 +12,7 @@ use crate::OutOfMemory;
 use crate::fault::Fault;
 use iam_condition::{has_bad_text, has_many_values, has_unknown_operator, is_bad_form};
 use iam_element::{
-    Form, has_both, has_long_kind, has_neither, is_bad_list, is_bad_principal, is_everyone,
+    TextForm, has_both, has_long_kind, has_neither, is_bad_list, is_bad_principal, is_everyone,
     is_this, is_too_long,
 };
 use iam_json::has_unknown;
@@ -81,7 +81,7 @@ pub fn has_no_single_action(statement: &Value) -> bool
 }
 
 /// Whether one of the two elements stands there and is not one or more texts of the form.
-pub fn has_bad_list(statement: &Value, name: &str, other: &str, form: Form) -> bool
+pub fn has_bad_list(statement: &Value, name: &str, other: &str, form: TextForm) -> bool
     ensures { result ≡ (is_bad_list (form_of form) (get name.now (view statement.now))
         || is_bad_list (form_of form) (get other.now (view statement.now))) }
 {

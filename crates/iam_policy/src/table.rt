@@ -13,7 +13,7 @@ use crate::statement_checks::{
     has_principal, has_too_many, has_unknown_member, names_everyone,
 };
 use crate::version::version_named;
-use iam_element::{Form, MOST, has_bad_variable, has_both, has_neither, is_no_text};
+use iam_element::{MOST, TextForm, has_bad_variable, has_both, has_neither, is_no_text};
 use iam_text::Version;
 use serde_json::Value;
 
@@ -44,7 +44,7 @@ const TABLE: [Fault; 21] = [
 
 /// What the lines of the table ask of a statement's document.
 #[derive(Clone, Copy)]
-pub struct Place {
+pub struct StatementPlace {
     pub kind: Kind,
     pub version: Version,
     /// Whether an earlier statement has the same `Sid`.
@@ -80,7 +80,7 @@ fn principal_line(statement: &Value, rule: PrincipalRule, fault: Fault) -> bool
 }
 
 /// One line of the table for a statement that is an object.
-fn statement_line(statement: &Value, place: Place, fault: Fault) -> bool
+fn statement_line(statement: &Value, place: StatementPlace, fault: Fault) -> bool
     ensures { (d : Data) (i : ℕ) → IsPlaceOf d i (view statement.now) place
         → result ≡ statement_line place.kind d i (view statement.now) fault }
 {
@@ -90,7 +90,7 @@ fn statement_line(statement: &Value, place: Place, fault: Fault) -> bool
         Fault::DuplicateSid => place.kind.wants_distinct_sids() && place.repeats,
         Fault::BadEffect => effect_of(statement).is_none(),
         Fault::ActionCount => has_no_single_action(statement),
-        Fault::BadAction => has_bad_list(statement, "Action", "NotAction", Form::Action),
+        Fault::BadAction => has_bad_list(statement, "Action", "NotAction", TextForm::Action),
         Fault::PrincipalMisplaced
         | Fault::PrincipalMissing
         | Fault::BadPrincipal
@@ -99,7 +99,12 @@ fn statement_line(statement: &Value, place: Place, fault: Fault) -> bool
             has_both(statement, "Resource", "NotResource")
                 || place.kind.wants_resource() && has_neither(statement, "Resource", "NotResource")
         }
-        Fault::BadResource => has_bad_list(statement, "Resource", "NotResource", Form::Resource),
+        Fault::BadResource => has_bad_list(
+            statement,
+            "Resource",
+            "NotResource",
+            TextForm::Resource,
+        ),
         Fault::BadVariable => {
             has_bad_variable(statement, place.version)
                 || condition_has(statement, place.version, fault)
@@ -124,7 +129,7 @@ fn document_has(document: &Value, kind: Kind, fault: Fault) -> bool
     }
 }
 
-fn statement_has(statement: &Value, place: Place, fault: Fault) -> bool
+fn statement_has(statement: &Value, place: StatementPlace, fault: Fault) -> bool
     ensures { (d : Data) (i : ℕ) → IsPlaceOf d i (view statement.now) place
         → result ≡ statement_has place.kind d i (view statement.now) fault }
 {
@@ -146,7 +151,7 @@ pub fn document_fault(document: &Value, kind: Kind) -> Option<Fault>
 }
 
 /// One line of the table for a statement. `bad_value` is whether a value of its condition is off its grammar.
-fn line_has(statement: &Value, place: Place, bad_value: bool, fault: Fault) -> bool
+fn line_has(statement: &Value, place: StatementPlace, bad_value: bool, fault: Fault) -> bool
     ensures { (d : Data) (i : ℕ) → IsPlaceOf d i (view statement.now) place
         → result ≡ line_has place.kind d i (view statement.now) bad_value fault }
 {
@@ -155,7 +160,7 @@ fn line_has(statement: &Value, place: Place, bad_value: bool, fault: Fault) -> b
 
 /// The first fault of a statement.
 #[tactic(auto, unfolding(crate::specs::Code::First::fault_of))]
-pub fn statement_fault(statement: &Value, place: Place, bad_value: bool) -> Option<Fault>
+pub fn statement_fault(statement: &Value, place: StatementPlace, bad_value: bool) -> Option<Fault>
     ensures { (d : Data) (i : ℕ) → IsPlaceOf d i (view statement.now) place
         → result ≡ fault_of place.kind d i (view statement.now) bad_value }
 {

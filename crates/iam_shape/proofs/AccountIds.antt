@@ -12,21 +12,21 @@ use Rattle.iam_shape.specs.declared.path.Name.TheVariants.{Id}
 use Rattle.iam_shape.specs.declared.path.Path.{Path}
 
 -- accounts that say these things have these ids
-said-ids : (ds : List Data) (accounts : List AccountViewValue) → AllZip IsAccountView ds accounts → filter_map (text_at Id) ds ≡ map (λ account. account.id) accounts
-said-ids [] [] said = refl
-said-ids [] (a ∷ as') said = absurd said
-said-ids (d ∷ ds) [] said = absurd said
-said-ids (d ∷ ds) (a ∷ as') said =
-    ap (λ o. cons_option o (filter_map (text_at Id) ds)) said.0.id ∙ ap (λ ids. a.id ∷ ids) (said-ids ds as' said.1)
+said_ids : (ds : List Data) (accounts : List AccountViewValue) → AllZip IsAccountView ds accounts → filter_map (text_at Id) ds ≡ map (λ account. account.id) accounts
+said_ids [] [] said = refl
+said_ids [] (a ∷ as') said = absurd said
+said_ids (d ∷ ds) [] said = absurd said
+said_ids (d ∷ ds) (a ∷ as') said =
+    ap (λ o. cons_option o (filter_map (text_at Id) ds)) said.0.id ∙ ap (λ ids. a.id ∷ ids) (said_ids ds as' said.1)
 
 -- the ids of the accounts before i
-pub earlier-ids : {V : Type 0} (view : V → Data) (vs : List V) (i : ℕ) (accounts : List AccountViewValue) → AllZip IsAccountView (map view (take i vs)) accounts
+pub earlier_ids : {V : Type 0} (view : V → Data) (vs : List V) (i : ℕ) (accounts : List AccountViewValue) → AllZip IsAccountView (map view (take i vs)) accounts
     → map (λ account. account.id) accounts ≡ filter_map (text_at Id) (take i (map view vs))
-earlier-ids view vs i accounts said = sym (said-ids (map view (take i vs)) accounts said) ∙ ap (filter_map (text_at Id)) (sym (take-map view i vs))
+earlier_ids view vs i accounts said = sym (said_ids (map view (take i vs)) accounts said) ∙ ap (filter_map (text_at Id)) (sym (take-map view i vs))
 
 -- an account without a fault has a new id
-pub fresh-id : (ids : List (List ℕ)) (i : ℕ) (d : Data) (id : List ℕ) → first_bad (account_checks ids i d) ≡ None → text_at Id d ≡ Some id → is_one_of ids id ≡ false
-fresh-id ids i d id good is =
+pub fresh_id : (ids : List (List ℕ)) (i : ℕ) (d : Data) (id : List ℕ) → first_bad (account_checks ids i d) ≡ None → text_at Id d ≡ Some id → is_one_of ids id ≡ false
+fresh_id ids i d id good is =
     let tested : option_map_or (is_new_id ids) (text_at Id d) false ≡ true = second _ _ _ _ _ good in
     other (is_account id) (is_one_of ids id) (ap (λ o. option_map_or (is_new_id ids) o false) (sym is) ∙ tested)
   where

@@ -64,8 +64,8 @@ one_session d arn other session last (inr one) (inr two) = one.2 ∙ sym two.2
 
 one_principal : (d : Data) (p q : PrincipalViewValue) → IsPrincipalView d p → IsPrincipalView d q → p ≡ q
 one_principal d p q one two =
-    let arn : p.arn ≡ q.arn = one_arn d p.arn q.arn p.session q.session one.requester two.requester in
-    let session : p.session ≡ q.session = one_session d p.arn q.arn p.session q.session one.requester two.requester in
+    let arn : p.arn ≡ q.arn = one_arn d p.arn q.arn p.session_name q.session_name one.requester two.requester in
+    let session : p.session_name ≡ q.session_name = one_session d p.arn q.arn p.session_name q.session_name one.requester two.requester in
     let identity : p.identity ≡ q.identity = one_list_or_none Identity d p.identity q.identity one.identity two.identity in
     let boundary : p.boundary ≡ q.boundary = one.boundary ∙ sym two.boundary in
     let policies : p.session_policies ≡ q.session_policies =
@@ -73,7 +73,7 @@ one_principal d p q one two =
     let context : p.context ≡ q.context = one.context ∙ sym two.context in
     λ i. record {
       arn = arn i;
-      session = session i;
+      session_name = session i;
       identity = identity i;
       boundary = boundary i;
       session_policies = policies i;

@@ -71,8 +71,8 @@ pub past_resources : (d : Data) → first_bad (head_checks d) ≡ None → first
 past_resources d head one two three four = past_actions d head one two three ∙ first_bad_later (resources d) (tail_checks d) four
 
 -- a list of what the code holds is one of what that says
-pub list_of-map : {A B : Type 0} (Says : Data → B → Type 0) (f : A → B) (name : Name) (d : Data) (xs : List A) → HasListOf (λ e x. Says e (f x)) name d xs → HasListOf Says name d (map f xs)
-list_of-map Says f name d xs (ds, at, zip) = (ds, at, go ds xs zip)
+pub list_of_map : {A B : Type 0} (Says : Data → B → Type 0) (f : A → B) (name : Name) (d : Data) (xs : List A) → HasListOf (λ e x. Says e (f x)) name d xs → HasListOf Says name d (map f xs)
+list_of_map Says f name d xs (ds, at, zip) = (ds, at, go ds xs zip)
   where
     go : (ds : List Data) (xs : List _) → AllZip (λ e x. Says e (f x)) ds xs → AllZip Says ds (map f xs)
     go [] [] zip = zip

@@ -3,16 +3,15 @@ use Rattle.std.proofs.Common.{◌≡◌, ℕ, suc, zero, ◌+◌, ◌<◌, List,
 use Rattle.std.specs.List.{AllZip}
 use Rattle.std.proofs.lemmas.List.{at_drop_more, map-append}
 use Rattle.serde_json.specs.Data.{Data}
-use Rattle.iam_shape.specs.Shape.{Check, first_bad, each}
-use Rattle.iam_shape.specs.Code.Walk.{IsShapeFault}
+use Rattle.iam_shape.specs.Shape.{Check, IsShapeFault, first_bad, each}
 use Rattle.iam_shape.specs.declared.fault.ShapeFault.{ShapeFault}
 use Rattle.iam_shape.specs.declared.fault.ShapeFault.TheVariants.{At, OutOfMemory}
 use Rattle.iam_shape.specs.declared.path.Path.{Path}
 
 -- where the first check that fails among some is that among others, so is the fault
-pub shape_fault-from : (cs ds : List Check) → ((path : Path) → first_bad cs ≡ Some path → first_bad ds ≡ Some path) → (fault : ShapeFault) → IsShapeFault cs fault → IsShapeFault ds fault
-shape_fault-from cs ds step (At path) bad = step path bad
-shape_fault-from cs ds step OutOfMemory bad = bad
+pub shape_fault_from : (cs ds : List Check) → ((path : Path) → first_bad cs ≡ Some path → first_bad ds ≡ Some path) → (fault : ShapeFault) → IsShapeFault cs fault → IsShapeFault ds fault
+shape_fault_from cs ds step (At path) bad = step path bad
+shape_fault_from cs ds step OutOfMemory bad = bad
 
 -- the first check that fails in the first of two lists, or else in the second
 pub first_bad_here : (cs ds : List Check) (path : Path) → first_bad cs ≡ Some path → first_bad (cs ++ ds) ≡ Some path
@@ -43,20 +42,20 @@ pub first_bad_behind : (front among back : List Check) → first_bad front ≡ N
 first_bad_behind front among back clear also = first_bad_later front (among ++ back) clear ∙ first_bad_later among back also
 
 -- the values of a list from i on: that at i, and the rest
-pub drop-at : {X Y : Type 0} (f : X → Y) (xs : List X) (i : ℕ) (x : X) → i < length xs → x ≡ get_or xs i x → map f (drop i xs) ≡ f x ∷ map f (drop (i + 1) xs)
-drop-at f xs i x below is = at_drop_more (map f) xs i x below ∙ ap (λ z. f z ∷ map f (drop (i + 1) xs)) (sym is)
+pub drop_at : {X Y : Type 0} (f : X → Y) (xs : List X) (i : ℕ) (x : X) → i < length xs → x ≡ get_or xs i x → map f (drop i xs) ≡ f x ∷ map f (drop (i + 1) xs)
+drop_at f xs i x below is = at_drop_more (map f) xs i x below ∙ ap (λ z. f z ∷ map f (drop (i + 1) xs)) (sym is)
 
 -- the checks of the values from i on: those of that at i, then the others
 pub each_here : {X : Type 0} (f : X → Data) (checks : ℕ → Data → List Check) (xs : List X) (i : ℕ) (x : X) (path : Path) → i < length xs → x ≡ get_or xs i x
     → first_bad (checks i (f x)) ≡ Some path → first_bad (each checks i (map f (drop i xs))) ≡ Some path
 each_here f checks xs i x path below is bad =
-    ap (λ ds. first_bad (each checks i ds)) (drop-at f xs i x below is)
+    ap (λ ds. first_bad (each checks i ds)) (drop_at f xs i x below is)
     ∙ first_bad_here (checks i (f x)) (each checks (i + 1) (map f (drop (i + 1) xs))) path bad
 
 pub each_later : {X : Type 0} (f : X → Data) (checks : ℕ → Data → List Check) (xs : List X) (i : ℕ) (x : X) → i < length xs → x ≡ get_or xs i x
     → first_bad (checks i (f x)) ≡ None → first_bad (each checks i (map f (drop i xs))) ≡ first_bad (each checks (i + 1) (map f (drop (i + 1) xs)))
 each_later f checks xs i x below is clear =
-    ap (λ ds. first_bad (each checks i ds)) (drop-at f xs i x below is)
+    ap (λ ds. first_bad (each checks i ds)) (drop_at f xs i x below is)
     ∙ first_bad_later (checks i (f x)) (each checks (i + 1) (map f (drop (i + 1) xs))) clear
 
 -- one more element that is read

@@ -13,20 +13,20 @@ use Rattle.iam_shape.specs.declared.view.ResourceView as lent_resource
 abbrev pub policies_in : Data → List Data
 policies_in level = unwrap_or (values level) []
 
-abbrev pub levels_of : Levels → List (List Data)
-levels_of levels = map (λ level. policies_in (view level)) levels.values.now
+abbrev pub policies_by_level : Levels → List (List Data)
+policies_by_level levels = map (λ level. policies_in (view level)) levels.values.now
 
 abbrev pub account_of : lent_account.AccountView → AccountViewValue
 account_of account = record {
   id = account.id.now;
   management = account.management;
-  org = levels_of account.org;
+  org = policies_by_level account.org;
 }
 
 abbrev pub principal_of : lent_principal.PrincipalView → PrincipalViewValue
 principal_of principal = record {
   arn = principal.arn.now;
-  session = option_map (λ name. name.now) principal.session;
+  session_name = option_map (λ name. name.now) principal.session_name;
   identity = map view principal.identity.now;
   boundary = option_map (λ policy. view policy.now) principal.boundary;
   session_policies = map view principal.session_policies.now;
@@ -40,5 +40,5 @@ resource_of resource = record {
   policy = option_map (λ policy. view policy.now) resource.policy;
   sealed = resource.sealed;
   context = option_map (λ context. view context.now) resource.context;
-  control = levels_of resource.control;
+  control = policies_by_level resource.control;
 }

@@ -1,6 +1,6 @@
 -- The shape of a world document: which members its objects have, and which values stand there. The shape is walked
 -- in the order of the checks below, and the first that fails names its path. LOGIC 12.3.
-use Rattle.std.specs.Prelude.{ℕ, ◌+◌, List, [], ◌∷◌, ◌++◌, Bool, true, false, not, ◌&&◌, ◌||◌, nat_le, Option, Some, None, is_some, is_none, if◌then◌else◌, option_and_then, take, map}
+use Rattle.std.specs.Prelude.{◌≡◌, ℕ, ◌+◌, List, [], ◌∷◌, ◌++◌, Bool, true, false, not, ◌&&◌, ◌||◌, nat_le, Option, Some, None, is_some, is_none, if◌then◌else◌, option_and_then, take, map}
 use Rattle.std.specs.List.{filter_map, list_all}
 use Rattle.std.specs.Option.{option_map_or}
 use Rattle.serde_json.specs.Data.{Data}
@@ -13,6 +13,8 @@ use Rattle.iam_shape.specs.declared.path.Name.{Name}
 use Rattle.iam_shape.specs.declared.path.Name.TheVariants.{Moment, Accounts, Principals, Actions, Resources, Context, Id, Management, Org, User, Role, Session, Identity, Boundary, SessionPolicies, Arn, Account, Policy, Sealed, Control}
 use Rattle.iam_shape.specs.declared.path.Path.{Path}
 use Rattle.iam_shape.specs.declared.path.Path.TheVariants.{Root, Member, Item, Field, Entry}
+use Rattle.iam_shape.specs.declared.fault.ShapeFault.{ShapeFault}
+use Rattle.iam_shape.specs.declared.fault.ShapeFault.TheVariants.{At, OutOfMemory}
 
 -- ---- looking into an object
 
@@ -80,6 +82,11 @@ Check = Path × Bool
 abbrev pub first_bad : List Check → Option Path
 first_bad [] = None
 first_bad (check ∷ checks) = if check.1 then first_bad checks else Some check.0
+
+-- the first check that fails has the path of this fault
+abbrev pub IsShapeFault : List Check → ShapeFault → Type 0
+IsShapeFault checks (At path) = first_bad checks ≡ Some path
+IsShapeFault checks OutOfMemory = ⊥
 
 -- the checks of each value of a list, numbered from i
 abbrev pub each : (ℕ → Data → List Check) → ℕ → List Data → List Check

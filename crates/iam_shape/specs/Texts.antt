@@ -15,5 +15,5 @@ abbrev pub has_text : Places → List ℕ → Bool
 has_text places text = is_some (get_by_text places text)
 
 -- the map has these texts, each with its first place
-abbrev pub HasTexts : Places → List (List ℕ) → Type 0
-HasTexts places texts = (text : List ℕ) → get_by_text places text ≡ position_from (bytes_eq text) 0 texts
+abbrev pub AreFirstPlaces : Places → List (List ℕ) → Type 0
+AreFirstPlaces places texts = (text : List ℕ) → get_by_text places text ≡ position_from (bytes_eq text) 0 texts

@@ -20,7 +20,7 @@ pub record AccountViewValue : Type 0 where
 -- a principal: the ARN of its user, or that of its role and the name of its session; its policies and its context
 pub record PrincipalViewValue : Type 0 where
   pub arn : List ℕ
-  pub session : Option (List ℕ)
+  pub session_name : Option (List ℕ)
   pub identity : List Data
   pub boundary : Option Data
   pub session_policies : List Data
@@ -86,7 +86,7 @@ pub record IsAccountView (d : Data) (account : AccountViewValue) : Type 0 where
   pub org : HasLevels Org d account.org
 
 pub record IsPrincipalView (d : Data) (principal : PrincipalViewValue) : Type 0 where
-  pub requester : IsGivenBy d principal.arn principal.session
+  pub requester : IsGivenBy d principal.arn principal.session_name
   pub identity : HasListOrNone Identity d principal.identity
   pub boundary : principal.boundary ≡ member Boundary d
   pub session_policies : HasListOrNone SessionPolicies d principal.session_policies

@@ -3,10 +3,10 @@ ghost use Rattle.std.specs.Prelude.{◌≡◌, ◌≢◌, ℕ, List, [], ◌∷�
 ghost use Rattle.std.specs.List.{AllZip};
 ghost use Rattle.serde_json.specs.View.{view};
 ghost use Rattle.iam_json.specs.Look.{is_one_of};
-ghost use Rattle.iam_shape.specs.Texts.{HasTexts};
+ghost use Rattle.iam_shape.specs.Texts.{AreFirstPlaces};
 ghost use Rattle.iam_shape.specs.Lent.{account_of};
-ghost use Rattle.iam_shape.specs.Code.Walk.{IsShapeFault, Walks, account_front};
-ghost use Rattle.iam_shape.specs.Shape.{account_checks, all_account_checks, first_bad, has_only, is_new_id};
+ghost use Rattle.iam_shape.specs.Code.Walk.{Walks, account_front};
+ghost use Rattle.iam_shape.specs.Shape.{IsShapeFault, account_checks, all_account_checks, first_bad, has_only, is_new_id};
 ghost use Rattle.iam_shape.specs.View.{HasText, IsAccountView, is_true_at};
 ghost use Rattle.iam_shape.specs.declared.fault.ShapeFault.TheVariants as s;
 
@@ -28,8 +28,8 @@ fn keep(
     id: &str,
     number: usize,
 ) -> Result<(), OutOfMemory>
-    ensures { OnOk result ((earlier : List (List ℕ)) → HasTexts ids.old earlier → number ≡ length earlier
-        → is_one_of earlier id.now ≡ false → HasTexts ids.new (earlier ++ id.now ∷ [])) }
+    ensures { OnOk result ((earlier : List (List ℕ)) → AreFirstPlaces ids.old earlier → number ≡ length earlier
+        → is_one_of earlier id.now ≡ false → AreFirstPlaces ids.new (earlier ++ id.now ∷ [])) }
 {
     ids.insert(String::from_str(alloc, id)?, number)?;
     Ok(())
@@ -37,7 +37,7 @@ fn keep(
 
 /// Whether it is the id of an account, and none of these.
 fn is_new_id(ids: &HashMap<String, usize>, text: &str) -> bool
-    ensures { (earlier : List (List ℕ)) → HasTexts ids.now earlier → result ≡ is_new_id earlier text.now }
+    ensures { (earlier : List (List ℕ)) → AreFirstPlaces ids.now earlier → result ≡ is_new_id earlier text.now }
 {
     is_account(text) && !ids.contains_key(text)
 }
@@ -48,7 +48,7 @@ fn walk_front<'v>(
     i: usize,
     account: &'v Value,
 ) -> Result<(&'v str, bool), Path>
-    ensures { (earlier : List (List ℕ)) → HasTexts ids.now earlier
+    ensures { (earlier : List (List ℕ)) → AreFirstPlaces ids.now earlier
         → Walks (account_front earlier i (view account.entry.now))
         (λ found. HasText Name.Id (view account.entry.now) found.0.now
         × (found.1 ≡ is_true_at Name.Management (view account.entry.now))) result }
@@ -85,7 +85,7 @@ fn walk_account<'v>(
     i: usize,
     account: &'v Value,
 ) -> Result<AccountView<'v>, Path>
-    ensures { (earlier : List (List ℕ)) → HasTexts ids.now earlier
+    ensures { (earlier : List (List ℕ)) → AreFirstPlaces ids.now earlier
         → Walks (account_checks earlier i (view account.entry.now))
         (λ found. IsAccountView (view account.entry.now) (account_of found)) result }
 {

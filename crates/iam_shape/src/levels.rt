@@ -2,7 +2,7 @@
 ghost use Rattle.std.specs.Prelude.{◌≡◌, map};
 ghost use Rattle.std.specs.List.{AllZip};
 ghost use Rattle.serde_json.specs.View.{view};
-ghost use Rattle.iam_shape.specs.Lent.{levels_of, policies_in};
+ghost use Rattle.iam_shape.specs.Lent.{policies_by_level, policies_in};
 ghost use Rattle.iam_shape.specs.Code.Walk.{Walks};
 ghost use Rattle.iam_shape.specs.Shape.{each, level_checks, levels_checks, member};
 ghost use Rattle.iam_shape.specs.View.{HasLevels, IsLevel};
@@ -32,7 +32,7 @@ pub fn policies_in(level: &Value) -> &[Value]
 /// Walks the levels that stand under a name of member i of a list.
 fn walk_levels(list: Name, i: usize, name: Name, levels: &[Value]) -> Result<Levels<'_>, Path>
     ensures { Walks (each (level_checks list i name) 0 (map view levels.entry.now))
-        (λ found. AllZip IsLevel (map view levels.entry.now) (levels_of found)) result }
+        (λ found. AllZip IsLevel (map view levels.entry.now) (policies_by_level found)) result }
 {
     for (j, level) in levels.iter().enumerate() {
         if values(level).is_none() {
@@ -45,7 +45,7 @@ fn walk_levels(list: Name, i: usize, name: Name, levels: &[Value]) -> Result<Lev
 /// Walks the levels that stand under a name of member i of a list; where nothing does, there are none.
 pub fn walk_levels_at(of: &Value, list: Name, i: usize, name: Name) -> Result<Levels<'_>, Path>
     ensures { Walks (levels_checks list i name (member name (view of.entry.now)))
-        (λ found. HasLevels name (view of.entry.now) (levels_of found)) result }
+        (λ found. HasLevels name (view of.entry.now) (policies_by_level found)) result }
 {
     let Some(levels) = member(of, name) else {
         return Ok(Levels { values: &[] });

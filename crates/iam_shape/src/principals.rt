@@ -67,7 +67,7 @@ fn walk_user<'v>(i: usize, principal: &'v Value, user: &'v Value) -> Result<Prin
     }
     Ok(PrincipalView {
         arn,
-        session: None,
+        session_name: None,
         identity,
         boundary: member(principal, Name::Boundary),
         session_policies: &[],
@@ -108,7 +108,7 @@ fn walk_session<'v>(
     }
     Ok(PrincipalView {
         arn,
-        session: Some(session),
+        session_name: Some(session),
         identity,
         boundary: member(principal, Name::Boundary),
         session_policies,

@@ -3,10 +3,10 @@ ghost use Rattle.std.specs.Prelude.{◌≡◌, ◌≢◌, ◌≤◌, ℕ, List, 
 ghost use Rattle.std.specs.List.{AllZip};
 ghost use Rattle.serde_json.specs.Data.{Data};
 ghost use Rattle.serde_json.specs.View.{view};
-ghost use Rattle.iam_shape.specs.Code.Walk.{IsShapeFault, Walks};
+ghost use Rattle.iam_shape.specs.Code.Walk.{Walks};
 ghost use Rattle.iam_shape.specs.Lent.{account_of};
 ghost use Rattle.iam_shape.specs.LentWorld.{world_of};
-ghost use Rattle.iam_shape.specs.Shape.{Check, all_account_checks, each, first_bad, has_only, head_checks, list_at, list_checks, member, number_at, shape_checks, tail_checks};
+ghost use Rattle.iam_shape.specs.Shape.{Check, IsShapeFault, all_account_checks, each, first_bad, has_only, head_checks, list_at, list_checks, member, number_at, shape_checks, tail_checks};
 ghost use Rattle.iam_shape.specs.View.{HasListOf, IsAccountView, IsView};
 ghost use Rattle.iam_shape.specs.declared.fault.ShapeFault.TheVariants as s;
 

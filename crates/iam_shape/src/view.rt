@@ -1,6 +1,6 @@
 // What a world says, lent from its document.
 ghost use Rattle.std.specs.Prelude.{map};
-ghost use Rattle.iam_shape.specs.Texts.{HasTexts};
+ghost use Rattle.iam_shape.specs.Texts.{AreFirstPlaces};
 ghost use Rattle.iam_shape.specs.Lent.{account_of};
 
 use crate::levels::Levels;
@@ -24,7 +24,7 @@ pub struct PrincipalView<'v> {
     /// The ARN of a user, or of the role of a session.
     pub arn: &'v str,
     /// The name of the session; a user has none.
-    pub session: Option<&'v str>,
+    pub session_name: Option<&'v str>,
     /// Its identity policies.
     pub identity: &'v [Value],
     /// The policy that bounds it.
@@ -58,7 +58,7 @@ pub struct Accounts<'v> {
     pub views: Vec<AccountView<'v>>,
     /// The number of each by its id.
     pub ids: HashMap<String, usize>,
-    ghost known: { HasTexts ids (map (λ account. account.id) (map account_of views.items)) },
+    ghost known: { AreFirstPlaces ids (map (λ account. account.id) (map account_of views.items)) },
 }
 
 /// What a world document says.

@@ -6,9 +6,9 @@ use Rattle.std.specs.Fmt.{decimal}
 use Rattle.std.proofs.lemmas.List.Elements.{All-from_get_or}
 use Rattle.std.proofs.lemmas.List.Sums.{fold-append}
 use Rattle.iam_value.specs.Reading.{IsReading}
-use Rattle.iam_value.specs.Pieces.{IsCut, Lacks}
+use Rattle.iam_value.specs.Pieces.{IsCutAt, Lacks}
 use Rattle.iam_value.specs.Address.{IsDotted, IsGroup, IsOne, IsOneOrPair, IsJoined, IsCompressed, number_after}
-use Rattle.iam_value.specs.Groups.{IsRest, IsLast, IsFilled, IsClosed, IsOpen, IsLeading}
+use Rattle.iam_value.specs.Code.Groups.{IsRest, IsLast, IsFilled, IsClosed, IsOpen, IsLeading}
 use Rattle.iam_value.proofs.Numerals.{digit_within}
 use Rattle.iam_value.proofs.Cuts.{at_cut, not_lacking, same_reading}
 use Rattle.iam_value.proofs.Octets.{dotted_lacks}
@@ -38,7 +38,7 @@ pub same_group : (text : List ℕ) (g h : ℕ) → IsGroup text g → IsGroup te
 same_group text g h left right = left.2 ∙ sym right.2
 
 -- groups, cut at the first colon
-pub groups_cut : (text first rest : List ℕ) (count value : ℕ) (r : ℕ × ℕ) → IsCut 58 text first rest → IsRest count value text r → (g : ℕ) × IsGroup first g × IsRest (count + 1) (value * 65_536 + g) rest r
+pub groups_cut : (text first rest : List ℕ) (count value : ℕ) (r : ℕ × ℕ) → IsCutAt 58 text first rest → IsRest count value text r → (g : ℕ) × IsGroup first g × IsRest (count + 1) (value * 65_536 + g) rest r
 groups_cut text first rest count value r cut is = by is.0 is.1 is.2 is.4
   where
     by : (groups : List ℕ) → IsJoined IsOneOrPair text groups → r.0 ≡ count + length groups → r.1 ≡ number_after value groups → (g : ℕ) × IsGroup first g × IsRest (count + 1) (value * 65_536 + g) rest r
@@ -50,7 +50,7 @@ groups_cut text first rest count value r cut is = by is.0 is.1 is.2 is.4
           (g, rw a.0 at w.3, (gs, rw a.1 at w.4, omega arith, is.3, number))
     ]
 
-pub groups_more : (text first rest : List ℕ) (count value g : ℕ) (r : ℕ × ℕ) → IsCut 58 text first rest → IsGroup first g → IsRest (count + 1) (value * 65_536 + g) rest r → IsRest count value text r
+pub groups_more : (text first rest : List ℕ) (count value g : ℕ) (r : ℕ × ℕ) → IsCutAt 58 text first rest → IsGroup first g → IsRest (count + 1) (value * 65_536 + g) rest r → IsRest count value text r
 groups_more text first rest count value g r cut group is = (g ∷ is.0, inr (first, rest, cut.0, group, is.1), omega (arith, is.2), is.3, is.4)
 
 -- groups without a colon
@@ -72,7 +72,7 @@ last_groups text count value r is = (is.0, by is.0 is.1, is.2, is.3, is.4)
 abbrev pub IsOpenAfter : ℕ → ℕ → List ℕ → ℕ → Type 0
 IsOpenAfter count value rest total = IsClosed count value rest total ⊎ IsOpen count value rest total
 
-pub open_cut : (text first rest : List ℕ) (count value total : ℕ) → IsCut 58 text first rest → IsOpen count value text total → (g : ℕ) × IsGroup first g × IsOpenAfter (count + 1) (value * 65_536 + g) rest total
+pub open_cut : (text first rest : List ℕ) (count value total : ℕ) → IsCutAt 58 text first rest → IsOpen count value text total → (g : ℕ) × IsGroup first g × IsOpenAfter (count + 1) (value * 65_536 + g) rest total
 open_cut text first rest count value total cut is = by is.front is.front_is is.rest_is
   where
     more : (g : ℕ) (gs before : List ℕ) → is.before ≡ before → IsOne before (g ∷ gs) → IsFilled (count + length (g ∷ gs)) (number_after value (g ∷ gs)) is.after total → (g : ℕ) × IsGroup first g × IsOpenAfter (count + 1) (value * 65_536 + g) rest total
@@ -102,7 +102,7 @@ open_cut text first rest count value total cut is = by is.front is.front_is is.r
           )
     ]
 
-pub open_start : (text first rest : List ℕ) (count value g total : ℕ) → IsCut 58 text first rest → IsGroup first g → IsClosed (count + 1) (value * 65_536 + g) rest total → IsOpen count value text total
+pub open_start : (text first rest : List ℕ) (count value g total : ℕ) → IsCutAt 58 text first rest → IsGroup first g → IsClosed (count + 1) (value * 65_536 + g) rest total → IsOpen count value text total
 open_start text first rest count value g total cut group closed = record {
   before = first;
   after = closed.0;
@@ -112,7 +112,7 @@ open_start text first rest count value g total cut group closed = record {
   rest_is = closed.2;
 }
 
-pub open_more : (text first rest : List ℕ) (count value g total : ℕ) → IsCut 58 text first rest → IsGroup first g → IsOpen (count + 1) (value * 65_536 + g) rest total → IsOpen count value text total
+pub open_more : (text first rest : List ℕ) (count value g total : ℕ) → IsCutAt 58 text first rest → IsGroup first g → IsOpen (count + 1) (value * 65_536 + g) rest total → IsOpen count value text total
 open_more text first rest count value g total cut group is =
     let e : count + 1 + length is.front ≡ count + suc (length is.front) = omega arith in
     record {
@@ -125,7 +125,7 @@ open_more text first rest count value g total cut group is =
     }
 
 -- the reader's answer after the first colon
-pub groups_reading : (text first rest : List ℕ) (count value g next : ℕ) (answer : Option (ℕ × ℕ)) → IsCut 58 text first rest → IsGroup first g → next ≡ value * 65_536 + g → IsReading answer (IsRest (count + 1) next rest) → IsReading answer (IsRest count value text)
+pub groups_reading : (text first rest : List ℕ) (count value g next : ℕ) (answer : Option (ℕ × ℕ)) → IsCutAt 58 text first rest → IsGroup first g → next ≡ value * 65_536 + g → IsReading answer (IsRest (count + 1) next rest) → IsReading answer (IsRest count value text)
 groups_reading text first rest count value g next answer cut group is = same_reading answer (IsRest (count + 1) next rest) (IsRest count value text)
     (λ r later. groups_more text first rest count value g r cut group (rw is at later))
     (λ r all.
@@ -142,7 +142,7 @@ colon_reading text after P answer written = same_reading answer (P after) (λ n.
     (λ n is. let same : is.0 ≡ after = cc in subst (λ (x : List ℕ). P x n) same is.2)
 
 -- the reader's answer after the first group and its colon
-pub open_reading : (text first rest : List ℕ) (count value g next : ℕ) (answer : Option ℕ) → IsCut 58 text first rest → IsGroup first g → next ≡ value * 65_536 + g → ((n : ℕ) → ¬ (IsClosed (count + 1) next rest n)) → IsReading answer (IsOpen (count + 1) next rest) → IsReading answer (IsOpen count value text)
+pub open_reading : (text first rest : List ℕ) (count value g next : ℕ) (answer : Option ℕ) → IsCutAt 58 text first rest → IsGroup first g → next ≡ value * 65_536 + g → ((n : ℕ) → ¬ (IsClosed (count + 1) next rest n)) → IsReading answer (IsOpen (count + 1) next rest) → IsReading answer (IsOpen count value text)
 open_reading text first rest count value g next answer cut group is none = same_reading answer (IsOpen (count + 1) next rest) (IsOpen count value text)
     (λ n later. open_more text first rest count value g n cut group (rw is at later))
     (λ n all.

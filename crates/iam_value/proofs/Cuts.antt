@@ -5,7 +5,7 @@ use Rattle.std.specs.Str.Parse.{AllDigits}
 use Rattle.std.proofs.lemmas.List.{get_or_at, length-append}
 use Rattle.std.proofs.lemmas.List.Elements.{All-head, All-tail, All-from_get_or, All-append, All-cons}
 use Rattle.std.proofs.lemmas.Str.Parse.{digit_at}
-use Rattle.iam_value.specs.Pieces.{Lacks, IsCut}
+use Rattle.iam_value.specs.Pieces.{Lacks, IsCutAt}
 use Rattle.iam_value.specs.Reading.{IsReading}
 
 -- two texts that go on with the same separator, which they lack, are one, and so is what follows
@@ -18,7 +18,7 @@ same_cut d (x ∷ xs) ys (z ∷ zs) ws p q e =
     (cc, r.1)
 
 -- the parts of a text that is known to be cut
-pub at_cut : (d : ℕ) (text front back xs ys : List ℕ) → IsCut d text front back → text ≡ xs ++ d ∷ ys → Lacks d xs → (xs ≡ front) × (ys ≡ back)
+pub at_cut : (d : ℕ) (text front back xs ys : List ℕ) → IsCutAt d text front back → text ≡ xs ++ d ∷ ys → Lacks d xs → (xs ≡ front) × (ys ≡ back)
 at_cut d text front back xs ys cut written lacks = same_cut d xs ys front back lacks cut.1 (sym written ∙ cut.0)
 
 -- a text with a separator does not lack it

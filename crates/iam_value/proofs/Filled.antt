@@ -6,7 +6,7 @@ use Rattle.std.proofs.lemmas.Nat.{mul-add-lt, pow-add}
 use Rattle.std.proofs.lemmas.List.{length-append, length-replicate}
 use Rattle.std.proofs.lemmas.List.Sums.{fold-append}
 use Rattle.iam_value.specs.Address.{IsOneOrPair, IsJoined, number_after, groups_number}
-use Rattle.iam_value.specs.Groups.{IsRest, IsFilled}
+use Rattle.iam_value.specs.Code.Groups.{IsRest, IsFilled}
 use Rattle.iam_value.proofs.Groups.{group_below, dotted_below}
 
 -- what comes before groups stands above them

@@ -6,7 +6,7 @@ use Rattle.std.specs.Str.Parse.{AllDigits}
 use Rattle.std.proofs.lemmas.Bool.{cases_lt}
 use Rattle.std.proofs.lemmas.Fmt.{decimal_is_IsNumeral, decimal_digit, length-decimal-le, first_decimal, decimal-digits_value}
 use Rattle.std.proofs.lemmas.Str.Parse.{numerals_by_value, tells_digits}
-use Rattle.iam_value.specs.Pieces.{IsNumber, IsCut, Lacks}
+use Rattle.iam_value.specs.Pieces.{IsNumber, IsCutAt, Lacks}
 use Rattle.iam_value.specs.Address.{IsOctet, IsDotted}
 use Rattle.iam_value.proofs.Cuts.{at_cut, digits_lack, lacks_both}
 
@@ -45,15 +45,15 @@ pub record DottedParts (a b c d : List ℕ) (number : ℕ) : Type 0 where
   pub fourth_is : IsOctet d fourth
   pub sum : number ≡ ((first * 256 + second) * 256 + third) * 256 + fourth
 
-module _ (text a rest : List ℕ) (number : ℕ) (cut : IsCut 46 text a rest) (is : IsDotted text number) where
+module _ (text a rest : List ℕ) (number : ℕ) (cut : IsCutAt 46 text a rest) (is : IsDotted text number) where
   pub dotted_first : (decimal is.a ≡ a) × (decimal is.b ++ 46 ∷ (decimal is.c ++ 46 ∷ decimal is.d) ≡ rest)
   dotted_first = at_cut 46 text a rest (decimal is.a) (decimal is.b ++ 46 ∷ (decimal is.c ++ 46 ∷ decimal is.d)) cut is.written (octet_lacks 46 (decimal is.a) is.a (λ r. omega arith) (is.bytes.0, refl))
 
-  module _ (b last : List ℕ) (again : IsCut 46 rest b last) where
+  module _ (b last : List ℕ) (again : IsCutAt 46 rest b last) where
     pub dotted_second : (decimal is.b ≡ b) × (decimal is.c ++ 46 ∷ decimal is.d ≡ last)
     dotted_second = at_cut 46 rest b last (decimal is.b) (decimal is.c ++ 46 ∷ decimal is.d) again (sym dotted_first.1) (octet_lacks 46 (decimal is.b) is.b (λ r. omega arith) (is.bytes.1, refl))
 
-    pub dotted_parts : (c d : List ℕ) → IsCut 46 last c d → DottedParts a b c d number
+    pub dotted_parts : (c d : List ℕ) → IsCutAt 46 last c d → DottedParts a b c d number
     dotted_parts c d thrice =
         let e = at_cut 46 last c d (decimal is.c) (decimal is.d) thrice (sym dotted_second.1) (octet_lacks 46 (decimal is.c) is.c (λ r. omega arith) (is.bytes.2, refl)) in
         record {

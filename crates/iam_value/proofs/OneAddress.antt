@@ -2,7 +2,7 @@
 use Rattle.std.proofs.Common.{◌≡◌, ◌⊎◌, ℕ, ◌<◌, ◌+◌, ◌*◌, List, [], ◌∷◌, ◌++◌, length, refl, sym, ap, subst, ◌∙◌, inl, inr, append_assoc, arith}
 use Rattle.std.specs.Fmt.{decimal}
 use Rattle.std.proofs.lemmas.Fmt.{decimal_injective}
-use Rattle.iam_value.specs.Pieces.{Lacks, IsCut}
+use Rattle.iam_value.specs.Pieces.{Lacks, IsCutAt}
 use Rattle.iam_value.specs.Address.{AddressBits, Block, IsOctet, IsDotted, IsGroup, IsOne, IsOneOrPair, IsJoined, IsSide, IsFull, IsCompressed, IsAddress, IsHost, IsRange, groups_number}
 use Rattle.iam_value.proofs.Cuts.{same_cut, not_lacking}
 use Rattle.iam_value.proofs.Octets.{dotted_parts, octet_lacks}
@@ -15,9 +15,9 @@ same_octet text m n a b = decimal_injective m n (omega (arith, a.0)) (omega (ari
 pub same_dotted : (text : List ℕ) (m n : ℕ) → IsDotted text m → IsDotted text n → m ≡ n
 same_dotted text m n a b =
     let no_dot = λ (k : ℕ) (small : k < 256). octet_lacks 46 (decimal k) k (λ r. omega arith) (small, refl) in
-    let first : IsCut 46 text (decimal a.a) (decimal a.b ++ 46 ∷ (decimal a.c ++ 46 ∷ decimal a.d)) = (a.written, no_dot a.a a.bytes.0) in
-    let second : IsCut 46 (decimal a.b ++ 46 ∷ (decimal a.c ++ 46 ∷ decimal a.d)) (decimal a.b) (decimal a.c ++ 46 ∷ decimal a.d) = (refl, no_dot a.b a.bytes.1) in
-    let third : IsCut 46 (decimal a.c ++ 46 ∷ decimal a.d) (decimal a.c) (decimal a.d) = (refl, no_dot a.c a.bytes.2) in
+    let first : IsCutAt 46 text (decimal a.a) (decimal a.b ++ 46 ∷ (decimal a.c ++ 46 ∷ decimal a.d)) = (a.written, no_dot a.a a.bytes.0) in
+    let second : IsCutAt 46 (decimal a.b ++ 46 ∷ (decimal a.c ++ 46 ∷ decimal a.d)) (decimal a.b) (decimal a.c ++ 46 ∷ decimal a.d) = (refl, no_dot a.b a.bytes.1) in
+    let third : IsCutAt 46 (decimal a.c ++ 46 ∷ decimal a.d) (decimal a.c) (decimal a.d) = (refl, no_dot a.c a.bytes.2) in
     let p = dotted_parts text (decimal a.a) (decimal a.b ++ 46 ∷ (decimal a.c ++ 46 ∷ decimal a.d)) n first b (decimal a.b) (decimal a.c ++ 46 ∷ decimal a.d) second (decimal a.c) (decimal a.d) third in
     let one = same_octet (decimal a.a) a.a p.first (a.bytes.0, refl) p.first_is in
     let two = same_octet (decimal a.b) a.b p.second (a.bytes.1, refl) p.second_is in

@@ -3,9 +3,9 @@ use Rattle.std.proofs.Common.{◌≡◌, ℕ, ◌<◌, List, ℤ, pos, sym, ◌�
 use Rattle.std.proofs.lemmas.Int.{ints}
 use Rattle.jiff_core.specs.declared.civil.date.Date.{Date}
 use Rattle.jiff_core.proofs.DateLemmas.{epoch_day_injective}
-use Rattle.iam_value.specs.Moment.{IsDateText, IsNumbered, IsStamp, IsTimeText}
+use Rattle.iam_value.specs.Moment.{IsDateText, IsDayNumber, IsStamp, IsTimeText}
 
-abbrev date_of : (year month day : ℕ) (number : ℤ) → IsNumbered year month day number → Date
+abbrev date_of : (year month day : ℕ) (number : ℤ) → IsDayNumber year month day number → Date
 date_of year month day number is = record {
   year = pos year;
   month = month;

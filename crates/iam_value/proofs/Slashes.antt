@@ -3,7 +3,7 @@ use Rattle.std.proofs.Common.{◌≡◌, ◌⊎◌, ℕ, ◌≤◌, List, [], �
 use Rattle.std.specs.Fmt.{decimal}
 use Rattle.std.proofs.lemmas.Fmt.{decimal_injective}
 use Rattle.iam_value.specs.Reading.{IsReading}
-use Rattle.iam_value.specs.Pieces.{IsCut, Lacks}
+use Rattle.iam_value.specs.Pieces.{IsCutAt, Lacks}
 use Rattle.iam_value.specs.Address.{AddressBits, Block, IsOctet, IsDotted, IsOne, IsOneOrPair, IsJoined, IsSide, IsFull, IsCompressed, IsAddress, IsHost, IsNetwork, IsRange}
 use Rattle.iam_value.proofs.Cuts.{at_cut, not_lacking, lacks_both, same_reading}
 use Rattle.iam_value.proofs.Octets.{dotted_lacks}
@@ -81,7 +81,7 @@ host_reading text answer lacks = same_reading answer (IsHost text) (IsRange text
     (λ range is. elim is [ inl w ↦ w | inr w ↦ absurd (not_lacking 47 text w.0 (decimal w.1) lacks w.3) ])
 
 -- one with a slash is an address and a number of bits
-pub range_cut : (text first back : List ℕ) (range : Block) → IsCut 47 text first back → IsRange text range → (n : ℕ) × IsNetwork first n range × IsOctet back n
+pub range_cut : (text first back : List ℕ) (range : Block) → IsCutAt 47 text first back → IsRange text range → (n : ℕ) × IsNetwork first n range × IsOctet back n
 range_cut text first back range cut is = elim is [
   | inl w ↦ absurd (not_lacking 47 text first back (address_lacks text range.address w.0) cut.0)
   | inr w ↦
@@ -89,7 +89,7 @@ range_cut text first back range cut is = elim is [
       (w.1, rw a.0 at w.2, (omega (arith, w.2.2, width_small w.0 range.address w.2.0), sym a.1))
 ]
 
-pub network_reading : (text first back : List ℕ) (n : ℕ) (answer : Option Block) → IsCut 47 text first back → IsOctet back n → IsReading answer (IsNetwork first n) → IsReading answer (IsRange text)
+pub network_reading : (text first back : List ℕ) (n : ℕ) (answer : Option Block) → IsCutAt 47 text first back → IsOctet back n → IsReading answer (IsNetwork first n) → IsReading answer (IsRange text)
 network_reading text first back n answer cut octet = same_reading answer (IsNetwork first n) (IsRange text)
     (λ range is. inr (first, n, is, rw octet.1 at cut.0))
     (λ range is.

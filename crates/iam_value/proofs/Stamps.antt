@@ -6,7 +6,7 @@ use Rattle.std.proofs.lemmas.Bool.{cases_lt}
 use Rattle.std.proofs.lemmas.Int.{ints}
 use Rattle.std.proofs.lemmas.Str.{digit_value_digit}
 use Rattle.jiff_core.proofs.CalendarLemmas.{days_in_month_bounds}
-use Rattle.iam_value.specs.Moment.{two_digits, four_digits, IsDigits, IsNumbered, IsDay, IsClock, IsDateText, IsTimeText, IsStamp, IsMoment}
+use Rattle.iam_value.specs.Moment.{two_digits, four_digits, IsDigits, IsDayNumber, IsDay, IsClock, IsDateText, IsTimeText, IsStamp, IsMoment}
 
 -- a number below 100, as `decimal` writes it
 decimal_two : (n : ℕ) → 10 ≤ n → n < 100 → decimal n ≡ (48 + n / 10) ∷ (48 + n % 10) ∷ []
@@ -58,7 +58,7 @@ four_shown n small =
     (cases_lt n 10)
 
 -- the text of the day and of the time of day that n seconds are
-pub stamped : (z : ℤ) (n year month day : ℕ) (text : List ℕ) → z ≡ pos n → IsNumbered year month day (pos (n / 86_400)) → text ≡ four_digits year ++ (codes "-" ++ (two_digits month ++ (codes "-" ++ (two_digits day ++ (codes "T" ++ (two_digits (n / 3_600 % 24) ++ (codes ":" ++ (two_digits (n / 60 % 60) ++ (codes ":" ++ (two_digits (n % 60) ++ codes "Z")))))))))) → IsStamp z text
+pub stamped : (z : ℤ) (n year month day : ℕ) (text : List ℕ) → z ≡ pos n → IsDayNumber year month day (pos (n / 86_400)) → text ≡ four_digits year ++ (codes "-" ++ (two_digits month ++ (codes "-" ++ (two_digits day ++ (codes "T" ++ (two_digits (n / 3_600 % 24) ++ (codes ":" ++ (two_digits (n / 60 % 60) ++ (codes ":" ++ (two_digits (n % 60) ++ codes "Z")))))))))) → IsStamp z text
 stamped z n year month day text is numbered written = record {
   date = four_digits year ++ (codes "-" ++ (two_digits month ++ (codes "-" ++ two_digits day)));
   time = two_digits (n / 3_600 % 24) ++ (codes ":" ++ (two_digits (n / 60 % 60) ++ (codes ":" ++ two_digits (n % 60))));

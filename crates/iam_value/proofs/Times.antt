@@ -1,8 +1,8 @@
 -- Dates and times, cut at their separators.
 use Rattle.std.proofs.Common.{◌*◌, ◌+◌, ◌≡◌, ℕ, ◌<◌, ◌^◌, List, [], ◌∷◌, ◌++◌, ℤ, Option, sym, ◌∙◌, inl, inr, arith}
 use Rattle.std.specs.Int.{IsInRange}
-use Rattle.iam_value.specs.Pieces.{Lacks, IsCut}
-use Rattle.iam_value.specs.Moment.{IsDigits, IsField, IsFraction, IsNumbered, IsDay, IsSeconds, IsMinutes, IsClock, IsSpan, IsUtc, IsShifted, IsLocal, IsDateTime}
+use Rattle.iam_value.specs.Pieces.{Lacks, IsCutAt}
+use Rattle.iam_value.specs.Moment.{IsDigits, IsField, IsFraction, IsDayNumber, IsDay, IsSeconds, IsMinutes, IsClock, IsSpan, IsUtc, IsShifted, IsLocal, IsDateTime}
 use Rattle.std.proofs.lemmas.Int.Digits.{digits_value-lt}
 use Rattle.iam_value.specs.Reading.{IsReading}
 use Rattle.iam_value.proofs.Cuts.{at_cut, not_lacking, digits_lack, lacks_both, same_reading}
@@ -15,13 +15,13 @@ pub record DayParts (years months days : List ℕ) (number : ℤ) : Type 0 where
   pub year_is : IsDigits 4 years year
   pub month_is : IsDigits 2 months month
   pub day_is : IsDigits 2 days day
-  pub numbered : IsNumbered year month day number
+  pub numbered : IsDayNumber year month day number
 
 -- what follows the first separator of a date
-pub day_rest : (text front back : List ℕ) (number : ℤ) → IsCut 45 text front back → (is : IsDay text number) → (is.years ≡ front) × (is.months ++ 45 ∷ is.days ≡ back)
+pub day_rest : (text front back : List ℕ) (number : ℤ) → IsCutAt 45 text front back → (is : IsDay text number) → (is.years ≡ front) × (is.months ++ 45 ∷ is.days ≡ back)
 day_rest text front back number cut is = at_cut 45 text front back is.years (is.months ++ 45 ∷ is.days) cut is.written (digits_lack 45 is.years is.year_is.1.1 (λ r. omega arith))
 
-pub day_parts : (text years rest months days : List ℕ) (number : ℤ) → IsCut 45 text years rest → IsCut 45 rest months days → IsDay text number → DayParts years months days number
+pub day_parts : (text years rest months days : List ℕ) (number : ℤ) → IsCutAt 45 text years rest → IsCutAt 45 rest months days → IsDay text number → DayParts years months days number
 day_parts text years rest months days number first second is =
     let a = day_rest text years rest number first is in
     let b = at_cut 45 rest months days is.months is.days second (sym a.1) (digits_lack 45 is.months is.month_is.1.1 (λ r. omega arith)) in
@@ -36,8 +36,8 @@ day_parts text years rest months days number first second is =
     }
 
 -- the day of parts that were read
-pub day_from_parts : (text years rest months days : List ℕ) (year month day : ℕ) (answer : Option ℤ) → IsCut 45 text years rest → IsCut 45 rest months days → IsDigits 4 years year → IsDigits 2 months month → IsDigits 2 days day → IsReading answer (IsNumbered year month day) → IsReading answer (IsDay text)
-day_from_parts text years rest months days year month day answer first second y m d = same_reading answer (IsNumbered year month day) (IsDay text)
+pub day_from_parts : (text years rest months days : List ℕ) (year month day : ℕ) (answer : Option ℤ) → IsCutAt 45 text years rest → IsCutAt 45 rest months days → IsDigits 4 years year → IsDigits 2 months month → IsDigits 2 days day → IsReading answer (IsDayNumber year month day) → IsReading answer (IsDay text)
+day_from_parts text years rest months days year month day answer first second y m d = same_reading answer (IsDayNumber year month day) (IsDay text)
     (λ number is. record {
       years = years;
       months = months;
@@ -62,7 +62,7 @@ digits_below count text n is =
     omega (arith, small, is.2)
 
 -- seconds with a point, and without
-pub seconds_cut : (text front back : List ℕ) (nanos : ℕ) → IsCut 46 text front back → IsSeconds text nanos → (second : ℕ) × (part : ℕ) × IsField 59 front second × IsFraction back part × (nanos ≡ second * 1_000_000_000 + part)
+pub seconds_cut : (text front back : List ℕ) (nanos : ℕ) → IsCutAt 46 text front back → IsSeconds text nanos → (second : ℕ) × (part : ℕ) × IsField 59 front second × IsFraction back part × (nanos ≡ second * 1_000_000_000 + part)
 seconds_cut text front back nanos cut is = elim is [
   | inl w ↦ absurd (not_lacking 46 text front back (digits_lack 46 text w.1.0.1.1 (λ r. omega arith)) cut.0)
   | inr w ↦
@@ -77,7 +77,7 @@ seconds_whole text nanos lacks is = elim is [
 ]
 
 -- minutes with seconds, and without
-pub minutes_cut : (text front back : List ℕ) (nanos : ℕ) → IsCut 58 text front back → IsMinutes text nanos → (minute : ℕ) × (rest : ℕ) × IsField 59 front minute × IsSeconds back rest × (nanos ≡ minute * 60_000_000_000 + rest)
+pub minutes_cut : (text front back : List ℕ) (nanos : ℕ) → IsCutAt 58 text front back → IsMinutes text nanos → (minute : ℕ) × (rest : ℕ) × IsField 59 front minute × IsSeconds back rest × (nanos ≡ minute * 60_000_000_000 + rest)
 minutes_cut text front back nanos cut is = elim is [
   | inl w ↦ absurd (not_lacking 58 text front back (digits_lack 58 text w.1.0.1.1 (λ r. omega arith)) cut.0)
   | inr w ↦
@@ -92,12 +92,12 @@ minutes_whole text nanos lacks is = elim is [
 ]
 
 -- hours, and what follows them
-pub clock_cut : (text front back : List ℕ) (nanos : ℕ) → IsCut 58 text front back → IsClock text nanos → (hour : ℕ) × (rest : ℕ) × IsField 23 front hour × IsMinutes back rest × (nanos ≡ hour * 3_600_000_000_000 + rest)
+pub clock_cut : (text front back : List ℕ) (nanos : ℕ) → IsCutAt 58 text front back → IsClock text nanos → (hour : ℕ) × (rest : ℕ) × IsField 23 front hour × IsMinutes back rest × (nanos ≡ hour * 3_600_000_000_000 + rest)
 clock_cut text front back nanos cut is =
     let a = at_cut 58 text front back is.hours is.minutes cut is.written (digits_lack 58 is.hours is.hour_is.0.1.1 (λ r. omega arith)) in
     (is.hour, is.rest, rw a.0 at is.hour_is, rw a.1 at is.rest_is, is.sum)
 
-pub span_cut : (text front back : List ℕ) (minutes : ℕ) → IsCut 58 text front back → IsSpan text minutes → (hour : ℕ) × (minute : ℕ) × IsField 23 front hour × IsField 59 back minute × (minutes ≡ hour * 60 + minute)
+pub span_cut : (text front back : List ℕ) (minutes : ℕ) → IsCutAt 58 text front back → IsSpan text minutes → (hour : ℕ) × (minute : ℕ) × IsField 23 front hour × IsField 59 back minute × (minutes ≡ hour * 60 + minute)
 span_cut text front back minutes cut is =
     let a = at_cut 58 text front back is.hours is.minutes cut is.written (digits_lack 58 is.hours is.hour_is.0.1.1 (λ r. omega arith)) in
     (is.hour, is.minute, rw a.0 at is.hour_is, rw a.1 at is.minute_is, is.sum)
@@ -129,19 +129,19 @@ day_lacks d number text outside is =
     rw is.written (lacks_both d 45 is.years (is.months ++ 45 ∷ is.days) (digits 4 is.year is.years is.year_is) (λ e. outside (omega arith, omega arith)) (lacks_both d 45 is.months is.days (digits 2 is.month is.months is.month_is) (λ e. outside (omega arith, omega arith)) (digits 2 is.day is.days is.day_is)))
 
 -- a time of day in UTC, cut at `Z`
-pub utc_cut : (text front back : List ℕ) (time : ℕ) → IsCut 90 text front back → IsUtc text time → (back ≡ []) × IsClock front time
+pub utc_cut : (text front back : List ℕ) (time : ℕ) → IsCutAt 90 text front back → IsUtc text time → (back ≡ []) × IsClock front time
 utc_cut text front back time cut is =
     let a = at_cut 90 text front back is.0 [] cut is.1 (clock_lacks 90 time is.0 (λ r. omega arith) is.2) in
     (sym a.1, rw a.0 at is.2)
 
 -- one with a sign, cut at it
-pub shifted_cut : (sign : ℕ) (text front back : List ℕ) (time span : ℕ) → sign < 46 → IsCut sign text front back → IsShifted sign text time span → IsClock front time × IsSpan back span
+pub shifted_cut : (sign : ℕ) (text front back : List ℕ) (time span : ℕ) → sign < 46 → IsCutAt sign text front back → IsShifted sign text time span → IsClock front time × IsSpan back span
 shifted_cut sign text front back time span low cut is =
     let a = at_cut sign text front back is.clock is.shift cut is.written (clock_lacks sign time is.clock (λ r. omega arith) is.time_is) in
     (rw a.0 at is.time_is, rw a.1 at is.span_is)
 
 -- a date with a time, cut at `T`
-pub date_time_cut : (text front back : List ℕ) (nanos : ℤ) → IsCut 84 text front back → (is : IsDateTime text nanos) → IsDay front is.number × IsLocal back is.time is.offset
+pub date_time_cut : (text front back : List ℕ) (nanos : ℤ) → IsCutAt 84 text front back → (is : IsDateTime text nanos) → IsDay front is.number × IsLocal back is.time is.offset
 date_time_cut text front back nanos cut is =
     let a = at_cut 84 text front back is.date is.rest cut is.written (day_lacks 84 is.number is.date (λ r. omega arith) is.date_is) in
     (rw a.0 at is.date_is, rw a.1 at is.rest_is)

@@ -2,7 +2,7 @@
 use Rattle.std.proofs.Common.{◌≡◌, ◌≢◌, ℕ, ◌<◌, List, [], ◌∷◌, ◌++◌, length, ℤ, pos, neg_ℤ, refl, sym, ap, ◌∙◌, inl, inr, arith}
 use Rattle.std.specs.Int.{IsInRange}
 use Rattle.std.specs.Str.Parse.{IsNumeral, digits_value}
-use Rattle.iam_value.specs.Pieces.{Lacks, IsCut}
+use Rattle.iam_value.specs.Pieces.{Lacks, IsCutAt}
 use Rattle.iam_value.specs.Whole.{IsWhole}
 use Rattle.iam_value.specs.Moment.{IsField, IsFraction, IsDay, IsSeconds, IsMinutes, IsClock, IsSpan, IsUtc, IsShifted, IsLocal, IsDateTime, IsMoment}
 use Rattle.iam_value.proofs.Cuts.{same_cut, not_lacking, digits_lack, lacks_both}
@@ -34,12 +34,12 @@ split d text xs ys zs ws a b left right = same_cut d xs ys zs ws left right (sym
 same_field : (most : ℕ) (text : List ℕ) (m n : ℕ) → IsField most text m → IsField most text n → m ≡ n
 same_field most text m n a b = a.0.2 ∙ sym b.0.2
 
-day_cut : (text : List ℕ) (number : ℤ) → (is : IsDay text number) → IsCut 45 text is.years (is.months ++ 45 ∷ is.days)
+day_cut : (text : List ℕ) (number : ℤ) → (is : IsDay text number) → IsCutAt 45 text is.years (is.months ++ 45 ∷ is.days)
 day_cut text number is = (is.written, digits_lack 45 is.years is.year_is.1.1 (λ r. omega arith))
 
 pub same_day : (text : List ℕ) (v w : ℤ) → IsDay text v → IsDay text w → v ≡ w
 same_day text v w a b =
-    let again : IsCut 45 (a.months ++ 45 ∷ a.days) a.months a.days = (refl, digits_lack 45 a.months a.month_is.1.1 (λ r. omega arith)) in
+    let again : IsCutAt 45 (a.months ++ 45 ∷ a.days) a.months a.days = (refl, digits_lack 45 a.months a.month_is.1.1 (λ r. omega arith)) in
     let p = day_parts text a.years (a.months ++ 45 ∷ a.days) a.months a.days w (day_cut text v a) again b in
     let year : p.year ≡ a.year = p.year_is.2 ∙ sym a.year_is.2 in
     let month : p.month ≡ a.month = p.month_is.2 ∙ sym a.month_is.2 in
@@ -50,7 +50,7 @@ same_day text v w a b =
 same_fraction : (text : List ℕ) (m n : ℕ) → IsFraction text m → IsFraction text n → m ≡ n
 same_fraction text m n a b = a.2 ∙ sym b.2
 
-field_cut : (d most n : ℕ) (text front back : List ℕ) → ¬ (IsInRange 48 57 d) → text ≡ front ++ d ∷ back → IsField most front n → IsCut d text front back
+field_cut : (d most n : ℕ) (text front back : List ℕ) → ¬ (IsInRange 48 57 d) → text ≡ front ++ d ∷ back → IsField most front n → IsCutAt d text front back
 field_cut d most n text front back outside written is = (written, digits_lack d front is.0.1.1 outside)
 
 same_seconds : (text : List ℕ) (m n : ℕ) → IsSeconds text m → IsSeconds text n → m ≡ n

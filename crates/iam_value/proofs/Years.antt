@@ -13,9 +13,9 @@ pub year_since : (year : ℤ) (month day n : ℕ) → IsCivilDate year month day
 year_since year month day n civil is = by_lt_z year (pos 1970) (λ less. absurd (omega (arith, ints, rw is at (days_from_civil-day_count year month day), day_count-epoch, day_count-lt_year year month day (pos 1970) 1 1 civil (omega arith) less))) (λ since. since)
 
 -- a year without its sign
-pub pos-unsigned_abs : (year : ℤ) → pos 0 ≤ℤ year → pos (unsigned_abs year) ≡ year
-pos-unsigned_abs (pos n) since = refl
-pos-unsigned_abs (negsuc n) since = absurd (omega (arith, ints))
+pub pos_unsigned_abs : (year : ℤ) → pos 0 ≤ℤ year → pos (unsigned_abs year) ≡ year
+pos_unsigned_abs (pos n) since = refl
+pos_unsigned_abs (negsuc n) since = absurd (omega (arith, ints))
 
 -- such a year fits 16 bits without a sign
 pub year_fits : (year : ℤ) → pos 0 ≤ℤ year → year ≤ℤ pos 9999 → T (non_neg year) × Fits w16 (unsigned_abs year)

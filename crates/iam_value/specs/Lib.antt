@@ -5,5 +5,5 @@ pub mod Whole
 pub mod Bytes
 pub mod Moment
 pub mod Address
-pub mod Groups
+pub mod Code
 pub mod Family

@@ -15,8 +15,8 @@ abbrev pub IsField : ℕ → List ℕ → ℕ → Type 0
 IsField most text n = IsDigits 2 text n × (n ≤ most)
 
 -- a day of the Gregorian calendar, and its number counted from 1970-01-01
-abbrev pub IsNumbered : ℕ → ℕ → ℕ → ℤ → Type 0
-IsNumbered year month day number =
+abbrev pub IsDayNumber : ℕ → ℕ → ℕ → ℤ → Type 0
+IsDayNumber year month day number =
     IsCivilDate (pos year) month day × (number ≡ days_from_civil (pos year) month day)
 
 -- `YYYY-MM-DD` of a day with that number
@@ -31,7 +31,7 @@ pub record IsDay (text : List ℕ) (number : ℤ) : Type 0 where
   pub year_is : IsDigits 4 years year
   pub month_is : IsDigits 2 months month
   pub day_is : IsDigits 2 days day
-  pub numbered : IsNumbered year month day number
+  pub numbered : IsDayNumber year month day number
 
 -- one to nine digits after the point, in nanoseconds
 abbrev pub IsFraction : List ℕ → ℕ → Type 0
@@ -145,7 +145,7 @@ pub record IsDateText (number : ℤ) (text : List ℕ) : Type 0 where
   pub year : ℕ
   pub month : ℕ
   pub day : ℕ
-  pub numbered : IsNumbered year month day number
+  pub numbered : IsDayNumber year month day number
   pub written :
       text ≡ four_digits year ++ (codes "-" ++ (two_digits month ++ (codes "-" ++ two_digits day)))
 

@@ -7,8 +7,8 @@ abbrev pub Lacks : ℕ → List ℕ → Type 0
 Lacks separator text = All (λ c. c ≢ separator) text
 
 -- the text is the front, the first separator and the back
-abbrev pub IsCut : ℕ → List ℕ → List ℕ → List ℕ → Type 0
-IsCut separator text front back = (text ≡ front ++ separator ∷ back) × Lacks separator front
+abbrev pub IsCutAt : ℕ → List ℕ → List ℕ → List ℕ → Type 0
+IsCutAt separator text front back = (text ≡ front ++ separator ∷ back) × Lacks separator front
 
 -- digits in the radix, one or more and at most `longest`, and the number that they write
 abbrev pub IsNumber : ℕ → ℕ → List ℕ → ℕ → Type 0

@@ -2,7 +2,7 @@
 ghost use Rattle.std.specs.Prelude.{◌≡◌, ◌⊎◌, ◌≤◌, ◌<◌, ◌+◌, ◌-◌, ◌*◌, ◌^◌, ◌∷◌, ℕ, List, MatchOption, IfSome};
 ghost use Rattle.iam_value.specs.Reading.{IsReading};
 ghost use Rattle.iam_value.specs.Address.{IsOctet, IsDotted, IsGroup, IsFull, IsCompressed};
-ghost use Rattle.iam_value.specs.Groups.{IsRest, IsLast, IsFilled, IsClosed, IsOpen, IsLeading};
+ghost use Rattle.iam_value.specs.Code.Groups.{IsRest, IsLast, IsFilled, IsClosed, IsOpen, IsLeading};
 
 use crate::pieces::{cut, number};
 

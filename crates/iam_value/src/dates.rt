@@ -2,7 +2,7 @@
 ghost use Rattle.std.specs.Prelude.{◌≡◌, ◌≤◌, ◌<◌, pos, ◌+ℤ◌, ◌-ℤ◌, ◌*ℤ◌, IfOk, IfSome, string_bytes};
 ghost use Rattle.jiff_core.specs.Calendar.{IsBetween};
 ghost use Rattle.iam_value.specs.Reading.{IsReading, IsOnly};
-ghost use Rattle.iam_value.specs.Moment.{IsMoment, IsNumbered, IsStamp, IsDigits, IsField, IsFraction, IsDay, IsSeconds, IsMinutes, IsClock, IsSpan, IsUtc, IsShifted, IsLocal, IsDateTime};
+ghost use Rattle.iam_value.specs.Moment.{IsMoment, IsDayNumber, IsStamp, IsDigits, IsField, IsFraction, IsDay, IsSeconds, IsMinutes, IsClock, IsSpan, IsUtc, IsShifted, IsLocal, IsDateTime};
 
 use crate::OutOfMemory;
 use crate::numbers::whole;
@@ -28,7 +28,7 @@ pub fn stamp(alloc: Global, seconds: i64) -> Result<String, OutOfMemory>
 /// The year, the month and the day that many days after 1970-01-01.
 fn date_after(days: u32) -> (u16, u8, u8)
     requires { days ≤ 2_932_896 }
-    ensures { IsNumbered result.0 result.1 result.2 (pos days) }
+    ensures { IsDayNumber result.0 result.1 result.2 (pos days) }
 {
     let date = Date::from_days_since_min(days + 4_371_587);
     (date.year as u16, date.month, date.day)
@@ -61,7 +61,7 @@ fn day_number(year: u32, month: u32, day: u32) -> Option<i32>
     requires year { year ≤ 9999 }
     requires month { month ≤ 99 }
     requires day { day ≤ 99 }
-    ensures { IsReading result (IsNumbered year month day) }
+    ensures { IsReading result (IsDayNumber year month day) }
 {
     match jiff::civil::Date::new(year as i16, month as i8, day as i8) {
         Ok(date) => Some(date.to_plain().to_unix_epoch_day()),

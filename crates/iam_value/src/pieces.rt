@@ -2,11 +2,11 @@
 ghost use Rattle.std.specs.Prelude.{◌≡◌, ◌≢◌, ◌≤◌, ◌^◌, ℕ, All, MatchOption, ◌∷◌, ◌++◌, length};
 ghost use Rattle.std.specs.Str.Parse.{IsNumeral, digits_value};
 ghost use Rattle.iam_value.specs.Reading.{IsReading};
-ghost use Rattle.iam_value.specs.Pieces.{IsNumber, IsCut, Lacks};
+ghost use Rattle.iam_value.specs.Pieces.{IsNumber, IsCutAt, Lacks};
 
 /// What stands before and after the first separator, if there is one.
 pub(crate) fn cut(bytes: &[u8], separator: u8) -> Option<(&[u8], &[u8])>
-    ensures { MatchOption result (Lacks separator bytes.now) (λ r. IsCut separator bytes.now r.0.now r.1.now) }
+    ensures { MatchOption result (Lacks separator bytes.now) (λ r. IsCutAt separator bytes.now r.0.now r.1.now) }
 {
     let at = bytes.iter().position(|byte| *byte == separator)?;
     Some((&bytes[..at], &bytes[at + 1..]))

@@ -12,8 +12,8 @@ use Rattle.atomic_table.specs.Table.{Final, Seen}
 use Rattle.atomic_table.specs.Seated.{TableId}
 use Rattle.iam_work.specs.declared.view.MarkView.{MarkView}
 use Rattle.iam_work.specs.declared.marks.Plan.{Plan}
-use Rattle.iam_work.specs.MarkRule.{times, MarkState, IsSeated, MarkRule, joined}
-use Rattle.iam_work.specs.Work.{WorkId, SeatView, work_id, marked_by, found_by, marked_below}
+use Rattle.iam_work.specs.Code.MarkRule.{MarkState, IsSeated, MarkRule, joined_view}
+use Rattle.iam_work.specs.Work.{WorkId, SeatView, work_id, marked_by, found_by, marked_below, times}
 use Rattle.iam_work.specs.Code.Words.{bit_of, state_of, IsRuled}
 use Rattle.iam_work.specs.Code.Closing.{Gathers, set_below}
 use Rattle.iam_work.proofs.Sums.{found_at, sum_alone, times_append}
@@ -30,7 +30,7 @@ gather_first seats rest s w split marked found alone =
     })
 
 -- one seat more
-pub gather_more : (seats more rest : List SeatView) (v w : MarkView) (s : SeatView) → Gathers seats more v → more ≡ rest ++ s ∷ [] → w.marked ≡ s.marked → w.found ≡ s.found → w.seats ≡ 1 → Gathers seats rest (joined v w)
+pub gather_more : (seats more rest : List SeatView) (v w : MarkView) (s : SeatView) → Gathers seats more v → more ≡ rest ++ s ∷ [] → w.marked ≡ s.marked → w.found ≡ s.found → w.seats ≡ 1 → Gathers seats rest (joined_view v w)
 gather_more seats more rest v w s so_far split marked found alone =
     let P : List SeatView → Type 0 = λ xs. Gathers seats xs v in
     let g = subst P split so_far in

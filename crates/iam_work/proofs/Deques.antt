@@ -10,7 +10,8 @@ use Rattle.crossbeam_deque.specs.Tasks as tasks
 use Rattle.crossbeam_deque.proofs.Lists.{at_set, at_snoc}
 use Rattle.iam_work.specs.declared.run.Run.{Run}
 use Rattle.iam_work.specs.declared.view.DequeView.{DequeView}
-use Rattle.iam_work.specs.RunRule.{IsWithin, HoldsRuns, founder, told, cleared, with_pushed, with_taken, accompanied, companion}
+use Rattle.iam_work.specs.Code.RunRule.{HoldsRuns, founder, told, cleared, with_pushed, with_taken, accompanied, companion}
+use Rattle.iam_work.specs.Work.{IsWithin}
 use Rattle.iam_work.proofs.Sums.{found_at}
 
 -- the front and the rest of a list of which all is so

@@ -7,7 +7,8 @@ use mathlib.Core.Option.{some, some-injective, some-ne-none}
 use lib.ListN.{get_elem?}
 use Rattle.atomic_table.proofs.Lists.{at_set, at_snoc, set_else}
 use Rattle.iam_work.specs.declared.view.MarkView.{MarkView}
-use Rattle.iam_work.specs.MarkRule.{times, MarkState, marked_in, found_in, seats_in, with_mark, with_found, mark, IsSeated, MarkRule, joined, empty_view, without_seat, one_seat, unseated}
+use Rattle.iam_work.specs.Code.MarkRule.{MarkState, marked_in, found_in, seats_in, with_mark, with_found, mark, IsSeated, MarkRule, joined_view, empty_view, without_seat, one_seat, unseated}
+use Rattle.iam_work.specs.Work.{times}
 use Rattle.iam_work.proofs.Sums.{sum_set, at_most, times_push_same, times_push_other, times_append}
 
 -- an empty view is seated
@@ -50,32 +51,32 @@ same_sums grains all s views rule same fair =
 
 module _ (grains all : ℕ) (s : MarkState) (rule : MarkRule grains all s) (id : ℕ) (v : MarkView) (at : get_elem? s.views id ≡ some v) where
   -- an amount that a joined view has from both stays the same when a view is joined into another
-  join_sum : (other : ℕ) (w : MarkView) → get_elem? (set s.views id (joined v w)) other ≡ some w
-      → (f : MarkView → ℕ) → f (joined v w) ≡ f v + f w → f unseated ≡ 0
-      → sum_by f (set (set s.views id (joined v w)) other unseated) ≡ sum_by f s.views
+  join_sum : (other : ℕ) (w : MarkView) → get_elem? (set s.views id (joined_view v w)) other ≡ some w
+      → (f : MarkView → ℕ) → f (joined_view v w) ≡ f v + f w → f unseated ≡ 0
+      → sum_by f (set (set s.views id (joined_view v w)) other unseated) ≡ sum_by f s.views
   join_sum other w there f both none =
-      let a = sum_set f s.views id v (joined v w) at in
-      let b = sum_set f (set s.views id (joined v w)) other w unseated there in
+      let a = sum_set f s.views id v (joined_view v w) at in
+      let b = sum_set f (set s.views id (joined_view v w)) other w unseated there in
       omega arith
 
-  pub joins : (other : ℕ) (w : MarkView) → other ≢ id → get_elem? (set s.views id (joined v w)) other ≡ some w
-      → MarkRule grains all (record { bits = s.bits; views = set (set s.views id (joined v w)) other unseated })
+  pub joins : (other : ℕ) (w : MarkView) → other ≢ id → get_elem? (set s.views id (joined_view v w)) other ≡ some w
+      → MarkRule grains all (record { bits = s.bits; views = set (set s.views id (joined_view v w)) other unseated })
   joins other w apart there = same_sums grains all s _ rule (record {
     marked = λ grain. join_sum other w there (λ u. times grain u.marked) (times_append grain v.marked w.marked) refl;
     found = λ grain. join_sum other w there (λ u. times grain u.found) (times_append grain v.found w.found) refl;
     seats = join_sum other w there (λ u. u.seats) refl refl;
   }) (λ j u here. ⊎_elim
       (λ t. subst IsSeated t.1 (empty_seated 0 0 0))
-      (λ t. ⊎_elim (λ q. subst IsSeated q.1 both_seated) (λ q. rule.seats.fair j u q.1) (at_set s.views id j (joined v w) u t.1))
-      (at_set (set s.views id (joined v w)) other j unseated u here))
+      (λ t. ⊎_elim (λ q. subst IsSeated q.1 both_seated) (λ q. rule.seats.fair j u q.1) (at_set s.views id j (joined_view v w) u t.1))
+      (at_set (set s.views id (joined_view v w)) other j unseated u here))
     where
       theirs : IsSeated w
-      theirs = rule.seats.fair other w (sym (set_else s.views id other (joined v w) apart) ∙ there)
+      theirs = rule.seats.fair other w (sym (set_else s.views id other (joined_view v w) apart) ∙ there)
 
       nothing : (xs ys : List ℕ) → xs ≡ [] → ys ≡ [] → xs ++ ys ≡ []
       nothing xs ys e f = ap (λ zs. zs ++ ys) e ∙ f
 
-      both_seated : IsSeated (joined v w)
+      both_seated : IsSeated (joined_view v w)
       both_seated = record {
         idle = λ none.
             let a = (rule.seats.fair id v at).idle (omega arith) in

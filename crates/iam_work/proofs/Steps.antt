@@ -8,7 +8,7 @@ use Rattle.std.proofs.lemmas.Nat.Bits.{bit_at-zero, bit_at_set_same, bit_at_set_
 use mir.Syntax.{w64}
 use Rattle.atomic_table.specs.Table.{Me, keeps, Allows, Splits, Joins}
 use Rattle.iam_work.specs.declared.view.MarkView.{MarkView}
-use Rattle.iam_work.specs.MarkRule.{MarkState, MarkRule, mark, after_mark, joined, without_seat, one_seat, unseated}
+use Rattle.iam_work.specs.Code.MarkRule.{MarkState, MarkRule, mark, after_mark, joined_view, without_seat, one_seat, unseated}
 use Rattle.iam_work.specs.Code.Words.{bit_of, words_for, state_of, IsRuled, opened, FindsBit, tells_mark}
 use Rattle.iam_work.proofs.Marking as event
 
@@ -99,7 +99,7 @@ module _ (grains all : ℕ) where
     rule = event.splits grains all (state_of s.words s.views) holds.rule id v at more no_mark no_found;
   }
 
-  pub joins : (id : ℕ) (v : MarkView) (other : ℕ) (w : MarkView) → Joins (IsRuled grains all) id v other w (joined v w) unseated
+  pub joins : (id : ℕ) (v : MarkView) (other : ℕ) (w : MarkView) → Joins (IsRuled grains all) id v other w (joined_view v w) unseated
   joins id v other w s holds at apart there = record {
     wide = holds.wide;
     rule = event.joins grains all (state_of s.words s.views) holds.rule id v at other w apart there;

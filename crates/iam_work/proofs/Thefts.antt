@@ -10,8 +10,8 @@ use Rattle.crossbeam_deque.specs.declared.steal.Steal.TheVariants as deque
 use Rattle.iam_work.specs.declared.run.Run.{Run}
 use Rattle.iam_work.specs.declared.view.DequeView.{DequeView}
 use Rattle.iam_work.specs.declared.stolen.Stolen.{Stolen}
-use Rattle.iam_work.specs.RunRule.{IsWithin, with_taken}
-use Rattle.iam_work.specs.Work.{IfTook, IfNothing}
+use Rattle.iam_work.specs.Code.RunRule.{with_taken}
+use Rattle.iam_work.specs.Work.{IfTook, IfNothing, IsWithin}
 use Rattle.iam_work.specs.Code.Fields.{RunPass, pass_deque, pass_taken, IsReady}
 use Rattle.iam_work.specs.Code.Thefts.{stolen_of}
 

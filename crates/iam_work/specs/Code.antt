@@ -1,3 +1,5 @@
+pub mod MarkRule
+pub mod RunRule
 pub mod Words
 pub mod Fields
 pub mod Closing

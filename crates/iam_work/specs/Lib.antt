@@ -1,4 +1,2 @@
-pub mod MarkRule
-pub mod RunRule
 pub mod Work
 pub mod Code

@@ -1,11 +1,18 @@
 -- Work and its seats as callers see them, and what a caller knows once the work is closed. LOGIC 11.7.
-use Rattle.std.specs.Prelude.{ℕ, zero, suc, ◌+◌, ◌<◌, ◌⊎◌, nat_lt, if◌then◌else◌, ⊤, List, [], ◌∷◌, ◌++◌, slice_set, slice_index_or, replicate, sum_by}
+use Rattle.std.specs.Prelude.{ℕ, zero, suc, ◌+◌, ◌<◌, ◌≤◌, ◌⊎◌, ◌==◌, nat_lt, if◌then◌else◌, ⊤, List, [], ◌∷◌, ◌++◌, slice_set, slice_index_or, replicate, sum_by, count_by}
 use Rattle.std.proofs.Common.{Global}
 use Rattle.atomic_table.specs.Seated.{TableId}
 use Rattle.iam_work.specs.declared.run.Run.{Run}
 use Rattle.iam_work.specs.declared.stolen.Stolen.{Stolen}
 use Rattle.iam_work.specs.declared.stolen.Stolen.TheVariants.{Took, Empty, Lost}
-use Rattle.iam_work.specs.MarkRule.{times}
+
+-- how often x stands in a list
+abbrev pub times : ℕ → List ℕ → ℕ
+times x xs = count_by (λ y. x == y) xs
+
+-- a run that is not empty, and lies within so many grains
+abbrev pub IsWithin : ℕ → Run → Type 0
+IsWithin grains run = (0 < run.count) × (run.first + run.count ≤ grains)
 
 -- which work it is: its marks, the deque of each seat, how many grains and how many seats
 pub record WorkId : Type 0 where

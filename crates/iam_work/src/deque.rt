@@ -1,6 +1,7 @@
 // The deques of runs: their rule, and what each call on one tells.
 ghost use Rattle.std.specs.Prelude.{◌≡◌, [], All};
-ghost use Rattle.iam_work.specs.RunRule.{IsWithin, told, cleared, with_pushed, with_taken, accompanied, companion};
+ghost use Rattle.iam_work.specs.Code.RunRule.{told, cleared, with_pushed, with_taken, accompanied, companion};
+ghost use Rattle.iam_work.specs.Work.{IsWithin};
 
 use crate::run::Run;
 use crate::view::DequeView;
@@ -12,7 +13,7 @@ use std::alloc::Global;
 pub struct Runs;
 
 impl Protocol<Run, DequeView> for Runs {
-    ghost use Rattle.iam_work.specs.RunRule.{HoldsRuns, founder};
+    ghost use Rattle.iam_work.specs.Code.RunRule.{HoldsRuns, founder};
 
     ghost holds = { HoldsRuns };
 

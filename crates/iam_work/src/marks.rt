@@ -2,7 +2,7 @@
 //
 // The bit of grain g is bit `g % 64` of word `g / 64`.
 ghost use Rattle.std.specs.Prelude.{◌≡◌};
-ghost use Rattle.iam_work.specs.MarkRule.{without_seat, one_seat, unseated, joined};
+ghost use Rattle.iam_work.specs.Code.MarkRule.{without_seat, one_seat, unseated, joined_view};
 ghost use Rattle.iam_work.specs.Code.Words.{tells_mark};
 
 use crate::view::MarkView;
@@ -48,7 +48,7 @@ impl Split<MarkView> for Seats {
 }
 
 impl Join<MarkView> for Seats {
-    ghost both = { joined };
+    ghost both = { joined_view };
 
     ghost spent = { unseated };
 }

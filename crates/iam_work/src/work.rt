@@ -2,9 +2,7 @@
 ghost use Rattle.std.specs.Prelude.{◌≡◌, ℕ, ◌+◌, ◌<◌, ◌≤◌, ◌↔◌, [], List, map, length, vec_len, IsTrue, IfSome, IfNone, IfOk, IfErr, OnOk, All, if◌then◌else◌};
 ghost use Rattle.std.specs.List.{range_with_len};
 ghost use Rattle.crossbeam_deque.specs.Handles.{stealer_deque};
-ghost use Rattle.iam_work.specs.MarkRule.{times};
-ghost use Rattle.iam_work.specs.RunRule.{IsWithin};
-ghost use Rattle.iam_work.specs.Work.{WorkId, work_id, fresh, IsTooMany, gains_mark, finds_mark, gains_pushed, gains_popped, gains_stolen, IfTook, IfNothing, marked_by, found_by, marked_below};
+ghost use Rattle.iam_work.specs.Work.{WorkId, work_id, fresh, IsTooMany, gains_mark, finds_mark, gains_pushed, gains_popped, gains_stolen, IfTook, IfNothing, marked_by, found_by, marked_below, times, IsWithin};
 ghost use Rattle.iam_work.specs.Code.Words.{words_for};
 ghost use Rattle.iam_work.specs.Code.Fields.{IsLaid};
 ghost use Rattle.iam_work.specs.Code.Thefts.{stolen_of};

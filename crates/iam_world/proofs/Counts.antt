@@ -14,11 +14,11 @@ use Rattle.iam_shape.specs.declared.path.Name.TheVariants.{Accounts, Principals,
 use Rattle.iam_shape.specs.declared.path.Name.TheVariants as name
 use Rattle.iam_shape.specs.declared.path.Path.{Path}
 use Rattle.iam_shape.specs.declared.path.Path.TheVariants.{Field, Entry, Leaf}
-use Rattle.iam_world.specs.Code.Documents.{statements_of}
+use Rattle.iam_world.specs.Code.Documents.{statement_total}
 use Rattle.iam_world.specs.Reads.{ReadsAccount, ReadsOptional, ReadsPrincipal, ReadsResource, ReadsWorld}
 use Rattle.iam_world.specs.World.{AccountValue, PrincipalValue, ResourceValue, WorldValue, world_statements}
 use Rattle.iam_world.specs.WorldFault.{Document, boundary_documents, control_documents, identity_documents, level_documents, numbered, of_each, org_documents, resource_documents, session_documents, statement_count}
-use Rattle.iam_world.proofs.Walks.{zip-length}
+use Rattle.iam_world.proofs.Walks.{zip_length}
 
 abbrev document_statements : Document → ℕ
 document_statements document = length (statements_in document.value)
@@ -30,25 +30,25 @@ policy_statements policy = length policy.statements
 abbrev count_in : List PolicyValue → ℕ
 count_in policies = sum_by policy_statements policies
 
-of_two : (xs ys : List Document) (ps qs : List PolicyValue) → statements_of xs ≡ count_in ps → statements_of ys ≡ count_in qs
-    → statements_of (xs ++ ys) ≡ count_in (ps ++ qs)
+of_two : (xs ys : List Document) (ps qs : List PolicyValue) → statement_total xs ≡ count_in ps → statement_total ys ≡ count_in qs
+    → statement_total (xs ++ ys) ≡ count_in (ps ++ qs)
 of_two xs ys ps qs one two =
-    sum_by-append document_statements xs ys ∙ ap (λ n. n + statements_of ys) one ∙ ap (λ n. count_in ps + n) two ∙ sym (sum_by-append policy_statements ps qs)
+    sum_by-append document_statements xs ys ∙ ap (λ n. n + statement_total ys) one ∙ ap (λ n. count_in ps + n) two ∙ sym (sum_by-append policy_statements ps qs)
 
 of_list : (kind : Kind) (at : ℕ → Path) (i : ℕ) (ds : List Data) (policies : List PolicyValue) → AllZip (Reads kind) ds policies
-    → statements_of (numbered kind at i ds) ≡ count_in policies
+    → statement_total (numbered kind at i ds) ≡ count_in policies
 of_list kind at i [] [] zip = refl
 of_list kind at i [] (p ∷ ps) zip = absurd zip
 of_list kind at i (d ∷ ds) [] zip = absurd zip
 of_list kind at i (d ∷ ds) (p ∷ ps) zip =
     let rest : List Document = numbered kind at (i + 1) ds in
     sum_by-cons document_statements (record { path = at i; kind = kind; value = d }) rest
-    ∙ ap (λ n. n + statements_of rest) (zip-length _ _ p.statements zip.0.statements)
+    ∙ ap (λ n. n + statement_total rest) (zip_length _ _ p.statements zip.0.statements)
     ∙ ap (λ n. length p.statements + n) (of_list kind at (i + 1) ds ps zip.1)
     ∙ sym (sum_by-cons policy_statements p ps)
 
 of_optional : (kind : Kind) (at : ℕ → Path) (d : Option Data) (policy : Option PolicyValue) → ReadsOptional kind d policy
-    → statements_of (numbered kind at 0 (option_to_list d)) ≡ count_in (option_to_list policy)
+    → statement_total (numbered kind at 0 (option_to_list d)) ≡ count_in (option_to_list policy)
 of_optional kind at None None reads = refl
 of_optional kind at None (Some p) reads = absurd reads
 of_optional kind at (Some d) None reads = absurd reads
@@ -56,8 +56,8 @@ of_optional kind at (Some d) (Some p) reads = of_list kind at 0 (d ∷ []) (p �
 
 -- of each member of a list
 of_members : {X Y : Type 0} (docs : ℕ → X → List Document) (policies : Y → List PolicyValue) (R : X → Y → Type 0)
-    → ((i : ℕ) (x : X) (y : Y) → R x y → statements_of (docs i x) ≡ count_in (policies y)) → (i : ℕ) (xs : List X) (ys : List Y) → AllZip R xs ys
-    → statements_of (of_each docs i xs) ≡ count_in (flat_map policies ys)
+    → ((i : ℕ) (x : X) (y : Y) → R x y → statement_total (docs i x) ≡ count_in (policies y)) → (i : ℕ) (xs : List X) (ys : List Y) → AllZip R xs ys
+    → statement_total (of_each docs i xs) ≡ count_in (flat_map policies ys)
 of_members docs policies R step i [] [] zip = refl
 of_members docs policies R step i [] (y ∷ ys) zip = absurd zip
 of_members docs policies R step i (x ∷ xs) [] zip = absurd zip
@@ -66,13 +66,13 @@ of_members docs policies R step i (x ∷ xs) (y ∷ ys) zip =
 
 -- of levels
 of_levels : (kind : Kind) (list : Name) (i : ℕ) (name : Name) (levels : List (List Data)) (policies : List (List PolicyValue)) → AllZip (AllZip (Reads kind)) levels policies
-    → statements_of (level_documents kind list i name levels) ≡ count_in (flat_map (λ (level : List PolicyValue). level) policies)
+    → statement_total (level_documents kind list i name levels) ≡ count_in (flat_map (λ (level : List PolicyValue). level) policies)
 of_levels kind list i name levels policies zip =
     of_members (λ j ds. numbered kind (Leaf list i name j) 0 ds) (λ (level : List PolicyValue). level) (AllZip (Reads kind))
     (λ j ds ps reads. of_list kind (Leaf list i name j) 0 ds ps reads) 0 levels policies zip
 
-pub statements-are : (view : WorldViewValue) (world : WorldValue) → ReadsWorld view world → statement_count view ≡ world_statements world
-statements-are view world reads =
+pub statements_same : (view : WorldViewValue) (world : WorldValue) → ReadsWorld view world → statement_count view ≡ world_statements world
+statements_same view world reads =
     let orgs = λ (a : AccountValue). flat_map (λ (level : List PolicyValue). level) a.org in
     let controls = λ (x : ResourceValue). flat_map (λ (level : List PolicyValue). level) x.control in
     let attached = λ (x : ResourceValue). option_to_list x.policy in

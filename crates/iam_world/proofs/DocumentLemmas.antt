@@ -6,12 +6,12 @@ use Rattle.std.proofs.lemmas.List.Sums.{sum_by-append}
 use Rattle.serde_json.specs.Data.{Data}
 use Rattle.iam_policy.specs.Fault.{statements_in}
 use Rattle.iam_world.specs.Code.Budget.{Leaves}
-use Rattle.iam_world.specs.Code.Documents.{IsCleared, IsRefusedAmong, document_at, path_at, statements_of}
+use Rattle.iam_world.specs.Code.Documents.{IsCleared, IsRefusedAmong, document_at, path_at, statement_total}
 use Rattle.iam_world.specs.WorldFault.{Document, IsNotAccepted, numbered, of_each}
 use Rattle.iam_world.specs.declared.documents.Documents.{Documents}
 use Rattle.iam_world.specs.declared.fault.WorldFault.{WorldFault}
 use Rattle.iam_world.specs.declared.limits.Budget.{Budget}
-use Rattle.iam_world.proofs.Firsts.{first_here, first_later, none-append}
+use Rattle.iam_world.proofs.Firsts.{first_here, first_later, none_append}
 
 -- ---- the first refused of two lists is that of the first, or else that of the second
 
@@ -26,50 +26,50 @@ refused_later front back fault accepted (path, refused, is, (document, first, at
 
 -- ---- documents that are cleared
 
-pub cleared-nil : (b : Budget) → IsCleared [] b b
-cleared-nil b = record { accepted = tt; counted = λ total leaves. subst (Leaves b) (omega arith) leaves }
+pub cleared_nil : (b : Budget) → IsCleared [] b b
+cleared_nil b = record { accepted = tt; counted = λ total leaves. subst (Leaves b) (omega arith) leaves }
 
-pub cleared-append : (xs ys : List Document) (a b c : Budget) → IsCleared xs a b → IsCleared ys b c → IsCleared (xs ++ ys) a c
-cleared-append xs ys a b c one two = record {
-  accepted = none-append (λ d. ¬ IsNotAccepted d) xs ys one.accepted two.accepted;
+pub cleared_append : (xs ys : List Document) (a b c : Budget) → IsCleared xs a b → IsCleared ys b c → IsCleared (xs ++ ys) a c
+cleared_append xs ys a b c one two = record {
+  accepted = none_append (λ d. ¬ IsNotAccepted d) xs ys one.accepted two.accepted;
   counted = λ total leaves.
-      subst (Leaves c) (sums total) (two.counted (total + statements_of xs) (one.counted total leaves));
+      subst (Leaves c) (sums total) (two.counted (total + statement_total xs) (one.counted total leaves));
 }
   where
-    sums : (total : ℕ) → total + statements_of xs + statements_of ys ≡ total + statements_of (xs ++ ys)
+    sums : (total : ℕ) → total + statement_total xs + statement_total ys ≡ total + statement_total (xs ++ ys)
     sums total =
-        let whole : statements_of (xs ++ ys) ≡ statements_of xs + statements_of ys = sum_by-append (λ (d : Document). length (statements_in d.value)) xs ys in
+        let whole : statement_total (xs ++ ys) ≡ statement_total xs + statement_total ys = sum_by-append (λ (d : Document). length (statements_in d.value)) xs ys in
         omega (arith, whole)
 
 -- ---- the documents of each member of a list
 
-each-append : {X : Type 0} (docs : ℕ → X → List Document) (k : ℕ) (xs ys : List X) → of_each docs k (xs ++ ys) ≡ of_each docs k xs ++ of_each docs (k + length xs) ys
-each-append docs k [] ys = ap (λ n. of_each docs n ys) (omega arith)
-each-append docs k (x ∷ xs) ys =
+each_append : {X : Type 0} (docs : ℕ → X → List Document) (k : ℕ) (xs ys : List X) → of_each docs k (xs ++ ys) ≡ of_each docs k xs ++ of_each docs (k + length xs) ys
+each_append docs k [] ys = ap (λ n. of_each docs n ys) (omega arith)
+each_append docs k (x ∷ xs) ys =
     let number : k + 1 + length xs ≡ k + suc (length xs) = omega arith in
-    ap (λ ds. docs k x ++ ds) (each-append docs (k + 1) xs ys)
+    ap (λ ds. docs k x ++ ds) (each_append docs (k + 1) xs ys)
     ∙ sym (append_assoc (docs k x) (of_each docs (k + 1) xs) (of_each docs (k + 1 + length xs) ys))
     ∙ ap (λ n. (docs k x ++ of_each docs (k + 1) xs) ++ of_each docs n ys) number
 
 -- those of the members before i + 1
-each-take : {X : Type 0} (docs : ℕ → X → List Document) (k : ℕ) (xs : List X) (i : ℕ) (x : X) → i < length xs → x ≡ get_or xs i x
+each_take : {X : Type 0} (docs : ℕ → X → List Document) (k : ℕ) (xs : List X) (i : ℕ) (x : X) → i < length xs → x ≡ get_or xs i x
     → of_each docs k (take (i + 1) xs) ≡ of_each docs k (take i xs) ++ docs (k + i) x
-each-take docs k [] i x below is = absurd (omega arith)
-each-take docs k (y ∷ xs) zero x below is =
+each_take docs k [] i x below is = absurd (omega arith)
+each_take docs k (y ∷ xs) zero x below is =
     let number : k ≡ k + 0 = omega arith in
     append-nil (docs k y) ∙ ap (docs k) (sym is) ∙ ap (λ n. docs n x) number
-each-take docs k (y ∷ xs) (suc i) x below is =
+each_take docs k (y ∷ xs) (suc i) x below is =
     let rest : i < length xs = omega arith in
     let number : k + 1 + i ≡ k + suc i = omega arith in
     let next : suc i + 1 ≡ suc (i + 1) = omega arith in
     ap (λ n. of_each docs k (take n (y ∷ xs))) next
-    ∙ ap (λ ds. docs k y ++ ds) (each-take docs (k + 1) xs i x rest is)
+    ∙ ap (λ ds. docs k y ++ ds) (each_take docs (k + 1) xs i x rest is)
     ∙ sym (append_assoc (docs k y) (of_each docs (k + 1) (take i xs)) (docs (k + 1 + i) x))
     ∙ ap (λ n. (docs k y ++ of_each docs (k + 1) (take i xs)) ++ docs n x) number
 
-pub each-next : {X : Type 0} (docs : ℕ → X → List Document) (xs : List X) (i : ℕ) (x : X) → i < length xs → x ≡ get_or xs i x
+pub each_next : {X : Type 0} (docs : ℕ → X → List Document) (xs : List X) (i : ℕ) (x : X) → i < length xs → x ≡ get_or xs i x
     → of_each docs 0 (take (i + 1) xs) ≡ of_each docs 0 (take i xs) ++ docs i x
-each-next docs xs i x below is = let number : 0 + i ≡ i = omega arith in each-take docs 0 xs i x below is ∙ ap (λ n. of_each docs 0 (take i xs) ++ docs n x) number
+each_next docs xs i x below is = let number : 0 + i ≡ i = omega arith in each_take docs 0 xs i x below is ∙ ap (λ n. of_each docs 0 (take i xs) ++ docs n x) number
 
 -- a document of member i is the first that is refused
 pub each_refused : {X : Type 0} (docs : ℕ → X → List Document) (xs : List X) (i : ℕ) (x : X) (fault : WorldFault) → i < length xs → x ≡ get_or xs i x
@@ -77,29 +77,29 @@ pub each_refused : {X : Type 0} (docs : ℕ → X → List Document) (xs : List 
 each_refused docs xs i x fault below is accepted refused =
     let front = take (i + 1) xs in
     let back = drop (i + 1) xs in
-    subst (λ ds. IsRefusedAmong ds fault) (sym (each-append docs 0 front back) ∙ ap (of_each docs 0) (take-append-drop (i + 1) xs))
+    subst (λ ds. IsRefusedAmong ds fault) (sym (each_append docs 0 front back) ∙ ap (of_each docs 0) (take-append-drop (i + 1) xs))
     (refused_here (of_each docs 0 front) (of_each docs (0 + length front) back) fault
-    (subst (λ ds. IsRefusedAmong ds fault) (sym (each-next docs xs i x below is))
+    (subst (λ ds. IsRefusedAmong ds fault) (sym (each_next docs xs i x below is))
     (refused_later (of_each docs 0 (take i xs)) (docs i x) fault accepted refused)))
 
 -- the documents of what lent members say
-pub each-map : {V X : Type 0} (docs : ℕ → X → List Document) (f : V → X) (k : ℕ) (vs : List V) → of_each (λ i v. docs i (f v)) k vs ≡ of_each docs k (map f vs)
-each-map docs f k [] = refl
-each-map docs f k (v ∷ vs) = ap (λ ds. docs k (f v) ++ ds) (each-map docs f (k + 1) vs)
+pub each_map : {V X : Type 0} (docs : ℕ → X → List Document) (f : V → X) (k : ℕ) (vs : List V) → of_each (λ i v. docs i (f v)) k vs ≡ of_each docs k (map f vs)
+each_map docs f k [] = refl
+each_map docs f k (v ∷ vs) = ap (λ ds. docs k (f v) ++ ds) (each_map docs f (k + 1) vs)
 
 -- one document each
-pub each-one : {V : Type 0} (f : V → Data) (ds : Documents) (k : ℕ) (vs : List V) → of_each (λ j v. document_at ds j (f v) ∷ []) k vs ≡ numbered ds.kind (path_at ds.place) k (map f vs)
-each-one f ds k [] = refl
-each-one f ds k (v ∷ vs) = ap (λ rest. document_at ds k (f v) ∷ rest) (each-one f ds (k + 1) vs)
+pub each_one : {V : Type 0} (f : V → Data) (ds : Documents) (k : ℕ) (vs : List V) → of_each (λ j v. document_at ds j (f v) ∷ []) k vs ≡ numbered ds.kind (path_at ds.place) k (map f vs)
+each_one f ds k [] = refl
+each_one f ds k (v ∷ vs) = ap (λ rest. document_at ds k (f v) ∷ rest) (each_one f ds (k + 1) vs)
 
 -- ---- a layer, as the code holds it and as its documents
 
-pub cleared-lent : {V X : Type 0} (docs : ℕ → X → List Document) (f : V → X) (vs ws : List V) (a b : Budget) → vs ≡ ws
+pub cleared_lent : {V X : Type 0} (docs : ℕ → X → List Document) (f : V → X) (vs ws : List V) (a b : Budget) → vs ≡ ws
     → IsCleared (of_each (λ i v. docs i (f v)) 0 vs) a b → IsCleared (of_each docs 0 (map f ws)) a b
-cleared-lent docs f vs ws a b same cleared =
-    subst (λ xs. IsCleared (of_each docs 0 (map f xs)) a b) same (subst (λ ds. IsCleared ds a b) (each-map docs f 0 vs) cleared)
+cleared_lent docs f vs ws a b same cleared =
+    subst (λ xs. IsCleared (of_each docs 0 (map f xs)) a b) same (subst (λ ds. IsCleared ds a b) (each_map docs f 0 vs) cleared)
 
-pub refused-lent : {V X : Type 0} (docs : ℕ → X → List Document) (f : V → X) (vs ws : List V) (fault : WorldFault) → vs ≡ ws
+pub refused_lent : {V X : Type 0} (docs : ℕ → X → List Document) (f : V → X) (vs ws : List V) (fault : WorldFault) → vs ≡ ws
     → IsRefusedAmong (of_each (λ i v. docs i (f v)) 0 vs) fault → IsRefusedAmong (of_each docs 0 (map f ws)) fault
-refused-lent docs f vs ws fault same refused =
-    subst (λ xs. IsRefusedAmong (of_each docs 0 (map f xs)) fault) same (subst (λ ds. IsRefusedAmong ds fault) (each-map docs f 0 vs) refused)
+refused_lent docs f vs ws fault same refused =
+    subst (λ xs. IsRefusedAmong (of_each docs 0 (map f xs)) fault) same (subst (λ ds. IsRefusedAmong ds fault) (each_map docs f 0 vs) refused)

@@ -1,12 +1,12 @@
 -- The faults of bytes and those of what they say.
 use Rattle.std.proofs.Common.{◌≡◌, inr, ℕ, ◌≤◌, List, length, Some, None, sym, ◌∙◌, subst}
 use Rattle.serde_json.specs.Data.{Data}
-use Rattle.iam_world.specs.Code.ViewFault.{ViewHasFault, IsFirstViewFault}
+use Rattle.iam_world.specs.Code.ViewFault.{IsFirstViewFault}
 use Rattle.iam_shape.specs.Shape.{first_bad, shape_checks}
 use Rattle.iam_shape.specs.View.{WorldViewValue, IsView}
-use Rattle.iam_world.specs.WorldFault.{HasView, IsFirstWorldFault, IsJson, WorldHasFault}
+use Rattle.iam_world.specs.WorldFault.{HasView, IsFirstWorldFault, IsJson, ViewHasFault, WorldHasFault}
 use Rattle.iam_world.specs.declared.fault.WorldFault.{WorldFault}
-use Rattle.iam_world.specs.declared.fault.WorldFault.TheVariants.{NotJson, BadShape, BadRequester, BadAction, BadResourceArn, UnknownAccount, Context, Policy, TooLarge, OutOfMemory}
+use Rattle.iam_world.specs.declared.fault.WorldFault.TheVariants.{NotJson, BadShape, OutOfMemory}
 
 -- bytes are the text of one value
 pub one_json : (bytes : List ℕ) (d e : Data) → IsJson bytes d → IsJson bytes e → d ≡ e
@@ -29,26 +29,14 @@ to_view one_view bytes d world json clear says (BadShape path) (e, json', bad) =
     let same : first_bad (shape_checks d) ≡ Some path = subst (λ x. first_bad (shape_checks x) ≡ Some path) (one_json bytes e d json' json) bad in
     let wrong : None ≡ Some path = sym clear ∙ same in
     cc
-to_view one_view bytes d world json clear says (BadRequester path) has = view_is one_view bytes d world json says _ has
-to_view one_view bytes d world json clear says (BadAction path) has = view_is one_view bytes d world json says _ has
-to_view one_view bytes d world json clear says (BadResourceArn path) has = view_is one_view bytes d world json says _ has
-to_view one_view bytes d world json clear says (UnknownAccount path) has = view_is one_view bytes d world json says _ has
-to_view one_view bytes d world json clear says (Context path fault) has = view_is one_view bytes d world json says _ has
-to_view one_view bytes d world json clear says (Policy path refused) has = view_is one_view bytes d world json says _ has
-to_view one_view bytes d world json clear says TooLarge has = view_is one_view bytes d world json says _ has
 to_view one_view bytes d world json clear says OutOfMemory has = has
+to_view one_view bytes d world json clear says fault has = view_is one_view bytes d world json says _ has
 
 from_view : (bytes : List ℕ) (d : Data) (world : WorldViewValue) → IsJson bytes d → IsView d world → (fault : WorldFault) → ViewHasFault world fault → WorldHasFault bytes fault
 from_view bytes d world json says NotJson has = absurd has
 from_view bytes d world json says (BadShape path) has = absurd has
 from_view bytes d world json says OutOfMemory has = absurd has
-from_view bytes d world json says (BadRequester path) has = (d, json, (world, says, has))
-from_view bytes d world json says (BadAction path) has = (d, json, (world, says, has))
-from_view bytes d world json says (BadResourceArn path) has = (d, json, (world, says, has))
-from_view bytes d world json says (UnknownAccount path) has = (d, json, (world, says, has))
-from_view bytes d world json says (Context path fault) has = (d, json, (world, says, has))
-from_view bytes d world json says (Policy path refused) has = (d, json, (world, says, has))
-from_view bytes d world json says TooLarge has = (d, json, (world, says, has))
+from_view bytes d world json says fault has = (d, json, (world, says, has))
 
 -- ---- the first fault
 

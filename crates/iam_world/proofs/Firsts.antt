@@ -5,7 +5,7 @@ use Rattle.std.specs.Prelude.{IsTrue}
 use Rattle.iam_world.specs.Code.ViewFault.{FindsFirst}
 use Rattle.iam_shape.specs.First.{IsFirst, IsFirstAt, with_paths}
 use Rattle.iam_shape.specs.declared.path.Path.{Path}
-use Rattle.iam_world.proofs.Walks.{drop-at}
+use Rattle.iam_world.proofs.Walks.{drop_at}
 
 -- where it holds of none, there is no first
 pub none_first : {X : Type 0} (P : X → Type 0) (xs : List X) (x : X) → AllByRecursion (λ y. ¬ P y) xs → IsFirst P xs x → ⊥
@@ -38,9 +38,9 @@ pub first_later : {X : Type 0} (P : X → Type 0) (front back : List X) (x : X) 
 first_later P [] back x none first = first
 first_later P (y ∷ front) back x none first = inr (none.0, first_later P front back x none.1 first)
 
-pub none-append : {X : Type 0} (P : X → Type 0) (front back : List X) → AllByRecursion P front → AllByRecursion P back → AllByRecursion P (front ++ back)
-none-append P [] back one two = two
-none-append P (x ∷ front) back one two = (one.0, none-append P front back one.1 two)
+pub none_append : {X : Type 0} (P : X → Type 0) (front back : List X) → AllByRecursion P front → AllByRecursion P back → AllByRecursion P (front ++ back)
+none_append P [] back one two = two
+none_append P (x ∷ front) back one two = (one.0, none_append P front back one.1 two)
 
 -- ---- along a list of the document
 
@@ -48,12 +48,12 @@ none-append P (x ∷ front) back one two = (one.0, none-append P front back one.
 pub at_here : {V X : Type 0} (P : X → Type 0) (at : ℕ → Path) (f : V → X) (vs : List V) (i : ℕ) (v : V) → i < length vs → v ≡ get_or vs i v → P (f v)
     → IsFirstAt P (with_paths at i (map f (drop i vs))) (at i)
 at_here P at f vs i v below is holds =
-    subst (λ xs. IsFirstAt P (with_paths at i xs) (at i)) (sym (drop-at f vs i v below is)) (f v, inl (holds, refl))
+    subst (λ xs. IsFirstAt P (with_paths at i xs) (at i)) (sym (drop_at f vs i v below is)) (f v, inl (holds, refl))
 
 pub at_later : {V X : Type 0} (P : X → Type 0) (at : ℕ → Path) (f : V → X) (vs : List V) (i : ℕ) (v : V) → i < length vs → v ≡ get_or vs i v → (¬ P (f v))
     → (path : Path) → IsFirstAt P (with_paths at (i + 1) (map f (drop (i + 1) vs))) path → IsFirstAt P (with_paths at i (map f (drop i vs))) path
 at_later P at f vs i v below is fails path later =
-    subst (λ xs. IsFirstAt P (with_paths at i xs) path) (sym (drop-at f vs i v below is)) (later.0, inr (fails, later.1))
+    subst (λ xs. IsFirstAt P (with_paths at i xs) path) (sym (drop_at f vs i v below is)) (later.0, inr (fails, later.1))
 
 -- it holds of no element of a list that is read by something else
 pub none_with_paths : {X V : Type 0} (R : X → V → Type 0) (P : X → Type 0) → ((x : X) (v : V) → R x v → ¬ P x) → (at : ℕ → Path) (i : ℕ) (xs : List X) (vs : List V)
@@ -82,16 +82,16 @@ found_by {X} R P test holds fails at i (x ∷ xs) (v ∷ vs) zip = go (test v) r
     go false is o rest = later o (fails x v zip.0 is) rest
 
 -- what the code holds, as what it says
-pub said-zip : {V X : Type 0} (f : V → X) (vs : List V) → AllZip (λ x v. x ≡ f v) (map f vs) vs
-said-zip f [] = tt
-said-zip f (v ∷ vs) = (refl, said-zip f vs)
+pub said_zip : {V X : Type 0} (f : V → X) (vs : List V) → AllZip (λ x v. x ≡ f v) (map f vs) vs
+said_zip f [] = tt
+said_zip f (v ∷ vs) = (refl, said_zip f vs)
 
 -- a test of what the code holds finds the first element that fails it
 pub found_said : {V X : Type 0} (test : X → Bool) (f : V → X) (at : ℕ → Path) (vs : List V)
     → FindsFirst (λ x. ¬ IsTrue (test x)) (with_paths at 0 (map f vs)) (option_map at (position_from (λ v. not (test (f v))) 0 vs))
 found_said {V} {X} test f at vs =
     found_by (λ x v. x ≡ f v) (λ x. ¬ IsTrue (test x)) (λ v. not (test (f v))) (λ x v is e. fails x v is (test (f v)) refl e) (λ x v is e off. off (ap test is ∙ passes (test (f v)) e))
-    at 0 (map f vs) vs (said-zip f vs)
+    at 0 (map f vs) vs (said_zip f vs)
   where
     passes : (b : Bool) → not b ≡ false → b ≡ true
     passes true e = refl

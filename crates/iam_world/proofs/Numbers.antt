@@ -12,21 +12,21 @@ use Rattle.std.proofs.lemmas.Slice.Eq.{bytes_eq-Decides}
 use Rattle.iam_world.specs.World.{AccountValue}
 
 -- a text has a place where some text passes
-pub has-place : {X : Type 0} (test : X → Bool) (i : ℕ) (xs : List X) → is_some (position_from test i xs) ≡ list_any test xs
-has-place test i [] = refl
-has-place {X} test i (x ∷ xs) = step (test x) (has-place test (i + 1) xs)
+pub has_place : {X : Type 0} (test : X → Bool) (i : ℕ) (xs : List X) → is_some (position_from test i xs) ≡ list_any test xs
+has_place test i [] = refl
+has_place {X} test i (x ∷ xs) = step (test x) (has_place test (i + 1) xs)
   where
     step : (b : Bool) → is_some (position_from test (i + 1) xs) ≡ list_any test xs → is_some (cond b (Some i) (position_from test (i + 1) xs)) ≡ (b || list_any test xs)
     step true later = refl
     step false later = later
 
 -- what is lent at a number
-pub lent-at : {X : Type 0} (xs : List X) (i : ℕ) (found : Option (Bor X)) → IsItemAt xs i found → option_map (λ x. x.now) found ≡ slice_get xs i
-lent-at xs i None at = sym (slice_get_past xs i at.3)
-lent-at xs i (Some x) at = sym (slice_get_read xs (length xs) i x.now refl at.3.0 at.1)
+pub lent_at : {X : Type 0} (xs : List X) (i : ℕ) (found : Option (Bor X)) → IsItemAt xs i found → option_map (λ x. x.now) found ≡ slice_get xs i
+lent_at xs i None at = sym (slice_get_past xs i at.3)
+lent_at xs i (Some x) at = sym (slice_get_read xs (length xs) i x.now refl at.3.0 at.1)
 
-same-way : (a b : List ℕ) → bytes_eq a b ≡ bytes_eq b a
-same-way a b = go (bytes_eq a b) (bytes_eq b a) (bytes_eq-Decides a b) (bytes_eq-Decides b a)
+same_way : (a b : List ℕ) → bytes_eq a b ≡ bytes_eq b a
+same_way a b = go (bytes_eq a b) (bytes_eq b a) (bytes_eq-Decides a b) (bytes_eq-Decides b a)
   where
     go : (x y : Bool) → Decides x (a ≡ b) → Decides y (b ≡ a) → x ≡ y
     go true true p q = refl
@@ -39,14 +39,14 @@ behind [] xs x = refl
 behind (y ∷ before) xs x = behind before xs x
 
 -- the first account with an id is that with the first place of the id
-first-from : (id : List ℕ) (before accounts : List AccountValue) (i : ℕ) → i ≡ length before
+first_from : (id : List ℕ) (before accounts : List AccountValue) (i : ℕ) → i ≡ length before
     → find (λ account. bytes_eq account.id id) accounts
     ≡ option_and_then (slice_get (before ++ accounts)) (position_from (bytes_eq id) i (map (λ account. account.id) accounts))
-first-from id before [] i same = refl
-first-from id before (a ∷ accounts) i same =
-    ap (λ b. cond b (Some a) (find (λ account. bytes_eq account.id id) accounts)) (same-way a.id id)
+first_from id before [] i same = refl
+first_from id before (a ∷ accounts) i same =
+    ap (λ b. cond b (Some a) (find (λ account. bytes_eq account.id id) accounts)) (same_way a.id id)
     ∙ step (bytes_eq id a.id) (ap (slice_get (before ++ (a ∷ accounts))) same ∙ behind before accounts a)
-    (first-from id (before ++ (a ∷ [])) accounts (i + 1) (ap (λ n. n + 1) same ∙ sym (length_push before a))
+    (first_from id (before ++ (a ∷ [])) accounts (i + 1) (ap (λ n. n + 1) same ∙ sym (length_push before a))
     ∙ ap (λ l. option_and_then (slice_get l) (position_from (bytes_eq id) (i + 1) (map (λ (account : AccountValue). account.id) accounts))) (append_assoc before (a ∷ []) accounts))
   where
     step : (b : Bool) → slice_get (before ++ (a ∷ accounts)) i ≡ Some a
@@ -57,6 +57,6 @@ first-from id before (a ∷ accounts) i same =
     step true here later = sym here
     step false here later = later
 
-pub first-account : (id : List ℕ) (accounts : List AccountValue)
+pub first_account : (id : List ℕ) (accounts : List AccountValue)
     → find (λ account. bytes_eq account.id id) accounts ≡ option_and_then (slice_get accounts) (position_from (bytes_eq id) 0 (map (λ account. account.id) accounts))
-first-account id accounts = first-from id [] accounts 0 refl
+first_account id accounts = first_from id [] accounts 0 refl

@@ -4,7 +4,7 @@ use Rattle.std.specs.List.{AllByRecursion, AllZip, position_from}
 use Rattle.std.specs.Prelude.{IsTrue}
 use Rattle.iam_match.specs.Requester.{RequesterValue, IsRequesterOf}
 use Rattle.iam_world.specs.Code.ViewFault.{FindsFirst}
-use Rattle.iam_shape.specs.Texts.{HasTexts, Places, has_text}
+use Rattle.iam_shape.specs.Texts.{AreFirstPlaces, Places, has_text}
 use Rattle.iam_shape.specs.View.{PrincipalViewValue, ResourceViewValue, WorldViewValue}
 use Rattle.iam_shape.specs.First.{IsFirstAt, with_paths}
 use Rattle.iam_world.specs.WorldFault.{IsOfUnknownAccount, IsRequesterAt, Owner, of_principal, of_resource, has_account, owners}
@@ -12,26 +12,26 @@ use Rattle.iam_shape.specs.declared.path.Name.TheVariants.{Principals, Resources
 use Rattle.iam_shape.specs.declared.path.Path.{Path}
 use Rattle.iam_shape.specs.declared.path.Path.TheVariants.{Item}
 use Rattle.std.specs.Str.{bytes_eq}
-use Rattle.iam_world.proofs.Numbers.{has-place}
-use Rattle.iam_world.proofs.Firsts.{first_here, first_later, found_by, none-append}
+use Rattle.iam_world.proofs.Numbers.{has_place}
+use Rattle.iam_world.proofs.Firsts.{first_here, first_later, found_by, none_append}
 
-not-true : (b : Bool) → not b ≡ true → b ≡ false
-not-true true e = cc
-not-true false e = refl
+not_true : (b : Bool) → not b ≡ true → b ≡ false
+not_true true e = cc
+not_true false e = refl
 
-not-false : (b : Bool) → not b ≡ false → b ≡ true
-not-false true e = refl
-not-false false e = cc
+not_false : (b : Bool) → not b ≡ false → b ≡ true
+not_false true e = refl
+not_false false e = cc
 
-module _ (world : WorldViewValue) (ids : Places) (has : HasTexts ids (map (λ account. account.id) world.accounts)) where
+module _ (world : WorldViewValue) (ids : Places) (has : AreFirstPlaces ids (map (λ account. account.id) world.accounts)) where
   told : (id : List ℕ) → has_text ids id ≡ has_account world id
-  told id = ap is_some (has id) ∙ has-place (bytes_eq id) 0 (map (λ account. account.id) world.accounts)
+  told id = ap is_some (has id) ∙ has_place (bytes_eq id) 0 (map (λ account. account.id) world.accounts)
 
   unknown : (id : List ℕ) → not (has_text ids id) ≡ true → ¬ IsTrue (has_account world id)
-  unknown id e known = let wrong : false ≡ true = sym (not-true (has_text ids id) e) ∙ told id ∙ known in cc
+  unknown id e known = let wrong : false ≡ true = sym (not_true (has_text ids id) e) ∙ told id ∙ known in cc
 
   known : (id : List ℕ) → not (has_text ids id) ≡ false → IsTrue (has_account world id)
-  known id e = sym (told id) ∙ not-false (has_text ids id) e
+  known id e = sym (told id) ∙ not_false (has_text ids id) e
 
   abbrev User : Owner → RequesterValue → Type 0
   User owner r = (principal : PrincipalViewValue) × (owner ≡ of_principal principal) × IsRequesterAt principal r
@@ -57,7 +57,7 @@ module _ (world : WorldViewValue) (ids : Places) (has : HasTexts ids (map (λ ac
       fails : (owner : Owner) (r : RequesterValue) → User owner r → not (has_text ids r.account) ≡ false → ¬ IsOfUnknownAccount world owner
       fails owner r (p, is, at) e off =
           let at_p = subst (IsOfUnknownAccount world) is off in
-          let same : at_p.1.0 ≡ r = one p.arn p.session at_p.1.0 r at_p.1.1 at in
+          let same : at_p.1.0 ≡ r = one p.arn p.session_name at_p.1.0 r at_p.1.1 at in
           let account : r.account ≡ at_p.0 = sym (at_p.1.2 ∙ ap (λ (x : RequesterValue). x.account) same) in
           at_p.2 (subst (λ id. IsTrue (has_account world id)) account (known r.account e))
 
@@ -93,6 +93,6 @@ module _ (world : WorldViewValue) (ids : Places) (has : HasTexts ids (map (λ ac
       → FindsFirst (IsOfUnknownAccount world) (with_paths (Item Resources) 0 (map of_resource world.resources)) found
       → FindsFirst (IsOfUnknownAccount world) (owners world) found
   in_resources None none rest =
-      none-append (λ (y : Path × Owner). ¬ IsOfUnknownAccount world y.1) (with_paths (Item Principals) 0 (map of_principal world.principals)) (with_paths (Item Resources) 0 (map of_resource world.resources)) none rest
+      none_append (λ (y : Path × Owner). ¬ IsOfUnknownAccount world y.1) (with_paths (Item Principals) 0 (map of_principal world.principals)) (with_paths (Item Resources) 0 (map of_resource world.resources)) none rest
   in_resources (Some path) none (x, first) =
       (x, first_later (λ (y : Path × Owner). IsOfUnknownAccount world y.1) (with_paths (Item Principals) 0 (map of_principal world.principals)) (with_paths (Item Resources) 0 (map of_resource world.resources)) (path, x) none first)

@@ -74,7 +74,7 @@ module _
 
     one_principal : (v : PrincipalViewValue) (p q : PrincipalValue) → ReadsPrincipal v p → ReadsPrincipal v q → p ≡ q
     one_principal v p q one two =
-        let asker : p.requester ≡ q.requester = requester v.arn v.session p.requester q.requester one.requester two.requester in
+        let asker : p.requester ≡ q.requester = requester v.arn v.session_name p.requester q.requester one.requester two.requester in
         let identity : p.identity ≡ q.identity = one_list kind.Identity v.identity p.identity q.identity one.identity two.identity in
         let boundary : p.boundary ≡ q.boundary = one_optional kind.Identity v.boundary p.boundary q.boundary one.boundary two.boundary in
         let session : p.session ≡ q.session = one_list kind.Identity v.session_policies p.session q.session one.session two.session in

@@ -4,8 +4,8 @@ use Rattle.std.proofs.lemmas.List.{at_drop_more}
 use Rattle.std.specs.List.{AllZip}
 
 -- the values of a list from i on: that at i, and the rest
-pub drop-at : {X Y : Type 0} (f : X → Y) (xs : List X) (i : ℕ) (x : X) → i < length xs → x ≡ get_or xs i x → map f (drop i xs) ≡ f x ∷ map f (drop (i + 1) xs)
-drop-at f xs i x below is = at_drop_more (map f) xs i x below ∙ ap (λ z. f z ∷ map f (drop (i + 1) xs)) (sym is)
+pub drop_at : {X Y : Type 0} (f : X → Y) (xs : List X) (i : ℕ) (x : X) → i < length xs → x ≡ get_or xs i x → map f (drop i xs) ≡ f x ∷ map f (drop (i + 1) xs)
+drop_at f xs i x below is = at_drop_more (map f) xs i x below ∙ ap (λ z. f z ∷ map f (drop (i + 1) xs)) (sym is)
 
 -- one more element that is read
 pub zip_more : {V D Y : Type 0} (R : D → Y → Type 0) (f : V → D) (vs : List V) (i : ℕ) (v : V) (ys : List Y) (y : Y) → i < length vs → v ≡ get_or vs i v
@@ -30,18 +30,18 @@ zip_unique R step (x ∷ xs) (y ∷ ys) (z ∷ zs) one two =
     ap (λ a. a ∷ ys) (step x y z one.0 two.0) ∙ ap (λ rest. z ∷ rest) (zip_unique R step xs ys zs one.1 two.1)
 
 -- a list and what is read of it are as long
-pub zip-length : {X Y : Type 0} (R : X → Y → Type 0) (xs : List X) (ys : List Y) → AllZip R xs ys → length xs ≡ length ys
-zip-length R [] [] zip = refl
-zip-length R [] (y ∷ ys) zip = absurd zip
-zip-length R (x ∷ xs) [] zip = absurd zip
-zip-length R (x ∷ xs) (y ∷ ys) zip = ap suc (zip-length R xs ys zip.1)
+pub zip_length : {X Y : Type 0} (R : X → Y → Type 0) (xs : List X) (ys : List Y) → AllZip R xs ys → length xs ≡ length ys
+zip_length R [] [] zip = refl
+zip_length R [] (y ∷ ys) zip = absurd zip
+zip_length R (x ∷ xs) [] zip = absurd zip
+zip_length R (x ∷ xs) (y ∷ ys) zip = ap suc (zip_length R xs ys zip.1)
 
 -- what is read of lent values is read of what they say
-pub zip-map : {V D Y : Type 0} (R : D → Y → Type 0) (f : V → D) (vs : List V) (ys : List Y) → AllZip (λ v y. R (f v) y) vs ys → AllZip R (map f vs) ys
-zip-map R f [] [] zip = tt
-zip-map R f [] (y ∷ ys) zip = absurd zip
-zip-map R f (v ∷ vs) [] zip = absurd zip
-zip-map R f (v ∷ vs) (y ∷ ys) zip = (zip.0, zip-map R f vs ys zip.1)
+pub zip_map : {V D Y : Type 0} (R : D → Y → Type 0) (f : V → D) (vs : List V) (ys : List Y) → AllZip (λ v y. R (f v) y) vs ys → AllZip R (map f vs) ys
+zip_map R f [] [] zip = tt
+zip_map R f [] (y ∷ ys) zip = absurd zip
+zip_map R f (v ∷ vs) [] zip = absurd zip
+zip_map R f (v ∷ vs) (y ∷ ys) zip = (zip.0, zip_map R f vs ys zip.1)
 
 -- one more element that is read, where nothing is lent
 pub zip_whole : {V Y : Type 0} (R : V → Y → Type 0) (vs : List V) (i : ℕ) (v : V) (ys : List Y) (y : Y) → i < length vs → v ≡ get_or vs i v → AllZip R (take i vs) ys → R v y
@@ -56,8 +56,8 @@ zip_whole R (x ∷ vs) (suc i) v (z ∷ zs) y below is zip r =
     subst (λ n. AllZip R (take n (x ∷ vs)) (z ∷ (zs ++ (y ∷ [])))) number (zip.0, zip_whole R vs i v zs y rest is zip.1 r)
 
 -- the same where both sides are lent
-pub zip-both : {V D Y Z : Type 0} (R : D → Z → Type 0) (f : V → D) (g : Y → Z) (vs : List V) (ys : List Y) → AllZip (λ v y. R (f v) (g y)) vs ys → AllZip R (map f vs) (map g ys)
-zip-both R f g [] [] zip = tt
-zip-both R f g [] (y ∷ ys) zip = absurd zip
-zip-both R f g (v ∷ vs) [] zip = absurd zip
-zip-both R f g (v ∷ vs) (y ∷ ys) zip = (zip.0, zip-both R f g vs ys zip.1)
+pub zip_both : {V D Y Z : Type 0} (R : D → Z → Type 0) (f : V → D) (g : Y → Z) (vs : List V) (ys : List Y) → AllZip (λ v y. R (f v) (g y)) vs ys → AllZip R (map f vs) (map g ys)
+zip_both R f g [] [] zip = tt
+zip_both R f g [] (y ∷ ys) zip = absurd zip
+zip_both R f g (v ∷ vs) [] zip = absurd zip
+zip_both R f g (v ∷ vs) (y ∷ ys) zip = (zip.0, zip_both R f g vs ys zip.1)

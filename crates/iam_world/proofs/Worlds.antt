@@ -1,6 +1,7 @@
 -- What a world keeps of the document that it is read from.
 use Rattle.std.proofs.Common.{◌≡◌, inl, inr, ℕ, ◌*◌, ◌<◌, ◌≤◌, ◌^◌, List, [], ◌∷◌, ◌++◌, map, length, Bool, true, false, cond, Option, Some, None, option_map, IfSome, refl, sym, ap, ◌∙◌, subst, arith}
 use Rattle.std.specs.List.{AllByRecursion, AllZip, find, flat_map, zip}
+use Rattle.std.proofs.lemmas.List.Folds.{flat_map-map}
 use Rattle.serde_json.specs.Data.{Data}
 use Rattle.iam_context.specs.Context.{ContextValue, keys_of}
 use Rattle.iam_context.specs.ContextFault.{IsClean}
@@ -8,7 +9,7 @@ use Rattle.iam_match.specs.Requester.{RequesterValue}
 use Rattle.iam_policy.specs.declared.fault.Kind.{Kind}
 use Rattle.iam_policy.specs.declared.fault.Kind.TheVariants as kind
 use Rattle.iam_policy.specs.Reading.{Reads, PolicyValue}
-use Rattle.iam_shape.specs.Texts.{HasTexts, Places}
+use Rattle.iam_shape.specs.Texts.{AreFirstPlaces, Places}
 use Rattle.iam_shape.specs.Few.{HasFewDocuments, HasFewLevels, HasFewLists}
 use Rattle.iam_shape.specs.View.{AccountViewValue, PrincipalViewValue, ResourceViewValue, WorldViewValue}
 use Rattle.iam_world_context.specs.Clean.{AllClean, AreClean}
@@ -19,8 +20,8 @@ use Rattle.iam_world.specs.Reads.{ReadsAccount, ReadsOptional, ReadsPrincipal, R
 use Rattle.iam_world.specs.World.{AccountValue, PrincipalValue, ResourceValue, WorldValue, world_cells}
 use Rattle.iam_world_context.specs.Contexts.{principal_parts, resource_parts}
 use Rattle.iam_world.specs.WorldFault.{IsOverLimits, IsRequesterAt, cell_count, statement_count}
-use Rattle.iam_world.proofs.Counts.{statements-are}
-use Rattle.iam_world.proofs.Walks.{zip-length}
+use Rattle.iam_world.proofs.Counts.{statements_same}
+use Rattle.iam_world.proofs.Walks.{zip_length}
 
 -- ---- putting together
 
@@ -69,19 +70,19 @@ reads_principals g (v ∷ vs) (x ∷ rs) (y ∷ is) (z ∷ bs) (w ∷ ss) (c ∷
 
 -- ---- sizes
 
-cells-are : (view : WorldViewValue) (world : WorldValue) → ReadsWorld view world → cell_count view ≡ world_cells world
-cells-are view world reads =
-    ap (λ n. n * length view.actions * length view.resources) (zip-length ReadsPrincipal view.principals world.principals reads.principals)
+cells_same : (view : WorldViewValue) (world : WorldValue) → ReadsWorld view world → cell_count view ≡ world_cells world
+cells_same view world reads =
+    ap (λ n. n * length view.actions * length view.resources) (zip_length ReadsPrincipal view.principals world.principals reads.principals)
     ∙ ap (λ n. length world.principals * n * length view.resources) (ap length (sym reads.actions))
-    ∙ ap (λ n. length world.principals * length world.actions * n) (zip-length ReadsResource view.resources world.resources reads.resources)
+    ∙ ap (λ n. length world.principals * length world.actions * n) (zip_length ReadsResource view.resources world.resources reads.resources)
 
 few : (vs : List PrincipalViewValue) (principals : List PrincipalValue) → AllByRecursion HasFewDocuments vs → AllZip ReadsPrincipal vs principals → AllByRecursion HasFewPolicies principals
 few [] [] small zip = tt
 few [] (p ∷ rest) small zip = absurd zip
 few (v ∷ vs) [] small zip = absurd zip
 few (v ∷ vs) (p ∷ rest) small zip =
-    let identity : length v.identity ≡ length p.identity = zip-length (Reads kind.Identity) v.identity p.identity zip.0.identity in
-    let session : length v.session_policies ≡ length p.session = zip-length (Reads kind.Identity) v.session_policies p.session zip.0.session in
+    let identity : length v.identity ≡ length p.identity = zip_length (Reads kind.Identity) v.identity p.identity zip.0.identity in
+    let session : length v.session_policies ≡ length p.session = zip_length (Reads kind.Identity) v.session_policies p.session zip.0.session in
     (record { identity = omega (arith, small.0.identity, identity); session = omega (arith, small.0.session, session) }, few vs rest small.1 zip.1)
 
 few_in : (kind : Kind) (levels : List (List Data)) (policies : List (List PolicyValue)) → AllByRecursion (λ level. length level < 2 ^ 32) levels
@@ -90,7 +91,7 @@ few_in kind [] [] small zip = tt
 few_in kind [] (p ∷ policies) small zip = absurd zip
 few_in kind (l ∷ levels) [] small zip = absurd zip
 few_in kind (l ∷ levels) (p ∷ policies) small zip =
-    let same : length l ≡ length p = zip-length (Reads kind) l p zip.0 in (omega (arith, small.0, same), few_in kind levels policies small.1 zip.1)
+    let same : length l ≡ length p = zip_length (Reads kind) l p zip.0 in (omega (arith, small.0, same), few_in kind levels policies small.1 zip.1)
 
 -- what is read of few levels is few
 few_levels : {V X : Type 0} (kind : Kind) (f : V → List (List Data)) (g : X → List (List PolicyValue)) (R : V → X → Type 0)
@@ -101,7 +102,7 @@ few_levels kind f g R step [] (x ∷ xs) small zip = absurd zip
 few_levels kind f g R step (v ∷ vs) [] small zip = absurd zip
 few_levels kind f g R step (v ∷ vs) (x ∷ xs) small zip =
     let read = step v x zip.0 in
-    let same : length (f v) ≡ length (g x) = zip-length (AllZip (Reads kind)) (f v) (g x) read in (
+    let same : length (f v) ≡ length (g x) = zip_length (AllZip (Reads kind)) (f v) (g x) read in (
       record { levels_few = omega (arith, small.0.levels_few, same); policies_few = few_in kind (f v) (g x) small.0.policies_few read },
       few_levels kind f g R step vs xs small.1 zip.1,
     )
@@ -138,10 +139,6 @@ of_map : {X Y : Type 0} (P : Y → Type 0) (g : X → Y) (xs : List X) → AllBy
 of_map P g [] all = tt
 of_map P g (x ∷ xs) all = (all.0, of_map P g xs all.1)
 
-flat-map : {X Y Z : Type 0} (f : Y → List Z) (g : X → Y) (xs : List X) → flat_map f (map g xs) ≡ flat_map (λ x. f (g x)) xs
-flat-map f g [] = refl
-flat-map f g (x ∷ xs) = ap (λ rest. f (g x) ++ rest) (flat-map f g xs)
-
 can_join : (view : WorldViewValue) (world : WorldValue) → ReadsWorld view world → AllClean (part_of view.context) (principal_parts view) (resource_parts view) → CanJoin world
 can_join view world reads clean =
     let own = clean.own in
@@ -155,7 +152,7 @@ can_join view world reads clean =
     let all : keys_of (part_of view.context) ++ flat_map keys_of (principal_parts view) ≡ keys_of world.context ++ flat_map (λ (p : PrincipalValue). keys_of p.context) world.principals =
     ap (λ ks. ks ++ flat_map keys_of (principal_parts view)) keys
     ∙ ap (λ parts. keys_of world.context ++ flat_map keys_of parts) (sym principals)
-    ∙ ap (λ ks. keys_of world.context ++ ks) (flat-map keys_of (λ (p : PrincipalValue). p.context) world.principals) in
+    ∙ ap (λ ks. keys_of world.context ++ ks) (flat_map-map keys_of (λ (p : PrincipalValue). p.context) world.principals) in
     record {
       own = subst (IsClean []) (sym reads.context) own;
       principals =
@@ -178,11 +175,11 @@ same_ids (v ∷ vs) (a ∷ accounts) zip = ap (λ id. id ∷ map (λ (account : 
 -- a world that is read of a document within the limits is within them
 pub sized : (view : WorldViewValue) (world : WorldValue) (cells statements : ℕ) (numbers : Places) → ReadsWorld view world → HasFewLists view → view.moment ≤ 253402300799
     → cells ≡ cell_count view → statements ≡ statement_count view → (¬ IsOverLimits view)
-    → AllClean (part_of view.context) (principal_parts view) (resource_parts view) → HasTexts numbers (map (λ account. account.id) view.accounts)
+    → AllClean (part_of view.context) (principal_parts view) (resource_parts view) → AreFirstPlaces numbers (map (λ account. account.id) view.accounts)
     → IsSized world cells statements numbers
 sized view world cells statements numbers reads small moment cells_is statements_is within clean numbered = record {
-  cells_are = cells_is ∙ cells-are view world reads;
-  statements_are = statements_is ∙ statements-are view world reads;
+  cells_are = cells_is ∙ cells_same view world reads;
+  statements_are = statements_is ∙ statements_same view world reads;
   few_cells = at_most cells 16777216 (λ many. within (inl (subst (λ n. 16777216 < n) cells_is many)));
   few_statements = at_most statements 4096 (λ many. within (inr (subst (λ n. 4096 < n) statements_is many)));
   policies = few view.principals world.principals small.principals reads.principals;
@@ -191,7 +188,7 @@ sized view world cells statements numbers reads small moment cells_is statements
       few_levels kind.Control (λ v. v.control) (λ r. r.control) ReadsResource (λ v r read. read.control) view.resources world.resources small.resources reads.resources;
   moment = subst (λ n. n ≤ 253402300799) (sym reads.moment) moment;
   contexts = can_join view world reads clean;
-  numbered = subst (HasTexts numbers) (sym (same_ids view.accounts world.accounts reads.accounts)) numbered;
+  numbered = subst (AreFirstPlaces numbers) (sym (same_ids view.accounts world.accounts reads.accounts)) numbered;
 }
   where
     at_most : (n m : ℕ) → (¬ (m < n)) → n ≤ m

@@ -3,7 +3,7 @@ use Rattle.std.specs.Prelude.{◌≡◌, ℕ, ◌<◌, ◌≤◌, ◌^◌, [], �
 use Rattle.std.specs.List.{AllByRecursion, flat_map}
 use Rattle.iam_context.specs.Context.{keys_of}
 use Rattle.iam_context.specs.ContextFault.{IsClean}
-use Rattle.iam_shape.specs.Texts.{HasTexts, Places}
+use Rattle.iam_shape.specs.Texts.{AreFirstPlaces, Places}
 use Rattle.iam_shape.specs.Few.{HasFewLevels}
 use Rattle.iam_world.specs.World.{PrincipalValue, WorldValue, world_cells, world_statements}
 
@@ -31,4 +31,4 @@ pub record IsSized (world : WorldValue) (cells statements : ℕ) (numbers : Plac
   pub controls : AllByRecursion (λ resource. HasFewLevels resource.control) world.resources
   pub moment : world.moment ≤ 253402300799
   pub contexts : CanJoin world
-  pub numbered : HasTexts numbers (map (λ account. account.id) world.accounts)
+  pub numbered : AreFirstPlaces numbers (map (λ account. account.id) world.accounts)

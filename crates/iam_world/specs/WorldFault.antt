@@ -77,7 +77,7 @@ world_text fault = decimal (world_number_of fault) ++ (codes " " ++ (world_name_
 
 -- this is the requester of the principal
 abbrev pub IsRequesterAt : PrincipalViewValue → RequesterValue → Type 0
-IsRequesterAt principal r = IsRequesterOf principal.arn principal.session r
+IsRequesterAt principal r = IsRequesterOf principal.arn principal.session_name r
 
 abbrev pub IsNoRequester : PrincipalViewValue → Type 0
 IsNoRequester principal = (r : RequesterValue) → ¬ IsRequesterAt principal r
@@ -220,22 +220,25 @@ IsJson bytes d = IsUtf8 bytes × (read bytes ≡ Some d)
 abbrev pub HasView : List ℕ → (WorldViewValue → Type 0) → Type 0
 HasView bytes P = (d : Data) × IsJson bytes d × ((world : WorldViewValue) × IsView d world × P world)
 
--- the set of faults, each by itself
+-- the faults of what a document of the right shape says, each by itself
+abbrev pub ViewHasFault : WorldViewValue → WorldFault → Type 0
+ViewHasFault world NotJson = ⊥
+ViewHasFault world (BadShape path) = ⊥
+ViewHasFault world (BadRequester path) = IsFirstAt IsNoRequester (with_paths (Item Principals) 0 world.principals) path
+ViewHasFault world (BadAction path) = IsFirstAt IsNoAction (with_paths (Item Actions) 0 world.actions) path
+ViewHasFault world (BadResourceArn path) = IsFirstAt HasNoResourceArn (with_paths (Item Resources) 0 world.resources) path
+ViewHasFault world (UnknownAccount path) = IsFirstAt (IsOfUnknownAccount world) (owners world) path
+ViewHasFault world (Context path fault) = IsFirstFaulty (parts world) path fault
+ViewHasFault world (Policy path refused) = IsFirstRefused (documents world) path refused
+ViewHasFault world TooLarge = IsOverLimits world
+ViewHasFault world OutOfMemory = ⊥
+
+-- the set of faults: the bytes are no JSON, the shape is wrong, or what they say has the fault
 abbrev pub WorldHasFault : List ℕ → WorldFault → Type 0
 WorldHasFault bytes NotJson = (d : Data) → ¬ IsJson bytes d
 WorldHasFault bytes (BadShape path) = (d : Data) × IsJson bytes d × (first_bad (shape_checks d) ≡ Some path)
-WorldHasFault bytes (BadRequester path) =
-    HasView bytes (λ world. IsFirstAt IsNoRequester (with_paths (Item Principals) 0 world.principals) path)
-WorldHasFault bytes (BadAction path) =
-    HasView bytes (λ world. IsFirstAt IsNoAction (with_paths (Item Actions) 0 world.actions) path)
-WorldHasFault bytes (BadResourceArn path) =
-    HasView bytes (λ world. IsFirstAt HasNoResourceArn (with_paths (Item Resources) 0 world.resources) path)
-WorldHasFault bytes (UnknownAccount path) =
-    HasView bytes (λ world. IsFirstAt (IsOfUnknownAccount world) (owners world) path)
-WorldHasFault bytes (Context path fault) = HasView bytes (λ world. IsFirstFaulty (parts world) path fault)
-WorldHasFault bytes (Policy path refused) = HasView bytes (λ world. IsFirstRefused (documents world) path refused)
-WorldHasFault bytes TooLarge = HasView bytes IsOverLimits
 WorldHasFault bytes OutOfMemory = ⊥
+WorldHasFault bytes fault = HasView bytes (λ world. ViewHasFault world fault)
 
 -- the set is empty
 abbrev pub HasNoFault : List ℕ → Type 0

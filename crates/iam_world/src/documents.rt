@@ -6,7 +6,7 @@ ghost use Rattle.serde_json.specs.View.{view};
 ghost use Rattle.iam_policy.specs.Reading.{Reads};
 ghost use Rattle.iam_policy.specs.declared.fault.Kind.TheVariants as kind;
 ghost use Rattle.iam_world.specs.declared.documents.Location.TheVariants as place;
-ghost use Rattle.iam_shape.specs.Lent.{account_of, levels_of, policies_in, principal_of, resource_of};
+ghost use Rattle.iam_shape.specs.Lent.{account_of, policies_by_level, policies_in, principal_of, resource_of};
 ghost use Rattle.iam_shape.specs.LentWorld.{world_of};
 ghost use Rattle.iam_world.specs.Code.Documents.{HasPolicies, IsCleared, IsRefusedAmong, document_at, path_at};
 ghost use Rattle.iam_world.specs.Reads.{ReadsOptional};
@@ -205,12 +205,12 @@ fn read_levels(
     budget: &mut Budget,
     levels: Levels<'_>,
 ) -> Result<Vec<Vec<Policy>>, WorldFault>
-    ensures ok { IfOk result (λ policies. AllZip (AllZip (Reads at.kind)) (levels_of levels.entry)
+    ensures ok { IfOk result (λ policies. AllZip (AllZip (Reads at.kind)) (policies_by_level levels.entry)
         (map (λ level. level.items) policies.items)) }
     ensures cleared { OnOk result
-        (IsCleared (level_documents at.kind at.list at.of at.name (levels_of levels.entry)) budget.old budget.new) }
+        (IsCleared (level_documents at.kind at.list at.of at.name (policies_by_level levels.entry)) budget.old budget.new) }
     ensures fault { IfErr result (λ fault. fault ≢ w.OutOfMemory
-        → IsRefusedAmong (level_documents at.kind at.list at.of at.name (levels_of levels.entry)) fault) }
+        → IsRefusedAmong (level_documents at.kind at.list at.of at.name (policies_by_level levels.entry)) fault) }
 {
     read_each(&at, alloc, budget, levels.values)
 }

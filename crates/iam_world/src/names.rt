@@ -24,7 +24,7 @@ fn requester_of(
     ensures { IfOk result (λ found. MatchOption found (IsNoRequester (principal_of principal.now))
         (IsRequesterAt (principal_of principal.now))) }
 {
-    match principal.session {
+    match principal.session_name {
         Some(session) => Requester::role(alloc, principal.arn, session),
         None => Requester::user(alloc, principal.arn),
     }

@@ -4,15 +4,15 @@ ghost use Rattle.std.specs.List.{AllZip, find};
 ghost use Rattle.std.specs.Str.{bytes_eq};
 ghost use Rattle.serde_json.specs.Data.{Data};
 ghost use Rattle.serde_json.specs.View.{view};
-ghost use Rattle.iam_world.specs.Code.ViewFault.{IsFirstViewFault, ViewHasFault};
+ghost use Rattle.iam_world.specs.Code.ViewFault.{IsFirstViewFault};
 ghost use Rattle.iam_world_context.specs.Clean.{HasContexts};
 ghost use Rattle.iam_world.specs.Code.Documents.{HasPolicies};
-ghost use Rattle.iam_shape.specs.Texts.{HasTexts};
+ghost use Rattle.iam_shape.specs.Texts.{AreFirstPlaces};
 ghost use Rattle.iam_shape.specs.Few.{HasFewLists};
 ghost use Rattle.iam_shape.specs.Lent.{principal_of};
 ghost use Rattle.iam_shape.specs.LentWorld.{world_of};
 ghost use Rattle.iam_world.specs.Reads.{ReadsWorld};
-ghost use Rattle.iam_world.specs.WorldFault.{IsJson, IsOverLimits, IsRequesterAt, cell_count, statement_count};
+ghost use Rattle.iam_world.specs.WorldFault.{IsJson, IsOverLimits, IsRequesterAt, ViewHasFault, cell_count, statement_count};
 ghost use Rattle.iam_world.specs.declared.fault.WorldFault.{WorldFault};
 ghost use Rattle.iam_world.specs.declared.fault.WorldFault.TheVariants as w;
 
@@ -90,7 +90,7 @@ fn parse(alloc: Global, bytes: &[u8]) -> Result<Value, WorldFault>
 
 /// The number of each account by its id.
 fn numbers_of(world: WorldView<'_>) -> HashMap<String, usize>
-    ensures { HasTexts result (map (λ account. account.id) (world_of world.entry).accounts) }
+    ensures { AreFirstPlaces result (map (λ account. account.id) (world_of world.entry).accounts) }
 {
     let accounts = world.accounts;
     accounts.ids
@@ -171,7 +171,7 @@ fn find_account<'a>(
     numbers: &HashMap<String, usize>,
     id: &str,
 ) -> Option<&'a Account>
-    requires { HasTexts numbers.now (map (λ account. account.id) accounts.now) }
+    requires { AreFirstPlaces numbers.now (map (λ account. account.id) accounts.now) }
     ensures { option_map (λ account. account.now) result
         ≡ find (λ account. bytes_eq account.id id.now) accounts.entry.now }
 {

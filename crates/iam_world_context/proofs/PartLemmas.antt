@@ -10,10 +10,10 @@ use Rattle.iam_shape.specs.declared.path.Name.TheVariants.{Context, Principals, 
 use Rattle.iam_shape.specs.declared.path.Path.{Path}
 use Rattle.iam_shape.specs.declared.path.Path.TheVariants.{Field, Member}
 use Rattle.iam_world_context.specs.Clean.{AllClean, AreClean}
-use Rattle.iam_world_context.specs.Code.Contexts.{IsFaultyAmong, IsFaultyPart}
-use Rattle.iam_world_context.specs.Contexts.{Beside, IsFaulty, all_parts, parts_of}
+use Rattle.iam_world_context.specs.Code.Contexts.{IsFaultyPart}
+use Rattle.iam_world_context.specs.Contexts.{Beside, IsFaulty, IsFaultyAmong, all_parts, parts_of}
 use Rattle.iam_world_context.specs.declared.fault.PartFault.{PartFault}
-use Rattle.iam_world_context.proofs.Lists.{drop-at, first_here, first_later, none-append}
+use Rattle.iam_world_context.proofs.Lists.{drop_at, first_here, first_later, none_append}
 
 -- a part with a fault is not clean
 pub not_clean : (others : List (List ℕ)) (part : ContextValue) (fault : ContextFault) → IsPartFault others part fault → ¬ IsClean others part
@@ -38,7 +38,7 @@ beside others part = record { others = others; part = part }
 pub part_here : {V : Type 0} (f : V → ContextValue) (others : List (List ℕ)) (at : ℕ → Path) (vs : List V) (i : ℕ) (v : V) (fault : PartFault) → i < length vs → v ≡ get_or vs i v
     → IsFaultyPart (at i) others (f v) fault → IsFaultyAmong (with_paths at i (map (beside others) (map f (drop i vs)))) fault
 part_here f others at vs i v fault below is (found, fault_is, holds) =
-    subst (λ parts. IsFaultyAmong (with_paths at i (map (beside others) parts)) fault) (sym (drop-at f vs i v below is))
+    subst (λ parts. IsFaultyAmong (with_paths at i (map (beside others) parts)) fault) (sym (drop_at f vs i v below is))
     (at i, found, fault_is, (beside others (f v), inl ((λ clean. not_clean others (f v) found holds clean), refl), holds))
 
 -- the part at i is clean
@@ -46,7 +46,7 @@ pub part_later : {V : Type 0} (f : V → ContextValue) (others : List (List ℕ)
     → IsClean others (f v) → (fault : PartFault) → IsFaultyAmong (with_paths at (i + 1) (map (beside others) (map f (drop (i + 1) vs)))) fault
     → IsFaultyAmong (with_paths at i (map (beside others) (map f (drop i vs)))) fault
 part_later f others at vs i v below is clean fault (path, found, fault_is, (b, first, holds)) =
-    subst (λ parts. IsFaultyAmong (with_paths at i (map (beside others) parts)) fault) (sym (drop-at f vs i v below is))
+    subst (λ parts. IsFaultyAmong (with_paths at i (map (beside others) parts)) fault) (sym (drop_at f vs i v below is))
     (path, found, fault_is, (b, inr ((λ off. off clean), first), holds))
 
 -- clean parts are not faulty
@@ -106,20 +106,20 @@ in_resources world ps rs fault own clean faulty =
 pub none_faulty : (world : ContextValue) (ps rs : List ContextValue) → AllClean world ps rs → AllByRecursion (λ (p : Path × Beside). ¬ IsFaulty p.1) (all_parts world ps rs)
 none_faulty world ps rs clean = (
   (λ off. off clean.own),
-  none-append (λ (p : Path × Beside). ¬ IsFaulty p.1) (parts_of Principals (keys_of world) ps) (parts_of Resources (keys_of world ++ flat_map keys_of ps) rs)
+  none_append (λ (p : Path × Beside). ¬ IsFaulty p.1) (parts_of Principals (keys_of world) ps) (parts_of Resources (keys_of world ++ flat_map keys_of ps) rs)
       (clean_parts (keys_of world) (λ i. Field Principals i Context) 0 ps clean.principals_clean)
       (clean_parts (keys_of world ++ flat_map keys_of ps) (λ i. Field Resources i Context) 0 rs clean.resources_clean),
 )
 
 -- the parts of lent contexts are those of what the document says
-pub parts-are : {V C X : Type 0} (g : C → ContextValue) (context : V → C) (f : V → X) (h : X → ContextValue) → ((v : V) → g (context v) ≡ h (f v)) → (vs : List V)
+pub parts_are : {V C X : Type 0} (g : C → ContextValue) (context : V → C) (f : V → X) (h : X → ContextValue) → ((v : V) → g (context v) ≡ h (f v)) → (vs : List V)
     → map g (map context vs) ≡ map h (map f vs)
-parts-are g context f h same [] = refl
-parts-are g context f h same (v ∷ vs) = ap (λ c. c ∷ map g (map context vs)) (same v) ∙ ap (λ rest. h (f v) ∷ rest) (parts-are g context f h same vs)
+parts_are g context f h same [] = refl
+parts_are g context f h same (v ∷ vs) = ap (λ c. c ∷ map g (map context vs)) (same v) ∙ ap (λ rest. h (f v) ∷ rest) (parts_are g context f h same vs)
 
 -- the same parts have the same first faulty one
-pub faulty-same : (w x : ContextValue) (ps qs rs ss : List ContextValue) → w ≡ x → ps ≡ qs → rs ≡ ss → (fault : PartFault) → IsFaultyAmong (all_parts w ps rs) fault
+pub faulty_same : (w x : ContextValue) (ps qs rs ss : List ContextValue) → w ≡ x → ps ≡ qs → rs ≡ ss → (fault : PartFault) → IsFaultyAmong (all_parts w ps rs) fault
     → IsFaultyAmong (all_parts x qs ss) fault
-faulty-same w x ps qs rs ss one two three fault faulty =
+faulty_same w x ps qs rs ss one two three fault faulty =
     subst (λ y. IsFaultyAmong (all_parts y qs ss) fault) one
     (subst (λ y. IsFaultyAmong (all_parts w y ss) fault) two (subst (λ y. IsFaultyAmong (all_parts w ps y) fault) three faulty))

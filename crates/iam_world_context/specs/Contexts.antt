@@ -1,5 +1,5 @@
 -- The parts of the context that a world document gives, and the first that is faulty. LOGIC 12.4.
-use Rattle.std.specs.Prelude.{ℕ, List, [], ◌∷◌, ◌++◌, map}
+use Rattle.std.specs.Prelude.{◌≡◌, ℕ, List, [], ◌∷◌, ◌++◌, map}
 use Rattle.std.specs.List.{flat_map}
 use Rattle.iam_context.specs.Context.{ContextValue, keys_of}
 use Rattle.iam_context.specs.ContextFault.{IsClean, IsPartFault}
@@ -12,6 +12,8 @@ use Rattle.iam_shape.specs.declared.path.Name.TheVariants as name
 use Rattle.iam_shape.specs.declared.path.Path.{Path}
 use Rattle.iam_shape.specs.declared.path.Path.TheVariants.{Member, Field}
 use Rattle.iam_world_context.specs.Part.{part_of}
+use Rattle.iam_world_context.specs.declared.fault.PartFault.{PartFault}
+use Rattle.iam_world_context.specs.declared.fault.PartFault.TheVariants.{At}
 
 -- a part of the context, with the keys of other parts that none of its keys may be
 pub record Beside : Type 0 where
@@ -49,3 +51,8 @@ abbrev pub IsFirstFaulty : List (Path × Beside) → Path → ContextFault → T
 IsFirstFaulty ps path fault =
     (beside : Beside) × IsFirst (λ (p : Path × Beside). IsFaulty p.1) ps (path, beside)
     × IsPartFault beside.others beside.part fault
+
+-- the first faulty part of these has this fault
+abbrev pub IsFaultyAmong : List (Path × Beside) → PartFault → Type 0
+IsFaultyAmong parts fault =
+    (path : Path) × (found : ContextFault) × (fault ≡ At path found) × IsFirstFaulty parts path found

@@ -8,8 +8,8 @@ ghost use Rattle.iam_context.specs.ContextFault.{IsClean};
 ghost use Rattle.iam_json.specs.Scalar.{scalar_text};
 ghost use Rattle.iam_shape.specs.LentWorld.{world_of};
 ghost use Rattle.iam_world_context.specs.Clean.{AllClean, AreClean, HasContexts};
-ghost use Rattle.iam_world_context.specs.Code.Contexts.{IsFaultyAmong, IsFaultyPart};
-ghost use Rattle.iam_world_context.specs.Contexts.{IsFaulty, all_parts, parts, parts_of};
+ghost use Rattle.iam_world_context.specs.Code.Contexts.{IsFaultyPart};
+ghost use Rattle.iam_world_context.specs.Contexts.{IsFaulty, IsFaultyAmong, all_parts, parts, parts_of};
 ghost use Rattle.iam_world_context.specs.Part.{members_part, part_of, value_texts};
 ghost use Rattle.iam_world_context.specs.declared.fault.PartFault.TheVariants as p;
 

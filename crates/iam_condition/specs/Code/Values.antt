@@ -1,14 +1,10 @@
 -- How the code looks for bad values, beside `Condition`.
-use Rattle.std.specs.Prelude.{◌≡◌, ◌⊎◌, ◌↔◌, ℕ, List, [], ◌∷◌, Bool, Some, IsTrue}
+use Rattle.std.specs.Prelude.{◌≡◌, ◌⊎◌, ℕ, List, [], ◌∷◌, Some}
 use Rattle.serde_json.specs.Data.{Data}
 use Rattle.iam_condition.specs.declared.operator.Base.{Base}
 use Rattle.iam_condition.specs.declared.operator.Operator.{Operator}
 use Rattle.iam_condition.specs.Condition.{IsBadValue, members_of, values_under}
 use Rattle.iam_condition.specs.Operator.{operator_of}
-
--- the answer says whether it is so
-abbrev pub Decides : Type 0 → Bool → Type 0
-Decides P answer = IsTrue answer ↔ P
 
 -- it is so of an element of the list
 abbrev pub AnyOf : {X : Type 0} → (X → Type 0) → List X → Type 0

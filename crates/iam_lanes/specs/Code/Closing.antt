@@ -1,8 +1,7 @@
 -- What the lanes know when all seats have come back.
 use Rattle.std.specs.Prelude.{◌≡◌, ℕ, zero, suc, ◌+◌, nat_lt, if◌then◌else◌, List, length, slice_index}
 use Rattle.iam_lanes.specs.declared.view.LaneView.{LaneView}
-use Rattle.iam_lanes.specs.LaneRule.{times, times_taken}
-use Rattle.iam_lanes.specs.Lanes.{SeatView, taken_by, ends_by, offers_by, looks_by}
+use Rattle.iam_lanes.specs.Lanes.{SeatView, taken_by, ends_by, offers_by, looks_by, times, times_taken}
 
 -- a view and the rest of some seats have together what all these seats have
 pub record Gathers (seats rest : List SeatView) (v : LaneView) : Type 0 where

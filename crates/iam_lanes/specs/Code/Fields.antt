@@ -2,8 +2,7 @@
 use Rattle.std.specs.Prelude.{◌≡◌, ℕ, ◌+◌, ◌<◌, ◌≤◌, nat_lt, Bool, false, List, [], length, slice_index_or, sum}
 use Rattle.atomic_table.specs.Seated.{TableId}
 use Rattle.iam_lanes.specs.declared.view.LaneView.{LaneView}
-use Rattle.iam_lanes.specs.LaneRule.{times}
-use Rattle.iam_lanes.specs.Lanes.{SeatView, lanes_id}
+use Rattle.iam_lanes.specs.Lanes.{SeatView, lanes_id, times}
 
 -- the view as its seat shows it
 abbrev pub seat_view : TableId → LaneView → SeatView

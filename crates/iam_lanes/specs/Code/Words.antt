@@ -2,7 +2,8 @@
 use Rattle.std.specs.Prelude.{◌≡◌, ℕ, ◌+◌, ◌<◌, ◌≤◌, List, length, slice_index}
 use Rattle.atomic_table.specs.Table.{State}
 use Rattle.iam_lanes.specs.declared.view.LaneView.{LaneView}
-use Rattle.iam_lanes.specs.LaneRule.{LaneState, LaneRule, times, times_taken, after_take, with_offer, with_look, empty_view}
+use Rattle.iam_lanes.specs.Code.LaneRule.{LaneState, LaneRule, after_take, with_offer, with_look, empty_view}
+use Rattle.iam_lanes.specs.Lanes.{times, times_taken}
 
 -- word 0 is the bound, and word lane + 1 the count of a lane
 abbrev pub state_of : List ℕ → List LaneView → LaneState

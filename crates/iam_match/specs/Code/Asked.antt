@@ -22,13 +22,13 @@ abbrev pub IsThe : {A : Type 0} → (A → Type 0) → A → Type 0
 IsThe {A} P v = P v × ((other : A) → P other → other ≡ v)
 
 -- the six parts of the text, or nothing where it has none
-abbrev pub IsCut : List ℕ → Option Arn → Type 0
-IsCut text found = MatchOption found ((parts : List (List ℕ)) → ¬ IsArn parts text) (λ a. IsThe (λ parts. IsArn parts text) (parts_of a))
+abbrev pub IsArnOf : List ℕ → Option Arn → Type 0
+IsArnOf text found = MatchOption found ((parts : List (List ℕ)) → ¬ IsArn parts text) (λ a. IsThe (λ parts. IsArn parts text) (parts_of a))
 
 -- the text, as the operator reads it; nothing where no value can match it
 abbrev pub IsAsked : Base → List ℕ → Asked → Type 0
 IsAsked b text (asked.Text t test) = (b ≡ base.Text test) × (t.now ≡ text)
-IsAsked b text (asked.Arn found) = (b ≡ base.Arn) × IsCut text found
+IsAsked b text (asked.Arn found) = (b ≡ base.Arn) × IsArnOf text found
 IsAsked b text (asked.Number n order) = (b ≡ base.Number order) × IsThe (IsWhole text) n
 IsAsked b text (asked.Instant n order) = (b ≡ base.Date order) × IsThe (IsMoment text) n
 IsAsked b text (asked.Truth truth) = (b ≡ base.Truth) × IsThe (IsTruth text) truth

@@ -8,7 +8,7 @@ use Rattle.iam_context.specs.Context.{ContextValue}
 use Rattle.iam_context.specs.Resolve.{resolved}
 use Rattle.iam_condition.specs.declared.operand.Operand.{Operand}
 use Rattle.iam_condition.specs.declared.operand.Operand.TheVariants as operand
-use Rattle.iam_match.specs.Code.Texts.{IsAnswer}
+use Rattle.iam_match.specs.Code.Texts.{TellsOfPattern}
 use Rattle.iam_match.specs.Entry.{PartsMatch}
 
 -- the signs match the parts of the ARN, where there is one
@@ -18,7 +18,7 @@ ArnFits (Some arn) signs = (signs ≡ sign.Any ∷ []) ⊎ PartsMatch signs (par
 
 -- the answer of a text of the policy; no pattern of another value is passed
 abbrev pub IsTextAnswer : ContextValue → Operand → (List Sign → Type 0) → Option Bool → Type 0
-IsTextAnswer context (operand.Text pieces) P answer = IsAnswer (resolved context pieces) P answer
+IsTextAnswer context (operand.Text pieces) P answer = TellsOfPattern (resolved context pieces) P answer
 IsTextAnswer context (operand.Number n) P answer = answer ≡ Some false
 IsTextAnswer context (operand.Instant n) P answer = answer ≡ Some false
 IsTextAnswer context (operand.Truth t) P answer = answer ≡ Some false

@@ -7,9 +7,9 @@ use Rattle.iam_context.specs.Resolve.{resolved}
 use Rattle.iam_match.specs.Statement.{TextMatches}
 
 -- nothing where there is no pattern, else whether P holds of it
-abbrev pub IsAnswer : Option (List Sign) → (List Sign → Type 0) → Option Bool → Type 0
-IsAnswer pattern P None = pattern ≡ None
-IsAnswer pattern P (Some holds) = (signs : List Sign) × (pattern ≡ Some signs) × (IsTrue holds ↔ P signs)
+abbrev pub TellsOfPattern : Option (List Sign) → (List Sign → Type 0) → Option Bool → Type 0
+TellsOfPattern pattern P None = pattern ≡ None
+TellsOfPattern pattern P (Some holds) = (signs : List Sign) × (pattern ≡ Some signs) × (IsTrue holds ↔ P signs)
 
 -- the text becomes a pattern that does not match the resource
 abbrev pub TextDiffers : ContextValue → List ℕ → List Piece → Type 0

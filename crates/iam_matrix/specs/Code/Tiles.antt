@@ -7,7 +7,7 @@ use Rattle.iam_row.specs.Piece.{bare, brief_tail, full_tail}
 use Rattle.iam_row.specs.declared.quoted.Format.{Format}
 use Rattle.iam_row.specs.declared.tail.Tail.{Tail}
 use Rattle.iam_world.specs.World.{WorldValue, world_cells}
-use Rattle.iam_lanes.specs.LaneRule.{no_cell}
+use Rattle.iam_lanes.specs.Lanes.{no_cell}
 use Rattle.iam_layers.specs.Cell.{IsDecisionOf, IsVerdictOf}
 use Rattle.iam_matrix.specs.Matrix.{AreEntriesFrom, IsNotAllowed}
 

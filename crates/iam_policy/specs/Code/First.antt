@@ -8,7 +8,7 @@ use Rattle.iam_policy.specs.declared.fault.Fault.{Fault}
 use Rattle.iam_policy.specs.declared.fault.Fault.TheVariants.{BadCondition, BadValue, BadVariable, TooMany, UnknownOperator}
 use Rattle.iam_policy.specs.declared.fault.Kind.{Kind}
 use Rattle.iam_policy.specs.declared.fault.Refused.{Refused}
-use Rattle.iam_policy.specs.declared.table.Place.{Place}
+use Rattle.iam_policy.specs.declared.table.StatementPlace.{StatementPlace}
 use Rattle.iam_policy.specs.Fault.{HasBadValueIn, document_has, repeats_sid, sids_before, statement_has, statements_in}
 use Rattle.iam_policy.specs.Table.{fault_is, table}
 use Rattle.iam_policy.specs.Version.{version_of}
@@ -26,7 +26,7 @@ condition_line version TooMany condition = has_many_values condition
 condition_line version _ condition = false
 
 -- what stands there of the document is so of statement i: its version, and that the `Sid` repeats an earlier one
-pub record IsPlaceOf (d : Data) (i : ℕ) (s : Data) (place : Place) : Type 0 where
+pub record IsPlaceOf (d : Data) (i : ℕ) (s : Data) (place : StatementPlace) : Type 0 where
   pub version : place.version ≡ version_of d
   pub repeats : place.repeats ≡ repeats_sid (sids_before d i) s
 

@@ -5,18 +5,11 @@ use Rattle.serde_json.specs.Data.{Data}
 use Rattle.iam_shape.specs.declared.path.Name.TheVariants.{Accounts, Principals, Resources, Context, Id, Management, Org, User, Role, Session, Identity, Boundary, SessionPolicies, Arn, Account, Policy, Sealed, Control}
 use Rattle.iam_shape.specs.declared.path.Path.{Path}
 use Rattle.iam_shape.specs.declared.path.Path.TheVariants.{Item, Field}
-use Rattle.iam_shape.specs.declared.fault.ShapeFault.{ShapeFault}
-use Rattle.iam_shape.specs.declared.fault.ShapeFault.TheVariants.{At, OutOfMemory}
 use Rattle.iam_shape.specs.Shape.{Check, first_bad, has_only, is_absent_or, is_bool, is_context, is_list, is_new_id, is_object, is_string, text_at}
 
 -- no check fails, and P holds of what was found; or this is the path of the first that fails
 abbrev pub Walks : {A : Type 0} → List Check → (A → Type 0) → Result A Path → Type 0
 Walks checks P result = MatchResult result (λ found. (first_bad checks ≡ None) × P found) (λ path. first_bad checks ≡ Some path)
-
--- the first check that fails has the path of this fault
-abbrev pub IsShapeFault : List Check → ShapeFault → Type 0
-IsShapeFault checks (At path) = first_bad checks ≡ Some path
-IsShapeFault checks OutOfMemory = ⊥
 
 -- what is left to check of a principal that has a member `user` alone
 abbrev pub user_checks : ℕ → Data → List Check

@@ -1,8 +1,7 @@
 -- What the work knows when all seats have come back.
 use Rattle.std.specs.Prelude.{◌≡◌, ℕ, zero, suc, ◌+◌, List, length}
 use Rattle.iam_work.specs.declared.view.MarkView.{MarkView}
-use Rattle.iam_work.specs.MarkRule.{times}
-use Rattle.iam_work.specs.Work.{SeatView, marked_by, found_by}
+use Rattle.iam_work.specs.Work.{SeatView, marked_by, found_by, times}
 use Rattle.iam_work.specs.Code.Words.{bit_of}
 
 -- a view and the rest of some seats have together what all these seats have

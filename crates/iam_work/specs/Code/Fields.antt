@@ -9,7 +9,7 @@ use Rattle.crossbeam_deque.specs.declared.handles.Worker.{Worker}
 use Rattle.iam_work.specs.declared.run.Run.{Run}
 use Rattle.iam_work.specs.declared.view.MarkView.{MarkView}
 use Rattle.iam_work.specs.declared.view.DequeView.{DequeView}
-use Rattle.iam_work.specs.RunRule.{idle_view}
+use Rattle.iam_work.specs.Code.RunRule.{idle_view}
 use Rattle.iam_work.specs.Work.{SeatView, work_id}
 use Rattle.iam_work.specs.Code.Words.{words_for}
 

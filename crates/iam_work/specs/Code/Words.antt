@@ -3,7 +3,8 @@ use Rattle.std.specs.Prelude.{◌≡◌, ℕ, ◌+◌, ◌-◌, ◌*◌, ◌/◌
 use Rattle.std.specs.Int.{bit_at}
 use Rattle.atomic_table.specs.Table.{State}
 use Rattle.iam_work.specs.declared.view.MarkView.{MarkView}
-use Rattle.iam_work.specs.MarkRule.{MarkState, MarkRule, times, after_mark, empty_view}
+use Rattle.iam_work.specs.Code.MarkRule.{MarkState, MarkRule, after_mark, empty_view}
+use Rattle.iam_work.specs.Work.{times}
 
 -- the bit of a grain, 64 to a word
 abbrev pub bit_of : List ℕ → ℕ → ℕ

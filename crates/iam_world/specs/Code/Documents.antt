@@ -22,8 +22,8 @@ use Rattle.iam_world.specs.declared.documents.Location.{Location}
 use Rattle.iam_world.specs.declared.documents.Location.TheVariants.{Entries, Level, Alone}
 
 -- how many statements documents have
-abbrev pub statements_of : List Document → ℕ
-statements_of ds = sum_by (λ document. length (statements_in document.value)) ds
+abbrev pub statement_total : List Document → ℕ
+statement_total ds = sum_by (λ document. length (statements_in document.value)) ds
 
 -- the first of the documents that is not accepted is refused by its least fault
 abbrev pub IsRefusedAmong : List Document → WorldFault → Type 0
@@ -32,7 +32,7 @@ IsRefusedAmong ds fault = (path : Path) × (refused : Refused) × (fault ≡ Pol
 -- the documents are accepted, and their statements are counted
 pub record IsCleared (ds : List Document) (before after : Budget) : Type 0 where
   pub accepted : AllByRecursion (λ d. ¬ IsNotAccepted d) ds
-  pub counted : (total : ℕ) → Leaves before total → Leaves after (total + statements_of ds)
+  pub counted : (total : ℕ) → Leaves before total → Leaves after (total + statement_total ds)
 
 -- the path of a document of a list
 abbrev pub path_at : Location → ℕ → Path

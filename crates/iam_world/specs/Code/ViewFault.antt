@@ -1,31 +1,16 @@
--- The faults that a document of the right shape has, by what it says alone: those of numbers 3 to 9.
+-- How the code seeks the first fault of what a document says, beside `WorldFault`.
 use Rattle.std.specs.Prelude.{◌≡◌, ℕ, ◌≤◌, List, Option, MatchOption}
 use Rattle.std.specs.List.{AllByRecursion}
 use Rattle.iam_shape.specs.View.{WorldViewValue}
-use Rattle.iam_shape.specs.First.{IsFirstAt, with_paths}
-use Rattle.iam_world_context.specs.Contexts.{parts, IsFirstFaulty}
-use Rattle.iam_world.specs.WorldFault.{world_number_of, IsNoRequester, IsNoAction, HasNoResourceArn, owners, IsOfUnknownAccount, documents, IsFirstRefused, IsOverLimits}
-use Rattle.iam_shape.specs.declared.path.Name.TheVariants.{Principals, Actions, Resources}
+use Rattle.iam_shape.specs.First.{IsFirstAt}
+use Rattle.iam_world.specs.WorldFault.{ViewHasFault, world_number_of}
 use Rattle.iam_shape.specs.declared.path.Path.{Path}
-use Rattle.iam_shape.specs.declared.path.Path.TheVariants.{Item}
 use Rattle.iam_shape.specs.declared.fault.ShapeFault.{ShapeFault}
 use Rattle.iam_shape.specs.declared.fault.ShapeFault.TheVariants as shape
 use Rattle.iam_world_context.specs.declared.fault.PartFault.{PartFault}
 use Rattle.iam_world_context.specs.declared.fault.PartFault.TheVariants as part
 use Rattle.iam_world.specs.declared.fault.WorldFault.{WorldFault}
-use Rattle.iam_world.specs.declared.fault.WorldFault.TheVariants.{NotJson, BadShape, BadRequester, BadAction, BadResourceArn, UnknownAccount, Context, Policy, TooLarge, OutOfMemory}
-
-abbrev pub ViewHasFault : WorldViewValue → WorldFault → Type 0
-ViewHasFault world NotJson = ⊥
-ViewHasFault world (BadShape path) = ⊥
-ViewHasFault world (BadRequester path) = IsFirstAt IsNoRequester (with_paths (Item Principals) 0 world.principals) path
-ViewHasFault world (BadAction path) = IsFirstAt IsNoAction (with_paths (Item Actions) 0 world.actions) path
-ViewHasFault world (BadResourceArn path) = IsFirstAt HasNoResourceArn (with_paths (Item Resources) 0 world.resources) path
-ViewHasFault world (UnknownAccount path) = IsFirstAt (IsOfUnknownAccount world) (owners world) path
-ViewHasFault world (Context path fault) = IsFirstFaulty (parts world) path fault
-ViewHasFault world (Policy path refused) = IsFirstRefused (documents world) path refused
-ViewHasFault world TooLarge = IsOverLimits world
-ViewHasFault world OutOfMemory = ⊥
+use Rattle.iam_world.specs.declared.fault.WorldFault.TheVariants.{BadShape, Context, OutOfMemory}
 
 -- no fault has a lesser number
 abbrev pub IsClearBelow : ℕ → WorldViewValue → Type 0

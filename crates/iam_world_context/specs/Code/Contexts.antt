@@ -4,15 +4,9 @@ use Rattle.iam_context.specs.Context.{ContextValue}
 use Rattle.iam_context.specs.ContextFault.{IsPartFault}
 use Rattle.iam_context.specs.declared.fault.ContextFault.{ContextFault}
 use Rattle.iam_shape.specs.declared.path.Path.{Path}
-use Rattle.iam_world_context.specs.Contexts.{Beside, IsFirstFaulty}
 use Rattle.iam_world_context.specs.declared.fault.PartFault.{PartFault}
 use Rattle.iam_world_context.specs.declared.fault.PartFault.TheVariants.{At}
 
 -- this is the fault of the part at this path
 abbrev pub IsFaultyPart : Path → List (List ℕ) → ContextValue → PartFault → Type 0
 IsFaultyPart path keys part fault = (found : ContextFault) × (fault ≡ At path found) × IsPartFault keys part found
-
--- the first faulty part of these has this fault
-abbrev pub IsFaultyAmong : List (Path × Beside) → PartFault → Type 0
-IsFaultyAmong parts fault =
-    (path : Path) × (found : ContextFault) × (fault ≡ At path found) × IsFirstFaulty parts path found

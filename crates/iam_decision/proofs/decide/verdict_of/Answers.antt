@@ -6,7 +6,7 @@ use Rattle.iam_decision.specs.Decision.{AreDeciding, AreLacking, Allows, Denies,
 use Rattle.iam_decision.specs.declared.frame.Frame.{Frame}
 use Rattle.iam_decision.specs.declared.place.Layer.{Layer}
 use Rattle.iam_decision.specs.declared.place.Place.{Place}
-use Rattle.iam_decision.proofs.VerdictLemmas.{decided-same, lacking-same, deciding-same}
+use Rattle.iam_decision.proofs.VerdictLemmas.{decided_same, lacking_same, deciding_same}
 use Rattle.iam_decision.proofs.decide.verdict_of.Goals as goal
 
 pub returns : goal.returns
@@ -20,11 +20,11 @@ returns c = λ a q framed scanned.
     let F : Frame → Type 0 = λ frame. AreLacking (Allows a q) (Grants a q) frame d c.in_ok-lacks.lacks.items in
     let L : List Layer → Type 0 = λ lacks. AreLacking (Allows a q) (Grants a q) (frame_of a) d lacks in
     record {
-      decided = subst D framed (decided-same a q f found scanned d c.decision_of-decision.ensures);
+      decided = subst D framed (decided_same a q f found scanned d c.decision_of-decision.ensures);
       deciding =
           subst S (sym c.from_vec.ensures)
-          (deciding-same a q f found scanned d c.in_ok-statements.statements.items (subst E c.deciding_effect.ensures c.in_ok-statements.ensures));
+          (deciding_same a q f found scanned d c.in_ok-statements.statements.items (subst E c.deciding_effect.ensures c.in_ok-statements.ensures));
       lacking =
           subst L (sym c.from_vec-2.ensures)
-          (subst F framed (lacking-same a q f found scanned d c.in_ok-lacks.lacks.items c.in_ok-lacks.ensures));
+          (subst F framed (lacking_same a q f found scanned d c.in_ok-lacks.lacks.items c.in_ok-lacks.ensures));
     }

@@ -3,7 +3,7 @@ use Rattle.std.proofs.lemmas.List.{length-append, length-map}
 use Rattle.std.proofs.lemmas.Option.{slice_get-get_or}
 use Rattle.std.specs.List.{slice_get}
 use Rattle.iam_decision.specs.Living.{AreActs, LivingValue, living_value}
-use Rattle.iam_decision.proofs.LivingLemmas.{acts-more}
+use Rattle.iam_decision.proofs.LivingLemmas.{acts_more}
 use Rattle.iam_decision.proofs.ScanLemmas.{at_map}
 use Rattle.iam_decision.proofs.living.acts_of.Goals as goal
 
@@ -23,4 +23,4 @@ loop-statement-preserved c =
     let here : slice_get xs (length acts) ≡ Some x = ap (slice_get xs) c.loop-statement.invariant.0 ∙ at in
     let P : List Bool → Type 0 = λ items. (length items ≡ i + 1) × AreActs action xs items in
     let count : length (acts ++ act ∷ []) ≡ i + 1 = length-append acts (act ∷ []) ∙ ap (λ n. n + 1) c.loop-statement.invariant.0 in
-    subst P (sym c.in_ok-push.ensures.items) (count, acts-more action xs acts x act here c.action_matches.ensures c.loop-statement.invariant.1)
+    subst P (sym c.in_ok-push.ensures.items) (count, acts_more action xs acts x act here c.action_matches.ensures c.loop-statement.invariant.1)

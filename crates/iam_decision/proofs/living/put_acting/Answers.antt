@@ -3,7 +3,7 @@ use Rattle.iam_decision.specs.Code.Scan.{AreActing}
 use Rattle.iam_decision.specs.Living.{living_value}
 use Rattle.iam_decision.specs.declared.living.Living.{Living}
 use Rattle.iam_decision.specs.declared.living.Matched.{Matched}
-use Rattle.iam_decision.proofs.LivingLemmas.{acting-next, there-is}
+use Rattle.iam_decision.proofs.LivingLemmas.{acting_next, there_is}
 use Rattle.iam_decision.proofs.living.put_acting.Goals as goal
 use Rattle.iam_decision.proofs.living.put_acting.Goals.{then-acts-i+in_ok-push, else-acts-i}
 
@@ -17,11 +17,11 @@ loop-i-preserved c = λ action acting.
     elim c.if-acts-i.branch [
       | then-acts-i+in_ok-push w ↦
           let y = w.index-living-i.result in
-          let next = acting-next action living acts i y found c.loop-i-test.true c.requires w.index-living-i.is acting (c.loop-i.invariant action acting) in
+          let next = acting_next action living acts i y found c.loop-i-test.true c.requires w.index-living-i.is acting (c.loop-i.invariant action acting) in
           let R : Living → Type 0 = λ z. Q (found ++ z.matched ∷ []) in
           subst Q (sym (ap (λ v. v.items) w.found-is ∙ w.in_ok-push.ensures.items)) (subst R w.index-living-i.is (next.0 w.if-acts-i.true))
       | else-acts-i w ↦
-          let (y, is) = there-is living i c.loop-i-test.true in
-          let next = acting-next action living acts i y found c.loop-i-test.true c.requires is acting (c.loop-i.invariant action acting) in
+          let (y, is) = there_is living i c.loop-i-test.true in
+          let next = acting_next action living acts i y found c.loop-i-test.true c.requires is acting (c.loop-i.invariant action acting) in
           subst Q (sym (ap (λ v. v.items) w.found-is)) (next.1 w.if-acts-i.false)
     ]

@@ -1,5 +1,5 @@
 use Rattle.std.proofs.Common.{◌≡◌, ◌-◌, [], replicate}
-use Rattle.iam_lanes.specs.LaneRule.{empty_view}
+use Rattle.iam_lanes.specs.Code.LaneRule.{empty_view}
 use Rattle.iam_lanes.specs.Lanes.{fresh, lanes_id}
 use Rattle.iam_lanes.proofs.lanes.hand_out.Given as goal
 

@@ -8,7 +8,7 @@ use Rattle.iam_policy.specs.Fault.{sids_before, statements_in}
 use Rattle.iam_policy.specs.Reading.{ReadsStatement, StatementValue}
 use Rattle.iam_policy.specs.Version.{version_of}
 use Rattle.iam_text.specs.declared.version.Version.{Version}
-use Rattle.iam_policy.proofs.ElementLemmas.{item_at, filter_map-next}
+use Rattle.iam_policy.proofs.ElementLemmas.{item_at, filter_map_next}
 use Rattle.iam_policy.proofs.FaultLaws.{faultless_more, fault_not_memory}
 use Rattle.iam_policy.proofs.ReadingLemmas.{readable, zip_more}
 use Rattle.iam_policy.proofs.policy.read_statements.Goals as goal
@@ -56,7 +56,7 @@ loop-number-preserved c =
     let clean : HasLeast c.args.kind d i s None =
     record { bad = c.in_ok-bad_value.bad_value; decides = c.in_ok-bad_value.ensures; least = sym (c.statement_fault.ensures d i record { version = c.version_of-version.ensures; repeats = noted.0 }) ∙ c.in_default.is } in
     let added = c.in_ok-add.ensures.items in record {
-      sids = let P : List (List ℕ) → Type 0 = λ sids. HasSids c.note_sid.new.sids sids in subst P (sym (filter_map-next sid_of (statements_in d) i s at)) noted.1;
+      sids = let P : List (List ℕ) → Type 0 = λ sids. HasSids c.note_sid.new.sids sids in subst P (sym (filter_map_next sid_of (statements_in d) i s at)) noted.1;
       clean = faultless_more c.args.kind d i s c.loop-number.invariant.clean at clean;
       read =
           let P : List StatementValue → Type 0 = λ ys. AllZip (ReadsStatement (version_of d)) (take (i + 1) (statements_in d)) ys in

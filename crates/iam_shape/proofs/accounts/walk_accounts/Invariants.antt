@@ -1,7 +1,7 @@
 use Rattle.std.proofs.Common.{◌≡◌, length, map, take, drop}
 use Rattle.std.specs.List.{AllZip}
 use Rattle.serde_json.specs.View.{view}
-use Rattle.iam_shape.specs.Texts.{HasTexts}
+use Rattle.iam_shape.specs.Texts.{AreFirstPlaces}
 use Rattle.iam_shape.specs.Lent.{account_of}
 use Rattle.iam_shape.specs.Shape.{all_account_checks, each, first_bad, nth_account_checks}
 use Rattle.iam_shape.specs.View.{IsAccountView}
@@ -14,5 +14,5 @@ invariant-loop-i l = record {
   left : first_bad (all_account_checks (map view l.accounts))
       ≡ first_bad (each (nth_account_checks (map view l.accounts)) l.i (map view (drop l.i l.accounts)));
   said : AllZip IsAccountView (map view (take l.i l.accounts)) (map account_of l.views.items);
-  known : HasTexts l.ids (map (λ account. account.id) (map account_of l.views.items));
+  known : AreFirstPlaces l.ids (map (λ account. account.id) (map account_of l.views.items));
 }

@@ -6,8 +6,8 @@ use Rattle.iam_shape.specs.Lent.{principal_of, resource_of}
 use Rattle.iam_shape.specs.Shape.{shape_checks}
 use Rattle.iam_shape.specs.View.{IsPrincipalView, IsResourceView}
 use Rattle.iam_shape.specs.declared.path.Name.TheVariants.{Principals, Actions, Resources}
-use Rattle.iam_shape.proofs.Stages.{accounts, principals, actions, resources, in_head, in_accounts, in_principals, in_actions, in_resources, past_resources, list_of-map}
-use Rattle.iam_shape.proofs.Walks.{shape_fault-from}
+use Rattle.iam_shape.proofs.Stages.{accounts, principals, actions, resources, in_head, in_accounts, in_principals, in_actions, in_resources, past_resources, list_of_map}
+use Rattle.iam_shape.proofs.Walks.{shape_fault_from}
 use Rattle.iam_shape.proofs.shape.walk.Goals as goal
 
 pub returns-in_err-moment-clause-path : goal.returns-in_err-moment-clause-path
@@ -22,7 +22,7 @@ returns-in_err-accounts-clause-path c =
     rw (p.1, p.2)
     (
     λ other.
-    shape_fault-from (accounts d) (shape_checks d) (in_accounts d c.in_ok-moment.ensures.0) c.in_err-accounts.field-0.0
+    shape_fault_from (accounts d) (shape_checks d) (in_accounts d c.in_ok-moment.ensures.0) c.in_err-accounts.field-0.0
     (c.in_err-accounts.ensures.path other)
     )
 
@@ -33,7 +33,7 @@ returns-in_err-principals-clause-path c =
     rw (p.1, p.2)
     (
     λ other.
-    shape_fault-from (principals d) (shape_checks d) (in_principals d c.in_ok-moment.ensures.0 c.in_ok-accounts.ensures.ok.0)
+    shape_fault_from (principals d) (shape_checks d) (in_principals d c.in_ok-moment.ensures.0 c.in_ok-accounts.ensures.ok.0)
     c.in_err-principals.field-0.0 (c.in_err-principals.ensures.path other)
     )
 
@@ -44,7 +44,7 @@ returns-in_err-actions-clause-path c =
     rw (p.1, p.2)
     (
     λ other.
-    shape_fault-from (actions d) (shape_checks d)
+    shape_fault_from (actions d) (shape_checks d)
     (in_actions d c.in_ok-moment.ensures.0 c.in_ok-accounts.ensures.ok.0 c.in_ok-principals.ensures.ok.0) c.in_err-actions.field-0.0
     (c.in_err-actions.ensures.path other)
     )
@@ -56,7 +56,7 @@ returns-in_err-resources-clause-path c =
     rw (p.1, p.2)
     (
     λ other.
-    shape_fault-from (resources d) (shape_checks d)
+    shape_fault_from (resources d) (shape_checks d)
     (in_resources d c.in_ok-moment.ensures.0 c.in_ok-accounts.ensures.ok.0 c.in_ok-principals.ensures.ok.0 c.in_ok-actions.ensures.ok.0)
     c.in_err-resources.field-0.0 (c.in_err-resources.ensures.path other)
     )
@@ -81,9 +81,9 @@ returns-clause-ok c =
       record {
         moment = c.in_ok-moment.ensures.1.0;
         accounts = c.in_ok-accounts.ensures.ok.1;
-        principals = list_of-map IsPrincipalView principal_of Principals d c.in_ok-principals.principals.items c.in_ok-principals.ensures.ok.1;
-        actions = list_of-map (λ action text. as_str action ≡ Some text) (λ text. text.now) Actions d c.in_ok-actions.actions.items c.in_ok-actions.ensures.ok.1;
-        resources = list_of-map IsResourceView resource_of Resources d c.in_ok-resources.resources.items c.in_ok-resources.ensures.ok.1;
+        principals = list_of_map IsPrincipalView principal_of Principals d c.in_ok-principals.principals.items c.in_ok-principals.ensures.ok.1;
+        actions = list_of_map (λ action text. as_str action ≡ Some text) (λ text. text.now) Actions d c.in_ok-actions.actions.items c.in_ok-actions.ensures.ok.1;
+        resources = list_of_map IsResourceView resource_of Resources d c.in_ok-resources.resources.items c.in_ok-resources.ensures.ok.1;
         context = c.in_ok-context.ensures.1;
       },
     )

@@ -1,5 +1,5 @@
 use Rattle.std.proofs.Common.{List, ℕ}
-use Rattle.iam_value.specs.Groups.{IsFilled}
+use Rattle.iam_value.specs.Code.Groups.{IsFilled}
 use Rattle.iam_value.proofs.Colons.{colon_reading}
 use Rattle.iam_value.proofs.addresses.closed.Goals as goal
 

@@ -6,7 +6,7 @@ use Rattle.std.specs.Prelude.{unsigned_abs}
 use Rattle.std.proofs.lemmas.Int.{ints, to_z-of_z}
 use Rattle.jiff_core.specs.Calendar.{IsCivilDate, days_from_civil}
 use Rattle.jiff_core.proofs.DateLemmas.{civil}
-use Rattle.iam_value.proofs.Years.{year_fits, year_since, pos-unsigned_abs}
+use Rattle.iam_value.proofs.Years.{year_fits, year_since, pos_unsigned_abs}
 use Rattle.iam_value.proofs.dates.date_after.Goals as goal
 
 number : (c : goal.After-struct_told-1) → days_from_civil c.from_days_since_min-date.result.year c.from_days_since_min-date.result.month c.from_days_since_min-date.result.day ≡ pos c.args.days
@@ -29,5 +29,5 @@ returns c =
     let low = since c in
     let range = (civil d).0 in
     let fits : FitsSigned w16 d.year = omega (arith, ints) in
-    let same = ap (λ (y : ℤ). pos (unsigned_abs y)) (to_z-of_z w16 d.year fits) ∙ pos-unsigned_abs d.year (omega (arith, ints)) in
+    let same = ap (λ (y : ℤ). pos (unsigned_abs y)) (to_z-of_z w16 d.year fits) ∙ pos_unsigned_abs d.year (omega (arith, ints)) in
     subst (λ (y : ℤ). IsCivilDate y d.month d.day × (pos c.args.days ≡ days_from_civil y d.month d.day)) (sym same) (civil d, sym (number c))

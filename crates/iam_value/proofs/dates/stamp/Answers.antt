@@ -6,7 +6,7 @@ use Rattle.std.specs.Fmt.{styled_decimal}
 use Rattle.std.proofs.lemmas.Int.{ints, to_z-of_z}
 use mir.Val.{to_z, of_z}
 use Rattle.jiff_core.proofs.CalendarLemmas.{days_in_month_bounds}
-use Rattle.iam_value.proofs.Years.{pos-unsigned_abs}
+use Rattle.iam_value.proofs.Years.{pos_unsigned_abs}
 use Rattle.iam_value.proofs.Stamps.{two_shown, four_shown, stamped, stamp_is_moment}
 use Rattle.iam_value.proofs.dates.stamp.Goals as goal
 
@@ -17,7 +17,7 @@ returns-clause-written c = IfOk-weaker c.format.result _ _ (λ s text.
     let month = c.date_after-year.result.1 in
     let day = c.date_after-year.result.2 in
     let fits : FitsSigned w64 c.args.seconds = c.ranges.seconds in
-    let is = pos-unsigned_abs (to_z w64 (of_z w64 c.args.seconds)) (omega (arith, ints)) in
+    let is = pos_unsigned_abs (to_z w64 (of_z w64 c.args.seconds)) (omega (arith, ints)) in
     let known : string_bytes s ≡ styled_decimal c.laid_out.result year ++ (codes "-" ++ (styled_decimal c.laid_out-2.result month ++ (codes "-" ++ (styled_decimal c.laid_out-3.result day ++ (codes "T" ++ (styled_decimal c.laid_out-4.result (n / 3_600 % 24) ++ (codes ":" ++ (styled_decimal c.laid_out-5.result (n / 60 % 60) ++ (codes ":" ++ (styled_decimal c.laid_out-6.result (n % 60) ++ codes "Z")))))))))) = text in
     let date = c.date_after-year.ensures in
     let year_small : year < 10_000 = omega (arith, ints, date.0.0) in

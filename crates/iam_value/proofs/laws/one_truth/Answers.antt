@@ -1,8 +1,8 @@
 use Rattle.std.proofs.Common.{◌≡◌, ◌∙◌, Bool, true, false, refl, sym}
-use Rattle.iam_value.specs.Truth.{name_of}
+use Rattle.iam_value.specs.Truth.{truth_name}
 use Rattle.iam_value.proofs.laws.one_truth.Goals as goal
 
-same_name : (a b : Bool) → name_of a ≡ name_of b → a ≡ b
+same_name : (a b : Bool) → truth_name a ≡ truth_name b → a ≡ b
 same_name true true e = refl
 same_name false false e = refl
 same_name true false e = cc

@@ -3,7 +3,7 @@ use Rattle.std.proofs.lemmas.List.{length_push, length-map}
 use Rattle.std.proofs.lemmas.List.Elements.{All-pop}
 use lib.ListN.{get_elem?}
 use Rattle.crossbeam_deque.specs.Handles.{worker_deque}
-use Rattle.iam_work.specs.MarkRule.{empty_view, one_seat, without_seat}
+use Rattle.iam_work.specs.Code.MarkRule.{empty_view, one_seat, without_seat}
 use Rattle.iam_work.specs.Work.{WorkId, SeatView, fresh, work_id}
 use Rattle.iam_work.specs.Code.Fields.{RunPass, pass_deque, IsUnused, IsNew, IsBundle}
 use Rattle.iam_work.proofs.Lists.{at_middle, last_over, same_length, count_down}

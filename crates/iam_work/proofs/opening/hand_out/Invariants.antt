@@ -1,7 +1,7 @@
 use Rattle.std.proofs.Common.{◌≡◌, ℕ, ◌-◌, ◌≤◌, List, [], ◌++◌, map, vec_len, reverse, All, Global}
 use Rattle.std.specs.List.{range_with_len}
 use Rattle.crossbeam_deque.specs.Handles.{worker_deque}
-use Rattle.iam_work.specs.MarkRule.{empty_view}
+use Rattle.iam_work.specs.Code.MarkRule.{empty_view}
 use Rattle.iam_work.specs.Work.{fresh, work_id}
 use Rattle.iam_work.specs.Code.Fields.{IsUnused, IsBundle}
 use Rattle.iam_work.proofs.opening.hand_out.Given as goal

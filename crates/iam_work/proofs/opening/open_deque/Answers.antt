@@ -2,7 +2,7 @@ use Rattle.std.proofs.Common.{[], ◌∷◌, ◌∙◌, ◌<◌, ap, arith}
 use Rattle.crossbeam_deque.specs.Handles.{worker_port, worker_view}
 use Rattle.iam_work.specs.declared.view.DequeView.{DequeView}
 use Rattle.iam_work.proofs.Deques.{tells, clears, finds_none, emptied}
-use Rattle.iam_work.specs.RunRule.{told}
+use Rattle.iam_work.specs.Code.RunRule.{told}
 use Rattle.iam_work.proofs.opening.open_deque.Goals as goal
 
 pub push_as-requires-clause-pushes : goal.push_as-requires-clause-pushes

@@ -3,7 +3,7 @@ use Rattle.std.proofs.Math.Seq.{map-set_same}
 use Rattle.std.proofs.lemmas.List.Elements.{All-set, All-push, All-same, All-get_or}
 use Rattle.crossbeam_deque.specs.Handles.{worker_deque, worker_port, worker_view}
 use Rattle.iam_work.specs.declared.view.DequeView.{DequeView}
-use Rattle.iam_work.specs.RunRule.{idle_view}
+use Rattle.iam_work.specs.Code.RunRule.{idle_view}
 use Rattle.iam_work.specs.Code.Fields.{pass_deque, IsUnused, IsNew}
 use Rattle.iam_work.proofs.Lists.{map_next_set}
 use Rattle.iam_work.proofs.Deques.{shares}

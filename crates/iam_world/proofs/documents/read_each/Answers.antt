@@ -1,7 +1,7 @@
 use Rattle.std.proofs.Common.{take}
 use Rattle.std.proofs.lemmas.Result.{err_from_is_err_and}
 use Rattle.iam_world.specs.WorldFault.{of_each}
-use Rattle.iam_world.proofs.DocumentLemmas.{cleared-append, cleared-nil, each-next, each_refused}
+use Rattle.iam_world.proofs.DocumentLemmas.{cleared_append, cleared_nil, each_next, each_refused}
 use Rattle.iam_world.proofs.Walks.{zip_whole}
 use Rattle.iam_world.proofs.documents.read_each.Goals as goal
 
@@ -16,7 +16,7 @@ returns-in_err-read-clause-fault g c =
     )
 
 pub loop-i-init : goal.loop-i-init
-loop-i-init g c = record { read = rw c.new-read.ensures.items tt; cleared = cleared-nil c.args.budget.now }
+loop-i-init g c = record { read = rw c.new-read.ensures.items tt; cleared = cleared_nil c.args.budget.now }
 
 pub loop-i-preserved : goal.loop-i-preserved
 loop-i-preserved g c =
@@ -30,7 +30,7 @@ loop-i-preserved g c =
           (zip_whole (g.L.Reader.reads c.args.layer.now) list i x c.loop-i.read.items c.in_ok-read.field-0 c.loop-i-test.true c.index-list-i.is c.loop-i.invariant.read
           c.in_ok-read.ensures.ok);
       cleared =
-          rw (each-next docs list i x c.loop-i-test.true c.index-list-i.is)
-          (cleared-append (of_each docs 0 (take i list)) (docs i x) c.args.budget.now c.loop-i.budget c.read.new.budget c.loop-i.invariant.cleared
+          rw (each_next docs list i x c.loop-i-test.true c.index-list-i.is)
+          (cleared_append (of_each docs 0 (take i list)) (docs i x) c.args.budget.now c.loop-i.budget c.read.new.budget c.loop-i.invariant.cleared
           c.in_ok-read.ensures.cleared);
     }

@@ -4,8 +4,7 @@ use Rattle.iam_shape.specs.First.{with_paths}
 use Rattle.iam_shape.specs.declared.path.Name.TheVariants.{Context}
 use Rattle.iam_shape.specs.declared.path.Path.TheVariants.{Field}
 use Rattle.iam_world_context.specs.Clean.{AreClean}
-use Rattle.iam_world_context.specs.Code.Contexts.{IsFaultyAmong}
-use Rattle.iam_world_context.specs.Contexts.{parts_of}
+use Rattle.iam_world_context.specs.Contexts.{IsFaultyAmong, parts_of}
 use Rattle.iam_world_context.specs.declared.fault.PartFault.{PartFault}
 use Rattle.iam_world_context.proofs.PartLemmas.{beside}
 use Rattle.iam_world_context.proofs.contexts.check_parts.Given as goal

@@ -7,7 +7,7 @@ use Rattle.iam_decision.specs.Living.{AreActs, LivingValue, living_value}
 use Rattle.iam_decision.specs.declared.living.Living.{Living}
 use Rattle.iam_layers.specs.Cell.{IsAction}
 use Rattle.iam_world.specs.World.{WorldValue}
-use Rattle.iam_engine.specs.Elements.{AreElements, AreRows, HasElement}
+use Rattle.iam_engine.specs.Elements.{AreElements, AreElementNumbers, HasElement}
 use Rattle.iam_engine.specs.Slots.{Keeps}
 use Rattle.iam_engine.proofs.ElementLemmas.{acts-more}
 use Rattle.iam_engine.proofs.ListLemmas.{if-some}
@@ -33,7 +33,7 @@ loop-i-preserved c =
     let count : length (acts ++ act ∷ []) ≡ i + 1 = length-append acts (act ∷ []) ∙ ap (λ n. n + 1) c.loop-i.invariant.0 in
     let P : List Bool → Type 0 = λ items.
     (length items ≡ i + 1)
-    × ((world : WorldValue) → AreElements world elements → AreRows elements xs c.args.rows.now → IsAction world c.args.a text → AreActs text xs items) in
+    × ((world : WorldValue) → AreElements world elements → AreElementNumbers elements xs c.args.rows.now → IsAction world c.args.a text → AreActs text xs items) in
     subst P (sym c.in_ok-push.ensures.items) (
       count,
       λ world right rows asked.

@@ -3,7 +3,7 @@ use Rattle.std.proofs.lemmas.List.{get_or-map, length-append, length-map}
 use Rattle.std.proofs.lemmas.Option.{slice_get-get_or}
 use Rattle.std.specs.List.{slice_get}
 use Rattle.iam_decision.specs.Living.{LivingValue, living_value}
-use Rattle.iam_engine.specs.Elements.{AreRows}
+use Rattle.iam_engine.specs.Elements.{AreElementNumbers}
 use Rattle.iam_engine.specs.declared.elements.Element.{Element}
 use Rattle.iam_engine.proofs.ElementLemmas.{rows-grow, rows-more}
 use Rattle.iam_engine.proofs.elements.Elements.rows.Goals as goal
@@ -28,8 +28,8 @@ loop-statement-preserved c =
     let is = ap living_value c.statement-item.is ∙ sym (get_or-map living_value living i y x inside) in
     let at : slice_get xs i ≡ Some x = slice_get-get_or xs i x below ∙ ap Some (sym is) in
     let here : slice_get xs (length rows) ≡ Some x = ap (slice_get xs) count ∙ at in
-    let E : List Element → Type 0 = λ elements. AreRows elements xs rows in
-    let P : List (Option ℕ) → Type 0 = λ items. (length items ≡ i + 1) × AreRows after xs items in
+    let E : List Element → Type 0 = λ elements. AreElementNumbers elements xs rows in
+    let P : List (Option ℕ) → Type 0 = λ items. (length items ≡ i + 1) × AreElementNumbers after xs items in
     let number : length (rows ++ row ∷ []) ≡ i + 1 = length-append rows (row ∷ []) ∙ ap (λ n. n + 1) count in
     let all = rows-more after xs rows x row here c.in_ok-number.ensures.number (subst E (sym grows) (rows-grow before further xs rows are)) in
     let both = subst P (sym c.in_ok-push.ensures.items) (number, all) in (

@@ -1,7 +1,7 @@
 use Rattle.std.proofs.Common.{◌≡◌, ℕ, List, [], ◌∷◌, ◌++◌, Some, length, refl, sym, subst, arith}
 use Rattle.std.specs.List.{slice_get}
 use Rattle.iam_decision.specs.Living.{LivingValue}
-use Rattle.iam_engine.specs.Elements.{AreRows}
+use Rattle.iam_engine.specs.Elements.{AreElementNumbers}
 use Rattle.iam_engine.specs.Memo.{AreAnswers, ArePairs, HasShared, HaveRows}
 use Rattle.iam_engine.specs.declared.elements.Element.{Element}
 use Rattle.iam_engine.specs.declared.memo.Class.{Class}
@@ -32,7 +32,7 @@ returns-clause-right c = λ right.
     let Q : List Class → Type 0 = λ classes. AreAnswers world classes memo.rulings.items memo.answers.items in
     let R : List Class → Type 0 = λ classes. HaveRows elements classes in
     let H : List Element → Type 0 = λ e. HaveRows e memo.classes.items in
-    let L : List LivingValue → Type 0 = λ living. AreRows elements living class.rows.items in
+    let L : List LivingValue → Type 0 = λ living. AreElementNumbers elements living class.rows.items in
     let before = subst H (sym grown) (class-rows-grow memo.elements.elements.items more memo.classes.items right.rows) in
     let own = subst L c.living.ensures c.in_ok-rows.ensures.rows in
     record {

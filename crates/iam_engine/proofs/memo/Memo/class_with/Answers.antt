@@ -2,7 +2,7 @@ use Rattle.std.proofs.Common.{sym, subst}
 use Rattle.iam_decision.specs.Living.{SharedValue}
 use Rattle.iam_layers.specs.Cell.{IsSharedAt}
 use Rattle.iam_engine.specs.Memo.{HasClass}
-use Rattle.iam_engine.specs.Slots.{Gains}
+use Rattle.iam_engine.specs.Slots.{GainsOnly}
 use Rattle.iam_engine.specs.declared.memo.Pair.{Pair}
 use Rattle.iam_engine.proofs.SlotLemmas.{all-gained}
 use Rattle.iam_engine.proofs.memo.Memo.class_with.Goals as goal
@@ -24,7 +24,7 @@ returns-in-Some-clause-right c = λ right shared.
     let memo = c.class_sharing.new.self in
     let fine = c.class_sharing.ensures.right right in
     let pair : Pair = record { principal = c.args.p; resource = c.args.r; class = c.in_ok-class.class } in
-    let gains : Gains memo.pairs.items c.keep.new.slots.items pair = subst (Gains memo.pairs.items c.keep.new.slots.items) c.in-Some.ensures c.keep.ensures in
+    let gains : GainsOnly memo.pairs.items c.keep.new.slots.items pair = subst (GainsOnly memo.pairs.items c.keep.new.slots.items) c.in-Some.ensures c.keep.ensures in
     let P : Pair → Type 0 = λ p. HasClass world memo.classes.items p.principal p.resource p.class in
     record {
       pairs = all-gained P memo.pairs.items c.keep.new.slots.items pair gains fine.pairs (of-class c shared);

@@ -1,8 +1,8 @@
 use Rattle.std.proofs.Common.{◌≡◌, ℕ, ◌+◌, ◌<◌, ◌≤◌, [], ◌∷◌, length, get_or, ap, ◌∙◌, subst, arith}
 use Rattle.std.specs.Mem.Slots.{slots_items}
-use Rattle.iam_lanes.specs.LaneRule.{no_cell, LaneRule}
+use Rattle.iam_lanes.specs.Code.LaneRule.{LaneRule}
 use Rattle.iam_lanes.specs.Code.Words.{state_of}
-use Rattle.iam_lanes.specs.Lanes.{offers_by}
+use Rattle.iam_lanes.specs.Lanes.{offers_by, no_cell}
 use Rattle.iam_lanes.specs.Code.Closing.{passed_below}
 use Rattle.iam_lanes.proofs.Calls.{some_at, some_if, none_at, none_below}
 use Rattle.iam_lanes.proofs.Closing.{known, once, inside, every, ended, looked, word_is, bound_offered, bound_below, bound_proper}

@@ -1,5 +1,5 @@
 use Rattle.std.proofs.Common.{◌≡◌, ℕ, ◌+◌, ◌<◌, ◌≤◌, arith}
-use Rattle.iam_lanes.specs.LaneRule.{no_cell, times}
+use Rattle.iam_lanes.specs.Lanes.{no_cell, times}
 use Rattle.iam_lanes.proofs.Calls.{allows_look, same_lanes, look_least, some_at, none_at, none_below}
 use Rattle.iam_lanes.proofs.lanes.Lanes.low.Goals as goal
 use Rattle.iam_lanes.proofs.lanes.Lanes.low.Goals.{After-load-found}

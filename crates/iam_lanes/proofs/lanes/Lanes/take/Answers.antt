@@ -1,8 +1,8 @@
 use Rattle.std.proofs.Common.{◌≡◌, ℕ, ◌<◌, ◌≤◌, false, length, get_or, ltb, refl, sym, ap, ◌∙◌, subst, arith}
 use Rattle.std.proofs.lemmas.List.{get_or_read}
-use Rattle.iam_lanes.specs.LaneRule.{times, times_taken, with_number, with_end}
+use Rattle.iam_lanes.specs.Code.LaneRule.{with_number, with_end}
 use Rattle.iam_lanes.specs.Code.Words.{FindsCount}
-use Rattle.iam_lanes.specs.Lanes.{LanesId, left_in, gains_number}
+use Rattle.iam_lanes.specs.Lanes.{LanesId, left_in, gains_number, times, times_taken}
 use Rattle.iam_lanes.specs.Code.Fields.{seat_view}
 use Rattle.iam_lanes.proofs.Calls.{allows_take, same_lanes, unflagged, takes_number, takes_end, nearer, flags_set, shows_number}
 use Rattle.iam_lanes.proofs.lanes.Lanes.take.Goals as goal

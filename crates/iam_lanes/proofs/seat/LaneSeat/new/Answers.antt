@@ -1,5 +1,5 @@
 use Rattle.std.proofs.Common.{nat_lt, ap, ◌∙◌, sym}
-use Rattle.iam_lanes.specs.LaneRule.{times}
+use Rattle.iam_lanes.specs.Lanes.{times}
 use Rattle.iam_lanes.proofs.Counts.{no_flags}
 use Rattle.iam_lanes.proofs.seat.LaneSeat.new.Goals as goal
 

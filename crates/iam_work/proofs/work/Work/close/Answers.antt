@@ -1,7 +1,7 @@
 use Rattle.std.proofs.Common.{[], ◌∷◌, map, ap, ◌∙◌, arith}
 use Rattle.std.specs.Mem.Slots.{slots_items}
 use Rattle.crossbeam_deque.specs.Handles.{stealer_deque}
-use Rattle.iam_work.specs.MarkRule.{MarkRule}
+use Rattle.iam_work.specs.Code.MarkRule.{MarkRule}
 use Rattle.iam_work.specs.Code.Words.{state_of}
 use Rattle.iam_work.specs.Code.Closing.{set_below}
 use Rattle.iam_work.proofs.Closing.{known, once, inside, found, counted}

@@ -1,7 +1,6 @@
 use Rattle.std.proofs.Common.{ap, subst, sym, ◌∙◌}
 use Rattle.crossbeam_deque.specs.Handles.{worker_port, worker_view}
-use Rattle.iam_work.specs.Work.{WorkId}
-use Rattle.iam_work.specs.RunRule.{IsWithin}
+use Rattle.iam_work.specs.Work.{WorkId, IsWithin}
 use Rattle.iam_work.proofs.Deques.{pushes}
 use Rattle.iam_work.proofs.work.Work.push.Goals as goal
 

@@ -2,8 +2,7 @@ use Rattle.std.proofs.Common.{◌≡◌, ◌<◌, List, length, map, set, sym, a
 use lib.ListN.{get_elem?}
 use Rattle.crossbeam_deque.specs.Handles.{SamePass, stealer_deque, view, worker_view}
 use Rattle.iam_work.specs.declared.run.Run.{Run}
-use Rattle.iam_work.specs.RunRule.{IsWithin}
-use Rattle.iam_work.specs.Work.{WorkId, SeatView, work_id, gains_stolen}
+use Rattle.iam_work.specs.Work.{WorkId, SeatView, work_id, gains_stolen, IsWithin}
 use Rattle.iam_work.specs.Code.Fields.{RunPass, pass_deque, pass_taken, seat_view}
 use Rattle.iam_work.proofs.Lists.{same_at, same_length}
 use Rattle.iam_work.proofs.Deques.{takes}

@@ -3,14 +3,14 @@ use Rattle.serde_json.specs.View.{view}
 use Rattle.iam_policy.specs.Fault.{statements_in}
 use Rattle.iam_world.specs.Code.Budget.{Leaves}
 use Rattle.iam_world.specs.Code.Documents.{document_at}
-use Rattle.iam_world.proofs.Walks.{zip-length}
+use Rattle.iam_world.proofs.Walks.{zip_length}
 use Rattle.iam_world.proofs.documents.DocumentsReaderValue.read.Goals as goal
 
 pub returns-in-Ok-clause-cleared : goal.returns-in-Ok-clause-cleared
 returns-in-Ok-clause-cleared c =
     let reads = c.in-Ok.ensures.ok in
     let d = view c.args.document.now in
-    let many : length (statements_in d) ≡ length c.in-Ok.policy.statements = zip-length _ _ c.in-Ok.policy.statements reads.statements in
+    let many : length (statements_in d) ≡ length c.in-Ok.policy.statements = zip_length _ _ c.in-Ok.policy.statements reads.statements in
     let lent : length c.statements.result.now ≡ length c.in-Ok.policy.statements = ap length c.statements.ensures.value in
     record {
       accepted = ((λ off. off reads.accepted), tt);

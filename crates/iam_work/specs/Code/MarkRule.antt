@@ -1,13 +1,9 @@
 -- The marks of grains as plain data: their state, what a mark does to it, and the rule that holds between any two marks.
--- LOGIC 11.7.
-use Rattle.std.specs.Prelude.{◌≡◌, ℕ, ◌+◌, ◌-◌, ◌<◌, ◌≤◌, ◌==◌, if◌then◌else◌, List, [], ◌∷◌, ◌++◌, slice_set, sum_by, count_by}
+use Rattle.std.specs.Prelude.{◌≡◌, ℕ, ◌+◌, ◌-◌, ◌<◌, ◌≤◌, ◌==◌, if◌then◌else◌, List, [], ◌∷◌, ◌++◌, slice_set, sum_by}
 use mathlib.Core.Option.{some}
 use lib.ListN.{get_elem?}
 use Rattle.iam_work.specs.declared.view.MarkView.{MarkView}
-
--- how often x stands in a list
-abbrev pub times : ℕ → List ℕ → ℕ
-times x xs = count_by (λ y. x == y) xs
+use Rattle.iam_work.specs.Work.{times}
 
 -- the state of marks: the bit of each grain, 1 where it is set, and a view for each seat
 pub record MarkState : Type 0 where
@@ -67,8 +63,8 @@ pub record MarkRule (grains all : ℕ) (s : MarkState) : Type 0 where
   pub seats : SeatsAddUp all s
 
 -- two views as one: seats added, lists one after the other
-abbrev pub joined : MarkView → MarkView → MarkView
-joined v w = record v { seats = v.seats + w.seats; marked = v.marked ++ w.marked; found = v.found ++ w.found }
+abbrev pub joined_view : MarkView → MarkView → MarkView
+joined_view v w = record v { seats = v.seats + w.seats; marked = v.marked ++ w.marked; found = v.found ++ w.found }
 
 -- an empty view in which so many seats stand
 abbrev pub empty_view : ℕ → ℕ → ℕ → MarkView

@@ -1,21 +1,9 @@
 -- Shared lanes as plain data: their state, what each event does to it, and the rule that holds between any two events.
--- LOGIC 11.7.
-use Rattle.std.specs.Prelude.{◌≡◌, ℕ, ◌+◌, ◌-◌, ◌<◌, ◌≤◌, ◌==◌, ◌&&◌, nat_lt, min, if◌then◌else◌, List, [], ◌∷◌, ◌++◌, slice_index, slice_set, sum_by, count_by}
+use Rattle.std.specs.Prelude.{◌≡◌, ℕ, ◌+◌, ◌-◌, ◌<◌, ◌≤◌, ◌==◌, nat_lt, min, if◌then◌else◌, List, [], ◌∷◌, ◌++◌, slice_index, slice_set, sum_by}
 use mathlib.Core.Option.{some}
 use lib.ListN.{get_elem?}
 use Rattle.iam_lanes.specs.declared.view.LaneView.{LaneView}
-
--- the bound while no cell was offered
-abbrev pub no_cell : ℕ
-no_cell = 18446744073709551615
-
--- how often x stands in a list
-abbrev pub times : ℕ → List ℕ → ℕ
-times x xs = count_by (λ y. x == y) xs
-
--- how often the number n of a lane stands in a list of numbers with their lanes
-abbrev pub times_taken : ℕ → ℕ → List (ℕ × ℕ) → ℕ
-times_taken lane n pairs = count_by (λ p. (lane == p.0) && (n == p.1)) pairs
+use Rattle.iam_lanes.specs.Lanes.{no_cell, times, times_taken}
 
 -- the state of lanes: for each lane the count of its takes, the bound, and a view for each seat
 pub record LaneState : Type 0 where
@@ -119,8 +107,8 @@ pub record LaneRule (lengths : List ℕ) (all : ℕ) (s : LaneState) : Type 0 wh
   pub looks : (cell : ℕ) → cell < no_cell → 0 < looks_in cell s → 0 < offers_in cell s
 
 -- two views as one: seats added, lists one after the other
-abbrev pub joined : LaneView → LaneView → LaneView
-joined v w = record v {
+abbrev pub joined_view : LaneView → LaneView → LaneView
+joined_view v w = record v {
   seats = v.seats + w.seats;
   taken = v.taken ++ w.taken;
   ends = v.ends ++ w.ends;

@@ -1,4 +1,4 @@
--- What the reader of an IPv6 address knows on its way: after `count` groups, whose number is `number`. LOGIC 8.5.
+-- What the reader of an IPv6 address knows on its way, beside `Address`: after `count` groups, whose number is `number`.
 use Rattle.std.specs.Prelude.{◌≡◌, ℕ, ◌+◌, ◌≤◌, List, ◌∷◌, ◌++◌, length, replicate}
 use Rattle.iam_value.specs.Address.{IsOne, IsOneOrPair, IsJoined, IsSide, number_after}
 

@@ -1,13 +1,10 @@
--- The rule of a deque of runs, and what a call on it does to a view. LOGIC 11.7.
-use Rattle.std.specs.Prelude.{◌≡◌, ℕ, ◌+◌, ◌<◌, ◌≤◌, Bool, true, false, List, [], ◌∷◌, ◌++◌, length, drop, All}
+-- The rule of a deque of runs, and what a call on it does to a view.
+use Rattle.std.specs.Prelude.{◌≡◌, ℕ, ◌+◌, Bool, true, false, List, [], ◌∷◌, ◌++◌, length, drop, All}
 use mathlib.Core.Option.{some}
 use lib.ListN.{get_elem?}
 use Rattle.iam_work.specs.declared.run.Run.{Run}
 use Rattle.iam_work.specs.declared.view.DequeView.{DequeView}
-
--- a run that is not empty, and lies within so many grains
-abbrev pub IsWithin : ℕ → Run → Type 0
-IsWithin grains run = (0 < run.count) × (run.first + run.count ≤ grains)
+use Rattle.iam_work.specs.Work.{IsWithin}
 
 -- The rule: the deque holds non-empty runs within the grains. Each pass knows how many grains there are, and where one of them is alone there is no other, and it
 -- knows what the deque holds
