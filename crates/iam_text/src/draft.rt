@@ -48,10 +48,23 @@ impl Model for Draft {
 }
 
 impl Draft {
-    ghost use Rattle.std.specs.Prelude.{◌≡◌, IfOk, IsTrue, map};
+    ghost use Rattle.std.specs.Prelude.{◌≡◌, IfOk, IsTrue, List, MatchOption, map};
     ghost use Rattle.std.specs.Str.{chars};
+    ghost use Rattle.iam_text.specs.declared.draft.Piece.{Piece};
     ghost use Rattle.iam_text.specs.Draft.{IsDraft, plain_draft, sign_of};
     ghost use Rattle.iam_text.specs.Variables.{is_draft};
+
+    /// The one draft of a text of version 2012-10-17, in which `*` and `?` are wildcards where `wild` says so; `None`
+    /// where some `${` begins none of `${*}`, `${?}`, `${$}`, `${key}` and `${key, 'default'}`.
+    pub fn read(alloc: Global, text: &str, wild: bool) -> Result<Option<Draft>, OutOfMemory>
+        ensures { IfOk result (λ found. MatchOption found ((pieces : List Piece) → ¬ IsDraft wild text.now pieces) (IsDraft wild text.now)) }
+    {
+        if has_draft(text, Version::V2012) {
+            Ok(Some(Draft::of(alloc, text, wild)?))
+        } else {
+            Ok(None)
+        }
+    }
 
     /// The one draft of a text of version 2012-10-17 that is on the grammar of variables; `*` and `?` are wildcards there
     /// where `wild` says so.
