@@ -126,7 +126,7 @@ pub fn is_plain(text: &str, version: Version) -> bool
 }
 
 /// Whether the text has a `$`, without which no variable begins.
-fn has_dollar(text: &[u8]) -> bool
+pub fn has_dollar(text: &[u8]) -> bool
     ensures { result ≡ list_any (λ c. c == 36) text.now }
 {
     text.contains(&b'$')

@@ -22,7 +22,7 @@ mod walk;
 pub use action::{is_action_pattern, is_wildcard};
 pub use arn::Arn;
 pub use characters::{is_account, is_label};
-pub use draft::{Draft, Piece, has_draft, has_forms_behind};
+pub use draft::{Draft, Piece, has_dollar, has_draft, has_forms_behind};
 pub use form::{Form, cut_form};
 pub use glob::Glob;
 pub use items::Items;
