@@ -1,25 +1,21 @@
 -- Reading the keys of a condition.
-use Rattle.std.proofs.Common.{◌≡◌, inl, inr, ℕ, pos, negsuc, suc, zero, ◌+◌, ◌<◌, ◌/◌, ◌%◌, List, [], ◌∷◌, ◌++◌, Bool, true, false, not, ◌&&◌, ◌||◌, ◌==◌, Option, Some, None, IsTrue, IsSome, is_some, MatchOption, codes, length, map, take, drop, get_or, refl, sym, ap, subst, ◌∙◌, arith, if◌then◌else◌}
+use Rattle.std.proofs.Common.{◌≡◌, inl, inr, ℕ, pos, negsuc, suc, zero, ◌+◌, ◌<◌, ◌/◌, ◌%◌, List, [], ◌∷◌, ◌++◌, Bool, true, false, not, ◌&&◌, ◌||◌, ◌==◌, Option, Some, None, IsTrue, IsSome, is_some, codes, length, map, take, drop, get_or, refl, sym, ap, subst, ◌∙◌, arith, if◌then◌else◌}
 use Rattle.std.specs.Fmt.{decimal, digit_glyph, digits, digits_onto}
 use Rattle.std.proofs.lemmas.List.{at_drop_more}
 use Rattle.std.specs.List.{AllByRecursion, AllZip, list_any}
-use Rattle.std.specs.Str.{IsUtf8}
 use Rattle.serde_json.specs.Data.{Data, null, boolean, number, string, array, object, unsigned, negative, float}
 use Rattle.serde_json.specs.Find.{as_str}
 use Rattle.iam_json.specs.Scalar.{scalar_text}
-use Rattle.iam_text.specs.declared.draft.Piece.{Piece}
 use Rattle.iam_text.specs.declared.version.Version.{Version}
 use Rattle.iam_text.specs.declared.version.Version.TheVariants.{V2012, V2008}
-use Rattle.iam_text.specs.Draft.{IsDraftIn}
 use Rattle.iam_text.specs.Variables.{is_draft, is_draft_in, is_draft_from, outside}
 use Rattle.iam_value.specs.Reading.{IsReading}
 use Rattle.iam_condition.specs.declared.operand.Operand.{Operand}
-use Rattle.iam_condition.specs.declared.operand.Operand.TheVariants as operand
 use Rattle.iam_condition.specs.declared.operator.Base.{Base}
 use Rattle.iam_condition.specs.Code.Reading.{IsFine, IsFineGiven, IsFineText}
 use Rattle.iam_condition.specs.Code.Values.{AnyOf}
 use Rattle.iam_condition.specs.Condition.{Given, HasBadValue, IsBadValue, given_in, has_bad_text, is_bad_text, values_under}
-use Rattle.iam_condition.specs.Operand.{IsOperand, IsTextOperand, IsValueOperand, has_texts, text_form}
+use Rattle.iam_condition.specs.Operand.{IsValueOperand, has_texts, text_form}
 use Rattle.iam_condition.proofs.ValueLemmas.{IsBadGiven, given_bad}
 
 -- the values of a list from i on: that at i, and the rest
@@ -44,23 +40,16 @@ passes : (b : Bool) → not b ≡ false → IsTrue b
 passes true is = refl
 passes false is = cc
 
--- a text that is on its grammars is read
-pub text_is_read : (version : Version) (base : Base) (text : List ℕ) (found : Option Operand) → IsUtf8 text
-    → ((version : Version) (wild : Bool) (t : List ℕ) → IsUtf8 t
-    → (IsTrue (is_draft_in version t) → (pieces : List Piece) × IsDraftIn version wild t pieces) × (((pieces : List Piece) × IsDraftIn version wild t pieces) → IsTrue (is_draft_in version t)))
-    → IsFineText version base text → IsReading found (IsOperand version base text) → IsSome found
-text_is_read version base text (Some value) utf8 tested fine reads = refl
-text_is_read version base text None utf8 tested fine reads = absurd (go (text_form base) reads fine.draft fine.on_grammar)
-  where
-    Is : Option Bool → Operand → Type 0
-    Is form value = MatchOption form (IsValueOperand base text value) (λ wild. IsTextOperand version wild text value)
+-- a text that is on its grammars has a draft where the operator reads texts
+pub fine_draft : (version : Version) (base : Base) (text : List ℕ) (wild : Bool) → text_form base ≡ Some wild → IsFineText version base text → IsTrue (is_draft_in version text)
+fine_draft version base text wild is fine =
+    passes (is_draft_in version text) (ap (λ form. is_some form && not (is_draft_in version text)) (sym is) ∙ fine.draft)
 
-    go : (form : Option Bool) → ((value : Operand) → ¬ Is form value) → (is_some form && not (is_draft_in version text)) ≡ false
-        → ¬ ((is_some form ≡ false) × ((value : Operand) → ¬ IsValueOperand base text value)) → ⊥
-    go None reads draft on_grammar = on_grammar (refl, reads)
-    go (Some wild) reads draft on_grammar =
-        let found = (tested version wild text utf8).0 (passes (is_draft_in version text) draft) in
-        reads (operand.Text found.0) (found.0, refl, found.1)
+-- and else a value
+pub fine_value : (version : Version) (base : Base) (text : List ℕ) (found : Option Operand) → text_form base ≡ None → IsFineText version base text
+    → IsReading found (IsValueOperand base text) → IsSome found
+fine_value version base text (Some value) is fine reads = refl
+fine_value version base text None is fine reads = absurd (fine.on_grammar (ap is_some is, reads))
 
 -- a digit is no `$`
 glyph_apart : (d : ℕ) → (digit_glyph false d == 36) ≡ false

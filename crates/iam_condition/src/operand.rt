@@ -2,10 +2,9 @@
 ghost use Rattle.std.specs.Prelude.{◌≡◌, IfOk};
 ghost use Rattle.iam_value.specs.Reading.{IsReading};
 ghost use Rattle.iam_condition.specs.Code.Operands.{IsAddressOperand, IsBytesOperand, IsDateOperand, IsNumberOperand, IsTruthOperand};
-ghost use Rattle.iam_condition.specs.Operand.{IsTextOperand};
 
 use crate::operator::{Base, TextTest};
-use iam_text::{Items, OutOfMemory, Template, Version};
+use iam_text::{Items, OutOfMemory, Template};
 use iam_value::{Range, bytes, moment, truth, whole};
 use std::alloc::Global;
 
@@ -29,22 +28,7 @@ pub enum Operand {
 impl Operand {
     ghost use Rattle.std.specs.Prelude.{IfOk};
     ghost use Rattle.iam_value.specs.Reading.{IsReading};
-    ghost use Rattle.iam_condition.specs.Operand.{IsOperand, IsValueOperand};
-
-    /// The value of a text under an operator, in a document of the version; `None` where the text has none.
-    pub(crate) fn read(
-        alloc: Global,
-        base: Base,
-        text: &str,
-        version: Version,
-    ) -> Result<Option<Operand>, OutOfMemory>
-        ensures { IfOk result (λ found. IsReading found (IsOperand version base text.now)) }
-    {
-        match base.text_form() {
-            Some(wild) => read_text(alloc, text, wild, version),
-            None => Operand::read_value(alloc, base, text),
-        }
-    }
+    ghost use Rattle.iam_condition.specs.Operand.{IsValueOperand};
 
     /// The value of a text under an operator whose values are no texts; `None` where the text has none.
     pub(crate) fn read_value(
@@ -70,7 +54,7 @@ impl Base {
     ghost use Rattle.iam_condition.specs.Operand.{has_texts, text_form};
 
     /// Where the values are texts that may hold variables: whether `*` and `?` are wildcards there.
-    fn text_form(self) -> Option<bool>
+    pub(crate) fn text_form(self) -> Option<bool>
         ensures { result ≡ text_form self }
     {
         match self {
@@ -102,21 +86,6 @@ impl TextTest {
         ensures { result ≡ is_wild self }
     {
         matches!(self, TextTest::Like)
-    }
-}
-
-/// A text, in which `*` and `?` are wildcards where `wild` says so.
-fn read_text(
-    alloc: Global,
-    text: &str,
-    wild: bool,
-    version: Version,
-) -> Result<Option<Operand>, OutOfMemory>
-    ensures { IfOk result (λ found. IsReading found (IsTextOperand version wild text.now)) }
-{
-    match Template::read(alloc, text, wild, version)? {
-        Some(template) => Ok(Some(Operand::Text(template))),
-        None => Ok(None),
     }
 }
 

@@ -13,7 +13,7 @@ use crate::names::operator_of;
 use crate::operand::Operand;
 use crate::operator::{Base, Operator};
 use iam_json::scalar_text;
-use iam_text::{OutOfMemory, Version, drafts_are_tested};
+use iam_text::{OutOfMemory, Template, Version};
 use serde_json::{Map, Value};
 use std::alloc::Global;
 
@@ -100,8 +100,10 @@ fn read_text(
     requires { IsFineText version base text.now }
     ensures { IfOk result (IsOperand version base text.now) }
 {
-    drafts_are_tested();
-    Ok(Operand::read(alloc, base, text, version)?.unwrap())
+    match base.text_form() {
+        Some(wild) => Ok(Operand::Text(Template::of(alloc, text, wild, version)?)),
+        None => Ok(Operand::read_value(alloc, base, text)?.unwrap()),
+    }
 }
 
 fn read_value(

@@ -1,14 +1,15 @@
 -- What stands before the first `${` of a text.
-use Rattle.std.proofs.Common.{◌≡◌, ℕ, List, [], ◌∷◌, ◌++◌, Bool, true, false, ◌==◌, ◌&&◌, ◌||◌, ◌≢◌, not, nat_lt, IsTrue, Some, None, refl, ap, ◌∙◌, arith, codes, eqb-true, cond, option_map}
+use Rattle.std.proofs.Common.{◌≡◌, ℕ, List, [], ◌∷◌, ◌++◌, Bool, true, false, ◌==◌, ◌&&◌, ◌||◌, ◌≢◌, not, nat_le, nat_lt, IsTrue, Some, None, refl, ap, ◌∙◌, arith, codes, eqb-true, cond, option_map}
+use Rattle.std.specs.List.{list_any}
 use Rattle.std.specs.Option.{option_map_or}
 use Rattle.std.proofs.lemmas.List.{append-nil}
 use Rattle.iam_element.specs.Grammar.{before_variable, has_early_variable, is_bad_variable}
 use Rattle.iam_text.specs.declared.version.Version.{Version}
 use Rattle.iam_text.specs.declared.version.Version.TheVariants.{V2012, V2008}
-use Rattle.iam_text.specs.Variables.{is_draft, is_draft_from, is_draft_in, opened}
+use Rattle.iam_text.specs.Variables.{is_draft, is_draft_from, is_draft_in, opened, outside, dollar}
 use Rattle.iam_text.specs.Arn.{colons}
-use Rattle.iam_text.specs.Code.Forms.{IsCutAtForm, NoneBegins}
-use Rattle.iam_element.proofs.ElementLemmas.{first_false}
+use Rattle.iam_text.specs.Stretches.{IsCutAtForm, NoneBegins}
+use Rattle.iam_element.proofs.ElementLemmas.{first_false, second_false}
 
 -- a text whose first two characters are the sign, or are not
 sign-here : (c d : ℕ) (text : List ℕ) → (c == 36 && d == 123) ≡ true → c ∷ (d ∷ text) ≡ codes "${" ++ text
@@ -63,6 +64,30 @@ cut-bad text front inside (joined, none) same =
 pub turned : (b : Bool) → not b ≡ false → b ≡ true
 turned true e = cc
 turned false e = cc
+
+-- a text without `$` has no variable
+pub dollar-bad : (text : List ℕ) → list_any (λ c. c == 36) text ≡ false → (not (is_draft text) || has_early_variable text) ≡ false
+dollar-bad text none = ap (λ b. not b || has_early_variable text) (passes text none) ∙ ap (λ o. option_map_or (λ front. nat_lt (colons front) 5) o false) (before text none)
+  where
+    passes : (t : List ℕ) → list_any (λ c. c == 36) t ≡ false → is_draft t ≡ true
+    passes [] off = refl
+    passes (c ∷ t) off =
+        ap (λ b. option_map_or (λ s. is_draft_from s t) (cond b (Some dollar) (Some outside)) false) (first_false (c == 36) (list_any (λ x. x == 36) t) off)
+        ∙ passes t (second_false (c == 36) (list_any (λ x. x == 36) t) off)
+
+    before : (t : List ℕ) → list_any (λ c. c == 36) t ≡ false → before_variable t ≡ None
+    before [] off = refl
+    before (c ∷ []) off = refl
+    before (c ∷ d ∷ t) off =
+        ap (λ b. cond (b && d == 123) (Some []) (option_map (λ front. c ∷ front) (before_variable (d ∷ t)))) (first_false (c == 36) (list_any (λ x. x == 36) (d ∷ t)) off)
+        ∙ ap (option_map (λ front. c ∷ front)) (before (d ∷ t) (second_false (c == 36) (list_any (λ x. x == 36) (d ∷ t)) off))
+
+-- fewer than five colons are not five
+pub few-colons : (n : ℕ) → not (nat_le 5 n) ≡ nat_lt n 5
+few-colons n = go (nat_le 5 n) (nat_lt n 5) refl refl
+  where
+    go : (a b : Bool) → nat_le 5 n ≡ a → nat_lt n 5 ≡ b → not (nat_le 5 n) ≡ nat_lt n 5
+    go a b e f = grind arith
 
 -- a text without a bad variable passes the test of the grammar
 pub drafted : (version : Version) (text : List ℕ) → is_bad_variable version text ≡ false → IsTrue (is_draft_in version text)

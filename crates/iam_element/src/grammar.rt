@@ -8,7 +8,7 @@ ghost use Rattle.iam_text.specs.Variables.{is_draft};
 ghost use Rattle.iam_element.specs.Grammar.{begins_as_arn, is_resource_pattern, has_early_variable, is_bad_variable, is_whole_arn, is_unique_id, is_aws_name};
 
 use iam_text::{
-    Arn, Version, cut_form, has_forms_behind, is_account, is_action_pattern, is_wildcard,
+    Version, cut_form, has_dollar, has_forms_behind, is_account, is_action_pattern, is_wildcard,
 };
 
 /// A form that a text of a statement may have.
@@ -59,17 +59,17 @@ fn is_bad_variable(text: &str, version: Version) -> bool
     ensures { result ≡ is_bad_variable version text.now }
 {
     match version {
-        Version::V2012 => has_bad_variable(text),
+        Version::V2012 => has_dollar(text.as_bytes()) && is_bad_draft(text),
         Version::V2008 => false,
     }
 }
 
 /// Whether some variable of the text is off the grammar, or stands before its fifth colon.
-fn has_bad_variable(text: &str) -> bool
+fn is_bad_draft(text: &str) -> bool
     ensures { result ≡ (not (is_draft text.now) || has_early_variable text.now) }
 {
     match cut_form(text) {
-        Some((front, inside)) => !has_forms_behind(inside) || Arn::cut(front).is_none(),
+        Some((front, inside)) => !has_forms_behind(inside) || !has_six_parts(front),
         None => false,
     }
 }
@@ -89,7 +89,19 @@ fn is_whole_arn(text: &str) -> bool
 fn has_six_parts(text: &str) -> bool
     ensures { result ≡ nat_le 5 (colons text.now) }
 {
-    Arn::cut(text).is_some()
+    colons(text.as_bytes()) >= 5
+}
+
+fn colons(text: &[u8]) -> usize
+    ensures { result ≡ colons text.now }
+{
+    let mut count = 0;
+    for &character in text {
+        if character == b':' {
+            count += 1;
+        }
+    }
+    count
 }
 
 fn has_wildcard(text: &[u8]) -> bool

@@ -1,20 +1,17 @@
 -- What a text begins with is determined.
-use Rattle.std.proofs.Common.{◌≡◌, ◌≢◌, ℕ, ◌<◌, ◌≤◌, zero, suc, List, [], ◌∷◌, ◌++◌, Bool, true, false, ◌&&◌, ◌||◌, ◌==◌, not, length, drop, replicate, Option, Some, None, refl, sym, ap, ◌∙◌, subst, arith, IsTrue, eqb-true, eq-eqb, get_or, inl, inr, ◌⊎◌, MatchOption, nat_lt, codes, take, ◌+◌}
+use Rattle.std.proofs.Common.{◌≡◌, ◌≢◌, ℕ, ◌<◌, ◌≤◌, zero, suc, List, [], ◌∷◌, ◌++◌, Bool, true, false, ◌&&◌, ◌||◌, ◌==◌, not, length, drop, replicate, Option, Some, None, refl, sym, ap, ◌∙◌, subst, arith, IsTrue, eqb-true, eq-eqb, get_or, inl, inr, ◌⊎◌, MatchOption, nat_lt, codes, take, ◌+◌, add-one, length-append}
+use Rattle.std.proofs.Math.Seq.{drop-cons}
 use Rattle.std.proofs.lemmas.Bool.{and_parts, cases_lt}
-use Rattle.std.proofs.Math.ListN.{get_or-append}
-use Rattle.std.proofs.lemmas.List.{append-nil, append_cancel_left, drop_at, get_or_at}
+use Rattle.std.proofs.lemmas.List.{append-nil, append_assoc, append_cancel_left, get_or_at, length-take, take-append-drop}
 use Rattle.std.proofs.lemmas.Str.{cons_from_encodes}
-use Rattle.std.proofs.lemmas.Str.Pattern.{split_text_parts}
 use Rattle.std.specs.Str.{encode_utf8_all}
 use Rattle.std.specs.Char.{encode_utf8}
 use Rattle.std.specs.List.{list_all}
-use Rattle.std.specs.Str.Pattern.{FindsText}
 use Rattle.iam_text.specs.declared.draft.Piece.{Piece}
 use Rattle.iam_text.specs.declared.draft.Piece.TheVariants.{Plain, Escaped, Variable}
 use Rattle.iam_text.specs.Draft.{is_key, is_key_character}
-use Rattle.iam_text.specs.Code.Forms.{HasDefault, HasForm, HasLiteral, IsClosed, IsCutKey, IsQuoted}
+use Rattle.iam_text.specs.Code.Forms.{BeginsAt, HasDefault, HasForm, HasLiteral, IsClosed, IsCutKey, IsFirstForm, IsQuoted}
 use Rattle.iam_text.specs.Stretches.{IsCutAtForm, NoneBegins}
-use denote.Ref.{Bor}
 
 -- a run of characters that pass, up to one that does not, is the only one
 pub run-unique : (test : ℕ → Bool) (xs ys : List ℕ) (c d : ℕ) (us vs : List ℕ) → list_all test xs ≡ true → list_all test ys ≡ true
@@ -218,30 +215,35 @@ pub match-weaker : {X : Type 0} (r : Option X) (P P' : Type 0) (Q Q' : X → Typ
 match-weaker None P P' Q Q' none some m = none m
 match-weaker (Some x) P P' Q Q' none some m = some x m
 
--- none begins in what holds no `$`
-pub none-before : (front rest : List ℕ) → ((i : ℕ) → i < length front → get_or front i 0 ≢ 36) → NoneBegins front rest
-none-before front rest off before behind e = go (cases_lt (length before) (length front))
-  where
-    go : (length before < length front) ⊎ (length front ≤ length before) → length front ≤ length before
-    go (inr later) = later
-    go (inl earlier) =
-        absurd (off (length before) earlier
-        (sym (get_or-append front rest 0 (length before) earlier) ∙ ap (λ t. get_or t (length before) 0) e ∙ get_or_at before 36 (123 ∷ behind) 0 (length before) refl))
+-- a `${` that stands in a text, by its place
+begins-at : (text before behind : List ℕ) → text ≡ before ++ (codes "${" ++ behind) → BeginsAt text (length before)
+begins-at text before behind is =
+    let i = length before in
+    let long : length text ≡ i + suc (suc (length behind)) = ap length is ∙ length-append before (codes "${" ++ behind) in
+    let further : text ≡ (before ++ (36 ∷ [])) ++ (123 ∷ behind) = is ∙ sym (append_assoc before (36 ∷ []) (123 ∷ behind)) in
+    record {
+      inside = omega (arith, long);
+      dollar = ap (λ t. get_or t i 0) is ∙ get_or_at before 36 (123 ∷ behind) 0 i refl;
+      brace = ap (λ t. get_or t (i + 1) 0) further ∙ get_or_at (before ++ (36 ∷ [])) 123 behind 0 (i + 1) (length-append before (36 ∷ []));
+    }
 
--- the first `${` of a text
-pub first-form : (text : List ℕ) (r : Option (Bor (List ℕ) × Bor (List ℕ)))
-    → MatchOption r (FindsText (codes "${") text None)
-    (λ x. (i : ℕ) × (j : ℕ) × FindsText (codes "${") text (Some (i, j)) × (x.0.now ≡ take i text) × (x.1.now ≡ drop j text) × (i ≤ j)
-    × (length x.0.now ≡ i) × (length x.1.now + j ≡ length text))
-    → MatchOption r (NoneBegins text []) (λ x. IsCutAtForm text x.0.now x.1.now)
-first-form text None h = λ before behind e. absurd (split_text_parts (codes "${") text None h before behind (sym (append-nil text) ∙ e))
-first-form text (Some x) h =
-    let parts = split_text_parts (codes "${") text (Some x) h in
-    (parts, λ before behind e. go before behind (parts ∙ e) (cases_lt (length before) (length x.0.now)))
+-- none stands at any place
+pub none-at : (text : List ℕ) → ((k : ℕ) → ¬ BeginsAt text k) → NoneBegins text []
+none-at text none before behind e = absurd (none (length before) (begins-at text before behind (sym (append-nil text) ∙ e)))
+
+-- the text is cut at the place of the first one
+pub cut-at : (text : List ℕ) (i : ℕ) → IsFirstForm text i → IsCutAtForm text (take i text) (drop (i + 2) text)
+cut-at text i found = (joined, λ before behind e. go before behind (joined ∙ e) (cases_lt (length before) i))
   where
-    go : (before behind : List ℕ) → text ≡ before ++ (codes "${" ++ behind) → (length before < length x.0.now) ⊎ (length x.0.now ≤ length before)
-        → length x.0.now ≤ length before
-    go before behind is (inr later) = later
-    go before behind is (inl earlier) =
-        absurd (h.2.0 (length before) (omega (arith, earlier, h.6)) behind
-        (ap (drop (length before)) is ∙ drop_at before (codes "${" ++ behind) (length before) refl))
+    joined : text ≡ take i text ++ (36 ∷ (123 ∷ drop (i + 2) text))
+    joined =
+        let one : drop i text ≡ get_or text i 0 ∷ drop (i + 1) text = rw add-one (drop-cons text i 0 (omega (arith, found.here.inside))) in
+        let two : drop (i + 1) text ≡ get_or text (i + 1) 0 ∷ drop (suc (i + 1)) text = drop-cons text (i + 1) 0 found.here.inside in
+        let n : suc (i + 1) ≡ i + 2 = omega arith in
+        sym (take-append-drop i text) ∙ ap (λ t. take i text ++ t)
+        (one ∙ ap (λ c. c ∷ drop (i + 1) text) found.here.dollar
+        ∙ ap (λ t. 36 ∷ t) (two ∙ ap (λ c. c ∷ drop (suc (i + 1)) text) found.here.brace ∙ ap (λ m. 123 ∷ drop m text) n))
+
+    go : (before behind : List ℕ) → text ≡ before ++ (codes "${" ++ behind) → (length before < i) ⊎ (i ≤ length before) → length (take i text) ≤ length before
+    go before behind is (inl earlier) = absurd (found.first (length before) earlier (begins-at text before behind is))
+    go before behind is (inr later) = omega (arith, later, length-take i text)

@@ -3,7 +3,7 @@ ghost use Rattle.std.specs.Prelude.{◌≡◌, ◌≢◌, ◌≤◌, ◌<◌, �
 ghost use Rattle.std.specs.List.{list_all};
 ghost use Rattle.iam_text.specs.declared.draft.Piece.{Piece};
 ghost use Rattle.iam_text.specs.Draft.{is_key_character};
-ghost use Rattle.iam_text.specs.Code.Forms.{HasForm, HasLiteral, IsCutKey, IsLiteral, IsQuoted};
+ghost use Rattle.iam_text.specs.Code.Forms.{BeginsAt, HasForm, HasLiteral, IsCutKey, IsFirstForm, IsLiteral, IsQuoted};
 ghost use Rattle.iam_text.specs.Stretches.{IsCutAtForm, NoneBegins, piece_of};
 ghost use Rattle.iam_text.specs.Variables.{is_draft, is_draft_from, opened};
 
@@ -19,17 +19,26 @@ pub enum Form<'a> {
 }
 
 /// What stands before the first `${` of the text, and what behind it.
-///
-/// The first `$` mostly begins one; where it does not, they are sought together.
 pub fn cut_form(text: &str) -> Option<(&str, &str)>
     ensures cut { MatchOption result (NoneBegins text.entry.now []) (λ p. IsCutAtForm text.entry.now p.0.now p.1.now) }
     ensures grammar { MatchOption result (is_draft text.entry.now ≡ true) (λ p. is_draft text.entry.now ≡ is_draft_from opened p.1.now) }
 {
-    let (front, behind) = text.split_once('$')?;
-    match behind.strip_prefix('{') {
-        Some(inside) => Some((front, inside)),
-        None => text.split_once("${"),
+    let i = form_place(text.as_bytes())?;
+    Some((&text[..i], &text[i + 2..]))
+}
+
+/// Where the first `${` of the text stands.
+fn form_place(text: &[u8]) -> Option<usize>
+    ensures { MatchOption result ((k : ℕ) → ¬ BeginsAt text.now k) (IsFirstForm text.now) }
+{
+    let mut i = 0;
+    while text.len() - i > 1 {
+        if text[i] == b'$' && text[i + 1] == b'{' {
+            return Some(i);
+        }
+        i += 1;
     }
+    None
 }
 
 /// The form whose `${` stands before the text, and what is left behind its `}`.

@@ -1,9 +1,20 @@
 -- How the code reads the forms of a text, beside the definition that it meets (`Draft`).
-use Rattle.std.specs.Prelude.{◌≡◌, ◌⊎◌, ℕ, List, [], ◌∷◌, ◌++◌, ◌||◌, not, ◌==◌, Some, None, IsTrue, false, replicate}
+use Rattle.std.specs.Prelude.{◌≡◌, ◌<◌, ◌+◌, ◌⊎◌, ℕ, List, [], ◌∷◌, ◌++◌, ◌||◌, not, ◌==◌, Some, None, IsTrue, false, length, replicate, slice_index}
 use Rattle.std.specs.List.{list_all}
 use Rattle.iam_text.specs.declared.draft.Piece.{Piece}
 use Rattle.iam_text.specs.declared.draft.Piece.TheVariants.{Plain, Escaped, Variable}
 use Rattle.iam_text.specs.Draft.{is_key, is_key_character}
+
+-- a `${` stands at the place
+pub record BeginsAt (text : List ℕ) (k : ℕ) : Type 0 where
+  pub inside : k + 1 < length text
+  pub dollar : slice_index text k ≡ 36
+  pub brace : slice_index text (k + 1) ≡ 123
+
+-- and none before it
+pub record IsFirstForm (text : List ℕ) (i : ℕ) : Type 0 where
+  pub here : BeginsAt text i
+  pub first : (k : ℕ) → k < i → ¬ BeginsAt text k
 
 -- what stands between `${` and `}` is this piece, which has no default
 abbrev pub IsClosed : Piece → List ℕ → Type 0

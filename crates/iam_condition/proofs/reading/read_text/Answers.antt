@@ -1,5 +1,9 @@
-use Rattle.iam_condition.proofs.ReadingLemmas.{text_is_read}
+use Rattle.std.proofs.Common.{sym}
+use Rattle.iam_condition.proofs.ReadingLemmas.{fine_draft, fine_value}
 use Rattle.iam_condition.proofs.reading.read_text.Goals as goal
 
+pub of-requires : goal.of-requires
+of-requires c = fine_draft c.args.version c.args.base c.args.text.now c.in-Some.wild (sym c.in-Some.ensures) c.requires
+
 pub unwrap-requires : goal.unwrap-requires
-unwrap-requires c = text_is_read c.args.version c.args.base c.args.text.now c.in_ok-read.field-0 c.utf8.text c.drafts_are_tested.ensures c.requires c.in_ok-read.ensures
+unwrap-requires c = fine_value c.args.version c.args.base c.args.text.now c.in_ok-read_value-in-None.field-0 (sym c.in-None.ensures) c.requires c.in_ok-read_value-in-None.ensures

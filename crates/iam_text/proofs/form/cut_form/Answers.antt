@@ -1,35 +1,47 @@
-use Rattle.std.proofs.Common.{[], ◌∙◌, ◌∷◌, ◌++◌, Some, None, ap, arith}
-use Rattle.std.proofs.lemmas.Str.Pattern.{split_parts, strip_prefix_char}
-use Rattle.iam_text.proofs.FormLemmas.{first-form, none-before}
+use Rattle.std.proofs.Common.{◌≡◌, ◌+◌, ◌-◌, ◌∙◌, Some, None, ap, arith, drop, sym, subst, take, List, ℕ}
+use Rattle.std.specs.List.{slice_range}
+use Rattle.iam_text.specs.Stretches.{IsCutAtForm}
+use Rattle.std.proofs.lemmas.Str.{IsCharBoundary-after_ascii}
+use Rattle.std.specs.Str.{IsCharBoundary}
+use Rattle.iam_text.specs.Code.Forms.{IsFirstForm}
+use Rattle.iam_text.proofs.FormLemmas.{cut-at, none-at}
 use Rattle.iam_text.proofs.VariableLemmas.{cut-told}
 use Rattle.iam_text.proofs.form.cut_form.Goals as goal
 
-pub returns-in_err-front-clause-cut : goal.returns-in_err-front-clause-cut
-returns-in_err-front-clause-cut c =
-    rw c.from_residual.ensures (none-before c.args.text.now [] (split_parts 36 c.args.text.now None c.in_err-front.ensures.cases (omega arith)))
+pub returns-in_err-i-clause-cut : goal.returns-in_err-i-clause-cut
+returns-in_err-i-clause-cut c = rw c.from_residual.ensures (none-at c.args.text.now (rw c.as_bytes.ensures.value at c.in_err-i.ensures))
 
-pub returns-in_err-front-clause-grammar : goal.returns-in_err-front-clause-grammar
-returns-in_err-front-clause-grammar c =
-    let none = none-before c.args.text.now [] (split_parts 36 c.args.text.now None c.in_err-front.ensures.cases (omega arith)) in
+pub returns-in_err-i-clause-grammar : goal.returns-in_err-i-clause-grammar
+returns-in_err-i-clause-grammar c =
+    let none = none-at c.args.text.now (rw c.as_bytes.ensures.value at c.in_err-i.ensures) in
     rw c.from_residual.ensures (cut-told c.args.text.now None c.utf8.text none)
 
-pub returns-in-Some-clause-cut : goal.returns-in-Some-clause-cut
-returns-in-Some-clause-cut c =
-    let parts = split_parts 36 c.args.text.now (Some (c.in_ok-front.front, c.in_ok-front.behind)) c.in_ok-front.ensures.cases (omega arith) in
-    let brace = strip_prefix_char 123 c.in_ok-front.behind.now (Some c.in-Some.inside) c.in-Some.ensures.cases (omega arith) in
-    (parts.0 ∙ ap (λ t. c.in_ok-front.front.now ++ (36 ∷ t)) brace, none-before c.in_ok-front.front.now _ parts.1)
+pub range_from-requires : goal.range_from-requires
+range_from-requires c = λ some.
+    let i = c.in_ok-i.i in
+    let found : IsFirstForm c.args.text.now i = rw c.as_bytes.ensures.value at c.in_ok-i.ensures in
+    let B : ℕ → Type 0 = λ n. IsCharBoundary c.args.text.now n in
+    let two : i + 1 + 1 ≡ i + 2 = omega arith in
+    subst B two (IsCharBoundary-after_ascii c.args.text.now (i + 1) c.utf8.text found.here.inside (omega (arith, found.here.brace)))
 
-pub returns-in-Some-clause-grammar : goal.returns-in-Some-clause-grammar
-returns-in-Some-clause-grammar c =
-    let parts = split_parts 36 c.args.text.now (Some (c.in_ok-front.front, c.in_ok-front.behind)) c.in_ok-front.ensures.cases (omega arith) in
-    let brace = strip_prefix_char 123 c.in_ok-front.behind.now (Some c.in-Some.inside) c.in-Some.ensures.cases (omega arith) in
-    cut-told c.args.text.now (Some (c.in_ok-front.front, c.in-Some.inside)) c.utf8.text
-    (parts.0 ∙ ap (λ t. c.in_ok-front.front.now ++ (36 ∷ t)) brace, none-before c.in_ok-front.front.now _ parts.1)
+slice_range_front : (text : List ℕ) (i : ℕ) → slice_range text 0 i ≡ take i text
+slice_range_front text i =
+    let n : i - 0 ≡ i = omega arith in
+    ap (λ m. take m text) n
 
-pub returns-in-None-clause-cut : goal.returns-in-None-clause-cut
-returns-in-None-clause-cut c = first-form c.args.text.now c.split_once-in-None.result c.split_once-in-None.ensures.cases
+cut-parts : (text front inside : List ℕ) (i : ℕ) → front ≡ slice_range text 0 i → inside ≡ drop (i + 2) text → IsFirstForm text i → IsCutAtForm text front inside
+cut-parts text front inside i is is' found =
+    let P : List ℕ → Type 0 = λ t. IsCutAtForm text t inside in
+    let Q : List ℕ → Type 0 = λ t. IsCutAtForm text (take i text) t in
+    subst P (sym (is ∙ slice_range_front text i)) (subst Q (sym is') (cut-at text i found))
 
-pub returns-in-None-clause-grammar : goal.returns-in-None-clause-grammar
-returns-in-None-clause-grammar c =
-    cut-told c.args.text.now c.split_once-in-None.result c.utf8.text
-    (first-form c.args.text.now c.split_once-in-None.result c.split_once-in-None.ensures.cases)
+pub returns-clause-cut : goal.returns-clause-cut
+returns-clause-cut c =
+    let found : IsFirstForm c.args.text.now c.in_ok-i.i = rw c.as_bytes.ensures.value at c.in_ok-i.ensures in
+    cut-parts c.args.text.now c.range.result.now c.range_from.result.now c.in_ok-i.i c.range.ensures.value c.range_from.ensures.value found
+
+pub returns-clause-grammar : goal.returns-clause-grammar
+returns-clause-grammar c =
+    let found : IsFirstForm c.args.text.now c.in_ok-i.i = rw c.as_bytes.ensures.value at c.in_ok-i.ensures in
+    let cut = cut-parts c.args.text.now c.range.result.now c.range_from.result.now c.in_ok-i.i c.range.ensures.value c.range_from.ensures.value found in
+    cut-told c.args.text.now (Some (c.range.result, c.range_from.result)) c.utf8.text cut
