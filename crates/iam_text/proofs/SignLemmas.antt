@@ -1,5 +1,5 @@
 -- Equal signs, and lists of them, are the same.
-use Rattle.std.proofs.Common.{◌≡◌, List, Bool, refl, ap, true}
+use Rattle.std.proofs.Common.{◌≡◌, List, refl, ap, true}
 use Rattle.std.proofs.lemmas.Slice.Eq.{slice_eq-Decides}
 use Rattle.std.specs.Bool.{Decides}
 use Rattle.std.specs.Cmp.{unsigned_Decides}
