@@ -12,7 +12,7 @@ use crate::slots::{empty, empty_slots, keep, kept, slot_of};
 use iam_layers::{Living, World};
 use iam_match::action_matches;
 use iam_policy::Actions;
-use iam_text::{OutOfMemory, Sign};
+use iam_text::OutOfMemory;
 use std::alloc::Global;
 
 /// How many answers are kept at most by the engines of a run.
@@ -181,19 +181,7 @@ fn element_of<'a>(
 fn print_of(action: &Actions) -> u64 {
     let mut print: u64 = if action.is_negated() { 1 } else { 0 };
     for pattern in action.patterns() {
-        for sign in pattern.signs() {
-            print = (print ^ sign_number(*sign))
-                .wrapping_mul(0x9e37_79b9_7f4a_7c15)
-                .rotate_left(23);
-        }
+        print = pattern.print(print);
     }
     print
-}
-
-fn sign_number(sign: Sign) -> u64 {
-    match sign {
-        Sign::Given(character) => character as u64,
-        Sign::One => 1 << 32,
-        Sign::Any => 1 << 33,
-    }
 }

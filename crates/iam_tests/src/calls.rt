@@ -7,10 +7,13 @@ use std::test::Fail;
 
 #[test]
 fn the_signs_of_a_pattern_are_a_pattern(rt: HostRuntime) -> Result<(), Fail> {
-    let plain = Glob::plain(rt.alloc(), "a*?")?;
-    let again = Glob::of(rt.alloc(), plain.signs())?;
-    let signs = [Sign::Given('a'), Sign::Given('*'), Sign::Given('?')];
-    assert_eq!(rt; again.signs(), signs.as_slice());
+    let glob = Glob::of(rt.alloc(), &[Sign::Given('*'), Sign::One, Sign::Any])?;
+    let signs = glob.signs();
+    assert_eq!(rt; signs.len(), 3);
+    assert_eq!(rt; signs.at(0), Sign::Given('*'));
+    assert_eq!(rt; signs.at(1), Sign::One);
+    assert_eq!(rt; signs.at(2), Sign::Any);
+    assert!(rt; glob.matches("*a") && glob.matches("*abc") && !glob.matches("*"));
     Ok(())
 }
 
