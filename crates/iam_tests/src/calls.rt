@@ -26,6 +26,13 @@ fn a_literal_draft_has_no_form(rt: HostRuntime) -> Result<(), Fail> {
 }
 
 #[test]
+fn a_draft_is_read(rt: HostRuntime) -> Result<(), Fail> {
+    assert!(rt; Draft::read(rt.alloc(), "a${k}", true)?.is_some());
+    assert!(rt; Draft::read(rt.alloc(), "a${k", true)?.is_none());
+    Ok(())
+}
+
+#[test]
 fn a_part_is_joined(rt: HostRuntime) -> Result<(), Fail> {
     let alloc = rt.alloc();
     let mut values = Vec::new(alloc);
