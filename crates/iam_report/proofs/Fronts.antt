@@ -1,7 +1,8 @@
 -- Bytes in which the front of a row is made.
-use Rattle.std.proofs.Common.{◌≡◌, ◌+◌, ◌-◌, ◌≤◌, ℕ, List, [], ◌++◌, append-nil, drop, length, take, sym, ap, ◌∙◌, arith, append_assoc, length-append, take-add, take-take}
+use Rattle.std.proofs.Common.{◌≡◌, ◌+◌, ◌-◌, ◌/◌, ◌%◌, ◌^◌, ◌<◌, ◌≤◌, ◌⊎◌, inl, inr, ℕ, zero, suc, List, [], ◌∷◌, ◌++◌, refl, get_or, set, decimal, append-nil, drop, length, take, sym, ap, ◌∙◌, arith, append_assoc, length-append, take-add, take-take}
 use Rattle.std.proofs.Math.Seq.{drop-append_seam, take-append-add, take-append_seam}
-use Rattle.std.proofs.lemmas.List.{drop-drop, drop-take, length-take-le}
+use Rattle.std.proofs.lemmas.Fmt.{decimal_digit, decimal_nonempty, decimal_step}
+use Rattle.std.proofs.lemmas.List.{drop-drop, drop-set-add, drop-take, get_or-drop, length-drop, length-take-le, same_from_push, set_split, take-set-le, take_more}
 use Rattle.iam_report.specs.Code.Front.{FrontValue, IsOrdered, IsPut, between, front_of_bytes}
 
 -- the texts behind the room for a number stand there as one
@@ -105,3 +106,59 @@ refilled old new behind start stop before end long order put =
     ap (λ n. take n (drop stop new)) count ∙ ap (λ n. take (length behind) (drop n new)) (sym head_is)
     ∙ text_at new head behind [] end (put.bytes ∙ ap (λ l. head ++ l) (sym (append-nil behind))) (omega (arith, head_is, put.end_is)) in
     same_parts front mid back
+
+-- a number whose last digit is no 9, and the next one
+counted_digits : (n : ℕ) (ds : List ℕ) (d : ℕ) → n + 1 < 2 ^ 64 → decimal n ≡ ds ++ (d ∷ []) → d < 57 → decimal (n + 1) ≡ ds ++ ((d + 1) ∷ [])
+counted_digits n ds d small is nine = by_size n ds d small is nine (sized n 10)
+  where
+    sized : (n m : ℕ) → (n < m) ⊎ (m ≤ n)
+    sized n zero = inr (omega arith)
+    sized zero (suc m) = inl (omega arith)
+    sized (suc n) (suc m) = one_more n m (sized n m)
+      where
+        one_more : (n m : ℕ) → (n < m) ⊎ (m ≤ n) → (suc n < suc m) ⊎ (suc m ≤ suc n)
+        one_more n m (inl below) = inl (omega arith)
+        one_more n m (inr above) = inr (omega arith)
+
+    by_size : (n : ℕ) (ds : List ℕ) (d : ℕ) → n + 1 < 2 ^ 64 → decimal n ≡ ds ++ (d ∷ []) → d < 57 → (n < 10) ⊎ (10 ≤ n)
+        → decimal (n + 1) ≡ ds ++ ((d + 1) ∷ [])
+    by_size n ds d small is nine (inl one) =
+        let same = same_from_push ds [] d (48 + n) (sym is ∙ decimal_digit n one) in
+        let none : ds ≡ [] = same.0 in
+        let digit : d ≡ 48 + n = same.1 in
+        let next : 48 + (n + 1) ≡ d + 1 = omega (arith, digit) in
+        decimal_digit (n + 1) (omega (arith, digit)) ∙ ap (λ (c : ℕ). c ∷ []) next ∙ ap (λ l. l ++ ((d + 1) ∷ [])) (sym none)
+    by_size n ds d small is nine (inr more) =
+        let same = same_from_push ds (decimal (n / 10)) d (48 + n % 10) (sym is ∙ decimal_step n more (omega arith)) in
+        let digit : d ≡ 48 + n % 10 = same.1 in
+        let tens : (n + 1) / 10 ≡ n / 10 = omega (arith, digit) in
+        let last : 48 + (n + 1) % 10 ≡ d + 1 = omega (arith, digit) in
+        decimal_step (n + 1) (omega arith) small ∙ ap (λ m. decimal m ++ ((48 + (n + 1) % 10) ∷ [])) tens
+        ∙ ap (λ l. l ++ ((48 + (n + 1) % 10) ∷ [])) (sym same.0) ∙ ap (λ c. ds ++ (c ∷ [])) last
+
+-- the number counted up in place
+pub counted : (old : List ℕ) (digit start stop end n : ℕ) → IsOrdered start stop end → length old ≡ 1024 → digit ≡ get_or old (stop - 1) 0 → digit < 57
+    → n + 1 < 2 ^ 64 → between old start stop ≡ decimal n
+    → front_of_bytes (set old (stop - 1) (digit + 1)) start stop end ≡ record (front_of_bytes old start stop end) { number = decimal (n + 1) }
+counted old digit start stop end n order long read nine small is =
+    let left = drop start old in
+    let left_is : length left ≡ 1024 - start = length-drop start old ∙ ap (λ m. m - start) long in
+    let many : length (between old start stop) ≡ stop - start = length-take-le (stop - start) left (omega (arith, left_is, order.behind, order.most)) in
+    let some : 0 < stop - start = omega (arith, sym many ∙ ap length is, decimal_nonempty n (omega (arith, small))) in
+    let k = stop - 1 - start in
+    let at : start + k ≡ stop - 1 = omega (arith, some) in
+    let count : stop - start ≡ k + 1 = omega (arith, some) in
+    let ds = take k left in
+    let here : get_or left k 0 ≡ digit = get_or-drop start old k 0 ∙ ap (λ m. get_or old m 0) at ∙ sym read in
+    let split : between old start stop ≡ ds ++ (digit ∷ []) =
+    ap (λ m. take m left) count ∙ take_more left k 0 (omega (arith, left_is, count, order.behind, order.most, some)) ∙ ap (λ c. ds ++ (c ∷ [])) here in
+    let next : decimal (n + 1) ≡ ds ++ ((digit + 1) ∷ []) = counted_digits n ds digit small (sym is ∙ split) nine in
+    let new = set old (stop - 1) (digit + 1) in
+    let puts : drop start new ≡ decimal (n + 1) ++ drop stop old =
+    ap (λ m. drop start (set old m (digit + 1))) (sym at) ∙ drop-set-add start old k (digit + 1)
+    ∙ set_split left k (digit + 1) (omega (arith, left_is, count, order.behind, order.most, some))
+    ∙ ap (λ l. ds ++ ((digit + 1) ∷ l)) (drop-drop (suc k) start old ∙ ap (λ m. drop m old) (omega (arith, some)))
+    ∙ sym (append_assoc ds ((digit + 1) ∷ []) (drop stop old)) ∙ ap (λ l. l ++ drop stop old) (sym next) in
+    let ds_is : length ds ≡ k = length-take-le k left (omega (arith, left_is, count, order.behind, order.most, some)) in
+    let ends : start + length (decimal (n + 1)) ≡ stop = omega (arith, ap length next, length-append ds ((digit + 1) ∷ []), ds_is, some) in
+    renumbered old new (decimal (n + 1)) start start stop end order refl ends puts (take-set-le start old (stop - 1) (digit + 1) (omega (arith, some)))

@@ -55,7 +55,7 @@ fn put_two(bytes: &mut [u8; ROOM], at: usize, first: &str, second: &str) -> Opti
 }
 
 impl Front {
-    ghost use Rattle.std.specs.Prelude.{◌≡◌, ◌++◌, IsTrue, decimal};
+    ghost use Rattle.std.specs.Prelude.{◌≡◌, ◌++◌, ◌+◌, ◌<◌, ◌^◌, ℕ, IsTrue, decimal, false};
 
     /// A number without digits between empty texts.
     pub fn new() -> Front {
@@ -101,6 +101,19 @@ impl Front {
     {
         let start = write_digits(number, &mut self.bytes, self.stop);
         start == self.start
+    }
+
+    /// Counts the number up in place, where its last digit is no 9.
+    pub fn count_up(&mut self) -> bool
+        ensures counted { IsTrue result → (n : ℕ) → n + 1 < 2 ^ 64 → self.old.number ≡ decimal n → self.new ≡ record self.old { number = decimal (n + 1) } }
+        ensures none { result ≡ false → self.new ≡ self.old }
+    {
+        let digit = self.bytes[self.stop - 1];
+        if digit >= b'9' {
+            return false;
+        }
+        self.bytes[self.stop - 1] = digit + 1;
+        true
     }
 
     /// Puts two texts in place of those behind the number, where there is room for them.

@@ -15,22 +15,23 @@ pub struct Line<'a> {
     quoted: &'a Quoted,
     tails: &'a [Tail],
     front: Front,
-    // Whether the front has texts, and whose.
+    // Whether the front has a number and texts, and whose.
     is_made: bool,
+    cell: u64,
     principal: u64,
     action: u64,
     tail: usize,
 }
 
 impl<'a> Model for Line<'a> {
-    ghost use Rattle.std.specs.Prelude.{IsTrue};
+    ghost use Rattle.std.specs.Prelude.{◌≡◌, IsTrue, decimal};
     ghost use Rattle.iam_report.specs.Code.Line.{HasSides, LineValue};
 
     ghost Value = { LineValue };
 
-    ghost view = { λ line. record { quoted = line.quoted.now; tails = line.tails.now; front = line.front; is_made = line.is_made; principal = line.principal; action = line.action; tail = line.tail } };
+    ghost view = { λ line. record { quoted = line.quoted.now; tails = line.tails.now; front = line.front; is_made = line.is_made; cell = line.cell; principal = line.principal; action = line.action; tail = line.tail } };
 
-    ghost invariant = { λ line. IsTrue line.is_made → HasSides line.quoted.now line.tails.now line.principal line.action line.tail line.front };
+    ghost invariant = { λ line. IsTrue line.is_made → (line.front.number ≡ decimal line.cell) × HasSides line.quoted.now line.tails.now line.principal line.action line.tail line.front };
 }
 
 /// Makes a front of these texts, where there is room for it.
@@ -60,6 +61,17 @@ fn refill(front: &mut Front, format: Format, principal: &str, action: &str, tail
     }
 }
 
+/// Puts the number of a cell in place of that of another, where it has as many digits.
+fn renumber(front: &mut Front, last: u64, cell: u64) -> bool
+    requires { front.old.number ≡ decimal last }
+    ensures { IsTrue result → front.new ≡ record front.old { number = decimal cell } }
+{
+    if cell > last && cell - last == 1 && front.count_up() {
+        return true;
+    }
+    front.renumber(cell)
+}
+
 impl<'a> Line<'a> {
     /// No row yet, of a report with these texts and rows with these tails.
     pub fn new(quoted: &'a Quoted, tails: &'a [Tail]) -> Line<'a>
@@ -71,6 +83,7 @@ impl<'a> Line<'a> {
             tails,
             front: Front::new(),
             is_made: false,
+            cell: 0,
             principal: 0,
             action: 0,
             tail: 0,
@@ -106,6 +119,7 @@ impl<'a> Line<'a> {
         let front = self.tails[tail].front.as_str();
         let format = self.quoted.format;
         self.is_made = fill(&mut self.front, format, at.cell, principal, action, front);
+        self.cell = at.cell;
         self.principal = at.principal;
         self.action = at.action;
         self.tail = tail;
@@ -117,9 +131,10 @@ impl<'a> Line<'a> {
         requires { IsTrue self.old.is_made }
         ensures quoted { self.new.quoted ≡ self.old.quoted }
         ensures tails { self.new.tails ≡ self.old.tails }
-        ensures made { IsTrue result → self.new ≡ record self.old { front = record self.old.front { number = decimal cell } } }
+        ensures made { IsTrue result → self.new ≡ record self.old { cell = cell; front = record self.old.front { number = decimal cell } } }
     {
-        self.is_made = self.front.renumber(cell);
+        self.is_made = renumber(&mut self.front, self.cell, cell);
+        self.cell = cell;
         self.is_made
     }
 

@@ -7,13 +7,14 @@ use Rattle.iam_row.specs.declared.quoted.Format.TheVariants.{Csv, Json}
 use Rattle.iam_row.specs.declared.quoted.Quoted.{Quoted}
 use Rattle.iam_row.specs.declared.tail.Tail.{Tail}
 
--- a line: the texts of the report, the tails of its rows, and the front that was made last, and for which principal, action
--- and tail
+-- a line: the texts of the report, the tails of its rows, and the front that was made last, and for which cell, principal,
+-- action and tail
 pub record LineValue : Type 0 where
   pub quoted : Quoted
   pub tails : List Tail
   pub front : FrontValue
   pub is_made : Bool
+  pub cell : ℕ
   pub principal : ℕ
   pub action : ℕ
   pub tail : ℕ
