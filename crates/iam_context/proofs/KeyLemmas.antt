@@ -28,12 +28,12 @@ abbrev folded : List ℕ → List ℕ
 folded key = map to_ascii_lowercase key
 
 -- the right text has ended, the left one has not
-pub ends-greater : (a b : List ℕ) (i : ℕ) → i < length a → length b ≤ i → Greater ≡ key_cmp (drop i a) (drop i b)
-ends-greater a b i more over = rw (drop_all i b over, drop-cons a i 0) refl
+pub ends_greater : (a b : List ℕ) (i : ℕ) → i < length a → length b ≤ i → Greater ≡ key_cmp (drop i a) (drop i b)
+ends_greater a b i more over = rw (drop_all i b over, drop-cons a i 0) refl
 
 -- the left text has ended
-pub ends-shorter : (a b : List ℕ) (i : ℕ) → length a ≡ i → i ≤ length b → nat_cmp (length a) (length b) ≡ key_cmp (drop i a) (drop i b)
-ends-shorter a b i ended within =
+pub ends_shorter : (a b : List ℕ) (i : ℕ) → length a ≡ i → i ≤ length b → nat_cmp (length a) (length b) ≡ key_cmp (drop i a) (drop i b)
+ends_shorter a b i ended within =
     let none : drop i a ≡ [] = drop_all i a (omega arith) in
     rw none (go (drop i b) (length-drop i b))
   where
@@ -62,31 +62,31 @@ has_more old new key list has updates text =
     either false false = refl
 
 -- the keys of one entry more
-pub keys-more : (xs : ContextValue) (i : ℕ) (e : List ℕ × List (List ℕ)) → i < length xs → e ≡ get_or xs i e
+pub keys_more : (xs : ContextValue) (i : ℕ) (e : List ℕ × List (List ℕ)) → i < length xs → e ≡ get_or xs i e
     → keys_of (take (i + 1) xs) ≡ keys_of (take i xs) ++ (e.0 ∷ [])
-keys-more xs i e below is =
+keys_more xs i e below is =
     ap keys_of (take_more xs i e below) ∙ map-append (λ (entry : List ℕ × List (List ℕ)). entry.0) (take i xs) (get_or xs i e ∷ [])
     ∙ ap (λ (x : List ℕ × List (List ℕ)). keys_of (take i xs) ++ (x.0 ∷ [])) (sym is)
 
 -- the same, where the list goes by another name
-pub keys-more-of : (xs ys : ContextValue) (i : ℕ) (e : List ℕ × List (List ℕ)) → ys ≡ xs → i < length ys → e ≡ get_or ys i e
+pub keys_more_of : (xs ys : ContextValue) (i : ℕ) (e : List ℕ × List (List ℕ)) → ys ≡ xs → i < length ys → e ≡ get_or ys i e
     → keys_of (take (i + 1) xs) ≡ keys_of (take i xs) ++ (e.0 ∷ [])
-keys-more-of xs ys i e same below is =
-    subst (λ (zs : ContextValue). keys_of (take (i + 1) zs) ≡ keys_of (take i zs) ++ (e.0 ∷ [])) same (keys-more ys i e below is)
+keys_more_of xs ys i e same below is =
+    subst (λ (zs : ContextValue). keys_of (take (i + 1) zs) ≡ keys_of (take i zs) ++ (e.0 ∷ [])) same (keys_more ys i e below is)
 
 -- the keys that are left, with the first of them
-pub keys-left-of : (xs ys : ContextValue) (i : ℕ) (e : List ℕ × List (List ℕ)) → ys ≡ xs → i < length ys → e ≡ get_or ys i e
+pub keys_left_of : (xs ys : ContextValue) (i : ℕ) (e : List ℕ × List (List ℕ)) → ys ≡ xs → i < length ys → e ≡ get_or ys i e
     → keys_of (drop i xs) ≡ e.0 ∷ keys_of (drop (i + 1) xs)
-keys-left-of xs ys i e same below is =
+keys_left_of xs ys i e same below is =
     subst (λ (zs : ContextValue). keys_of (drop i zs) ≡ e.0 ∷ keys_of (drop (i + 1) zs)) same
     (ap keys_of (drop-cons ys i e below)
     ∙ ap (λ (x : List ℕ × List (List ℕ)). x.0 ∷ keys_of (drop (suc i) ys)) (sym is)
     ∙ ap (λ k. e.0 ∷ keys_of (drop k ys)) (sym (add-one i)))
 
 -- the entry that is found for a key is the same for a key that is the same
-find-same : (context : ContextValue) (key text : List ℕ) → folded key ≡ folded text
+find_same : (context : ContextValue) (key text : List ℕ) → folded key ≡ folded text
     → find (λ entry. is_same_key entry.0 key) context ≡ find (λ entry. is_same_key entry.0 text) context
-find-same context key text e = ap (λ (t : List ℕ). find (λ (entry : List ℕ × List (List ℕ)). bytes_eq (folded entry.0) t) context) e
+find_same context key text e = ap (λ (t : List ℕ). find (λ (entry : List ℕ × List (List ℕ)). bytes_eq (folded entry.0) t) context) e
 
 -- a map with the values of one key more, that was not there
 pub values_more : (old new : BTreeMap Key (Bor (List (List ℕ)))) (key : Key) (values : Bor (List (List ℕ))) (context : ContextValue)
@@ -106,7 +106,7 @@ values_more old new key values context has absent updates text =
         (option_or (find (λ entry. is_same_key entry.0 text) context) (cond same (Some (key.0.now, values.now)) None))
     either true decides =
         let none : find (λ entry. is_same_key entry.0 text) context ≡ None
-        = sym (find-same context key.0.now text (decides.0 refl)) ∙ absent in
+        = sym (find_same context key.0.now text (decides.0 refl)) ∙ absent in
         rw none refl
     either false decides =
         has text ∙ ap (λ o. option_map (λ (entry : List ℕ × List (List ℕ)). entry.1) o) (sym (or-none (find (λ entry. is_same_key entry.0 text) context)))
@@ -134,7 +134,7 @@ values_kept table key values context has there text =
         → find (λ entry. is_same_key entry.0 text) context
         ≡ option_or (find (λ entry. is_same_key entry.0 text) context) (cond same (Some (key, values)) None)
     either true decides =
-        rw (sym (find-same context key text (decides.0 refl)))
+        rw (sym (find_same context key text (decides.0 refl)))
         (kept (find (λ entry. is_same_key entry.0 key) context) (Some (key, values)) (tree.get_by (λ k. key_cmp key k.0.now) table) (has key) there)
     either false decides = or-none (find (λ entry. is_same_key entry.0 text) context)
       where
@@ -143,8 +143,8 @@ values_kept table key values context has there text =
         or-none (Some x) = refl
 
 -- nothing is found where nothing is in the map
-pub absent-from : (found : Option (Bor (List (List ℕ)))) (o : Option (List ℕ × List (List ℕ)))
+pub absent_from : (found : Option (Bor (List (List ℕ)))) (o : Option (List ℕ × List (List ℕ)))
     → option_map (λ v. v.now) found ≡ option_map (λ (entry : List ℕ × List (List ℕ)). entry.1) o → is_some found ≡ false → o ≡ None
-absent-from found None same none = refl
-absent-from None (Some x) same none = cc
-absent-from (Some v) (Some x) same none = cc
+absent_from found None same none = refl
+absent_from None (Some x) same none = cc
+absent_from (Some v) (Some x) same none = cc

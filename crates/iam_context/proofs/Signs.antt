@@ -34,34 +34,34 @@ over context before signs pieces rest is =
     ∙ both before signs (resolved context rest)
 
 -- over plain text
-pub over-plain : (context : ContextValue) (before grown : List Sign) (wild read : Bool) (text : List ℕ) (pieces rest : List Piece)
+pub over_plain : (context : ContextValue) (before grown : List Sign) (wild read : Bool) (text : List ℕ) (pieces rest : List Piece)
     → pieces ≡ plain_draft (map (sign_of wild) (chars text)) ++ rest → read ≡ wild → grown ≡ before ++ map (sign_of read) (chars text)
     → option_map (λ rest. before ++ rest) (resolved context pieces) ≡ option_map (λ rest. grown ++ rest) (resolved context rest)
-over-plain context before grown wild read text pieces rest is same added =
+over_plain context before grown wild read text pieces rest is same added =
     over context before (map (sign_of wild) (chars text)) pieces rest is
     ∙ ap (λ w. option_map (λ rest. (before ++ map (sign_of w) (chars text)) ++ rest) (resolved context rest)) (sym same)
     ∙ ap (λ (ss : List Sign). option_map (λ rest. ss ++ rest) (resolved context rest)) (sym added)
 
 -- over plain text that is all
-pub over-all : (context : ContextValue) (before grown : List Sign) (wild read : Bool) (text : List ℕ) (pieces : List Piece)
+pub over_all : (context : ContextValue) (before grown : List Sign) (wild read : Bool) (text : List ℕ) (pieces : List Piece)
     → pieces ≡ plain_draft (map (sign_of wild) (chars text)) → read ≡ wild → grown ≡ before ++ map (sign_of read) (chars text)
     → option_map (λ rest. before ++ rest) (resolved context pieces) ≡ Some grown
-over-all context before grown wild read text pieces is same added =
-    over-plain context before grown wild read text pieces [] (is ∙ sym (append-nil (plain_draft (map (sign_of wild) (chars text))))) same added
+over_all context before grown wild read text pieces is same added =
+    over_plain context before grown wild read text pieces [] (is ∙ sym (append-nil (plain_draft (map (sign_of wild) (chars text))))) same added
     ∙ ap (λ l. Some l) (append-nil grown)
 
 -- over a piece that has a value
-pub over-piece : (before now : List Sign) (found : Option (List Sign)) (rest : Option (List Sign))
+pub over_piece : (before now : List Sign) (found : Option (List Sign)) (rest : Option (List Sign))
     → option_map (λ more. before ++ more) found ≡ Some now
     → option_map (λ rest. before ++ rest) (option_and_then (λ signs. option_map (λ rest. signs ++ rest) rest) found)
     ≡ option_map (λ rest. now ++ rest) rest
-over-piece before now None rest is = cc
-over-piece before now (Some signs) None is = refl
-over-piece before now (Some signs) (Some more) is =
+over_piece before now None rest is = cc
+over_piece before now (Some signs) None is = refl
+over_piece before now (Some signs) (Some more) is =
     let e : before ++ signs ≡ now = cc in ap (λ l. Some l) (sym (append_assoc before signs more) ∙ ap (λ l. l ++ more) e)
 
 -- a piece without one
-pub no-value : (before : List Sign) (found : Option (List Sign)) (rest : Option (List Sign)) → option_map (λ more. before ++ more) found ≡ None
+pub no_value : (before : List Sign) (found : Option (List Sign)) (rest : Option (List Sign)) → option_map (λ more. before ++ more) found ≡ None
     → option_map (λ rest. before ++ rest) (option_and_then (λ signs. option_map (λ rest. signs ++ rest) rest) found) ≡ None
-no-value before None rest is = refl
-no-value before (Some signs) rest is = cc
+no_value before None rest is = refl
+no_value before (Some signs) rest is = cc

@@ -18,15 +18,15 @@ second_false true b e = cc
 second_false false b e = e
 
 -- a test of each element of a mapped list
-pub list_any-map : {X : Type 0} (p : X → Bool) → {Y : Type 0} (h : Y → X) (ys : List Y) → list_any p (map h ys) ≡ list_any (λ y. p (h y)) ys
-list_any-map p h [] = refl
-list_any-map p h (y ∷ ys) = ap (λ rest. p (h y) || rest) (list_any-map p h ys)
+pub list_any_map : {X : Type 0} (p : X → Bool) → {Y : Type 0} (h : Y → X) (ys : List Y) → list_any p (map h ys) ≡ list_any (λ y. p (h y)) ys
+list_any_map p h [] = refl
+list_any_map p h (y ∷ ys) = ap (λ rest. p (h y) || rest) (list_any_map p h ys)
 
 -- one or more texts, as the code counts and tests them
-pub are_texts-map : {Y : Type 0} (test : List ℕ → Bool) (h : Y → Data) (ys : List Y) (r : Bool) → (length ys == 0) ≡ false
+pub are_texts_map : {Y : Type 0} (test : List ℕ → Bool) (h : Y → Data) (ys : List Y) (r : Bool) → (length ys == 0) ≡ false
     → r ≡ list_all (λ y. is_text test (h y)) ys → r ≡ are_texts test (map h ys)
-are_texts-map test h [] r some e = cc
-are_texts-map test h (y ∷ ys) r some e = e ∙ sym (list_all-map (is_text test) h (y ∷ ys))
+are_texts_map test h [] r some e = cc
+are_texts_map test h (y ∷ ys) r some e = e ∙ sym (list_all-map (is_text test) h (y ∷ ys))
 
 -- an element of a mapped list
 pub item_at : {X Y : Type 0} (f : X → Y) (xs : List X) (ys : List Y) (k : ℕ) (x : X) → map f xs ≡ ys → k < length xs → x ≡ get_or xs k x → slice_get ys k ≡ Some (f x)
@@ -39,9 +39,9 @@ take_next xs i x at =
     take_more xs i x (slice_get_within xs i x at) ∙ ap (λ y. take i xs ++ (y ∷ [])) (get_or_from_slice_get xs i x x at)
 
 -- what one more element of a front gives
-pub filter_map-next : {X Y : Type 0} (h : X → Option Y) (xs : List X) (i : ℕ) (x : X) → slice_get xs i ≡ Some x
+pub filter_map_next : {X Y : Type 0} (h : X → Option Y) (xs : List X) (i : ℕ) (x : X) → slice_get xs i ≡ Some x
     → filter_map h (take (i + 1) xs) ≡ filter_map h (take i xs) ++ option_to_list (h x)
-filter_map-next h xs i x at =
+filter_map_next h xs i x at =
     ap (filter_map h) (take_next xs i x at) ∙ filter_map-append h (take i xs) (x ∷ []) ∙ ap (λ ys. filter_map h (take i xs) ++ ys) (one (h x))
   where
     one : {Y : Type 0} (o : Option Y) → cons_option o [] ≡ option_to_list o

@@ -10,7 +10,7 @@ use Rattle.iam_text.specs.declared.version.Version.{Version}
 use Rattle.iam_text.specs.Draft.{IsDraftIn}
 use Rattle.iam_element.specs.Element.{texts_of}
 use Rattle.iam_element.specs.Reading.{ResourceElement, ReadsResourceElement, ReadsText, resource_name}
-use Rattle.iam_element.proofs.ElementLemmas.{filter_map-next}
+use Rattle.iam_element.proofs.ElementLemmas.{filter_map_next}
 
 zip_push : {A B : Type 0} (R : A → B → Type 0) (xs : List A) (ys : List B) (x : A) (y : B) → AllZip R xs ys → R x y → AllZip R (xs ++ (x ∷ [])) (ys ++ (y ∷ []))
 zip_push R [] [] x y zip here = (here, tt)
@@ -23,13 +23,13 @@ pub zip_some : {D A B : Type 0} (R : A → B → Type 0) (h : D → Option A) (x
     → h x ≡ Some a → AllZip R (filter_map h (take i xs)) ys → R a y → AllZip R (filter_map h (take (i + 1) xs)) (ys ++ (y ∷ []))
 zip_some {D} {A} {B} R h xs i x ys a y at is zip here =
     let P : List A → Type 0 = λ front. AllZip R front (ys ++ (y ∷ [])) in
-    subst P (sym (filter_map-next h xs i x at ∙ ap (λ o. filter_map h (take i xs) ++ option_to_list o) is)) (zip_push R (filter_map h (take i xs)) ys a y zip here)
+    subst P (sym (filter_map_next h xs i x at ∙ ap (λ o. filter_map h (take i xs) ++ option_to_list o) is)) (zip_push R (filter_map h (take i xs)) ys a y zip here)
 
 pub zip_none : {D A B : Type 0} (R : A → B → Type 0) (h : D → Option A) (xs : List D) (i : ℕ) (x : D) (ys : List B) → slice_get xs i ≡ Some x
     → h x ≡ None → AllZip R (filter_map h (take i xs)) ys → AllZip R (filter_map h (take (i + 1) xs)) ys
 zip_none {D} {A} {B} R h xs i x ys at is zip =
     let P : List A → Type 0 = λ front. AllZip R front ys in
-    subst P (sym (filter_map-next h xs i x at ∙ ap (λ o. filter_map h (take i xs) ++ option_to_list o) is ∙ append-nil (filter_map h (take i xs)))) zip
+    subst P (sym (filter_map_next h xs i x at ∙ ap (λ o. filter_map h (take i xs) ++ option_to_list o) is ∙ append-nil (filter_map h (take i xs)))) zip
 
 -- the items of one more element of a list
 pub flat_map_next : {K N : Type 0} (f : K → List N) (ks : List K) (i : ℕ) (d : K) (whole done next here : List N) → i < length ks

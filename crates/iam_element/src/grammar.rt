@@ -1,14 +1,14 @@
 // The grammars of the texts of resource and principal elements.
-ghost use Rattle.std.specs.Prelude.{◌≡◌, nat_le, ◌&&◌, ◌||◌, not};
+ghost use Rattle.std.specs.Prelude.{◌≡◌, ◌||◌, not};
 ghost use Rattle.std.specs.List.{list_all, list_any};
 ghost use Rattle.std.specs.Char.{is_ascii_alphanumeric};
-ghost use Rattle.iam_text.specs.Arn.{colons};
 ghost use Rattle.iam_text.specs.Action.{is_wildcard};
 ghost use Rattle.iam_text.specs.Variables.{is_draft};
 ghost use Rattle.iam_element.specs.Grammar.{begins_as_arn, is_resource_pattern, has_early_variable, is_bad_variable, is_whole_arn, is_unique_id, is_aws_name};
 
 use iam_text::{
-    Version, cut_form, has_dollar, has_forms_behind, is_account, is_action_pattern, is_wildcard,
+    Version, cut_form, has_dollar, has_forms_behind, has_six_parts, is_account, is_action_pattern,
+    is_wildcard,
 };
 
 /// A form that a text of a statement may have.
@@ -84,24 +84,6 @@ fn is_whole_arn(text: &str) -> bool
     ensures { result ≡ is_whole_arn text.now }
 {
     begins_as_arn(text) && has_six_parts(text) && !has_wildcard(text.as_bytes())
-}
-
-fn has_six_parts(text: &str) -> bool
-    ensures { result ≡ nat_le 5 (colons text.now) }
-{
-    colons(text.as_bytes()) >= 5
-}
-
-fn colons(text: &[u8]) -> usize
-    ensures { result ≡ colons text.now }
-{
-    let mut count = 0;
-    for &character in text {
-        if character == b':' {
-            count += 1;
-        }
-    }
-    count
 }
 
 fn has_wildcard(text: &[u8]) -> bool

@@ -8,58 +8,58 @@ use Rattle.iam_layers.specs.Cell.{IsAction}
 use Rattle.iam_world.specs.World.{WorldValue}
 use Rattle.iam_engine.specs.Elements.{AreElements, AreElementNumbers, HasElement, IsElement, TellActs}
 use Rattle.iam_engine.specs.declared.elements.Element.{Element}
-use Rattle.iam_engine.proofs.ListLemmas.{get-back, get-more, some-same}
+use Rattle.iam_engine.proofs.ListLemmas.{get_back, get_more, some_same}
 
 -- one more action of the world
-pub tell-more : (world : WorldValue) (action : ActionElement) (acts : List Bool) (act : Bool) (text : List ℕ) → IsAction world (length acts) text
+pub tell_more : (world : WorldValue) (action : ActionElement) (acts : List Bool) (act : Bool) (text : List ℕ) → IsAction world (length acts) text
     → (IsTrue act ↔ ActionMatches action text) → TellActs world action acts → TellActs world action (acts ++ act ∷ [])
-tell-more world action acts act text at is all a other named here asked =
-    elim (get-back acts act a other here) [
+tell_more world action acts act text at is all a other named here asked =
+    elim (get_back acts act a other here) [
       | inl before ↦ all a other named before asked
       | inr (last, same) ↦
-          let own : text ≡ named = some-same text named (sym at ∙ ap (slice_get world.actions) (sym last) ∙ asked) in
+          let own : text ≡ named = some_same text named (sym at ∙ ap (slice_get world.actions) (sym last) ∙ asked) in
           let A : List ℕ → Type 0 = λ t. IsTrue act ↔ ActionMatches action t in
           let B : Bool → Type 0 = λ b. IsTrue b ↔ ActionMatches action named in
           subst B (sym same) (subst A own is)
     ]
 
 -- one more element
-pub elements-more : (world : WorldValue) (elements : List Element) (element : Element) → IsElement world element → AreElements world elements
+pub elements_more : (world : WorldValue) (elements : List Element) (element : Element) → IsElement world element → AreElements world elements
     → AreElements world (elements ++ element ∷ [])
-elements-more world elements element is all n other at =
-    elim (get-back elements element n other at) [
+elements_more world elements element is all n other at =
+    elim (get_back elements element n other at) [
       | inl before ↦ all n other before
       | inr (last, same) ↦ let E : Element → Type 0 = IsElement world in subst E (sym same) is
     ]
 
-pub element-more : (elements more : List Element) (n : ℕ) (action : ActionElement) → HasElement elements n action → HasElement (elements ++ more) n action
-element-more elements more n action (element, at, is) = (element, get-more elements more n element at, is)
+pub element_more : (elements more : List Element) (n : ℕ) (action : ActionElement) → HasElement elements n action → HasElement (elements ++ more) n action
+element_more elements more n action (element, at, is) = (element, get_more elements more n element at, is)
 
-pub rows-grow : (elements more : List Element) (living : List LivingValue) (rows : List (Option ℕ)) → AreElementNumbers elements living rows
+pub rows_grow : (elements more : List Element) (living : List LivingValue) (rows : List (Option ℕ)) → AreElementNumbers elements living rows
     → AreElementNumbers (elements ++ more) living rows
-rows-grow elements more living rows all i n statement kept at = element-more elements more n statement.action (all i n statement kept at)
+rows_grow elements more living rows all i n statement kept at = element_more elements more n statement.action (all i n statement kept at)
 
 -- one more statement
-pub rows-more : (elements : List Element) (living : List LivingValue) (rows : List (Option ℕ)) (x : LivingValue) (row : Option ℕ)
+pub rows_more : (elements : List Element) (living : List LivingValue) (rows : List (Option ℕ)) (x : LivingValue) (row : Option ℕ)
     → slice_get living (length rows) ≡ Some x → IfSome row (λ n. HasElement elements n x.action) → AreElementNumbers elements living rows
     → AreElementNumbers elements living (rows ++ row ∷ [])
-rows-more elements living rows x row at is all i n statement kept there =
-    elim (get-back rows row i (Some n) kept) [
+rows_more elements living rows x row at is all i n statement kept there =
+    elim (get_back rows row i (Some n) kept) [
       | inl before ↦ all i n statement before there
       | inr (last, same) ↦
-          let own : x ≡ statement = some-same x statement (sym at ∙ ap (slice_get living) (sym last) ∙ there) in
+          let own : x ≡ statement = some_same x statement (sym at ∙ ap (slice_get living) (sym last) ∙ there) in
           let A : LivingValue → Type 0 = λ l. HasElement elements n l.action in
           let R : Option ℕ → Type 0 = λ r. IfSome r (λ m. HasElement elements m x.action) in
           subst A own (subst R (sym same) is)
     ]
 
-pub acts-more : (action : List ℕ) (living : List LivingValue) (acts : List Bool) (x : LivingValue) (act : Bool) → slice_get living (length acts) ≡ Some x
+pub acts_more : (action : List ℕ) (living : List LivingValue) (acts : List Bool) (x : LivingValue) (act : Bool) → slice_get living (length acts) ≡ Some x
     → (IsTrue act ↔ ActionMatches x.action action) → AreActs action living acts → AreActs action living (acts ++ act ∷ [])
-acts-more action living acts x act at is all i statement other there here =
-    elim (get-back acts act i other here) [
+acts_more action living acts x act at is all i statement other there here =
+    elim (get_back acts act i other here) [
       | inl before ↦ all i statement other there before
       | inr (last, same) ↦
-          let own : x ≡ statement = some-same x statement (sym at ∙ ap (slice_get living) (sym last) ∙ there) in
+          let own : x ≡ statement = some_same x statement (sym at ∙ ap (slice_get living) (sym last) ∙ there) in
           let A : LivingValue → Type 0 = λ l. IsTrue act ↔ ActionMatches l.action action in
           let B : Bool → Type 0 = λ b. IsTrue b ↔ ActionMatches statement.action action in
           subst B (sym same) (subst A own is)

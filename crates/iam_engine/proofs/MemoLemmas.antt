@@ -10,43 +10,43 @@ use Rattle.iam_engine.specs.declared.elements.Element.{Element}
 use Rattle.iam_engine.specs.declared.memo.Answer.{Answer}
 use Rattle.iam_engine.specs.declared.memo.Class.{Class}
 use Rattle.iam_engine.specs.declared.memo.Pair.{Pair}
-use Rattle.iam_engine.proofs.ElementLemmas.{rows-grow}
-use Rattle.iam_engine.proofs.ListLemmas.{get-back, get-more}
-use Rattle.iam_engine.proofs.SlotLemmas.{all-weaker}
+use Rattle.iam_engine.proofs.ElementLemmas.{rows_grow}
+use Rattle.iam_engine.proofs.ListLemmas.{get_back, get_more}
+use Rattle.iam_engine.proofs.SlotLemmas.{all_weaker}
 
-pub pairs-more : (world : WorldValue) (classes more : List Class) (pairs : List (Option Pair)) → ArePairs world classes pairs
+pub pairs_more : (world : WorldValue) (classes more : List Class) (pairs : List (Option Pair)) → ArePairs world classes pairs
     → ArePairs world (classes ++ more) pairs
-pairs-more world classes more pairs all =
-    all-weaker (λ (p : Pair). HasClass world classes p.principal p.resource p.class) (λ (p : Pair). HasClass world (classes ++ more) p.principal p.resource p.class)
-    pairs (λ p (class, at, is). (class, get-more classes more p.class class at, is)) all
+pairs_more world classes more pairs all =
+    all_weaker (λ (p : Pair). HasClass world classes p.principal p.resource p.class) (λ (p : Pair). HasClass world (classes ++ more) p.principal p.resource p.class)
+    pairs (λ p (class, at, is). (class, get_more classes more p.class class at, is)) all
 
-pub answers-more : (world : WorldValue) (classes more : List Class) (rulings : List RulingValue) (answers : List (Option Answer))
+pub answers_more : (world : WorldValue) (classes more : List Class) (rulings : List RulingValue) (answers : List (Option Answer))
     → AreAnswers world classes rulings answers → AreAnswers world (classes ++ more) rulings answers
-answers-more world classes more rulings answers all =
-    all-weaker (λ (a : Answer). HasNumber world classes rulings a.class a.action a.number)
+answers_more world classes more rulings answers all =
+    all_weaker (λ (a : Answer). HasNumber world classes rulings a.class a.action a.number)
     (λ (a : Answer). HasNumber world (classes ++ more) rulings a.class a.action a.number) answers
-    (λ a (class, at, is). (class, get-more classes more a.class class at, is)) all
+    (λ a (class, at, is). (class, get_more classes more a.class class at, is)) all
 
-pub answers-behind : (world : WorldValue) (classes : List Class) (rulings more : List RulingValue) (answers : List (Option Answer))
+pub answers_behind : (world : WorldValue) (classes : List Class) (rulings more : List RulingValue) (answers : List (Option Answer))
     → AreAnswers world classes rulings answers → AreAnswers world classes (rulings ++ more) answers
-answers-behind world classes rulings more answers all =
-    all-weaker (λ (a : Answer). HasNumber world classes rulings a.class a.action a.number)
+answers_behind world classes rulings more answers all =
+    all_weaker (λ (a : Answer). HasNumber world classes rulings a.class a.action a.number)
     (λ (a : Answer). HasNumber world classes (rulings ++ more) a.class a.action a.number) answers
-    (λ a (class, at, (ruling, here, is)). (class, at, (ruling, get-more rulings more a.number ruling here, is))) all
+    (λ a (class, at, (ruling, here, is)). (class, at, (ruling, get_more rulings more a.number ruling here, is))) all
 
-pub class-rows-grow : (elements more : List Element) (classes : List Class) → HaveRows elements classes → HaveRows (elements ++ more) classes
-class-rows-grow elements more classes all n class at = rows-grow elements more class.shared.living class.rows.items (all n class at)
+pub class_rows_grow : (elements more : List Element) (classes : List Class) → HaveRows elements classes → HaveRows (elements ++ more) classes
+class_rows_grow elements more classes all n class at = rows_grow elements more class.shared.living class.rows.items (all n class at)
 
-pub class-rows-more : (elements : List Element) (classes : List Class) (class : Class) → AreElementNumbers elements class.shared.living class.rows.items
+pub class_rows_more : (elements : List Element) (classes : List Class) (class : Class) → AreElementNumbers elements class.shared.living class.rows.items
     → HaveRows elements classes → HaveRows elements (classes ++ class ∷ [])
-class-rows-more elements classes class is all n other at =
-    elim (get-back classes class n other at) [
+class_rows_more elements classes class is all n other at =
+    elim (get_back classes class n other at) [
       | inl before ↦ all n other before
       | inr (last, same) ↦ let R : Class → Type 0 = λ c. AreElementNumbers elements c.shared.living c.rows.items in subst R (sym same) is
     ]
 
-pub no-rows : (elements : List Element) (classes : List Class) → classes ≡ [] → HaveRows elements classes
-no-rows elements classes none n class at =
+pub no_rows : (elements : List Element) (classes : List Class) → classes ≡ [] → HaveRows elements classes
+no_rows elements classes none n class at =
     let H : List Class → Type 0 = λ cs. slice_get cs n ≡ Some class in
     let within = slice_get_within [] n class (subst H none at) in
     absurd (omega (arith, within))

@@ -60,9 +60,9 @@ weight Token.bad = 0
 weight _ = 1
 
 -- no token counts more than once
-weight-one : (t : Token) → weight t ≤ 1
-weight-one Token.bad = omega arith
-weight-one _ = omega arith
+weight_one : (t : Token) → weight t ≤ 1
+weight_one Token.bad = omega arith
+weight_one _ = omega arith
 
 -- the number of the tokens that count
 abbrev count : List Token → ℕ
@@ -89,14 +89,14 @@ one_byte in_string other x xs k n rest = omega (arith, rest in_string)
 one_byte in_escape c x xs k n rest = omega (arith, rest in_string)
 
 -- a text has at most as many lexemes as bytes
-lex-length : (m : Mode) (text : List ℕ) → length (lex m text) ≤ length text
+lex_length : (m : Mode) (text : List ℕ) → length (lex m text) ≤ length text
 unfolding lex
-lex-length m [] = omega arith
-lex-length m (x ∷ xs) = one_byte m (class x) x xs (λ next. lex next xs) (length xs) (λ next. lex-length next xs)
+lex_length m [] = omega arith
+lex_length m (x ∷ xs) = one_byte m (class x) x xs (λ next. lex next xs) (length xs) (λ next. lex_length next xs)
 
 -- a token that may stand there is one token, and one that may not is one `bad`
 one_token : (allowed : Bool) (t : Token) (k : Place → List Token) (next : Place) (n : ℕ) → count (k next) ≤ n → count (if_allowed allowed t k next) ≤ suc n
-one_token true t k next n rest = omega (arith, weight-one t)
+one_token true t k next n rest = omega (arith, weight_one t)
 one_token false t k next n rest = omega arith
 
 -- a lexeme that is a token gives at most one token
@@ -114,25 +114,25 @@ one_lexeme p Token.null b k n rest = one_token (may_begin p) Token.null k after_
 one_lexeme p Token.bad b k n rest = omega arith
 
 -- there are at most as many tokens as lexemes
-punctuate-count : (p : Place) (ls : List Lexeme) → count (punctuate p ls) ≤ length ls
+punctuate_count : (p : Place) (ls : List Lexeme) → count (punctuate p ls) ≤ length ls
 unfolding punctuate
-punctuate-count fresh [] = omega arith
-punctuate-count after_value [] = omega arith
-punctuate-count after_comma [] = omega arith
-punctuate-count after_key [] = omega arith
-punctuate-count p (token t ∷ ls) = one_lexeme p t (begins_colon ls) (λ next. punctuate next ls) (length ls) (λ next. punctuate-count next ls)
-punctuate-count fresh (comma ∷ ls) = omega arith
-punctuate-count after_value (comma ∷ ls) = omega (arith, punctuate-count after_comma ls)
-punctuate-count after_comma (comma ∷ ls) = omega arith
-punctuate-count after_key (comma ∷ ls) = omega arith
-punctuate-count fresh (colon ∷ ls) = omega arith
-punctuate-count after_value (colon ∷ ls) = omega arith
-punctuate-count after_comma (colon ∷ ls) = omega arith
-punctuate-count after_key (colon ∷ ls) = omega (arith, punctuate-count fresh ls)
+punctuate_count fresh [] = omega arith
+punctuate_count after_value [] = omega arith
+punctuate_count after_comma [] = omega arith
+punctuate_count after_key [] = omega arith
+punctuate_count p (token t ∷ ls) = one_lexeme p t (begins_colon ls) (λ next. punctuate next ls) (length ls) (λ next. punctuate_count next ls)
+punctuate_count fresh (comma ∷ ls) = omega arith
+punctuate_count after_value (comma ∷ ls) = omega (arith, punctuate_count after_comma ls)
+punctuate_count after_comma (comma ∷ ls) = omega arith
+punctuate_count after_key (comma ∷ ls) = omega arith
+punctuate_count fresh (colon ∷ ls) = omega arith
+punctuate_count after_value (colon ∷ ls) = omega arith
+punctuate_count after_comma (colon ∷ ls) = omega arith
+punctuate_count after_key (colon ∷ ls) = omega (arith, punctuate_count fresh ls)
 
 -- a text has at most as many tokens as bytes
-tokens-count : (text : List ℕ) → count (tokens text) ≤ length text
-tokens-count text = omega (arith, punctuate-count fresh (lex between text), lex-length between text)
+tokens_count : (text : List ℕ) → count (tokens text) ≤ length text
+tokens_count text = omega (arith, punctuate_count fresh (lex between text), lex_length between text)
 
 -- ---- from tokens to a value of the grammar
 
@@ -145,12 +145,12 @@ abbrev Pays : {A : Type 0} → (A → ℕ) → Parse A → Type 0
 Pays f p = (ts : List Token) → AtMost (with_rest f) (count ts) (p ts)
 
 -- behind a bracket that closes an array no more tokens count than before it
-closed-count : (ts r : List Token) → after_end_array ts ≡ Some r → count r ≤ count ts
-closed-count ts r e = let same : count ts ≡ 1 + count r = ap count (closed_array ts r e) in omega arith
+closed_count : (ts r : List Token) → after_end_array ts ≡ Some r → count r ≤ count ts
+closed_count ts r e = let same : count ts ≡ 1 + count r = ap count (closed_array ts r e) in omega arith
 
 -- the same behind a key, or behind a bracket that closes an object
-key-count : (ts : List Token) (k : Option (List ℕ)) (r : List Token) → read_key ts ≡ Some (k, r) → count r ≤ count ts
-key-count ts k r e = let same : count ts ≡ weight (key_token k) + count r = ap count (read_key_is ts k r e) in omega arith
+key_count : (ts : List Token) (k : Option (List ℕ)) (r : List Token) → read_key ts ≡ Some (k, r) → count r ≤ count ts
+key_count ts k r e = let same : count ts ≡ weight (key_token k) + count r = ap count (read_key_is ts k r e) in omega arith
 
 -- a value, and then the rest of the items or members
 then_more : {B : Type 0} (g : B → ℕ) (h : Json → B → B) → ((j : Json) (b : B) → g (h j b) ≡ json_size j + g b) → (more : Parse B) → Pays g more
@@ -162,7 +162,7 @@ module _ (p : Parse Json) (pays : Pays json_size p) where
   -- the end of an array, or one more item
   item_turn : (more : Parse json.Items) → Pays json_items_size more → (ts : List Token) (o : Option (List Token)) → after_end_array ts ≡ o
       → AtMost (with_rest json_items_size) (count ts) (items_step p more ts o)
-  item_turn more again ts (Some r) e = omega (arith, closed-count ts r e)
+  item_turn more again ts (Some r) e = omega (arith, closed_count ts r e)
   item_turn more again ts None e = then_more json_items_size json.item (λ j js. refl) more again (p ts) (count ts) (pays ts)
 
   -- the items up to the end of an array
@@ -175,9 +175,9 @@ module _ (p : Parse Json) (pays : Pays json_size p) where
   member_turn : (more : Parse json.Members) → Pays json_members_size more → (ts : List Token) (o : Option (Option (List ℕ) × List Token)) → read_key ts ≡ o
       → AtMost (with_rest json_members_size) (count ts) (option_and_then (λ q. members_step p more q.0 q.1) o)
   member_turn more again ts None e = tt
-  member_turn more again ts (Some (None, r)) e = omega (arith, key-count ts None r e)
+  member_turn more again ts (Some (None, r)) e = omega (arith, key_count ts None r e)
   member_turn more again ts (Some (Some k, r)) e =
-      then_more json_members_size (json.member k) (λ j ms. refl) more again (p r) (count ts) (AtMost-weaker (with_rest json_size) (count r) (count ts) (key-count ts (Some k) r e) (p r) (pays r))
+      then_more json_members_size (json.member k) (λ j ms. refl) more again (p r) (count ts) (AtMost-weaker (with_rest json_size) (count r) (count ts) (key_count ts (Some k) r e) (p r) (pays r))
 
   -- the members up to the end of an object
   members-pay : (n : ℕ) → Pays json_members_size (json.members p n)
@@ -186,52 +186,52 @@ module _ (p : Parse Json) (pays : Pays json_size p) where
   members-pay (suc n) ts = member_turn (json.members p n) (members-pay n) ts (read_key ts) refl
 
 -- one level of nesting, where the items and the members inside pay
-level-pays : (a : Parse json.Items) (o : Parse json.Members) → Pays json_items_size a → Pays json_members_size o → Pays json_size (value_with a o)
-level-pays a o p q [] = tt
-level-pays a o p q (Token.begin_object ∷ ts) = AtMost-map (with_rest json_members_size) (with_rest json_size) (count ts) _ _ (λ b x. omega arith) (o ts) (q ts)
-level-pays a o p q (Token.end_object ∷ ts) = tt
-level-pays a o p q (Token.begin_array ∷ ts) = AtMost-map (with_rest json_items_size) (with_rest json_size) (count ts) _ _ (λ b x. omega arith) (a ts) (p ts)
-level-pays a o p q (Token.end_array ∷ ts) = tt
-level-pays a o p q (Token.key s ∷ ts) = tt
-level-pays a o p q (Token.string s ∷ ts) = omega arith
-level-pays a o p q (Token.number s ∷ ts) = omega arith
-level-pays a o p q (Token.boolean b ∷ ts) = omega arith
-level-pays a o p q (Token.null ∷ ts) = omega arith
-level-pays a o p q (Token.bad ∷ ts) = tt
+level_pays : (a : Parse json.Items) (o : Parse json.Members) → Pays json_items_size a → Pays json_members_size o → Pays json_size (value_with a o)
+level_pays a o p q [] = tt
+level_pays a o p q (Token.begin_object ∷ ts) = AtMost-map (with_rest json_members_size) (with_rest json_size) (count ts) _ _ (λ b x. omega arith) (o ts) (q ts)
+level_pays a o p q (Token.end_object ∷ ts) = tt
+level_pays a o p q (Token.begin_array ∷ ts) = AtMost-map (with_rest json_items_size) (with_rest json_size) (count ts) _ _ (λ b x. omega arith) (a ts) (p ts)
+level_pays a o p q (Token.end_array ∷ ts) = tt
+level_pays a o p q (Token.key s ∷ ts) = tt
+level_pays a o p q (Token.string s ∷ ts) = omega arith
+level_pays a o p q (Token.number s ∷ ts) = omega arith
+level_pays a o p q (Token.boolean b ∷ ts) = omega arith
+level_pays a o p q (Token.null ∷ ts) = omega arith
+level_pays a o p q (Token.bad ∷ ts) = tt
 
 -- a value takes at least as many tokens as it holds values
-value-pays : (depth : ℕ) → Pays json_size (json.value depth)
+value_pays : (depth : ℕ) → Pays json_size (json.value depth)
 unfolding json.value
-value-pays zero = level-pays (λ ts. None) (λ ts. None) (λ ts. tt) (λ ts. tt)
-value-pays (suc d) =
-    level-pays (λ ts. json.items (json.value d) (length ts) ts) (λ ts. json.members (json.value d) (length ts) ts)
-    (λ ts. items-pay (json.value d) (value-pays d) (length ts) ts) (λ ts. members-pay (json.value d) (value-pays d) (length ts) ts)
+value_pays zero = level_pays (λ ts. None) (λ ts. None) (λ ts. tt) (λ ts. tt)
+value_pays (suc d) =
+    level_pays (λ ts. json.items (json.value d) (length ts) ts) (λ ts. json.members (json.value d) (length ts) ts)
+    (λ ts. items-pay (json.value d) (value_pays d) (length ts) ts) (λ ts. members-pay (json.value d) (value_pays d) (length ts) ts)
 
 -- ---- from a value of the grammar to a value
 
 -- a number counts once
-number-size : (o : Option Num) → AtMost size 1 (option_map number o)
-number-size None = tt
-number-size (Some n) = omega arith
+number_size : (o : Option Num) → AtMost size 1 (option_map number o)
+number_size None = tt
+number_size (Some n) = omega arith
 
 -- where each of three members' lists is small, so is the one that is chosen
-match-members-size : (o : Ordering) (a b c : Members) (n : ℕ) → members_size a ≤ n → members_size b ≤ n → members_size c ≤ n → members_size (match_ordering o a b c) ≤ n
-match-members-size Less a b c n p q r = p
-match-members-size Equal a b c n p q r = q
-match-members-size Greater a b c n p q r = r
+match_members_size : (o : Ordering) (a b c : Members) (n : ℕ) → members_size a ≤ n → members_size b ≤ n → members_size c ≤ n → members_size (match_ordering o a b c) ≤ n
+match_members_size Less a b c n p q r = p
+match_members_size Equal a b c n p q r = q
+match_members_size Greater a b c n p q r = r
 
 -- putting a member in adds at most its value; a value of the same key goes
-put-size : (k : List ℕ) (d : Data) (ms : Members) → members_size (put k d ms) ≤ size d + members_size ms
-put-size k d no_members = omega arith
-put-size k d (member l e ms) =
-    match-members-size _ (member k d (member l e ms)) (member l d ms) (member l e (put k d ms)) (size d + members_size (member l e ms)) (omega arith) (omega arith) (omega (arith, put-size k d ms))
+put_size : (k : List ℕ) (d : Data) (ms : Members) → members_size (put k d ms) ≤ size d + members_size ms
+put_size k d no_members = omega arith
+put_size k d (member l e ms) =
+    match_members_size _ (member k d (member l e ms)) (member l d ms) (member l e (put k d ms)) (size d + members_size (member l e ms)) (omega arith) (omega arith) (omega (arith, put_size k d ms))
 
 -- a value holds at most what its value of the grammar does, and so do items and members
 mutual
   of_json-size : (j : Json) → AtMost size (json_size j) (of_json j)
   of_json-size json.null = omega arith
   of_json-size (json.boolean b) = omega arith
-  of_json-size (json.number s) = number-size (number_of s)
+  of_json-size (json.number s) = number_size (number_of s)
   of_json-size (json.string s) = omega arith
   of_json-size (json.array js) = AtMost-map items_size size (json_items_size js) _ array (λ ds x. omega arith) _ (of_items-size js)
   of_json-size (json.object ms) = AtMost-map members_size size (json_members_size ms + 0) _ object (λ found x. omega arith) _ (of_members-size ms no_members)
@@ -245,56 +245,56 @@ mutual
   of_members-size json.no_members found = omega arith
   of_members-size (json.member k j ms) found =
       AtMost-and_then size members_size (json_size j) _ _
-      (λ d x. AtMost-weaker members_size (json_members_size ms + members_size (put k d found)) _ (omega (arith, put-size k d found)) _ (of_members-size ms (put k d found)))
+      (λ d x. AtMost-weaker members_size (json_members_size ms + members_size (put k d found)) _ (omega (arith, put_size k d found)) _ (of_members-size ms (put k d found)))
       _ (of_json-size j)
 
 -- a value after which nothing is left
-last-size : (n : ℕ) (o : Option (Json × List Token)) → AtMost (with_rest json_size) n o → AtMost json_size n (option_and_then (λ p. json.if_last p.0 p.1) o)
-last-size n None x = tt
-last-size n (Some (j, [])) x = omega arith
-last-size n (Some (j, t ∷ ts)) x = tt
+last_size : (n : ℕ) (o : Option (Json × List Token)) → AtMost (with_rest json_size) n o → AtMost json_size n (option_and_then (λ p. json.if_last p.0 p.1) o)
+last_size n None x = tt
+last_size n (Some (j, [])) x = omega arith
+last_size n (Some (j, t ∷ ts)) x = tt
 
 -- a value that is read from a text holds at most as many values as the text has bytes
-pub read-size : (text : List ℕ) (d : Data) → read text ≡ Some d → size d ≤ length text
-read-size text d e =
-    let document = last-size (count (tokens text)) _ (value-pays max_depth (tokens text)) in
+pub read_size : (text : List ℕ) (d : Data) → read text ≡ Some d → size d ≤ length text
+read_size text d e =
+    let document = last_size (count (tokens text)) _ (value_pays max_depth (tokens text)) in
     let held : AtMost size (count (tokens text)) (Some d) =
     subst (AtMost size (count (tokens text))) e
     (AtMost-and_then json_size size _ _ of_json (λ j x. AtMost-weaker size (json_size j) _ x _ (of_json-size j)) _ document) in
-    omega (arith, tokens-count text)
+    omega (arith, tokens_count text)
 
 -- ---- inside a value
 
 -- each value counts
-size-positive : (d : Data) → 1 ≤ size d
-size-positive null = omega arith
-size-positive (boolean b) = omega arith
-size-positive (number n) = omega arith
-size-positive (string s) = omega arith
-size-positive (array ds) = omega arith
-size-positive (object ms) = omega arith
+size_positive : (d : Data) → 1 ≤ size d
+size_positive null = omega arith
+size_positive (boolean b) = omega arith
+size_positive (number n) = omega arith
+size_positive (string s) = omega arith
+size_positive (array ds) = omega arith
+size_positive (object ms) = omega arith
 
 -- a list has at most as many items as it holds values
-pub list-size : (ds : Items) → length (list_of ds) ≤ items_size ds
-list-size no_items = omega arith
-list-size (item d ds) = omega (arith, size-positive d, list-size ds)
+pub list_size : (ds : Items) → length (list_of ds) ≤ items_size ds
+list_size no_items = omega arith
+list_size (item d ds) = omega (arith, size_positive d, list_size ds)
 
 -- where each of three results is small, so is the one that is chosen
-match-option-size : (o : Ordering) (a b c : Option Data) (n : ℕ) → AtMost size n a → AtMost size n b → AtMost size n c → AtMost size n (match_ordering o a b c)
-match-option-size Less a b c n p q r = p
-match-option-size Equal a b c n p q r = q
-match-option-size Greater a b c n p q r = r
+match_option_size : (o : Ordering) (a b c : Option Data) (n : ℕ) → AtMost size n a → AtMost size n b → AtMost size n c → AtMost size n (match_ordering o a b c)
+match_option_size Less a b c n p q r = p
+match_option_size Equal a b c n p q r = q
+match_option_size Greater a b c n p q r = r
 
 -- a member holds at most what the members do
-get_member-size : (name : List ℕ) (ms : Members) → AtMost size (members_size ms) (get_member name ms)
-get_member-size name no_members = tt
-get_member-size name (member k d ms) =
-    let later : AtMost size (members_size (member k d ms)) (get_member name ms) = AtMost-weaker size (members_size ms) _ (omega arith) _ (get_member-size name ms) in
-    match-option-size _ (get_member name ms) (Some d) (get_member name ms) (members_size (member k d ms)) later (omega arith) later
+get_member_size : (name : List ℕ) (ms : Members) → AtMost size (members_size ms) (get_member name ms)
+get_member_size name no_members = tt
+get_member_size name (member k d ms) =
+    let later : AtMost size (members_size (member k d ms)) (get_member name ms) = AtMost-weaker size (members_size ms) _ (omega arith) _ (get_member_size name ms) in
+    match_option_size _ (get_member name ms) (Some d) (get_member name ms) (members_size (member k d ms)) later (omega arith) later
 
 -- a member of a value holds at most what the value does
-pub get-size : (name : List ℕ) (d v : Data) → get name d ≡ Some v → size v ≤ size d
-get-size name d v e = subst (AtMost size (size d)) e (found d)
+pub get_size : (name : List ℕ) (d v : Data) → get name d ≡ Some v → size v ≤ size d
+get_size name d v e = subst (AtMost size (size d)) e (found d)
   where
     found : (d : Data) → AtMost size (size d) (get name d)
     found null = tt
@@ -302,11 +302,11 @@ get-size name d v e = subst (AtMost size (size d)) e (found d)
     found (number n) = tt
     found (string s) = tt
     found (array ds) = tt
-    found (object ms) = AtMost-weaker size (members_size ms) _ (omega arith) _ (get_member-size name ms)
+    found (object ms) = AtMost-weaker size (members_size ms) _ (omega arith) _ (get_member_size name ms)
 
 -- an item of a list holds at most what the list does
-pub item-size : (ds : Items) (i : ℕ) (v : Data) → slice_get (list_of ds) i ≡ Some v → size v ≤ items_size ds
-item-size ds i v e = subst (AtMost size (items_size ds)) e (found ds i)
+pub item_size : (ds : Items) (i : ℕ) (v : Data) → slice_get (list_of ds) i ≡ Some v → size v ≤ items_size ds
+item_size ds i v e = subst (AtMost size (items_size ds)) e (found ds i)
   where
     found : (ds : Items) (i : ℕ) → AtMost size (items_size ds) (slice_get (list_of ds) i)
     found no_items i = tt

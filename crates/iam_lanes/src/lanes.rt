@@ -20,7 +20,7 @@ const MOST_NUMBERS: u64 = 4096;
 /// Lanes of numbers, and a bound, that threads share by reference, each with a seat of its own.
 ///
 /// `take`, `offer` and `low` are one atomic step each at most. They wait for nobody, allocate nothing and
-/// always succeed. What holds between any two steps, in every schedule, is `LaneRule` of `specs/`. Nothing
+/// always succeed. What holds between any two steps, in every schedule, is `LaneRule` of `specs/Code/`. Nothing
 /// is said of which seat gets a number, nor of progress.
 ///
 /// A contract sees which lanes they are, the length of each, and the number of their seats.

@@ -4,31 +4,31 @@ use Rattle.std.proofs.Math.Nat.{div-lt_iff_lt-mul, mul-add-div_right, div-eq_of_
 use Rattle.iam_layers.specs.Laws
 
 -- the row of a place in rows of n places
-row-of : (n i j : ℕ) → j < n → (i * n + j) / n ≡ i
-row-of n i j place =
+row_of : (n i j : ℕ) → j < n → (i * n + j) / n ≡ i
+row_of n i j place =
     let some : 0 < n = omega arith in mul-add-div_right some i j ∙ ap (λ k. i + k) (div-eq_of_lt place) ∙ (omega arith)
 
 -- a place in one of m rows of n places
-row-below : (m n i j : ℕ) → i < m → j < n → i * n + j < m * n
-row-below m n i j row place =
+row_below : (m n i j : ℕ) → i < m → j < n → i * n + j < m * n
+row_below m n i j row place =
     let some : 0 < n = omega arith in
-    (div-lt_iff_lt-mul some).0 (subst (λ k. k < m) (sym (row-of n i j place)) row)
+    (div-lt_iff_lt-mul some).0 (subst (λ k. k < m) (sym (row_of n i j place)) row)
 
 -- the number of a cell is below that of all
 pub cell_below : (P A R p a r : ℕ) → p < P → a < A → r < R → (p * A + a) * R + r < P * A * R
-cell_below P A R p a r principal action resource = row-below (P * A) R (p * A + a) r (row-below P A p a principal action) resource
+cell_below P A R p a r principal action resource = row_below (P * A) R (p * A + a) r (row_below P A p a principal action) resource
 
-some-factor : (m n k : ℕ) → k < m * n → 0 < n
-some-factor m zero k below = let none : m * zero ≡ 0 = mul-zero m in absurd (omega arith)
-some-factor m (suc n) k below = omega arith
+some_factor : (m n k : ℕ) → k < m * n → 0 < n
+some_factor m zero k below = let none : m * zero ≡ 0 = mul-zero m in absurd (omega arith)
+some_factor m (suc n) k below = omega arith
 
 -- the parts of the number of a cell
 pub cell_parts : (P A R cell : ℕ) → cell < P * A * R
     → (cell / R / A < P) × (cell / R % A < A) × (cell % R < R) × (cell ≡ (cell / R / A * A + cell / R % A) * R + cell % R)
 cell_parts P A R cell below =
-    let resources : 0 < R = some-factor (P * A) R cell below in
+    let resources : 0 < R = some_factor (P * A) R cell below in
     let row : cell / R < P * A = (div-lt_iff_lt-mul resources).1 below in
-    let actions : 0 < A = some-factor P A (cell / R) row in
+    let actions : 0 < A = some_factor P A (cell / R) row in
     let rows : cell / R / A * A + cell / R % A ≡ cell / R =
     ap (λ k. k + cell / R % A) (mul_comm (cell / R / A) A) ∙ div-add-mod (cell / R) A in
     let whole : cell / R * R + cell % R ≡ cell = ap (λ k. k + cell % R) (mul_comm (cell / R) R) ∙ div-add-mod cell R in (
@@ -39,13 +39,13 @@ cell_parts P A R cell below =
     )
 
 -- a row has no more rows before it than cells
-pub rows-le : (row R : ℕ) → 0 < R → row ≤ row * R
-rows-le row R some = let more : row * 1 ≤ row * R = mul-le-mul_left row some in let one : row * 1 ≡ row = mul-one row in omega arith
+pub rows_le : (row R : ℕ) → 0 < R → row ≤ row * R
+rows_le row R some = let more : row * 1 ≤ row * R = mul-le-mul_left row some in let one : row * 1 ≡ row = mul-one row in omega arith
 
 -- a place in rows of n places has one row and one number there
-same-place : (n i j k l : ℕ) → j < n → l < n → i * n + j ≡ k * n + l → (i ≡ k) × (j ≡ l)
-same-place n i j k l here there e =
-    let row : i ≡ k = sym (row-of n i j here) ∙ ap (λ m. m / n) e ∙ row-of n k l there in
+same_place : (n i j k l : ℕ) → j < n → l < n → i * n + j ≡ k * n + l → (i ≡ k) × (j ≡ l)
+same_place n i j k l here there e =
+    let row : i ≡ k = sym (row_of n i j here) ∙ ap (λ m. m / n) e ∙ row_of n k l there in
     let rows : i * n ≡ k * n = ap (λ m. m * n) row in (row, omega arith)
 
 pub some_triple : Laws.SomeTriple
@@ -59,6 +59,6 @@ pub one_triple : Laws.OneTriple
 one_triple world cell p a r q b s here there =
     let m = length world.actions in
     let n = length world.resources in
-    let outer = same-place n (p * m + a) r (q * m + b) s here.resource there.resource (sym here.number ∙ there.number) in
-    let inner = same-place m p a q b here.action there.action outer.0 in
+    let outer = same_place n (p * m + a) r (q * m + b) s here.resource there.resource (sym here.number ∙ there.number) in
+    let inner = same_place m p a q b here.action there.action outer.0 in
     (inner.0, inner.1, outer.1)

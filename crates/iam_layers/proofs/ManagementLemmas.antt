@@ -11,19 +11,19 @@ use Rattle.iam_layers.specs.Laws
 use Rattle.iam_layers.specs.Laws.{IsSameButFreeControl, IsSameButFreeOrg}
 
 -- the element at this place of the other list
-zip-get : {X : Type 0} (R : X → X → Type 0) (xs ys : List X) (i : ℕ) (x : X) → AllZip R xs ys → slice_get xs i ≡ Some x
+zip_get : {X : Type 0} (R : X → X → Type 0) (xs ys : List X) (i : ℕ) (x : X) → AllZip R xs ys → slice_get xs i ≡ Some x
     → (y : X) × (slice_get ys i ≡ Some y) × R x y
-zip-get R [] ys i x all is = absurd (let wrong : ⊥ = cc in wrong)
-zip-get R (z ∷ xs) [] i x all is = absurd all
-zip-get R (z ∷ xs) (y ∷ ys) zero x all is = let same : z ≡ x = cc in (y, refl, subst (λ w. R w y) same all.0)
-zip-get R (z ∷ xs) (y ∷ ys) (suc i) x all is = zip-get R xs ys i x all.1 is
+zip_get R [] ys i x all is = absurd (let wrong : ⊥ = cc in wrong)
+zip_get R (z ∷ xs) [] i x all is = absurd all
+zip_get R (z ∷ xs) (y ∷ ys) zero x all is = let same : z ≡ x = cc in (y, refl, subst (λ w. R w y) same all.0)
+zip_get R (z ∷ xs) (y ∷ ys) (suc i) x all is = zip_get R xs ys i x all.1 is
 
 -- the levels that bind are the same
-free-levels : (m : Bool) (levels others : List (List PolicyValue)) → (m ≡ true) ⊎ (others ≡ levels)
+free_levels : (m : Bool) (levels others : List (List PolicyValue)) → (m ≡ true) ⊎ (others ≡ levels)
     → levels_unless m others ≡ levels_unless m levels
-free-levels true levels others free = refl
-free-levels false levels others (inl managing) = absurd (let wrong : ⊥ = cc in wrong)
-free-levels false levels others (inr same) = same
+free_levels true levels others free = refl
+free_levels false levels others (inl managing) = absurd (let wrong : ⊥ = cc in wrong)
+free_levels false levels others (inr same) = same
 
 -- what is looked up of an account
 abbrev binding : Option AccountValue → List (List PolicyValue)
@@ -37,48 +37,48 @@ look id accounts = find (λ account. bytes_eq account.id id) accounts
 abbrev BindAlike : Option AccountValue → Option AccountValue → Type 0
 BindAlike account other = (manages other ≡ manages account) × (binding other ≡ binding account)
 
-same-account : (account other : AccountValue) → IsSameButFreeOrg account other → BindAlike (Some account) (Some other)
-same-account account other same = (
+in_one_account : (account other : AccountValue) → IsSameButFreeOrg account other → BindAlike (Some account) (Some other)
+in_one_account account other same = (
   same.management,
-  ap (λ m. levels_unless m other.org) same.management ∙ free-levels account.management account.org other.org same.org,
+  ap (λ m. levels_unless m other.org) same.management ∙ free_levels account.management account.org other.org same.org,
 )
 
-same-accounts : (id : List ℕ) (accounts others : List AccountValue) → AllZip IsSameButFreeOrg accounts others
+same_accounts : (id : List ℕ) (accounts others : List AccountValue) → AllZip IsSameButFreeOrg accounts others
     → BindAlike (look id accounts) (look id others)
-same-accounts id [] [] all = (refl, refl)
-same-accounts id [] (other ∷ others) all = absurd all
-same-accounts id (account ∷ accounts) [] all = absurd all
-same-accounts id (account ∷ accounts) (other ∷ others) all =
-    by-test (bytes_eq account.id id) (bytes_eq other.id id) (ap (λ text. bytes_eq text id) all.0.id) (same-accounts id accounts others all.1)
+same_accounts id [] [] all = (refl, refl)
+same_accounts id [] (other ∷ others) all = absurd all
+same_accounts id (account ∷ accounts) [] all = absurd all
+same_accounts id (account ∷ accounts) (other ∷ others) all =
+    by-test (bytes_eq account.id id) (bytes_eq other.id id) (ap (λ text. bytes_eq text id) all.0.id) (same_accounts id accounts others all.1)
   where
     by-test : (here there : Bool) → there ≡ here → BindAlike (look id accounts) (look id others)
         → BindAlike (cond here (Some account) (look id accounts)) (cond there (Some other) (look id others))
-    by-test true true is rest = same-account account other all.0
+    by-test true true is rest = in_one_account account other all.0
     by-test false false is rest = rest
     by-test true false is rest = absurd (let wrong : ⊥ = cc in wrong)
     by-test false true is rest = absurd (let wrong : ⊥ = cc in wrong)
 
 -- the same policies apply
-applicable-same : (world : WorldValue) (accounts : List AccountValue) (resources : List ResourceValue) (principal : PrincipalValue)
+applicable_same : (world : WorldValue) (accounts : List AccountValue) (resources : List ResourceValue) (principal : PrincipalValue)
     (resource : ResourceValue) (control : List (List PolicyValue)) → AllZip IsSameButFreeOrg world.accounts accounts
     → (manages (account_with resource.account world) ≡ true) ⊎ (control ≡ resource.control)
     → applicable_of (record world { accounts = accounts; resources = resources }) principal (record resource { control = control })
     ≡ applicable_of world principal resource
-applicable-same world accounts resources principal resource control all free =
-    let asks = same-accounts principal.requester.account world.accounts accounts all in
-    let owns = same-accounts resource.account world.accounts accounts all in
+applicable_same world accounts resources principal resource control all free =
+    let asks = same_accounts principal.requester.account world.accounts accounts all in
+    let owns = same_accounts resource.account world.accounts accounts all in
     let A : List (List PolicyValue) → List (List PolicyValue) → ApplicableValue =
     λ org levels. record (applicable_of world principal resource) { org = org; control = levels } in
     let bound : levels_unless (manages (look resource.account accounts)) control
     ≡ levels_unless (manages (look resource.account world.accounts)) resource.control =
     ap (λ m. levels_unless m control) owns.0
-    ∙ free-levels (manages (look resource.account world.accounts)) resource.control control free in
+    ∙ free_levels (manages (look resource.account world.accounts)) resource.control control free in
     ap (λ org. A org (levels_unless (manages (look resource.account accounts)) control)) asks.1
     ∙ ap (λ levels. A (binding (look principal.requester.account world.accounts)) levels) bound
 
 pub management_is_not_bound : Laws.ManagementIsNotBound
 management_is_not_bound world accounts resources p a r verdict all each (applicable, request, (access, action, at, is_action, request_is), is) =
-    let found = zip-get (IsSameButFreeControl world) world.resources resources r at.resource each at.resource_is in
+    let found = zip_get (IsSameButFreeControl world) world.resources resources r at.resource each at.resource_is in
     let other : ResourceValue = record at.resource { control = found.0.control } in
     let there : IsAccessAt (record world { accounts = accounts; resources = resources }) p r applicable access = record {
       principal = at.principal;
@@ -88,7 +88,7 @@ management_is_not_bound world accounts resources p a r verdict all each (applica
       resource_is = found.1 ∙ ap Some found.2.rest;
       derived_is = at.derived_is;
       applicable_is = at.applicable_is
-          ∙ sym (applicable-same world accounts resources at.principal at.resource found.0.control all found.2.control);
+          ∙ sym (applicable_same world accounts resources at.principal at.resource found.0.control all found.2.control);
       access_is = at.access_is;
     } in
     (applicable, request, (access, action, there, is_action, request_is), is)

@@ -20,14 +20,14 @@ use Rattle.iam_match.specs.Code.Asked.{IsComparison, IsArnOf, IsThe}
 use Rattle.iam_match.specs.Code.Compared.{ArnFits, IsTextAnswer}
 
 -- the pieces of a text
-same-pieces : (p q : List Piece) → operand.Text p ≡ operand.Text q → p ≡ q
-same-pieces p q e = cc
+same_pieces : (p q : List Piece) → operand.Text p ≡ operand.Text q → p ≡ q
+same_pieces p q e = cc
 
-same-some : {X : Type 0} (x y : X) → Some x ≡ Some y → x ≡ y
-same-some x y e = cc
+same_some : {X : Type 0} (x y : X) → Some x ≡ Some y → x ≡ y
+same_some x y e = cc
 
-no-some : {X : Type 0} (x : X) → None ≡ Some x → ⊥
-no-some x e = cc
+no_some : {X : Type 0} (x : X) → None ≡ Some x → ⊥
+no_some x e = cc
 
 -- a value that is no text becomes no pattern, so the text does not match it
 other : (context : ContextValue) (b : Base) (text : List ℕ) (value : Operand) (P : List Sign → Type 0) (answer : Option Bool)
@@ -49,17 +49,17 @@ comparison context b text (operand.Text pieces) P None means back texts is = (
       let some = resolves texts pieces refl in absurd (let wrong : ⊥ = cc in wrong),
   λ matched.
       let to = means matched in
-      let same = same-pieces pieces to.0 to.2 in
-      absurd (no-some to.1 (sym is ∙ ap (resolved context) same ∙ to.3)),
+      let same = same_pieces pieces to.0 to.2 in
+      absurd (no_some to.1 (sym is ∙ ap (resolved context) same ∙ to.3)),
 )
 comparison context b text (operand.Text pieces) P (Some holds) means back texts (signs, is, agrees) = (
-  λ _ others e. let same = same-pieces pieces others e in let here : resolved context others ≡ Some signs = ap (resolved context) (sym same) ∙ is in cc,
+  λ _ others e. let same = same_pieces pieces others e in let here : resolved context others ≡ Some signs = ap (resolved context) (sym same) ∙ is in cc,
   (
     λ yes. back (pieces, signs, refl, is, agrees.0 yes),
     λ matched.
         let to = means matched in
-        let same = same-pieces pieces to.0 to.2 in
-        let signs_same = same-some signs to.1 (sym is ∙ ap (resolved context) same ∙ to.3) in
+        let same = same_pieces pieces to.0 to.2 in
+        let signs_same = same_some signs to.1 (sym is ∙ ap (resolved context) same ∙ to.3) in
         agrees.1 (subst P (sym signs_same) to.4),
   ),
 )
@@ -70,27 +70,27 @@ comparison context b text (operand.Bytes bytes) P answer means back texts is = o
 comparison context b text (operand.Range range) P answer means back texts is = other context b text (operand.Range range) P answer means (λ pieces e. cc) is
 
 -- the ARN of a text is the one that it is cut into
-arn-fits : (text : List ℕ) (found : Option Arn) → IsArnOf text found → (signs : List Sign) → ArnMatches signs text → ArnFits found signs
-arn-fits text None cut signs (parts, is, fits) = absurd (cut parts is)
-arn-fits text (Some a) cut signs (parts, is, inl star) = inl star
-arn-fits text (Some a) cut signs (parts, is, inr fits) = inr (subst (PartsMatch signs) (cut.1 parts is) fits)
+arn_is_fitted : (text : List ℕ) (found : Option Arn) → IsArnOf text found → (signs : List Sign) → ArnMatches signs text → ArnFits found signs
+arn_is_fitted text None cut signs (parts, is, fits) = absurd (cut parts is)
+arn_is_fitted text (Some a) cut signs (parts, is, inl star) = inl star
+arn_is_fitted text (Some a) cut signs (parts, is, inr fits) = inr (subst (PartsMatch signs) (cut.1 parts is) fits)
 
-fits-arn : (text : List ℕ) (found : Option Arn) → IsArnOf text found → (signs : List Sign) → ArnFits found signs → ArnMatches signs text
-fits-arn text None cut signs fits = absurd fits
-fits-arn text (Some a) cut signs fits = (parts_of a, cut.0, fits)
+fits_arn : (text : List ℕ) (found : Option Arn) → IsArnOf text found → (signs : List Sign) → ArnFits found signs → ArnMatches signs text
+fits_arn text None cut signs fits = absurd fits
+fits_arn text (Some a) cut signs fits = (parts_of a, cut.0, fits)
 
-pub arn-comparison : (context : ContextValue) (text : List ℕ) (found : Option Arn) (value : Operand) (answer : Option Bool) → IsArnOf text found
+pub arn_comparison : (context : ContextValue) (text : List ℕ) (found : Option Arn) (value : Operand) (answer : Option Bool) → IsArnOf text found
     → IsTextAnswer context value (ArnFits found) answer → IsComparison context base.Arn text value answer
-arn-comparison context text found value answer cut is =
+arn_comparison context text found value answer cut is =
     comparison context base.Arn text value (ArnFits found) answer
-    (λ matched. (matched.0, matched.1, matched.2, matched.3, arn-fits text found cut matched.1 matched.4))
-    (λ to. (to.0, to.1, to.2, to.3, fits-arn text found cut to.1 to.4)) refl is
+    (λ matched. (matched.0, matched.1, matched.2, matched.3, arn_is_fitted text found cut matched.1 matched.4))
+    (λ to. (to.0, to.1, to.2, to.3, fits_arn text found cut to.1 to.4)) refl is
 
 -- the comparison of instants
-pub instant-comparison : (context : ContextValue) (text : List ℕ) (nanos : ℤ) (order : Order) (value : Operand) (holds : Bool)
+pub instant_comparison : (context : ContextValue) (text : List ℕ) (nanos : ℤ) (order : Order) (value : Operand) (holds : Bool)
     → IsThe (IsMoment text) nanos → (IsTrue holds ↔ ((m : ℤ) × (value ≡ operand.Instant m) × Ordered order nanos m))
     → IsComparison context (base.Date order) text value (Some holds)
-instant-comparison context text nanos order value holds the agrees = (
+instant_comparison context text nanos order value holds the agrees = (
   λ texts. absurd (let wrong : ⊥ = cc in wrong),
   (
     λ yes. let found = agrees.0 yes in (nanos, found.0, found.1, the.0, found.2),
@@ -99,10 +99,10 @@ instant-comparison context text nanos order value holds the agrees = (
 )
 
 -- the comparison of an address with a range
-pub address-comparison : (context : ContextValue) (text : List ℕ) (address : AddressBits) (value : Operand) (holds : Bool)
+pub address_comparison : (context : ContextValue) (text : List ℕ) (address : AddressBits) (value : Operand) (holds : Bool)
     → IsThe (IsAddress text) address → (IsTrue holds ↔ ((range : Block) × (value ≡ operand.Range range) × Holds range address))
     → IsComparison context base.Address text value (Some holds)
-address-comparison context text address value holds the agrees = (
+address_comparison context text address value holds the agrees = (
   λ texts. absurd (let wrong : ⊥ = cc in wrong),
   (
     λ yes. let found = agrees.0 yes in (address, found.0, found.1, the.0, found.2),
@@ -110,19 +110,19 @@ address-comparison context text address value holds the agrees = (
   ),
 )
 
-pub not-true : (b : Bool) → ¬ IsTrue b → IsTrue (not b)
-not-true true h = absurd (h refl)
-not-true false h = refl
+pub not_true : (b : Bool) → ¬ IsTrue b → IsTrue (not b)
+not_true true h = absurd (h refl)
+not_true false h = refl
 
-pub not-both : (b : Bool) → IsTrue (not b) → IsTrue b → ⊥
-not-both true denied held = let wrong : ⊥ = cc in wrong
-not-both false denied held = let wrong : ⊥ = cc in wrong
+pub not_both : (b : Bool) → IsTrue (not b) → IsTrue b → ⊥
+not_both true denied held = let wrong : ⊥ = cc in wrong
+not_both false denied held = let wrong : ⊥ = cc in wrong
 
-pub not-false : (b : Bool) → b ≡ false → IsTrue b → ⊥
-not-false b is held = let wrong : true ≡ false = sym held ∙ is in let false_is : ⊥ = cc in false_is
+pub not_false : (b : Bool) → b ≡ false → IsTrue b → ⊥
+not_false b is held = let wrong : true ≡ false = sym held ∙ is in let false_is : ⊥ = cc in false_is
 
 -- a key with some value
-pub holds-on : (context : ContextValue) (entry : EntryValue) (texts : List (List ℕ)) → 1 ≤ length texts
+pub holds_on : (context : ContextValue) (entry : EntryValue) (texts : List (List ℕ)) → 1 ≤ length texts
     → HoldsWith context entry.operator entry.values texts ↔ HoldsOn context entry texts
-holds-on context entry [] some = absurd (omega arith)
-holds-on context entry (text ∷ texts) some = (λ h. h, λ h. h)
+holds_on context entry [] some = absurd (omega arith)
+holds_on context entry (text ∷ texts) some = (λ h. h, λ h. h)

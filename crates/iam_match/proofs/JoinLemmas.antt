@@ -7,22 +7,22 @@ use Rattle.std.specs.List.{concat}
 use Rattle.std.specs.Str.{bytes_eq}
 
 -- a piece that both begin with
-pub join-same : (piece rest more : List ℕ) → bytes_eq (piece ++ rest) (piece ++ more) ≡ bytes_eq rest more
-join-same [] rest more = refl
-join-same (c ∷ piece) rest more =
-    ap (λ b. b && bytes_eq (piece ++ rest) (piece ++ more)) (eq-eqb c c refl) ∙ join-same piece rest more
+pub join_same : (piece rest more : List ℕ) → bytes_eq (piece ++ rest) (piece ++ more) ≡ bytes_eq rest more
+join_same [] rest more = refl
+join_same (c ∷ piece) rest more =
+    ap (λ b. b && bytes_eq (piece ++ rest) (piece ++ more)) (eq-eqb c c refl) ∙ join_same piece rest more
 
 -- a piece that the text does not begin with
-pub join-other : (text piece more : List ℕ) → ((rest : List ℕ) → text ≢ piece ++ rest) → bytes_eq text (piece ++ more) ≡ false
-join-other text piece more other = go (bytes_eq text (piece ++ more)) refl
+pub join_other : (text piece more : List ℕ) → ((rest : List ℕ) → text ≢ piece ++ rest) → bytes_eq text (piece ++ more) ≡ false
+join_other text piece more other = go (bytes_eq text (piece ++ more)) refl
   where
     go : (b : Bool) → bytes_eq text (piece ++ more) ≡ b → b ≡ false
     go false e = refl
     go true e = let decided : Decides (bytes_eq text (piece ++ more)) (text ≡ piece ++ more) = bytes_eq-Decides text (piece ++ more) in absurd (other more (decided.0 e))
 
 -- the pieces from one on
-pub pieces-from : (pieces : List (Bor (List ℕ))) (i : ℕ) (d : Bor (List ℕ)) → i < length pieces
+pub pieces_from : (pieces : List (Bor (List ℕ))) (i : ℕ) (d : Bor (List ℕ)) → i < length pieces
     → concat (map (λ p. p.now) (drop i pieces)) ≡ (get_or pieces i d).now ++ concat (map (λ p. p.now) (drop (i + 1) pieces))
-pieces-from pieces i d below =
+pieces_from pieces i d below =
     ap (λ ps. concat (map (λ p. p.now) ps)) (drop-cons pieces i d below)
     ∙ ap (λ n. (get_or pieces i d).now ++ concat (map (λ q. q.now) (drop n pieces))) (sym (add-one i))

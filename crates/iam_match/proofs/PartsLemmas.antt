@@ -27,11 +27,11 @@ count [] = 0
 count (c ∷ text) = cond (c == 58) (1 + count text) (count text)
 
 -- characters of which none is a colon
-colons-none : (test : ℕ → Bool) → test 58 ≡ false → (text : List ℕ) → list_all test text ≡ true → count text ≡ 0
-colons-none test never [] all = refl
-colons-none test never (c ∷ text) all =
+colons_none : (test : ℕ → Bool) → test 58 ≡ false → (text : List ℕ) → list_all test text ≡ true → count text ≡ 0
+colons_none test never [] all = refl
+colons_none test never (c ∷ text) all =
     let both = and_parts (test c) (list_all test text) all in
-    go (c == 58) refl both.0 (colons-none test never text both.1)
+    go (c == 58) refl both.0 (colons_none test never text both.1)
   where
     go : (b : Bool) → (c == 58) ≡ b → test c ≡ true → count text ≡ 0 → cond b (1 + count text) (count text) ≡ 0
     go false is passes rest = rest
@@ -41,11 +41,11 @@ colons-none test never (c ∷ text) all =
         cc
 
 plain : (test : ℕ → Bool) → test 58 ≡ false → (text : List ℕ) → list_all test text ≡ true → HasNoColon text
-plain test never text all = sym (is_count_by count (λ c. c == 58) refl (λ c rest. refl) text) ∙ colons-none test never text all
+plain test never text all = sym (is_count_by count (λ c. c == 58) refl (λ c rest. refl) text) ∙ colons_none test never text all
 
 -- the ARN has these parts
-pub parts-is_arn : (arn word : List ℕ) (r : RequesterValue) → HasParts arn word r → IsArn (parts_of word r) arn
-parts-is_arn arn word r p = (
+pub parts_is_arn : (arn word : List ℕ) (r : RequesterValue) → HasParts arn word r → IsArn (parts_of word r) arn
+parts_is_arn arn word r p = (
   refl,
   (
     refl,
@@ -58,11 +58,11 @@ parts-is_arn arn word r p = (
 )
 
 -- the parts of an ARN that pass the test
-pub parts-from_cut : (arn word prefix partition service region account resource path : List ℕ)
+pub parts_from_cut : (arn word prefix partition service region account resource path : List ℕ)
     → IsArn (prefix ∷ (partition ∷ (service ∷ (region ∷ (account ∷ (resource ∷ [])))))) arn
     → is_of_account prefix partition service region account ≡ true → resource ≡ word ++ path → path_from false path ≡ true
     → HasParts arn word (record { partition = partition; account = account; path = path; session = None })
-parts-from_cut text word prefix partition service region account resource path arn fits behind walked =
+parts_from_cut text word prefix partition service region account resource path arn fits behind walked =
     let last = and_parts _ (is_account account) fits in
     let before_account = and_parts _ (is_label partition) last.0 in
     let before_partition = and_parts _ (length region == 0) before_account.0 in

@@ -33,14 +33,14 @@ run_of text some all = go (nat_lt 0 (length text)) (lt-ltb 0 (length text) some)
     go true e = all
     go false e = cc
 
-join-cons : (c : ℕ) (first : List ℕ) (rest : List (List ℕ)) → join_with_byte 47 ((c ∷ first) ∷ rest) ≡ c ∷ join_with_byte 47 (first ∷ rest)
-join-cons c first [] = refl
-join-cons c first (s ∷ rest) = refl
+join_cons : (c : ℕ) (first : List ℕ) (rest : List (List ℕ)) → join_with_byte 47 ((c ∷ first) ∷ rest) ≡ c ∷ join_with_byte 47 (first ∷ rest)
+join_cons c first [] = refl
+join_cons c first (s ∷ rest) = refl
 
 -- a text that passes the test is the rest of a path
-rest-from_test : (text : List ℕ) (begun : Bool) → path_from begun text ≡ true → IsRest begun text
-rest-from_test [] begun e = ([], [], refl, (λ fresh. let wrong : ⊥ = cc in absurd wrong), tt, refl)
-rest-from_test (c ∷ text) begun e = go (c == 47) refl (rest-from_test text false) (rest-from_test text true) e
+rest_from_test : (text : List ℕ) (begun : Bool) → path_from begun text ≡ true → IsRest begun text
+rest_from_test [] begun e = ([], [], refl, (λ fresh. let wrong : ⊥ = cc in absurd wrong), tt, refl)
+rest_from_test (c ∷ text) begun e = go (c == 47) refl (rest_from_test text false) (rest_from_test text true) e
   where
     at_slash : c ≡ 47 → begun ≡ true → IsRest false text → IsRest begun (c ∷ text)
     at_slash slash been (first, rest, all, some, segments, joined) = (
@@ -59,7 +59,7 @@ rest-from_test (c ∷ text) begun e = go (c == 47) refl (rest-from_test text fal
       ap (λ b. b && are_characters first) is ∙ all,
       (λ fresh. omega arith),
       segments,
-      join-cons c first rest ∙ ap (λ t. c ∷ t) joined,
+      join_cons c first rest ∙ ap (λ t. c ∷ t) joined,
     )
 
     go : (b : Bool) → (c == 47) ≡ b → (path_from false text ≡ true → IsRest false text) → (path_from true text ≡ true → IsRest true text)
@@ -94,23 +94,23 @@ walk_first (c ∷ first) tail begun all some ends =
     go false true other seg e = e
     go false false other seg e = cc
 
-run-parts : (text : List ℕ) → IsSegment text → (0 < length text) × (are_characters text ≡ true)
-run-parts text run =
+run_parts : (text : List ℕ) → IsSegment text → (0 < length text) × (are_characters text ≡ true)
+run_parts text run =
     let both = and_parts (nat_lt 0 (length text)) (are_characters text) run in
     (ltb-true 0 (length text) both.0, both.1)
 
-test-from_rest : (rest : List (List ℕ)) (first : List ℕ) (begun : Bool) → are_characters first ≡ true → (begun ≡ false → 0 < length first)
+test_from_rest : (rest : List (List ℕ)) (first : List ℕ) (begun : Bool) → are_characters first ≡ true → (begun ≡ false → 0 < length first)
     → AllByRecursion IsSegment rest → path_from begun (join_with_byte 47 (first ∷ rest)) ≡ true
-test-from_rest [] first begun all some segments =
+test_from_rest [] first begun all some segments =
     let P : List ℕ → Type 0 = λ t. path_from begun t ≡ true in
     subst P (append-nil first) (walk_first first [] begun all some refl)
-test-from_rest (s ∷ rest) first begun all some segments =
-    let run = run-parts s segments.0 in
-    walk_first first (47 ∷ join_with_byte 47 (s ∷ rest)) begun all some (test-from_rest rest s false run.1 (λ fresh. run.0) segments.1)
+test_from_rest (s ∷ rest) first begun all some segments =
+    let run = run_parts s segments.0 in
+    walk_first first (47 ∷ join_with_byte 47 (s ∷ rest)) begun all some (test_from_rest rest s false run.1 (λ fresh. run.0) segments.1)
 
 -- the test is true exactly of paths
 pub path_test : (text : List ℕ) → (path_from false text ≡ true) ↔ IsPath text
-path_test text = (λ e. path-of (rest-from_test text false e), test-of)
+path_test text = (λ e. path-of (rest_from_test text false e), test-of)
   where
     path-of : IsRest false text → IsPath text
     path-of (first, rest, all, some, segments, joined) = (first ∷ rest, omega arith, (run_of first (some refl) all, segments), joined)
@@ -118,8 +118,8 @@ path_test text = (λ e. path-of (rest-from_test text false e), test-of)
     test-of : IsPath text → path_from false text ≡ true
     test-of ([], some, segments, joined) = absurd (omega arith)
     test-of (s ∷ rest, some, segments, joined) =
-        let run = run-parts s segments.0 in
-        ap (path_from false) (sym joined) ∙ test-from_rest rest s false run.1 (λ fresh. run.0) segments.1
+        let run = run_parts s segments.0 in
+        ap (path_from false) (sym joined) ∙ test_from_rest rest s false run.1 (λ fresh. run.0) segments.1
 
 -- what stands behind the last `/`
 pub last_found : (path name : List ℕ) (i j : ℕ) → RFindsChar 47 path (Some (i, j)) → name ≡ drop j path → j ≤ length path → name ≡ last_segment path

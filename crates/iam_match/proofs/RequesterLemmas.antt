@@ -8,30 +8,30 @@ use Rattle.iam_match.specs.declared.requester.Session.{Session}
 use Rattle.iam_match.specs.Requester.{RequesterValue, IsRequesterOf, is_segment, requester_name, role_arn, session_arn, user_arn}
 use Rattle.iam_match.specs.Code.Parts.{HasParts, requester_of}
 use Rattle.iam_match.specs.Code.Session.{IsHeld, session_name}
-use Rattle.iam_match.proofs.PartsLemmas.{parts_of, parts-is_arn}
+use Rattle.iam_match.proofs.PartsLemmas.{parts_of, parts_is_arn}
 
 -- the word before the path
 abbrev pub word_of : Option (List ℕ) → List ℕ
 word_of None = codes "user/"
 word_of (Some session) = codes "role/"
 
-pub requester-parts : (arn : List ℕ) (session : Option (List ℕ)) (r : RequesterValue) → IsRequesterOf arn session r → HasParts arn (word_of session) r
-requester-parts arn None r is = record {
+pub requester_parts : (arn : List ℕ) (session : Option (List ℕ)) (r : RequesterValue) → IsRequesterOf arn session r → HasParts arn (word_of session) r
+requester_parts arn None r is = record {
   partition = is.partition;
   account = is.account;
   path = is.path;
   arn_is = is.arn_is ∙ ap (λ s. option_map_or (λ name. role_arn r) s (user_arn r)) is.session_is;
 }
-requester-parts arn (Some session) r is = record {
+requester_parts arn (Some session) r is = record {
   partition = is.partition;
   account = is.account;
   path = is.path;
   arn_is = is.arn_is ∙ ap (λ s. option_map_or (λ name. role_arn r) s (user_arn r)) is.session_is;
 }
 
-pub user-from_parts : (arn : List ℕ) (parts : Parts) → HasParts arn (codes "user/") (requester_of parts None)
+pub user_from_parts : (arn : List ℕ) (parts : Parts) → HasParts arn (codes "user/") (requester_of parts None)
     → IsRequesterOf arn None (requester_of parts None)
-user-from_parts arn parts p = record {
+user_from_parts arn parts p = record {
   partition = p.partition;
   account = p.account;
   path = p.path;
@@ -40,9 +40,9 @@ user-from_parts arn parts p = record {
   arn_is = p.arn_is;
 }
 
-pub session-from_parts : (arn session : List ℕ) (parts : Parts) → HasParts arn (codes "role/") (requester_of parts None)
+pub session_from_parts : (arn session : List ℕ) (parts : Parts) → HasParts arn (codes "role/") (requester_of parts None)
     → IsTrue (is_segment session) → IsRequesterOf arn (Some session) (requester_of parts (Some session))
-session-from_parts arn session parts p named = record {
+session_from_parts arn session parts p named = record {
   partition = p.partition;
   account = p.account;
   path = p.path;
@@ -57,8 +57,8 @@ pub one_of_parts : ((parts other : List (List ℕ)) (text : List ℕ) → IsArn 
 one_of_parts one arn session r other is is' =
     let word = word_of session in
     let same : parts_of word r ≡ parts_of word other =
-    one (parts_of word r) (parts_of word other) arn (parts-is_arn arn word r (requester-parts arn session r is))
-    (parts-is_arn arn word other (requester-parts arn session other is')) in
+    one (parts_of word r) (parts_of word other) arn (parts_is_arn arn word r (requester_parts arn session r is))
+    (parts_is_arn arn word other (requester_parts arn session other is')) in
     let partition_is : r.partition ≡ other.partition = cc in
     let account_is : r.account ≡ other.account = cc in
     let resource_is : word ++ r.path ≡ word ++ other.path = cc in

@@ -9,9 +9,9 @@ use Rattle.iam_matrix.specs.Matrix.{IsNotAllowed, IsFirstAllowed}
 use Rattle.iam_matrix.specs.Code.Tiles.{AreNotAllowedBelow, Chain, IsAllowedCell}
 
 -- the offers after an offer
-pub offered-more : (world : WorldValue) (old new : List ℕ) (cell : ℕ) → new ≡ old ++ cell ∷ [] → All (IsAllowedCell world) old → IsAllowedCell world cell
+pub offered_more : (world : WorldValue) (old new : List ℕ) (cell : ℕ) → new ≡ old ++ cell ∷ [] → All (IsAllowedCell world) old → IsAllowedCell world cell
     → All (IsAllowedCell world) new
-offered-more world old new cell e all one =
+offered_more world old new cell e all one =
     subst (λ os. All (IsAllowedCell world) os) (sym e)
     (All-append (IsAllowedCell world) old (cell ∷ []) all (All-cons (IsAllowedCell world) cell [] one (All-nil (IsAllowedCell world))))
 
@@ -27,12 +27,12 @@ not_allowed world bound from (n ∷ lengths) (output ∷ outputs) c cell least m
     (cases_lt cell (from + n))
 
 -- the least offer in the end
-pub first-allowed : {O : Type 0} (world : WorldValue) (lengths : List ℕ) (outputs : List O) (low : Option ℕ) → sum lengths ≡ world_cells world
+pub first_allowed : {O : Type 0} (world : WorldValue) (lengths : List ℕ) (outputs : List O) (low : Option ℕ) → sum lengths ≡ world_cells world
     → world_cells world ≤ 16777216 → Chain (λ f n output. AreNotAllowedBelow world f n (bound_of low)) 0 lengths outputs → IfSome low (IsAllowedCell world)
     → IsFirstAllowed world low
-first-allowed world lengths outputs None e few c offered = λ cell below.
+first_allowed world lengths outputs None e few c offered = λ cell below.
     not_allowed world (bound_of None) 0 lengths outputs c cell (omega arith) (omega (arith, e)) (omega arith)
-first-allowed world lengths outputs (Some found) e few c offered = (
+first_allowed world lengths outputs (Some found) e few c offered = (
   offered.below,
   offered.allowed,
   λ lower less. let below = offered.below in not_allowed world found 0 lengths outputs c lower (omega arith) (omega (arith, e)) less,

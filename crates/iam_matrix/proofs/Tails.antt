@@ -14,17 +14,17 @@ use Rattle.iam_layers.specs.Cell.{IsDecisionOf, IsVerdictOf}
 use Rattle.iam_world.specs.World.{WorldValue, world_cells}
 use Rattle.iam_matrix.specs.Report.{IsMatrixReport}
 use Rattle.iam_matrix.specs.Code.Tiles.{AreEntries, AreEntriesOf, AreTails, AreTailsOf, Chain}
-use Rattle.iam_matrix.proofs.Tiles.{join-entries, no-entries, whole, whole-brief}
+use Rattle.iam_matrix.proofs.Tiles.{join_entries, no_entries, whole, whole_brief}
 
-chain-tails : {X : Type 0} (Is : ℕ → X → Type 0) (tail : X → Tail) (from : ℕ) (lengths : List ℕ) (outputs : List (List Tail))
+chain_tails : {X : Type 0} (Is : ℕ → X → Type 0) (tail : X → Tail) (from : ℕ) (lengths : List ℕ) (outputs : List (List Tail))
     → Chain (λ f n output. AreTails Is tail f n output) from lengths outputs
     → AreTails Is tail from (sum lengths) (flat_map (λ tile. tile) outputs)
-chain-tails Is tail from [] [] c = ([], no-entries Is from, refl)
-chain-tails Is tail from [] (output ∷ outputs) c = absurd c
-chain-tails Is tail from (n ∷ lengths) [] c = absurd c
-chain-tails Is tail from (n ∷ lengths) (output ∷ outputs) ((xs, a, e), c) =
-    let rest = chain-tails Is tail (from + n) lengths outputs c in
-    let all = join-entries Is from n (sum lengths) xs rest.0 a rest.1 in
+chain_tails Is tail from [] [] c = ([], no_entries Is from, refl)
+chain_tails Is tail from [] (output ∷ outputs) c = absurd c
+chain_tails Is tail from (n ∷ lengths) [] c = absurd c
+chain_tails Is tail from (n ∷ lengths) (output ∷ outputs) ((xs, a, e), c) =
+    let rest = chain_tails Is tail (from + n) lengths outputs c in
+    let all = join_entries Is from n (sum lengths) xs rest.0 a rest.1 in
     let sums : n + sum lengths ≡ sum (n ∷ lengths) = omega (arith, sum_by-cons (λ (x : ℕ). x) n lengths) in
     let P : ℕ → Type 0 = λ k. AreEntries Is from k (xs ++ rest.0) in (
       xs ++ rest.0,
@@ -34,24 +34,24 @@ chain-tails Is tail from (n ∷ lengths) (output ∷ outputs) ((xs, a, e), c) =
     )
 
 -- the decisions of bare verdicts
-of-bare : (format : Format) (decisions : List Decision) → map (tail_of format true) (map bare decisions) ≡ map (brief_tail format) decisions
-of-bare format [] = refl
-of-bare format (decision ∷ decisions) = ap (λ l. brief_tail format decision ∷ l) (of-bare format decisions)
+of_bare : (format : Format) (decisions : List Decision) → map (tail_of format true) (map bare decisions) ≡ map (brief_tail format) decisions
+of_bare format [] = refl
+of_bare format (decision ∷ decisions) = ap (λ l. brief_tail format decision ∷ l) (of_bare format decisions)
 
 -- the tails of the entries of these cells
-pub tails-of : (format : Format) (brief : Bool) (world : WorldValue) (from count : ℕ) (entries : List Verdict) (tails : List Tail)
+pub tails_of : (format : Format) (brief : Bool) (world : WorldValue) (from count : ℕ) (entries : List Verdict) (tails : List Tail)
     → AreEntriesOf brief world from count entries → tails ≡ map (tail_of format brief) entries → AreTailsOf format brief world from count tails
-tails-of format false world from count entries tails are is = (entries, are, is)
-tails-of format true world from count entries tails (decisions, are, e) is =
-    (decisions, are, is ∙ ap (map (tail_of format true)) e ∙ of-bare format decisions)
+tails_of format false world from count entries tails are is = (entries, are, is)
+tails_of format true world from count entries tails (decisions, are, e) is =
+    (decisions, are, is ∙ ap (map (tail_of format true)) e ∙ of_bare format decisions)
 
 -- there are as many tails as cells
-pub count-tails : (format : Format) (brief : Bool) (world : WorldValue) (lengths : List ℕ) (outputs : List (List Tail))
+pub count_tails : (format : Format) (brief : Bool) (world : WorldValue) (lengths : List ℕ) (outputs : List (List Tail))
     → Chain (λ f n output. AreTailsOf format brief world f n output) 0 lengths outputs → length (flat_map (λ tile. tile) outputs) ≡ sum lengths
-count-tails format false world lengths outputs c =
-    let all = chain-tails (IsVerdictOf world) (full_tail format) 0 lengths outputs c in ap length all.2 ∙ length-map all.0 (full_tail format) ∙ all.1.count_is
-count-tails format true world lengths outputs c =
-    let all = chain-tails (IsDecisionOf world) (brief_tail format) 0 lengths outputs c in ap length all.2 ∙ length-map all.0 (brief_tail format) ∙ all.1.count_is
+count_tails format false world lengths outputs c =
+    let all = chain_tails (IsVerdictOf world) (full_tail format) 0 lengths outputs c in ap length all.2 ∙ length-map all.0 (full_tail format) ∙ all.1.count_is
+count_tails format true world lengths outputs c =
+    let all = chain_tails (IsDecisionOf world) (brief_tail format) 0 lengths outputs c in ap length all.2 ∙ length-map all.0 (brief_tail format) ∙ all.1.count_is
 
 -- the report of all tiles, by the laws of reports, which the caller hands in
 pub report : (brief : Bool) (world : WorldValue) (quoted : Quoted) (lengths : List ℕ) (outputs : List (List Tail))
@@ -62,10 +62,10 @@ pub report : (brief : Bool) (world : WorldValue) (quoted : Quoted) (lengths : Li
     → IsQuotedOf world quoted → sum lengths ≡ world_cells world → Chain (λ f n output. AreTailsOf quoted.format brief world f n output) 0 lengths outputs
     → IsMatrixReport quoted.format brief world (text_of (record { quoted = quoted; brief = brief; tails = flat_map (λ tile. tile) outputs }))
 report false world quoted lengths outputs full bare same e c =
-    let all = chain-tails (IsVerdictOf world) (full_tail quoted.format) 0 lengths outputs c in
+    let all = chain_tails (IsVerdictOf world) (full_tail quoted.format) 0 lengths outputs c in
     let P : List Tail → Type 0 = λ tails. IsReport quoted.format world all.0 (text_of (record { quoted = quoted; brief = false; tails = tails })) in
     (all.0, whole world lengths all.0 e all.1, subst P (sym all.2) (full quoted all.0 same (all.1.count_is ∙ e)))
 report true world quoted lengths outputs full bare same e c =
-    let all = chain-tails (IsDecisionOf world) (brief_tail quoted.format) 0 lengths outputs c in
+    let all = chain_tails (IsDecisionOf world) (brief_tail quoted.format) 0 lengths outputs c in
     let P : List Tail → Type 0 = λ tails. IsBriefReport quoted.format world all.0 (text_of (record { quoted = quoted; brief = true; tails = tails })) in
-    (all.0, whole-brief world lengths all.0 e all.1, subst P (sym all.2) (bare quoted all.0 same (all.1.count_is ∙ e)))
+    (all.0, whole_brief world lengths all.0 e all.1, subst P (sym all.2) (bare quoted all.0 same (all.1.count_is ∙ e)))

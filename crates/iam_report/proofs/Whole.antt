@@ -8,9 +8,9 @@ use Rattle.iam_row.specs.declared.quoted.Format.{Format}
 use Rattle.iam_row.specs.declared.quoted.Quoted.{Quoted}
 use Rattle.iam_row.specs.declared.tail.Tail.{Tail}
 
-of-bare : (format : Format) (decisions : List Decision) → map (tail_of format true) (map bare decisions) ≡ map (brief_tail format) decisions
-of-bare format [] = refl
-of-bare format (decision ∷ decisions) = ap (λ l. brief_tail format decision ∷ l) (of-bare format decisions)
+of_bare : (format : Format) (decisions : List Decision) → map (tail_of format true) (map bare decisions) ≡ map (brief_tail format) decisions
+of_bare format [] = refl
+of_bare format (decision ∷ decisions) = ap (λ l. brief_tail format decision ∷ l) (of_bare format decisions)
 
 -- where what is put together from the tails of these verdicts is their report
 pub full_text_is : (world : WorldValue) (format : Format) (verdicts entries : List Verdict) (text : List ℕ)
@@ -32,4 +32,4 @@ brief_text_is world format decisions entries text law e (quoted, same, format_is
     let P : Format → Type 0 = λ f. IsBriefReport f world decisions (text_of (record { quoted = quoted; brief = true; tails = map (brief_tail f) decisions })) in
     let report : P format = subst P format_is (law quoted same) in
     let Q : List Tail → List ℕ = λ tails. text_of (record { quoted = quoted; brief = true; tails = tails }) in
-    subst (IsBriefReport format world decisions) (sym (is ∙ ap Q (ap (map (tail_of format true)) e ∙ of-bare format decisions))) report
+    subst (IsBriefReport format world decisions) (sym (is ∙ ap Q (ap (map (tail_of format true)) e ∙ of_bare format decisions))) report

@@ -9,30 +9,30 @@ use Rattle.iam_row.specs.declared.quoted.Format.TheVariants.{Csv, Json}
 use Rattle.iam_row.proofs.Rows.{found, same_texts, texts_there}
 
 -- lists with the same items
-same-items : {A : Type 0} (xs ys : List A) → length xs ≡ length ys → ((i : ℕ) → i < length xs → slice_get xs i ≡ slice_get ys i) → xs ≡ ys
-same-items [] [] e same = refl
-same-items [] (y ∷ ys) e same = absurd (omega (arith, e))
-same-items (x ∷ xs) [] e same = absurd (omega (arith, e))
-same-items (x ∷ xs) (y ∷ ys) e same =
+same_items : {A : Type 0} (xs ys : List A) → length xs ≡ length ys → ((i : ℕ) → i < length xs → slice_get xs i ≡ slice_get ys i) → xs ≡ ys
+same_items [] [] e same = refl
+same_items [] (y ∷ ys) e same = absurd (omega (arith, e))
+same_items (x ∷ xs) [] e same = absurd (omega (arith, e))
+same_items (x ∷ xs) (y ∷ ys) e same =
     let first : Some x ≡ Some y = same 0 (omega arith) in
     let here : x ≡ y = cc in
-    ap (λ z. z ∷ xs) here ∙ ap (λ zs. y ∷ zs) (same-items xs ys (omega (arith, e)) (λ i below. same (suc i) (omega (arith, below))))
+    ap (λ z. z ∷ xs) here ∙ ap (λ zs. y ∷ zs) (same_items xs ys (omega (arith, e)) (λ i below. same (suc i) (omega (arith, below))))
 
 -- each cell has texts
-each-has : SomeTriple → (world : WorldValue) (n : ℕ) → n ≡ world_cells world → (i : ℕ) → i < n → (texts : CellTexts) × IsCellTexts world (0 + i) texts
-each-has triples world n all i below =
+each_has : SomeTriple → (world : WorldValue) (n : ℕ) → n ≡ world_cells world → (i : ℕ) → i < n → (texts : CellTexts) × IsCellTexts world (0 + i) texts
+each_has triples world n all i below =
     let number : i ≡ 0 + i = omega arith in
     let (p, a, r, is) = triples world i (omega (arith, all, below)) in
     let texts = texts_there world i p a r is in
     (texts.0, subst (λ c. IsCellTexts world c texts.0) number (p, a, r, is, texts.1))
 
-one-rows : {A B : Type 0} → SomeTriple → (world : WorldValue) (row : ℕ → CellTexts → A → B) (entries : List A) (rows others : List B)
+one_rows : {A B : Type 0} → SomeTriple → (world : WorldValue) (row : ℕ → CellTexts → A → B) (entries : List A) (rows others : List B)
     → length entries ≡ world_cells world → AreRows world row entries rows → AreRows world row entries others → rows ≡ others
-one-rows triples world row entries rows others all h k =
-    same-items rows others (h.count ∙ sym k.count)
+one_rows triples world row entries rows others all h k =
+    same_items rows others (h.count ∙ sym k.count)
     (λ i below.
     let inside : i < length entries = omega (arith, below, h.count) in
-    let texts = each-has triples world (length entries) all i inside in
+    let texts = each_has triples world (length entries) all i inside in
     let entry = found entries i inside in
     h.each i texts.0 entry.0 texts.1 entry.1 ∙ sym (k.each i texts.0 entry.0 texts.1 entry.1))
 
@@ -40,30 +40,30 @@ one-rows triples world row entries rows others all h k =
 abbrev IsMadeOf : {A B : Type 0} → WorldValue → (ℕ → CellTexts → A → B) → (List B → List ℕ) → List A → List ℕ → Type 0
 IsMadeOf {A} {B} world row join entries text = (rows : List B) × AreRows world row entries rows × (text ≡ join rows)
 
-one-made : {A B : Type 0} → SomeTriple → (world : WorldValue) (row : ℕ → CellTexts → A → B) (join : List B → List ℕ) (entries : List A) (text other : List ℕ)
+one_made : {A B : Type 0} → SomeTriple → (world : WorldValue) (row : ℕ → CellTexts → A → B) (join : List B → List ℕ) (entries : List A) (text other : List ℕ)
     → length entries ≡ world_cells world → IsMadeOf world row join entries text → IsMadeOf world row join entries other → text ≡ other
-one-made triples world row join entries text other all (rows, h, is) (others, k, same) =
-    is ∙ ap join (one-rows triples world row entries rows others all h k) ∙ sym same
+one_made triples world row join entries text other all (rows, h, is) (others, k, same) =
+    is ∙ ap join (one_rows triples world row entries rows others all h k) ∙ sym same
 
 pub one_full_text : SomeTriple → Laws.OneText
 one_full_text triples Csv world verdicts text other all h k =
-    one-made triples world full_line (λ lines. csv_line full_header ++ concat lines) verdicts text other all h k
-one_full_text triples Json world verdicts text other all h k = one-made triples world full_object json_text verdicts text other all h k
+    one_made triples world full_line (λ lines. csv_line full_header ++ concat lines) verdicts text other all h k
+one_full_text triples Json world verdicts text other all h k = one_made triples world full_object json_text verdicts text other all h k
 
 pub one_brief_text : SomeTriple → Laws.OneBriefText
 one_brief_text triples Csv world decisions text other all h k =
-    one-made triples world brief_line (λ lines. csv_line brief_header ++ concat lines) decisions text other all h k
-one_brief_text triples Json world decisions text other all h k = one-made triples world brief_object json_text decisions text other all h k
+    one_made triples world brief_line (λ lines. csv_line brief_header ++ concat lines) decisions text other all h k
+one_brief_text triples Json world decisions text other all h k = one_made triples world brief_object json_text decisions text other all h k
 
 -- the row of a cell
-one-line : (world : WorldValue) (p a r : ℕ) (line : CellTexts → List ℕ) (text other : List ℕ) → ((texts : CellTexts) × HasTexts world p a r texts × (text ≡ line texts))
+one_line : (world : WorldValue) (p a r : ℕ) (line : CellTexts → List ℕ) (text other : List ℕ) → ((texts : CellTexts) × HasTexts world p a r texts × (text ≡ line texts))
     → ((texts : CellTexts) × HasTexts world p a r texts × (other ≡ line texts)) → text ≡ other
-one-line world p a r line text other (t, has, is) (u, has', same) = is ∙ ap line (same_texts world p a r t u has has') ∙ sym same
+one_line world p a r line text other (t, has, is) (u, has', same) = is ∙ ap line (same_texts world p a r t u has has') ∙ sym same
 
 pub one_full_row : Laws.OneRow
 one_full_row world cell p a r verdict text other h k =
-    one-line world p a r (λ texts. csv_line full_header ++ full_line cell texts verdict) text other h k
+    one_line world p a r (λ texts. csv_line full_header ++ full_line cell texts verdict) text other h k
 
 pub one_brief_row : Laws.OneBriefRow
 one_brief_row world cell p a r decision text other h k =
-    one-line world p a r (λ texts. csv_line brief_header ++ brief_line cell texts decision) text other h k
+    one_line world p a r (λ texts. csv_line brief_header ++ brief_line cell texts decision) text other h k

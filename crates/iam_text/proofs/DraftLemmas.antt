@@ -12,20 +12,20 @@ use Rattle.iam_text.specs.declared.sign.Sign.{Sign}
 use Rattle.iam_text.specs.Draft.{BeginsWith, IsApart, IsDraft, IsWritten, is_key, is_key_character, plain_draft, sign_of}
 use Rattle.iam_text.specs.Code.Forms.{HasClosed, HasDefault, HasForm, IsClosed, IsQuoted}
 use Rattle.iam_text.specs.Stretches.{IsCutAtForm, NoneBegins}
-use Rattle.iam_text.proofs.FormLemmas.{all-absent, closed-avoids, default-cut, key-all, literal-no_key, one_character, run-unique, spaces-unique}
+use Rattle.iam_text.proofs.FormLemmas.{all_absent, closed_avoids, default_cut, key_all, literal_no_key, one_character, run_unique, spaces_unique}
 
 -- each piece is written with one character at least
-part-some : (wild : Bool) (piece : Piece) (part : List ℕ) → IsWritten wild piece part → 0 < length part
-part-some wild (Plain sign) part (c, read, is) = omega (arith, ap length is, length-encode c, (len_utf8_bounds c).0)
-part-some wild (Escaped c) part (literal, is) = omega (arith, ap length is)
-part-some wild (Variable key None) part (fits, is) = omega (arith, ap length is)
-part-some wild (Variable key (Some default)) part (n, fits, plain, is) = omega (arith, ap length is)
+part_some : (wild : Bool) (piece : Piece) (part : List ℕ) → IsWritten wild piece part → 0 < length part
+part_some wild (Plain sign) part (c, read, is) = omega (arith, ap length is, length-encode c, (len_utf8_bounds c).0)
+part_some wild (Escaped c) part (literal, is) = omega (arith, ap length is)
+part_some wild (Variable key None) part (fits, is) = omega (arith, ap length is)
+part_some wild (Variable key (Some default)) part (n, fits, plain, is) = omega (arith, ap length is)
 
-pub begins-shorter : (wild : Bool) (text : List ℕ) (piece : Piece) (rest : List ℕ) → BeginsWith wild text piece rest → length rest < length text
-begins-shorter wild text piece rest b = omega (arith, ap length b.joined, length-append b.part rest, part-some wild piece b.part b.written)
+pub begins_shorter : (wild : Bool) (text : List ℕ) (piece : Piece) (rest : List ℕ) → BeginsWith wild text piece rest → length rest < length text
+begins_shorter wild text piece rest b = omega (arith, ap length b.joined, length-append b.part rest, part_some wild piece b.part b.written)
 
-pub begins-some : (wild : Bool) (text : List ℕ) (piece : Piece) (rest : List ℕ) → BeginsWith wild text piece rest → text ≢ []
-begins-some wild text piece rest b none = omega (arith, begins-shorter wild text piece rest b, ap length none)
+pub begins_some : (wild : Bool) (text : List ℕ) (piece : Piece) (rest : List ℕ) → BeginsWith wild text piece rest → text ≢ []
+begins_some wild text piece rest b none = omega (arith, begins_shorter wild text piece rest b, ap length none)
 
 -- how a variable with a default is written, and what stands behind it
 whole : (key default rest : List ℕ) (n : ℕ)
@@ -39,26 +39,26 @@ whole key default rest n =
     )
 
 -- a text that begins with a form
-pub begins-from_form : (wild : Bool) (piece : Piece) (text inside rest : List ℕ) → text ≡ codes "${" ++ inside → HasForm piece inside rest
+pub begins_from_form : (wild : Bool) (piece : Piece) (text inside rest : List ℕ) → text ≡ codes "${" ++ inside → HasForm piece inside rest
     → BeginsWith wild text piece rest
-begins-from_form wild (Plain sign) text inside rest starts (inl (between, closed, joined)) = absurd closed
-begins-from_form wild (Plain sign) text inside rest starts (inr default) = absurd default
-begins-from_form wild (Escaped c) text inside rest starts (inl (between, (literal, is), joined)) = record {
+begins_from_form wild (Plain sign) text inside rest starts (inl (between, closed, joined)) = absurd closed
+begins_from_form wild (Plain sign) text inside rest starts (inr default) = absurd default
+begins_from_form wild (Escaped c) text inside rest starts (inl (between, (literal, is), joined)) = record {
   part = codes "${" ++ (c ∷ codes "}");
   written = (literal, refl);
   joined = starts ∙ ap (λ t. codes "${" ++ t) (joined ∙ ap (λ t. t ++ (125 ∷ rest)) is);
   apart = λ same more e. let no : ⊥ = cc in no;
 }
-begins-from_form wild (Escaped c) text inside rest starts (inr default) = absurd default
-begins-from_form wild (Variable key None) text inside rest starts (inl (between, (fits, is), joined)) = record {
+begins_from_form wild (Escaped c) text inside rest starts (inr default) = absurd default
+begins_from_form wild (Variable key None) text inside rest starts (inl (between, (fits, is), joined)) = record {
   part = codes "${" ++ (key ++ codes "}");
   written = (fits, refl);
   joined = starts ∙ ap (λ t. codes "${" ++ t) (joined ∙ ap (λ t. t ++ (125 ∷ rest)) is ∙ sym (append_assoc key (codes "}") rest));
   apart = λ same more e. let no : ⊥ = cc in no;
 }
-begins-from_form wild (Variable key None) text inside rest starts (inr default) = absurd default
-begins-from_form wild (Variable key (Some default)) text inside rest starts (inl (between, closed, joined)) = absurd closed
-begins-from_form wild (Variable key (Some default)) text inside rest starts (inr (behind, fits, joined, (n, plain, quoted))) = record {
+begins_from_form wild (Variable key None) text inside rest starts (inr default) = absurd default
+begins_from_form wild (Variable key (Some default)) text inside rest starts (inl (between, closed, joined)) = absurd closed
+begins_from_form wild (Variable key (Some default)) text inside rest starts (inr (behind, fits, joined, (n, plain, quoted))) = record {
   part = codes "${" ++ (key ++ (codes "," ++ (replicate n 32 ++ (codes "'" ++ (default ++ codes "'}")))));
   written = (n, fits, plain, refl);
   joined = starts ∙ ap (λ t. codes "${" ++ t) (joined ∙ ap (λ t. key ++ (44 ∷ t)) quoted ∙ sym (whole key default rest n));
@@ -66,26 +66,26 @@ begins-from_form wild (Variable key (Some default)) text inside rest starts (inr
 }
 
 -- a character by itself does not begin a form
-no-character : (wild : Bool) (sign : Sign) (text inside rest : List ℕ) → text ≡ codes "${" ++ inside → BeginsWith wild text (Plain sign) rest → ⊥
+no_character : (wild : Bool) (sign : Sign) (text inside rest : List ℕ) → text ≡ codes "${" ++ inside → BeginsWith wild text (Plain sign) rest → ⊥
 unfolding encode_utf8
-no-character wild sign text inside rest starts b = go b.written
+no_character wild sign text inside rest starts b = go b.written
   where
     go : (c : ℕ) × (sign ≡ sign_of wild c) × (b.part ≡ encode_utf8 c) → ⊥
     go (c, read, is) =
         let split = one_character c 36 rest (123 ∷ inside) (ap (λ t. t ++ rest) (sym is) ∙ sym b.joined ∙ starts) in
         b.apart (is ∙ ap encode_utf8 split.0) inside split.1
 
-pub form-from_begins : (wild : Bool) (piece : Piece) (text inside rest : List ℕ) → text ≡ codes "${" ++ inside → BeginsWith wild text piece rest
+pub form_from_begins : (wild : Bool) (piece : Piece) (text inside rest : List ℕ) → text ≡ codes "${" ++ inside → BeginsWith wild text piece rest
     → HasForm piece inside rest
-form-from_begins wild (Plain sign) text inside rest starts b = absurd (no-character wild sign text inside rest starts b)
-form-from_begins wild (Escaped c) text inside rest starts b =
+form_from_begins wild (Plain sign) text inside rest starts b = absurd (no_character wild sign text inside rest starts b)
+form_from_begins wild (Escaped c) text inside rest starts b =
     let same : codes "${" ++ inside ≡ codes "${" ++ (c ∷ (125 ∷ rest)) = sym starts ∙ b.joined ∙ ap (λ t. t ++ rest) b.written.1 in
     inl (c ∷ [], (b.written.0, refl), (let behind : inside ≡ c ∷ (125 ∷ rest) = cc in behind))
-form-from_begins wild (Variable key None) text inside rest starts b =
+form_from_begins wild (Variable key None) text inside rest starts b =
     let same : codes "${" ++ inside ≡ codes "${" ++ ((key ++ codes "}") ++ rest) = sym starts ∙ b.joined ∙ ap (λ t. t ++ rest) b.written.1 in
     let behind : inside ≡ (key ++ codes "}") ++ rest = cc in
     inl (key, (b.written.0, refl), behind ∙ append_assoc key (codes "}") rest)
-form-from_begins wild (Variable key (Some default)) text inside rest starts b =
+form_from_begins wild (Variable key (Some default)) text inside rest starts b =
     let n = b.written.0 in
     let same : codes "${" ++ inside ≡ codes "${" ++ ((key ++ (codes "," ++ (replicate n 32 ++ (codes "'" ++ (default ++ codes "'}"))))) ++ rest) =
     sym starts ∙ b.joined ∙ ap (λ t. t ++ rest) b.written.3 in
@@ -98,102 +98,102 @@ form-from_begins wild (Variable key (Some default)) text inside rest starts b =
     )
 
 -- a key does not begin with `*`, `?` or `$`
-literal-before : (c : ℕ) (key more rest : List ℕ) → IsTrue (c == 42 || c == 63 || c == 36) → IsTrue (is_key key) → c ∷ more ≡ key ++ rest → ⊥
-literal-before c [] more rest literal fits e = let no : ⊥ = cc in no
-literal-before c (k ∷ key) more rest literal fits e =
+literal_before : (c : ℕ) (key more rest : List ℕ) → IsTrue (c == 42 || c == 63 || c == 36) → IsTrue (is_key key) → c ∷ more ≡ key ++ rest → ⊥
+literal_before c [] more rest literal fits e = let no : ⊥ = cc in no
+literal_before c (k ∷ key) more rest literal fits e =
     let heads : c ≡ k = cc in
-    let wrong : true ≡ false = sym (and_parts (is_key_character k) (list_all is_key_character key) (key-all (k ∷ key) fits)).0 ∙ ap is_key_character (sym heads) ∙ literal-no_key c literal in
+    let wrong : true ≡ false = sym (and_parts (is_key_character k) (list_all is_key_character key) (key_all (k ∷ key) fits)).0 ∙ ap is_key_character (sym heads) ∙ literal_no_key c literal in
     let no : ⊥ = cc in
     no
 
-literal-key : (c : ℕ) (key : List ℕ) → IsTrue (c == 42 || c == 63 || c == 36) → IsTrue (is_key key) → key ≡ c ∷ [] → ⊥
-literal-key c key literal fits same = literal-before c key [] [] literal fits (sym same ∙ sym (append-nil key))
+literal_key : (c : ℕ) (key : List ℕ) → IsTrue (c == 42 || c == 63 || c == 36) → IsTrue (is_key key) → key ≡ c ∷ [] → ⊥
+literal_key c key literal fits same = literal_before c key [] [] literal fits (sym same ∙ sym (append-nil key))
 
 -- what stands between `${` and `}` is one piece
-closed-unique : (p q : Piece) (inside : List ℕ) → IsClosed p inside → IsClosed q inside → p ≡ q
-closed-unique (Plain s) q inside a b = absurd a
-closed-unique (Variable key (Some default)) q inside a b = absurd a
-closed-unique (Escaped c) (Plain s) inside a b = absurd b
-closed-unique (Escaped c) (Variable key (Some default)) inside a b = absurd b
-closed-unique (Variable key None) (Plain s) inside a b = absurd b
-closed-unique (Variable key None) (Variable key' (Some default)) inside a b = absurd b
-closed-unique (Escaped c) (Escaped d) inside a b =
+closed_unique : (p q : Piece) (inside : List ℕ) → IsClosed p inside → IsClosed q inside → p ≡ q
+closed_unique (Plain s) q inside a b = absurd a
+closed_unique (Variable key (Some default)) q inside a b = absurd a
+closed_unique (Escaped c) (Plain s) inside a b = absurd b
+closed_unique (Escaped c) (Variable key (Some default)) inside a b = absurd b
+closed_unique (Variable key None) (Plain s) inside a b = absurd b
+closed_unique (Variable key None) (Variable key' (Some default)) inside a b = absurd b
+closed_unique (Escaped c) (Escaped d) inside a b =
     let same : c ∷ [] ≡ d ∷ [] = sym a.1 ∙ b.1 in
     let one : c ≡ d = cc in
     ap Escaped one
-closed-unique (Escaped c) (Variable key None) inside a b = absurd (literal-key c key a.0 b.0 (sym b.1 ∙ a.1))
-closed-unique (Variable key None) (Escaped c) inside a b = absurd (literal-key c key b.0 a.0 (sym a.1 ∙ b.1))
-closed-unique (Variable key None) (Variable key' None) inside a b = ap (λ k. Variable k None) (sym a.1 ∙ b.1)
+closed_unique (Escaped c) (Variable key None) inside a b = absurd (literal_key c key a.0 b.0 (sym b.1 ∙ a.1))
+closed_unique (Variable key None) (Escaped c) inside a b = absurd (literal_key c key b.0 a.0 (sym a.1 ∙ b.1))
+closed_unique (Variable key None) (Variable key' None) inside a b = ap (λ k. Variable k None) (sym a.1 ∙ b.1)
 
 -- a form with a default is none without one
-closed-default : (p q : Piece) (text r t : List ℕ) → HasClosed p text r → HasDefault q text t → ⊥
-closed-default (Plain s) q text r t (inside, closed, joined) has = closed
-closed-default (Variable key (Some default)) q text r t (inside, closed, joined) has = closed
-closed-default (Escaped c) q text r t (inside, (literal, is), joined) has =
-    let d = default-cut q text t has in
-    literal-before c d.0 (125 ∷ r) (44 ∷ d.2) literal d.3 (ap (λ i. i ++ (125 ∷ r)) (sym is) ∙ sym joined ∙ d.4)
-closed-default (Variable key None) q text r t (inside, (fits, is), joined) has =
-    let d = default-cut q text t has in
+closed_default : (p q : Piece) (text r t : List ℕ) → HasClosed p text r → HasDefault q text t → ⊥
+closed_default (Plain s) q text r t (inside, closed, joined) has = closed
+closed_default (Variable key (Some default)) q text r t (inside, closed, joined) has = closed
+closed_default (Escaped c) q text r t (inside, (literal, is), joined) has =
+    let d = default_cut q text t has in
+    literal_before c d.0 (125 ∷ r) (44 ∷ d.2) literal d.3 (ap (λ i. i ++ (125 ∷ r)) (sym is) ∙ sym joined ∙ d.4)
+closed_default (Variable key None) q text r t (inside, (fits, is), joined) has =
+    let d = default_cut q text t has in
     let cut =
-    run-unique is_key_character key d.0 125 44 r d.2 (key-all key fits) (key-all d.0 d.3) refl refl
+    run_unique is_key_character key d.0 125 44 r d.2 (key_all key fits) (key_all d.0 d.3) refl refl
     (ap (λ i. i ++ (125 ∷ r)) (sym is) ∙ sym joined ∙ d.4) in
     let wrong : ◌≡◌ {A = ℕ} 125 44 = cut.1 in
     omega arith
 
-quote-first : (inside more : List ℕ) → 39 ∷ inside ≢ 32 ∷ more
-quote-first inside more e =
+quote_first : (inside more : List ℕ) → 39 ∷ inside ≢ 32 ∷ more
+quote_first inside more e =
     let heads : ◌≡◌ {A = ℕ} 39 32 = cc in
     omega arith
 
-quoted-unique : (text d e r t : List ℕ) → IsQuoted text d r → IsQuoted text e t → (d ≡ e) × (r ≡ t)
-quoted-unique text d e r t (n, plain, is) (m, plain', is') =
+quoted_unique : (text d e r t : List ℕ) → IsQuoted text d r → IsQuoted text e t → (d ≡ e) × (r ≡ t)
+quoted_unique text d e r t (n, plain, is) (m, plain', is') =
     let inner : 39 ∷ (d ++ (39 ∷ (125 ∷ r))) ≡ 39 ∷ (e ++ (39 ∷ (125 ∷ t))) =
-    spaces-unique n m (39 ∷ (d ++ (39 ∷ (125 ∷ r)))) (39 ∷ (e ++ (39 ∷ (125 ∷ t)))) (quote-first (d ++ (39 ∷ (125 ∷ r)))) (quote-first (e ++ (39 ∷ (125 ∷ t)))) (sym is ∙ is') in
+    spaces_unique n m (39 ∷ (d ++ (39 ∷ (125 ∷ r)))) (39 ∷ (e ++ (39 ∷ (125 ∷ t)))) (quote_first (d ++ (39 ∷ (125 ∷ r)))) (quote_first (e ++ (39 ∷ (125 ∷ t)))) (sym is ∙ is') in
     let cut =
-    run-unique (λ c. not (c == 39)) d e 39 39 (125 ∷ r) (125 ∷ t) plain plain' refl refl
+    run_unique (λ c. not (c == 39)) d e 39 39 (125 ∷ r) (125 ∷ t) plain plain' refl refl
     (let tails : d ++ (39 ∷ (125 ∷ r)) ≡ e ++ (39 ∷ (125 ∷ t)) = cc in tails) in
     let ends : 125 ∷ r ≡ 125 ∷ t = cut.2 in
     (cut.0, (let rests : r ≡ t = cc in rests))
 
-default-unique : (p q : Piece) (text r t : List ℕ) → HasDefault p text r → HasDefault q text t → (p ≡ q) × (r ≡ t)
-default-unique (Plain s) q text r t a b = absurd a
-default-unique (Escaped c) q text r t a b = absurd a
-default-unique (Variable key None) q text r t a b = absurd a
-default-unique (Variable key (Some default)) (Plain s) text r t a b = absurd b
-default-unique (Variable key (Some default)) (Escaped c) text r t a b = absurd b
-default-unique (Variable key (Some default)) (Variable key' None) text r t a b = absurd b
-default-unique (Variable key (Some default)) (Variable key' (Some default')) text r t (behind, fits, joined, quoted) (behind', fits', joined', quoted') =
-    let cut = run-unique is_key_character key key' 44 44 behind behind' (key-all key fits) (key-all key' fits') refl refl (sym joined ∙ joined') in
+default_unique : (p q : Piece) (text r t : List ℕ) → HasDefault p text r → HasDefault q text t → (p ≡ q) × (r ≡ t)
+default_unique (Plain s) q text r t a b = absurd a
+default_unique (Escaped c) q text r t a b = absurd a
+default_unique (Variable key None) q text r t a b = absurd a
+default_unique (Variable key (Some default)) (Plain s) text r t a b = absurd b
+default_unique (Variable key (Some default)) (Escaped c) text r t a b = absurd b
+default_unique (Variable key (Some default)) (Variable key' None) text r t a b = absurd b
+default_unique (Variable key (Some default)) (Variable key' (Some default')) text r t (behind, fits, joined, quoted) (behind', fits', joined', quoted') =
+    let cut = run_unique is_key_character key key' 44 44 behind behind' (key_all key fits) (key_all key' fits') refl refl (sym joined ∙ joined') in
     let P : List ℕ → Type 0 = λ b. IsQuoted b default r in
-    let inner = quoted-unique behind' default default' r t (subst P cut.2 quoted) quoted' in
+    let inner = quoted_unique behind' default default' r t (subst P cut.2 quoted) quoted' in
     (ap (λ k. Variable k (Some default)) cut.0 ∙ ap (λ d. Variable key' (Some d)) inner.0, inner.1)
 
-form-unique : (p q : Piece) (text r t : List ℕ) → HasForm p text r → HasForm q text t → (p ≡ q) × (r ≡ t)
-form-unique p q text r t (inl a) (inr b) = absurd (closed-default p q text r t a b)
-form-unique p q text r t (inr a) (inl b) = absurd (closed-default q p text t r b a)
-form-unique p q text r t (inr a) (inr b) = default-unique p q text r t a b
-form-unique p q text r t (inl (inside, closed, joined)) (inl (inside', closed', joined')) =
+form_unique : (p q : Piece) (text r t : List ℕ) → HasForm p text r → HasForm q text t → (p ≡ q) × (r ≡ t)
+form_unique p q text r t (inl a) (inr b) = absurd (closed_default p q text r t a b)
+form_unique p q text r t (inr a) (inl b) = absurd (closed_default q p text t r b a)
+form_unique p q text r t (inr a) (inr b) = default_unique p q text r t a b
+form_unique p q text r t (inl (inside, closed, joined)) (inl (inside', closed', joined')) =
     let cut =
-    run-unique (λ c. not (c == 125)) inside inside' 125 125 r t (all-absent 125 inside (closed-avoids p inside closed))
-    (all-absent 125 inside' (closed-avoids q inside' closed')) refl refl (sym joined ∙ joined') in
+    run_unique (λ c. not (c == 125)) inside inside' 125 125 r t (all_absent 125 inside (closed_avoids p inside closed))
+    (all_absent 125 inside' (closed_avoids q inside' closed')) refl refl (sym joined ∙ joined') in
     let P : List ℕ → Type 0 = λ i. IsClosed p i in
-    (closed-unique p q inside' (subst P cut.0 closed) closed', cut.2)
+    (closed_unique p q inside' (subst P cut.0 closed) closed', cut.2)
 
 -- a piece is a character by itself, or begins with `${`
-pub piece-cases : (wild : Bool) (piece : Piece) (part : List ℕ) → IsWritten wild piece part
+pub piece_cases : (wild : Bool) (piece : Piece) (part : List ℕ) → IsWritten wild piece part
     → ((sign : Sign) × (c : ℕ) × (piece ≡ Plain sign) × (sign ≡ sign_of wild c) × (part ≡ encode_utf8 c)) ⊎ ((inside : List ℕ) × (part ≡ codes "${" ++ inside))
-piece-cases wild (Plain sign) part (c, read, is) = inl (sign, c, refl, read, is)
-piece-cases wild (Escaped c) part (literal, is) = inr (c ∷ codes "}", is)
-piece-cases wild (Variable key None) part (fits, is) = inr (key ++ codes "}", is)
-piece-cases wild (Variable key (Some default)) part (n, fits, plain, is) =
+piece_cases wild (Plain sign) part (c, read, is) = inl (sign, c, refl, read, is)
+piece_cases wild (Escaped c) part (literal, is) = inr (c ∷ codes "}", is)
+piece_cases wild (Variable key None) part (fits, is) = inr (key ++ codes "}", is)
+piece_cases wild (Variable key (Some default)) part (n, fits, plain, is) =
     inr (key ++ (codes "," ++ (replicate n 32 ++ (codes "'" ++ (default ++ codes "'}")))), is)
 
 -- a text begins with one piece
-begins-unique : (wild : Bool) (text : List ℕ) (p q : Piece) (r t : List ℕ) → BeginsWith wild text p r → BeginsWith wild text q t → (p ≡ q) × (r ≡ t)
-begins-unique wild text p q r t a b = go (piece-cases wild p a.part a.written) (piece-cases wild q b.part b.written)
+begins_unique : (wild : Bool) (text : List ℕ) (p q : Piece) (r t : List ℕ) → BeginsWith wild text p r → BeginsWith wild text q t → (p ≡ q) × (r ≡ t)
+begins_unique wild text p q r t a b = go (piece_cases wild p a.part a.written) (piece_cases wild q b.part b.written)
   where
     from_form : (inside : List ℕ) → text ≡ codes "${" ++ inside → (p ≡ q) × (r ≡ t)
-    from_form inside starts = form-unique p q inside r t (form-from_begins wild p text inside r starts a) (form-from_begins wild q text inside t starts b)
+    from_form inside starts = form_unique p q inside r t (form_from_begins wild p text inside r starts a) (form_from_begins wild q text inside t starts b)
 
     go : ((sign : Sign) × (c : ℕ) × (p ≡ Plain sign) × (sign ≡ sign_of wild c) × (a.part ≡ encode_utf8 c)) ⊎ ((inside : List ℕ) × (a.part ≡ codes "${" ++ inside))
         → ((sign : Sign) × (c : ℕ) × (q ≡ Plain sign) × (sign ≡ sign_of wild c) × (b.part ≡ encode_utf8 c)) ⊎ ((inside : List ℕ) × (b.part ≡ codes "${" ++ inside))
@@ -207,10 +207,10 @@ begins-unique wild text p q r t a b = go (piece-cases wild p a.part a.written) (
 -- a text has one draft
 pub draft_unique : (wild : Bool) (text : List ℕ) (ps qs : List Piece) → IsDraft wild text ps → IsDraft wild text qs → ps ≡ qs
 draft_unique wild text [] [] a b = refl
-draft_unique wild text [] (q ∷ qs) a (t, first, more) = absurd (begins-some wild text q t first a)
-draft_unique wild text (p ∷ ps) [] (r, first, more) b = absurd (begins-some wild text p r first b)
+draft_unique wild text [] (q ∷ qs) a (t, first, more) = absurd (begins_some wild text q t first a)
+draft_unique wild text (p ∷ ps) [] (r, first, more) b = absurd (begins_some wild text p r first b)
 draft_unique wild text (p ∷ ps) (q ∷ qs) (r, first, more) (t, first', more') =
-    let one = begins-unique wild text p q r t first first' in
+    let one = begins_unique wild text p q r t first first' in
     let P : List ℕ → Type 0 = λ x. IsDraft wild x ps in
     let rest = draft_unique wild t ps qs (subst P one.1 more) more' in
     ap (λ x. x ∷ ps) one.0 ∙ ap (λ xs. q ∷ xs) rest
@@ -221,12 +221,12 @@ pub record Along (wild : Bool) (text : List ℕ) (pieces : List Piece) (rest : L
   pub back : (all : List Piece) → IsDraft wild text all → (tail : List Piece) × IsDraft wild rest tail
 
 -- where nothing was read yet
-pub none-read : (wild : Bool) (text : List ℕ) → Along wild text [] text
-none-read wild text = record { on = λ tail draft. draft; back = λ all draft. (all, draft) }
+pub none_read : (wild : Bool) (text : List ℕ) → Along wild text [] text
+none_read wild text = record { on = λ tail draft. draft; back = λ all draft. (all, draft) }
 
-along-more : (wild : Bool) (text : List ℕ) (pieces : List Piece) (rest behind : List ℕ) (piece : Piece) → Along wild text pieces rest
+draft_along_more : (wild : Bool) (text : List ℕ) (pieces : List Piece) (rest behind : List ℕ) (piece : Piece) → Along wild text pieces rest
     → BeginsWith wild rest piece behind → Along wild text (pieces ++ piece ∷ []) behind
-along-more wild text pieces rest behind piece a begins = record {
+draft_along_more wild text pieces rest behind piece a begins = record {
   on = λ tail draft.
       let P : List Piece → Type 0 = λ all. IsDraft wild text all in
       subst P (sym (append_assoc pieces (piece ∷ []) tail)) (a.on (piece ∷ tail) (behind, begins, draft));
@@ -234,84 +234,84 @@ along-more wild text pieces rest behind piece a begins = record {
 }
   where
     after : (tail : List Piece) → IsDraft wild rest tail → (more : List Piece) × IsDraft wild behind more
-    after [] none = absurd (begins-some wild rest piece behind begins none)
+    after [] none = absurd (begins_some wild rest piece behind begins none)
     after (p ∷ tail) (behind', begins', draft) =
-        let one = begins-unique wild rest piece p behind behind' begins begins' in
+        let one = begins_unique wild rest piece p behind behind' begins begins' in
         let P : List ℕ → Type 0 = λ b. IsDraft wild b tail in
         (tail, subst P (sym one.1) draft)
 
 -- what stands before a `${`, or before the end, is characters, of which none begins it
-pub none-here : (c : ℕ) (cs rest : List ℕ) → NoneBegins (encode_utf8_all (c ∷ cs)) rest → IsApart (encode_utf8 c) (encode_utf8_all cs ++ rest)
-none-here c cs rest none one more e =
+pub none_here : (c : ℕ) (cs rest : List ℕ) → NoneBegins (encode_utf8_all (c ∷ cs)) rest → IsApart (encode_utf8 c) (encode_utf8_all cs ++ rest)
+none_here c cs rest none one more e =
     let found : (encode_utf8 c ++ encode_utf8_all cs) ++ rest ≡ [] ++ (codes "${" ++ more) =
     append_assoc (encode_utf8 c) (encode_utf8_all cs) rest ∙ ap (λ x. x ++ (encode_utf8_all cs ++ rest)) one ∙ ap (λ t. 36 ∷ t) e in
     omega (arith, none [] more found, length-append (encode_utf8 c) (encode_utf8_all cs), ap length one)
 
-pub none-behind : (c : ℕ) (cs rest : List ℕ) → NoneBegins (encode_utf8_all (c ∷ cs)) rest → NoneBegins (encode_utf8_all cs) rest
-none-behind c cs rest none before behind e =
+pub none_behind : (c : ℕ) (cs rest : List ℕ) → NoneBegins (encode_utf8_all (c ∷ cs)) rest → NoneBegins (encode_utf8_all cs) rest
+none_behind c cs rest none before behind e =
     let later =
     none (encode_utf8 c ++ before) behind
     (append_assoc (encode_utf8 c) (encode_utf8_all cs) rest ∙ ap (λ t. encode_utf8 c ++ t) e ∙ sym (append_assoc (encode_utf8 c) before (codes "${" ++ behind))) in
     omega (arith, later, length-append (encode_utf8 c) (encode_utf8_all cs), length-append (encode_utf8 c) before)
 
-along-characters : (wild : Bool) (text : List ℕ) (pieces : List Piece) (cs rest : List ℕ) → NoneBegins (encode_utf8_all cs) rest
+along_characters : (wild : Bool) (text : List ℕ) (pieces : List Piece) (cs rest : List ℕ) → NoneBegins (encode_utf8_all cs) rest
     → Along wild text pieces (encode_utf8_all cs ++ rest) → Along wild text (pieces ++ plain_draft (map (sign_of wild) cs)) rest
-along-characters wild text pieces [] rest none a =
+along_characters wild text pieces [] rest none a =
     let P : List Piece → Type 0 = λ done. Along wild text done rest in
     subst P (sym (append-nil pieces)) a
-along-characters wild text pieces (c ∷ cs) rest none a =
+along_characters wild text pieces (c ∷ cs) rest none a =
     let P : List Piece → Type 0 = λ done. Along wild text done rest in
     let Q : List ℕ → Type 0 = λ t. Along wild text pieces t in
     let left = encode_utf8_all cs ++ rest in
     let begins : BeginsWith wild (encode_utf8 c ++ left) (Plain (sign_of wild c)) left =
-    record { part = encode_utf8 c; written = (c, refl, refl); joined = refl; apart = none-here c cs rest none } in
+    record { part = encode_utf8 c; written = (c, refl, refl); joined = refl; apart = none_here c cs rest none } in
     let more =
-    along-more wild text pieces (encode_utf8 c ++ left) left (Plain (sign_of wild c)) (subst Q (append_assoc (encode_utf8 c) (encode_utf8_all cs) rest) a) begins in
+    draft_along_more wild text pieces (encode_utf8 c ++ left) left (Plain (sign_of wild c)) (subst Q (append_assoc (encode_utf8 c) (encode_utf8_all cs) rest) a) begins in
     subst P (append_assoc pieces (Plain (sign_of wild c) ∷ []) (plain_draft (map (sign_of wild) cs)))
-    (along-characters wild text (pieces ++ Plain (sign_of wild c) ∷ []) cs rest (none-behind c cs rest none) more)
+    (along_characters wild text (pieces ++ Plain (sign_of wild c) ∷ []) cs rest (none_behind c cs rest none) more)
 
 -- the characters before a `${`, or before the end, are pieces
-along-front : (wild : Bool) (text : List ℕ) (pieces : List Piece) (front rest : List ℕ) → IsUtf8 front → NoneBegins front rest
+along_front : (wild : Bool) (text : List ℕ) (pieces : List Piece) (front rest : List ℕ) → IsUtf8 front → NoneBegins front rest
     → Along wild text pieces (front ++ rest) → Along wild text (pieces ++ plain_draft (map (sign_of wild) (chars front))) rest
-along-front wild text pieces front rest (cs, (scalars, is)) none a =
+along_front wild text pieces front rest (cs, (scalars, is)) none a =
     let P : List ℕ → Type 0 = λ t. NoneBegins t rest → Along wild text pieces (t ++ rest) → Along wild text (pieces ++ plain_draft (map (sign_of wild) cs)) rest in
     let Q : List ℕ → Type 0 = λ ds. Along wild text (pieces ++ plain_draft (map (sign_of wild) ds)) rest in
-    subst Q (chars_from_encodes cs front (cs, (scalars, is)) is) (subst P is (along-characters wild text pieces cs rest) none a)
+    subst Q (chars_from_encodes cs front (cs, (scalars, is)) is) (subst P is (along_characters wild text pieces cs rest) none a)
 
 -- up to the first `${`
-pub along-cut : (wild : Bool) (text : List ℕ) (pieces grown : List Piece) (rest front inside : List ℕ) → Along wild text pieces rest → IsUtf8 front
+pub along_cut : (wild : Bool) (text : List ℕ) (pieces grown : List Piece) (rest front inside : List ℕ) → Along wild text pieces rest → IsUtf8 front
     → IsCutAtForm rest front inside → grown ≡ pieces ++ plain_draft (map (sign_of wild) (chars front)) → Along wild text grown (codes "${" ++ inside)
-along-cut wild text pieces grown rest front inside a utf8 (joined, none) is =
+along_cut wild text pieces grown rest front inside a utf8 (joined, none) is =
     let P : List ℕ → Type 0 = λ t. Along wild text pieces t in
     let Q : List Piece → Type 0 = λ done. Along wild text done (codes "${" ++ inside) in
-    subst Q (sym is) (along-front wild text pieces front (codes "${" ++ inside) utf8 none (subst P joined a))
+    subst Q (sym is) (along_front wild text pieces front (codes "${" ++ inside) utf8 none (subst P joined a))
 
 -- over a form that stands behind a `${`
-pub along-form : (wild : Bool) (text : List ℕ) (pieces grown : List Piece) (inside behind : List ℕ) (piece : Piece)
+pub along_form : (wild : Bool) (text : List ℕ) (pieces grown : List Piece) (inside behind : List ℕ) (piece : Piece)
     → Along wild text pieces (codes "${" ++ inside) → HasForm piece inside behind → grown ≡ pieces ++ piece ∷ [] → Along wild text grown behind
-along-form wild text pieces grown inside behind piece a has is =
+along_form wild text pieces grown inside behind piece a has is =
     let Q : List Piece → Type 0 = λ done. Along wild text done behind in
-    subst Q (sym is) (along-more wild text pieces (codes "${" ++ inside) behind piece a (begins-from_form wild piece (codes "${" ++ inside) inside behind refl has))
+    subst Q (sym is) (draft_along_more wild text pieces (codes "${" ++ inside) behind piece a (begins_from_form wild piece (codes "${" ++ inside) inside behind refl has))
 
 -- to the end of the text, where no further `${` stands
-pub along-end : (wild : Bool) (text : List ℕ) (pieces grown : List Piece) (rest : List ℕ) → Along wild text pieces rest → IsUtf8 rest
+pub along_end : (wild : Bool) (text : List ℕ) (pieces grown : List Piece) (rest : List ℕ) → Along wild text pieces rest → IsUtf8 rest
     → NoneBegins rest [] → grown ≡ pieces ++ plain_draft (map (sign_of wild) (chars rest)) → IsDraft wild text grown
-along-end wild text pieces grown rest a utf8 none is =
+along_end wild text pieces grown rest a utf8 none is =
     let P : List ℕ → Type 0 = λ t. Along wild text pieces t in
     let Q : List Piece → Type 0 = λ all. IsDraft wild text all in
-    let whole = along-front wild text pieces rest [] utf8 none (subst P (sym (append-nil rest)) a) in
+    let whole = along_front wild text pieces rest [] utf8 none (subst P (sym (append-nil rest)) a) in
     subst Q (append-nil _ ∙ sym is) (whole.on [] refl)
 
 -- where no `${` stands, each character of the text is a piece
-pub plain-drafted : (wild : Bool) (text : List ℕ) → IsUtf8 text → NoneBegins text [] → IsDraft wild text (plain_draft (map (sign_of wild) (chars text)))
-plain-drafted wild text utf8 none =
-    along-end wild text [] (plain_draft (map (sign_of wild) (chars text))) text (none-read wild text) utf8 none refl
+pub plain_drafted : (wild : Bool) (text : List ℕ) → IsUtf8 text → NoneBegins text [] → IsDraft wild text (plain_draft (map (sign_of wild) (chars text)))
+plain_drafted wild text utf8 none =
+    along_end wild text [] (plain_draft (map (sign_of wild) (chars text))) text (none_read wild text) utf8 none refl
 
 -- where no form stands behind a `${`
-pub along-off : (wild : Bool) (text : List ℕ) (pieces : List Piece) (inside : List ℕ) → Along wild text pieces (codes "${" ++ inside)
+pub draft_along_off : (wild : Bool) (text : List ℕ) (pieces : List Piece) (inside : List ℕ) → Along wild text pieces (codes "${" ++ inside)
     → ((piece : Piece) (behind : List ℕ) → ¬ HasForm piece inside behind) → (all : List Piece) → ¬ IsDraft wild text all
-along-off wild text pieces inside a off all draft = let left = a.back all draft in go left.0 left.1
+draft_along_off wild text pieces inside a off all draft = let left = a.back all draft in go left.0 left.1
   where
     go : (tail : List Piece) → IsDraft wild (codes "${" ++ inside) tail → ⊥
     go [] none = let no : ⊥ = cc in no
-    go (p ∷ tail) (behind, begins, more) = off p behind (form-from_begins wild p (codes "${" ++ inside) inside behind refl begins)
+    go (p ∷ tail) (behind, begins, more) = off p behind (form_from_begins wild p (codes "${" ++ inside) inside behind refl begins)

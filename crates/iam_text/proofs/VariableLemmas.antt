@@ -15,8 +15,8 @@ use Rattle.iam_text.specs.declared.sign.Sign.{Sign}
 use Rattle.iam_text.specs.Code.Forms.{HasForm, IsQuoted}
 use Rattle.iam_text.specs.Stretches.{IsCutAtForm, NoneBegins}
 use Rattle.iam_text.specs.Variables.{State, outside, dollar, opened, escaped, key, spaces, default, closing, is_draft, is_draft_from, is_end, step}
-use Rattle.iam_text.proofs.DraftLemmas.{begins-from_form, begins-shorter, form-from_begins, none-behind, none-here, piece-cases}
-use Rattle.iam_text.proofs.FormLemmas.{all-absent, default-cut, key-all, literal-no_key, match-weaker}
+use Rattle.iam_text.proofs.DraftLemmas.{begins_from_form, begins_shorter, form_from_begins, none_behind, none_here, piece_cases}
+use Rattle.iam_text.proofs.FormLemmas.{all_absent, default_cut, key_all, literal_no_key, match_weaker}
 use denote.Ref.{Bor}
 
 -- one character on
@@ -31,68 +31,68 @@ run s test stays (c ∷ xs) rest all =
     let both = and_parts (test c) (list_all test xs) all in
     next s s c (xs ++ rest) (stays c both.0) ∙ run s test stays xs rest both.1
 
-stays-key : (c : ℕ) → is_key_character c ≡ true → step key c ≡ Some key
-stays-key c e = ap (λ b. cond b (Some key) (cond (c == 125) (Some outside) (cond (c == 44) (Some spaces) None))) e
+stays_key : (c : ℕ) → is_key_character c ≡ true → step key c ≡ Some key
+stays_key c e = ap (λ b. cond b (Some key) (cond (c == 125) (Some outside) (cond (c == 44) (Some spaces) None))) e
 
-not-false : (b : Bool) → not b ≡ true → b ≡ false
-not-false true e = cc
-not-false false e = refl
+not_false : (b : Bool) → not b ≡ true → b ≡ false
+not_false true e = cc
+not_false false e = refl
 
-stays-default : (c : ℕ) → not (c == 39) ≡ true → step default c ≡ Some default
-stays-default c e = ap (λ b. cond b (Some closing) (Some default)) (not-false (c == 39) e)
+stays_default : (c : ℕ) → not (c == 39) ≡ true → step default c ≡ Some default
+stays_default c e = ap (λ b. cond b (Some closing) (Some default)) (not_false (c == 39) e)
 
-stays-outside : (c : ℕ) → not (c == 36) ≡ true → step outside c ≡ Some outside
-stays-outside c e = ap (λ b. cond b (Some dollar) (Some outside)) (not-false (c == 36) e)
+stays_outside : (c : ℕ) → not (c == 36) ≡ true → step outside c ≡ Some outside
+stays_outside c e = ap (λ b. cond b (Some dollar) (Some outside)) (not_false (c == 36) e)
 
-run-spaces : (n : ℕ) (rest : List ℕ) → is_draft_from spaces (replicate n 32 ++ rest) ≡ is_draft_from spaces rest
-run-spaces zero rest = refl
-run-spaces (suc n) rest = run-spaces n rest
+run_spaces : (n : ℕ) (rest : List ℕ) → is_draft_from spaces (replicate n 32 ++ rest) ≡ is_draft_from spaces rest
+run_spaces zero rest = refl
+run_spaces (suc n) rest = run_spaces n rest
 
 -- over a key that stands behind `${`
-run-key : (k rest : List ℕ) → is_key k ≡ true → is_draft_from opened (k ++ rest) ≡ is_draft_from key rest
-run-key [] rest is = cc
-run-key (c ∷ k) rest is =
-    let both = and_parts (is_key_character c) (list_all is_key_character k) (key-all (c ∷ k) is) in
+run_key : (k rest : List ℕ) → is_key k ≡ true → is_draft_from opened (k ++ rest) ≡ is_draft_from key rest
+run_key [] rest is = cc
+run_key (c ∷ k) rest is =
+    let both = and_parts (is_key_character c) (list_all is_key_character k) (key_all (c ∷ k) is) in
     next opened key c (k ++ rest) (ap (λ b. cond b (Some key) (cond (c == 42 || c == 63 || c == 36) (Some escaped) None)) both.0)
-    ∙ run key is_key_character stays-key k rest both.1
+    ∙ run key is_key_character stays_key k rest both.1
 
-run-quoted : (text d rest : List ℕ) → IsQuoted text d rest → is_draft_from spaces text ≡ is_draft_from outside rest
-run-quoted text d rest (n, plain, is) =
-    ap (is_draft_from spaces) is ∙ run-spaces n (39 ∷ (d ++ (39 ∷ (125 ∷ rest))))
-    ∙ run default (λ c. not (c == 39)) stays-default d (39 ∷ (125 ∷ rest)) plain
+run_quoted : (text d rest : List ℕ) → IsQuoted text d rest → is_draft_from spaces text ≡ is_draft_from outside rest
+run_quoted text d rest (n, plain, is) =
+    ap (is_draft_from spaces) is ∙ run_spaces n (39 ∷ (d ++ (39 ∷ (125 ∷ rest))))
+    ∙ run default (λ c. not (c == 39)) stays_default d (39 ∷ (125 ∷ rest)) plain
 
-run-literal : (c : ℕ) (rest : List ℕ) → IsTrue (c == 42 || c == 63 || c == 36) → is_draft_from opened (c ∷ (125 ∷ rest)) ≡ is_draft_from outside rest
-run-literal c rest literal =
+run_literal : (c : ℕ) (rest : List ℕ) → IsTrue (c == 42 || c == 63 || c == 36) → is_draft_from opened (c ∷ (125 ∷ rest)) ≡ is_draft_from outside rest
+run_literal c rest literal =
     next opened escaped c (125 ∷ rest)
-    (ap (λ b. cond b (Some key) (cond (c == 42 || c == 63 || c == 36) (Some escaped) None)) (literal-no_key c literal) ∙ ap (λ b. cond b (Some escaped) None) literal)
+    (ap (λ b. cond b (Some key) (cond (c == 42 || c == 63 || c == 36) (Some escaped) None)) (literal_no_key c literal) ∙ ap (λ b. cond b (Some escaped) None) literal)
 
 -- over a form that stands behind `${`
-pub run-form : (piece : Piece) (inside rest : List ℕ) → HasForm piece inside rest → is_draft_from opened inside ≡ is_draft_from outside rest
-run-form (Plain sign) inside rest (inl (between, closed, joined)) = absurd closed
-run-form (Plain sign) inside rest (inr has) = absurd has
-run-form (Escaped c) inside rest (inl (between, (literal, is), joined)) =
-    ap (is_draft_from opened) (joined ∙ ap (λ t. t ++ (125 ∷ rest)) is) ∙ run-literal c rest literal
-run-form (Escaped c) inside rest (inr has) = absurd has
-run-form (Variable k None) inside rest (inl (between, (fits, is), joined)) =
-    ap (is_draft_from opened) (joined ∙ ap (λ t. t ++ (125 ∷ rest)) is) ∙ run-key k (125 ∷ rest) fits
-run-form (Variable k None) inside rest (inr has) = absurd has
-run-form (Variable k (Some d)) inside rest (inl (between, closed, joined)) = absurd closed
-run-form (Variable k (Some d)) inside rest (inr (behind, fits, joined, quoted)) =
-    ap (is_draft_from opened) joined ∙ run-key k (44 ∷ behind) fits ∙ run-quoted behind d rest quoted
+pub run_form : (piece : Piece) (inside rest : List ℕ) → HasForm piece inside rest → is_draft_from opened inside ≡ is_draft_from outside rest
+run_form (Plain sign) inside rest (inl (between, closed, joined)) = absurd closed
+run_form (Plain sign) inside rest (inr has) = absurd has
+run_form (Escaped c) inside rest (inl (between, (literal, is), joined)) =
+    ap (is_draft_from opened) (joined ∙ ap (λ t. t ++ (125 ∷ rest)) is) ∙ run_literal c rest literal
+run_form (Escaped c) inside rest (inr has) = absurd has
+run_form (Variable k None) inside rest (inl (between, (fits, is), joined)) =
+    ap (is_draft_from opened) (joined ∙ ap (λ t. t ++ (125 ∷ rest)) is) ∙ run_key k (125 ∷ rest) fits
+run_form (Variable k None) inside rest (inr has) = absurd has
+run_form (Variable k (Some d)) inside rest (inl (between, closed, joined)) = absurd closed
+run_form (Variable k (Some d)) inside rest (inr (behind, fits, joined, quoted)) =
+    ap (is_draft_from opened) joined ∙ run_key k (44 ∷ behind) fits ∙ run_quoted behind d rest quoted
 
 -- over a character by itself
-run-dollar : (rest : List ℕ) → ((more : List ℕ) → rest ≢ 123 ∷ more) → is_draft_from dollar rest ≡ is_draft_from outside rest
-run-dollar [] apart = refl
-run-dollar (c ∷ rest) apart = go (c == 123) refl
+run_dollar : (rest : List ℕ) → ((more : List ℕ) → rest ≢ 123 ∷ more) → is_draft_from dollar rest ≡ is_draft_from outside rest
+run_dollar [] apart = refl
+run_dollar (c ∷ rest) apart = go (c == 123) refl
   where
     go : (b : Bool) → (c == 123) ≡ b → is_draft_from dollar (c ∷ rest) ≡ is_draft_from outside (c ∷ rest)
     go false e = ap (λ b. option_map_or (λ n. is_draft_from n rest) (cond b (Some opened) (cond (c == 36) (Some dollar) (Some outside))) false) e
     go true e = absurd (apart rest (ap (λ d. d ∷ rest) (eqb-true c 123 e)))
 
-run-character : (c : ℕ) (rest : List ℕ) → (encode_utf8 c ≡ codes "$" → (more : List ℕ) → rest ≢ 123 ∷ more)
+run_character : (c : ℕ) (rest : List ℕ) → (encode_utf8 c ≡ codes "$" → (more : List ℕ) → rest ≢ 123 ∷ more)
     → is_draft_from outside (encode_utf8 c ++ rest) ≡ is_draft_from outside rest
 unfolding encode_utf8
-run-character c rest apart = go (c == 36) refl
+run_character c rest apart = go (c == 36) refl
   where
     inner : (c == 36) ≡ false → (i : ℕ) → i < length (encode_utf8 c) → get_or (encode_utf8 c) i 0 ≢ 36
     inner e i below same =
@@ -102,57 +102,57 @@ run-character c rest apart = go (c == 36) refl
         no
 
     go : (b : Bool) → (c == 36) ≡ b → is_draft_from outside (encode_utf8 c ++ rest) ≡ is_draft_from outside rest
-    go false e = run outside (λ d. not (d == 36)) stays-outside (encode_utf8 c) rest (all-absent 36 (encode_utf8 c) (inner e))
+    go false e = run outside (λ d. not (d == 36)) stays_outside (encode_utf8 c) rest (all_absent 36 (encode_utf8 c) (inner e))
     go true e =
         let one : encode_utf8 c ≡ codes "$" = ap encode_utf8 (eqb-true c 36 e) in
-        ap (λ xs. is_draft_from outside (xs ++ rest)) one ∙ run-dollar rest (apart one)
+        ap (λ xs. is_draft_from outside (xs ++ rest)) one ∙ run_dollar rest (apart one)
 
 -- over a piece
-pub run-piece : (wild : Bool) (text : List ℕ) (piece : Piece) (rest : List ℕ) → BeginsWith wild text piece rest → is_draft text ≡ is_draft rest
-run-piece wild text piece rest b = go (piece-cases wild piece b.part b.written)
+pub run_piece : (wild : Bool) (text : List ℕ) (piece : Piece) (rest : List ℕ) → BeginsWith wild text piece rest → is_draft text ≡ is_draft rest
+run_piece wild text piece rest b = go (piece_cases wild piece b.part b.written)
   where
     go : ((sign : Sign) × (c : ℕ) × (piece ≡ Plain sign) × (sign ≡ sign_of wild c) × (b.part ≡ encode_utf8 c)) ⊎ ((inside : List ℕ) × (b.part ≡ codes "${" ++ inside))
         → is_draft text ≡ is_draft rest
-    go (inl (sign, c, plain, read, is)) = ap is_draft (b.joined ∙ ap (λ x. x ++ rest) is) ∙ run-character c rest (λ one. b.apart (is ∙ one))
+    go (inl (sign, c, plain, read, is)) = ap is_draft (b.joined ∙ ap (λ x. x ++ rest) is) ∙ run_character c rest (λ one. b.apart (is ∙ one))
     go (inr (inside, is)) =
         let starts : text ≡ codes "${" ++ (inside ++ rest) = b.joined ∙ ap (λ x. x ++ rest) is in
-        ap is_draft starts ∙ run-form piece (inside ++ rest) rest (form-from_begins wild piece text (inside ++ rest) rest starts b)
+        ap is_draft starts ∙ run_form piece (inside ++ rest) rest (form_from_begins wild piece text (inside ++ rest) rest starts b)
 
 -- a text that has a draft passes the test
 pub drafted : (wild : Bool) (text : List ℕ) (pieces : List Piece) → IsDraft wild text pieces → is_draft text ≡ true
 drafted wild text [] none = ap is_draft none
-drafted wild text (piece ∷ pieces) (rest, begins, more) = run-piece wild text piece rest begins ∙ drafted wild rest pieces more
+drafted wild text (piece ∷ pieces) (rest, begins, more) = run_piece wild text piece rest begins ∙ drafted wild rest pieces more
 
 -- where a `}` alone goes on
-brace-ends : (s : State) → is_end s ≡ false → ((c : ℕ) → step s c ≡ cond (c == 125) (Some outside) None) → (text : List ℕ) → is_draft_from s text ≡ true
+brace_ends : (s : State) → is_end s ≡ false → ((c : ℕ) → step s c ≡ cond (c == 125) (Some outside) None) → (text : List ℕ) → is_draft_from s text ≡ true
     → (rest : List ℕ) × (text ≡ 125 ∷ rest)
-brace-ends s off steps [] holds = let no : ⊥ = cc in absurd no
-brace-ends s off steps (c ∷ text) holds = go (c == 125) refl (sym (ap (λ o. option_map_or (λ n. is_draft_from n text) o false) (steps c)) ∙ holds)
+brace_ends s off steps [] holds = let no : ⊥ = cc in absurd no
+brace_ends s off steps (c ∷ text) holds = go (c == 125) refl (sym (ap (λ o. option_map_or (λ n. is_draft_from n text) o false) (steps c)) ∙ holds)
   where
     go : (b : Bool) → (c == 125) ≡ b → option_map_or (λ n. is_draft_from n text) (cond b (Some outside) None) false ≡ true → (rest : List ℕ) × (c ∷ text ≡ 125 ∷ rest)
     go true e h = (text, ap (λ d. d ∷ text) (eqb-true c 125 e))
     go false e h = cc
 
 -- the default and the `'}` behind it
-default-ends : (text : List ℕ) → is_draft_from default text ≡ true
+default_ends : (text : List ℕ) → is_draft_from default text ≡ true
     → (d : List ℕ) × (rest : List ℕ) × IsTrue (list_all (λ c. not (c == 39)) d) × (text ≡ d ++ (39 ∷ (125 ∷ rest)))
-default-ends [] holds = cc
-default-ends (c ∷ text) holds = go (default-ends text) (c == 39) refl holds
+default_ends [] holds = cc
+default_ends (c ∷ text) holds = go (default_ends text) (c == 39) refl holds
   where
     go : (is_draft_from default text ≡ true → (d : List ℕ) × (rest : List ℕ) × IsTrue (list_all (λ x. not (x == 39)) d) × (text ≡ d ++ (39 ∷ (125 ∷ rest))))
         → (b : Bool) → (c == 39) ≡ b → option_map_or (λ n. is_draft_from n text) (cond b (Some closing) (Some default)) false ≡ true
         → (d : List ℕ) × (rest : List ℕ) × IsTrue (list_all (λ x. not (x == 39)) d) × (c ∷ text ≡ d ++ (39 ∷ (125 ∷ rest)))
     go again true e h =
-        let end = brace-ends closing refl (λ d. refl) text h in
+        let end = brace_ends closing refl (λ d. refl) text h in
         ([], end.0, refl, ap (λ d. d ∷ text) (eqb-true c 39 e) ∙ ap (λ t. 39 ∷ t) end.1)
     go again false e h =
         let more = again h in
         (c ∷ more.0, more.1, ap (λ b. not b && list_all (λ x. not (x == 39)) more.0) e ∙ more.2, ap (λ t. c ∷ t) more.3)
 
 -- spaces, the default in quotes, and a `}`
-spaces-ends : (text : List ℕ) → is_draft_from spaces text ≡ true → (d : List ℕ) × (rest : List ℕ) × IsQuoted text d rest
-spaces-ends [] holds = cc
-spaces-ends (c ∷ text) holds = go (spaces-ends text) (c == 32) (c == 39) refl refl holds
+spaces_ends : (text : List ℕ) → is_draft_from spaces text ≡ true → (d : List ℕ) × (rest : List ℕ) × IsQuoted text d rest
+spaces_ends [] holds = cc
+spaces_ends (c ∷ text) holds = go (spaces_ends text) (c == 32) (c == 39) refl refl holds
   where
     go : (is_draft_from spaces text ≡ true → (d : List ℕ) × (rest : List ℕ) × IsQuoted text d rest) → (x y : Bool) → (c == 32) ≡ x → (c == 39) ≡ y
         → option_map_or (λ n. is_draft_from n text) (cond x (Some spaces) (cond y (Some default) None)) false ≡ true
@@ -162,7 +162,7 @@ spaces-ends (c ∷ text) holds = go (spaces-ends text) (c == 32) (c == 39) refl 
         let quoted = more.2 in
         (more.0, more.1, (suc quoted.0, quoted.1, ap (λ d. d ∷ text) (eqb-true c 32 e) ∙ ap (λ t. 32 ∷ t) quoted.2))
     go again false true e f h =
-        let inner = default-ends text h in
+        let inner = default_ends text h in
         (inner.0, inner.1, (0, inner.2, ap (λ d. d ∷ text) (eqb-true c 39 f) ∙ ap (λ t. 39 ∷ t) inner.3))
     go again false false e f h = cc
 
@@ -170,9 +170,9 @@ spaces-ends (c ∷ text) holds = go (spaces-ends text) (c == 32) (c == 39) refl 
 abbrev KeyEnds : List ℕ → List ℕ → List ℕ → Type 0
 KeyEnds text k rest = IsTrue (list_all is_key_character k) × ((text ≡ k ++ (125 ∷ rest)) ⊎ ((text ≡ k ++ (44 ∷ rest)) × (is_draft_from spaces rest ≡ true)))
 
-key-ends : (text : List ℕ) → is_draft_from key text ≡ true → (k : List ℕ) × (rest : List ℕ) × KeyEnds text k rest
-key-ends [] holds = cc
-key-ends (c ∷ text) holds = go (key-ends text) (is_key_character c) (c == 125) (c == 44) refl refl refl holds
+key_ends : (text : List ℕ) → is_draft_from key text ≡ true → (k : List ℕ) × (rest : List ℕ) × KeyEnds text k rest
+key_ends [] holds = cc
+key_ends (c ∷ text) holds = go (key_ends text) (is_key_character c) (c == 125) (c == 44) refl refl refl holds
   where
     go : (is_draft_from key text ≡ true → (k : List ℕ) × (rest : List ℕ) × KeyEnds text k rest) → (x y z : Bool) → is_key_character c ≡ x → (c == 125) ≡ y → (c == 44) ≡ z
         → option_map_or (λ n. is_draft_from n text) (cond x (Some key) (cond y (Some outside) (cond z (Some spaces) None))) false ≡ true
@@ -189,9 +189,9 @@ key-ends (c ∷ text) holds = go (key-ends text) (is_key_character c) (c == 125)
     go again false false false e f g h = cc
 
 -- what stands behind `${` is a form
-form-ends : (inside : List ℕ) → is_draft_from opened inside ≡ true → (piece : Piece) × (rest : List ℕ) × HasForm piece inside rest
-form-ends [] holds = cc
-form-ends (c ∷ text) holds = go (is_key_character c) (c == 42 || c == 63 || c == 36) refl refl holds
+form_ends : (inside : List ℕ) → is_draft_from opened inside ≡ true → (piece : Piece) × (rest : List ℕ) × HasForm piece inside rest
+form_ends [] holds = cc
+form_ends (c ∷ text) holds = go (is_key_character c) (c == 42 || c == 63 || c == 36) refl refl holds
   where
     fits : is_key_character c ≡ true → (k : List ℕ) → list_all is_key_character k ≡ true → is_key (c ∷ k) ≡ true
     fits e k all =
@@ -202,21 +202,21 @@ form-ends (c ∷ text) holds = go (is_key_character c) (c == 42 || c == 63 || c 
     named e k rest (all, inl closed) =
         (Variable (c ∷ k) None, rest, inl (c ∷ k, (fits e k all, refl), ap (λ t. c ∷ t) closed))
     named e k rest (all, inr (comma, h)) =
-        let quoted = spaces-ends rest h in
+        let quoted = spaces_ends rest h in
         (Variable (c ∷ k) (Some quoted.0), quoted.1, inr (rest, fits e k all, ap (λ t. c ∷ t) comma, quoted.2))
 
     go : (x y : Bool) → is_key_character c ≡ x → (c == 42 || c == 63 || c == 36) ≡ y
         → option_map_or (λ n. is_draft_from n text) (cond x (Some key) (cond y (Some escaped) None)) false ≡ true
         → (piece : Piece) × (rest : List ℕ) × HasForm piece (c ∷ text) rest
-    go true y e f h = let ends = key-ends text h in named e ends.0 ends.1 ends.2
+    go true y e f h = let ends = key_ends text h in named e ends.0 ends.1 ends.2
     go false true e f h =
-        let end = brace-ends escaped refl (λ d. refl) text h in
+        let end = brace_ends escaped refl (λ d. refl) text h in
         (Escaped c, end.0, inl (c ∷ [], (f, refl), ap (λ t. c ∷ t) end.1))
     go false false e f h = cc
 
 -- what stands behind an ASCII character of a text is one
-utf8-behind : (bs front rest : List ℕ) (c : ℕ) → c < 128 → bs ≡ front ++ (c ∷ rest) → IsUtf8 bs → IsUtf8 rest
-utf8-behind bs front rest c small is utf8 =
+utf8_behind : (bs front rest : List ℕ) (c : ℕ) → c < 128 → bs ≡ front ++ (c ∷ rest) → IsUtf8 bs → IsUtf8 rest
+utf8_behind bs front rest c small is utf8 =
     let i = length front in
     let at : get_or bs i 0 ≡ c = ap (λ xs. get_or xs i 0) is ∙ get_or_at front c rest 0 i refl in
     let long : length bs ≡ i + suc (length rest) = ap length is ∙ length-append front (c ∷ rest) in
@@ -226,20 +226,20 @@ utf8-behind bs front rest c small is utf8 =
     let P : List ℕ → Type 0 = λ t. IsUtf8 t in
     subst P left cut
 
-form-utf8 : (piece : Piece) (inside rest : List ℕ) → HasForm piece inside rest → IsUtf8 inside → IsUtf8 rest
-form-utf8 piece inside rest (inl (between, closed, joined)) utf8 = utf8-behind inside between rest 125 (omega arith) joined utf8
-form-utf8 piece inside rest (inr has) utf8 =
-    let d = default-cut piece inside rest has in
+form_utf8 : (piece : Piece) (inside rest : List ℕ) → HasForm piece inside rest → IsUtf8 inside → IsUtf8 rest
+form_utf8 piece inside rest (inl (between, closed, joined)) utf8 = utf8_behind inside between rest 125 (omega arith) joined utf8
+form_utf8 piece inside rest (inr has) utf8 =
+    let d = default_cut piece inside rest has in
     let quoted = d.5 in
-    let behind : IsUtf8 d.2 = utf8-behind inside d.0 d.2 44 (omega arith) d.4 utf8 in
-    let inner : IsUtf8 (d.1 ++ (39 ∷ (125 ∷ rest))) = utf8-behind d.2 (replicate quoted.0 32) (d.1 ++ (39 ∷ (125 ∷ rest))) 39 (omega arith) quoted.2 behind in
-    utf8-behind (125 ∷ rest) [] rest 125 (omega arith) refl (utf8-behind (d.1 ++ (39 ∷ (125 ∷ rest))) d.1 (125 ∷ rest) 39 (omega arith) refl inner)
+    let behind : IsUtf8 d.2 = utf8_behind inside d.0 d.2 44 (omega arith) d.4 utf8 in
+    let inner : IsUtf8 (d.1 ++ (39 ∷ (125 ∷ rest))) = utf8_behind d.2 (replicate quoted.0 32) (d.1 ++ (39 ∷ (125 ∷ rest))) 39 (omega arith) quoted.2 behind in
+    utf8_behind (125 ∷ rest) [] rest 125 (omega arith) refl (utf8_behind (d.1 ++ (39 ∷ (125 ∷ rest))) d.1 (125 ∷ rest) 39 (omega arith) refl inner)
 
 -- whether a `${` stands at the front
-front-cases : (text : List ℕ) → ((inside : List ℕ) × (text ≡ codes "${" ++ inside)) ⊎ ((inside : List ℕ) → text ≢ codes "${" ++ inside)
-front-cases [] = inr (λ inside e. let no : ⊥ = cc in no)
-front-cases (c ∷ []) = inr (λ inside e. let no : ⊥ = cc in no)
-front-cases (c ∷ d ∷ text) = go (c == 36) (d == 123) refl refl
+front_cases : (text : List ℕ) → ((inside : List ℕ) × (text ≡ codes "${" ++ inside)) ⊎ ((inside : List ℕ) → text ≢ codes "${" ++ inside)
+front_cases [] = inr (λ inside e. let no : ⊥ = cc in no)
+front_cases (c ∷ []) = inr (λ inside e. let no : ⊥ = cc in no)
+front_cases (c ∷ d ∷ text) = go (c == 36) (d == 123) refl refl
   where
     off : (c ≢ 36) ⊎ (d ≢ 123) → (inside : List ℕ) → c ∷ (d ∷ text) ≢ codes "${" ++ inside
     off (inl other) inside e = other (let heads : c ≡ 36 = cc in heads)
@@ -252,9 +252,9 @@ front-cases (c ∷ d ∷ text) = go (c == 36) (d == 123) refl refl
     go true false e f = inr (off (inr (λ same. let wrong : true ≡ false = sym (ap (λ x. x == 123) same) ∙ f in let no : ⊥ = cc in no)))
 
 -- a text that passes the test begins with a piece
-pub first-piece : (wild : Bool) (text : List ℕ) → text ≢ [] → IsUtf8 text → is_draft text ≡ true
+pub first_piece : (wild : Bool) (text : List ℕ) → text ≢ [] → IsUtf8 text → is_draft text ≡ true
     → (piece : Piece) × (rest : List ℕ) × BeginsWith wild text piece rest × IsUtf8 rest
-first-piece wild text some utf8 holds = go (front-cases text)
+first_piece wild text some utf8 holds = go (front_cases text)
   where
     character : (cs : List ℕ) → encode_utf8_all cs ≡ text → ((inside : List ℕ) → text ≢ codes "${" ++ inside)
         → (piece : Piece) × (rest : List ℕ) × BeginsWith wild text piece rest × IsUtf8 rest
@@ -274,51 +274,51 @@ first-piece wild text some utf8 holds = go (front-cases text)
     go : ((inside : List ℕ) × (text ≡ codes "${" ++ inside)) ⊎ ((inside : List ℕ) → text ≢ codes "${" ++ inside)
         → (piece : Piece) × (rest : List ℕ) × BeginsWith wild text piece rest × IsUtf8 rest
     go (inl (inside, starts)) =
-        let form = form-ends inside (sym (ap is_draft starts) ∙ holds) in
-        let within : IsUtf8 inside = utf8-behind text (36 ∷ []) inside 123 (omega arith) starts utf8 in
-        (form.0, form.1, begins-from_form wild form.0 text inside form.1 starts form.2, form-utf8 form.0 inside form.1 form.2 within)
+        let form = form_ends inside (sym (ap is_draft starts) ∙ holds) in
+        let within : IsUtf8 inside = utf8_behind text (36 ∷ []) inside 123 (omega arith) starts utf8 in
+        (form.0, form.1, begins_from_form wild form.0 text inside form.1 starts form.2, form_utf8 form.0 inside form.1 form.2 within)
     go (inr off) = character utf8.0 utf8.1.1 off
 
-pieces-of : (n : ℕ) (wild : Bool) (text : List ℕ) → length text ≤ n → IsUtf8 text → is_draft text ≡ true → (pieces : List Piece) × IsDraft wild text pieces
-pieces-of n wild [] short utf8 holds = ([], refl)
-pieces-of zero wild (c ∷ text) short utf8 holds = absurd (omega arith)
-pieces-of (suc n) wild (c ∷ text) short utf8 holds =
-    let first = first-piece wild (c ∷ text) (λ e. let no : ⊥ = cc in no) utf8 holds in
-    let fewer : length first.1 ≤ n = omega (arith, begins-shorter wild (c ∷ text) first.0 first.1 first.2) in
-    let more = pieces-of n wild first.1 fewer first.3 (sym (run-piece wild (c ∷ text) first.0 first.1 first.2) ∙ holds) in
+pieces_of : (n : ℕ) (wild : Bool) (text : List ℕ) → length text ≤ n → IsUtf8 text → is_draft text ≡ true → (pieces : List Piece) × IsDraft wild text pieces
+pieces_of n wild [] short utf8 holds = ([], refl)
+pieces_of zero wild (c ∷ text) short utf8 holds = absurd (omega arith)
+pieces_of (suc n) wild (c ∷ text) short utf8 holds =
+    let first = first_piece wild (c ∷ text) (λ e. let no : ⊥ = cc in no) utf8 holds in
+    let fewer : length first.1 ≤ n = omega (arith, begins_shorter wild (c ∷ text) first.0 first.1 first.2) in
+    let more = pieces_of n wild first.1 fewer first.3 (sym (run_piece wild (c ∷ text) first.0 first.1 first.2) ∙ holds) in
     (first.0 ∷ more.0, (first.1, first.2, more.1))
 
 -- the test tells whether there is a draft
 pub draft_tested : (wild : Bool) (text : List ℕ) → IsUtf8 text → IsTrue (is_draft text) ↔ ((pieces : List Piece) × IsDraft wild text pieces)
-draft_tested wild text utf8 = (λ holds. pieces-of (length text) wild text (omega arith) utf8 holds, λ d. drafted wild text d.0 d.1)
+draft_tested wild text utf8 = (λ holds. pieces_of (length text) wild text (omega arith) utf8 holds, λ d. drafted wild text d.0 d.1)
 
 -- where no form stands behind a `${`, the text does not pass
-pub no-form : (inside : List ℕ) → ((piece : Piece) (rest : List ℕ) → ¬ HasForm piece inside rest) → is_draft_from opened inside ≡ false
-no-form inside off = go (is_draft_from opened inside) refl
+pub no_form : (inside : List ℕ) → ((piece : Piece) (rest : List ℕ) → ¬ HasForm piece inside rest) → is_draft_from opened inside ≡ false
+no_form inside off = go (is_draft_from opened inside) refl
   where
     go : (b : Bool) → is_draft_from opened inside ≡ b → is_draft_from opened inside ≡ false
-    go true e = let form = form-ends inside e in absurd (off form.0 form.1 form.2)
+    go true e = let form = form_ends inside e in absurd (off form.0 form.1 form.2)
     go false e = e
 
 -- over the characters before a `${`, or before the end
-run-characters : (cs rest : List ℕ) → NoneBegins (encode_utf8_all cs) rest → is_draft (encode_utf8_all cs ++ rest) ≡ is_draft rest
-run-characters [] rest none = refl
-run-characters (c ∷ cs) rest none =
-    ap is_draft (append_assoc (encode_utf8 c) (encode_utf8_all cs) rest) ∙ run-character c (encode_utf8_all cs ++ rest) (none-here c cs rest none)
-    ∙ run-characters cs rest (none-behind c cs rest none)
+run_characters : (cs rest : List ℕ) → NoneBegins (encode_utf8_all cs) rest → is_draft (encode_utf8_all cs ++ rest) ≡ is_draft rest
+run_characters [] rest none = refl
+run_characters (c ∷ cs) rest none =
+    ap is_draft (append_assoc (encode_utf8 c) (encode_utf8_all cs) rest) ∙ run_character c (encode_utf8_all cs ++ rest) (none_here c cs rest none)
+    ∙ run_characters cs rest (none_behind c cs rest none)
 
-run-front : (front rest : List ℕ) → IsUtf8 front → NoneBegins front rest → is_draft (front ++ rest) ≡ is_draft rest
-run-front front rest (cs, (scalars, is)) =
+run_front : (front rest : List ℕ) → IsUtf8 front → NoneBegins front rest → is_draft (front ++ rest) ≡ is_draft rest
+run_front front rest (cs, (scalars, is)) =
     let P : List ℕ → Type 0 = λ t. NoneBegins t rest → is_draft (t ++ rest) ≡ is_draft rest in
-    subst P is (run-characters cs rest)
+    subst P is (run_characters cs rest)
 
 -- a text without `${` passes
-pub run-all : (text : List ℕ) → IsUtf8 text → NoneBegins text [] → is_draft text ≡ true
-run-all text utf8 none = ap is_draft (sym (append-nil text)) ∙ run-front text [] utf8 none
+pub run_all : (text : List ℕ) → IsUtf8 text → NoneBegins text [] → is_draft text ≡ true
+run_all text utf8 none = ap is_draft (sym (append-nil text)) ∙ run_front text [] utf8 none
 
 -- what stands before an ASCII character of a text is one
-utf8-before : (bs front rest : List ℕ) (c : ℕ) → c < 128 → bs ≡ front ++ (c ∷ rest) → IsUtf8 bs → IsUtf8 front
-utf8-before bs front rest c small is utf8 =
+utf8_before : (bs front rest : List ℕ) (c : ℕ) → c < 128 → bs ≡ front ++ (c ∷ rest) → IsUtf8 bs → IsUtf8 front
+utf8_before bs front rest c small is utf8 =
     let i = length front in
     let at : get_or bs i 0 ≡ c = ap (λ xs. get_or xs i 0) is ∙ get_or_at front c rest 0 i refl in
     let long : length bs ≡ i + suc (length rest) = ap length is ∙ length-append front (c ∷ rest) in
@@ -327,19 +327,19 @@ utf8-before bs front rest c small is utf8 =
     subst P (ap (take i) is ∙ take_at front (c ∷ rest) i refl) cut
 
 -- up to the first `${`
-run-cut : (text front inside : List ℕ) → IsUtf8 text → IsCutAtForm text front inside → is_draft text ≡ is_draft_from opened inside
-run-cut text front inside utf8 (joined, none) =
-    ap is_draft joined ∙ run-front front (codes "${" ++ inside) (utf8-before text front (123 ∷ inside) 36 (omega arith) joined utf8) none
+run_cut : (text front inside : List ℕ) → IsUtf8 text → IsCutAtForm text front inside → is_draft text ≡ is_draft_from opened inside
+run_cut text front inside utf8 (joined, none) =
+    ap is_draft joined ∙ run_front front (codes "${" ++ inside) (utf8_before text front (123 ∷ inside) 36 (omega arith) joined utf8) none
 
 -- what a cut at the first `${` tells of the grammar
-pub cut-told : (text : List ℕ) (r : Option (Bor (List ℕ) × Bor (List ℕ))) → IsUtf8 text
+pub cut_told : (text : List ℕ) (r : Option (Bor (List ℕ) × Bor (List ℕ))) → IsUtf8 text
     → MatchOption r (NoneBegins text []) (λ x. IsCutAtForm text x.0.now x.1.now)
     → MatchOption r (is_draft text ≡ true) (λ x. is_draft text ≡ is_draft_from opened x.1.now)
-cut-told text r utf8 cut = match-weaker r _ _ _ _ (run-all text utf8) (λ x at. run-cut text x.0.now x.1.now utf8 at) cut
+cut_told text r utf8 cut = match_weaker r _ _ _ _ (run_all text utf8) (λ x at. run_cut text x.0.now x.1.now utf8 at) cut
 
 -- a text without `$` has no `${`
-pub no-dollar : (text : List ℕ) → list_any (λ c. c == 36) text ≡ false → NoneBegins text []
-no-dollar text none before behind is =
+pub no_dollar : (text : List ℕ) → list_any (λ c. c == 36) text ≡ false → NoneBegins text []
+no_dollar text none before behind is =
     absurd (some (list_any (λ c. c == 36) before)
     (sym (ap (list_any (λ c. c == 36)) (sym (append-nil text) ∙ is) ∙ list_any-append (λ c. c == 36) before (codes "${" ++ behind)) ∙ none))
   where

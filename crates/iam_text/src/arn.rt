@@ -1,5 +1,5 @@
 // An ARN, cut at its first five colons.
-ghost use Rattle.std.specs.Prelude.{◌≡◌, MatchOption};
+ghost use Rattle.std.specs.Prelude.{◌≡◌, MatchOption, nat_le};
 ghost use Rattle.iam_text.specs.Arn.{colons};
 ghost use Rattle.iam_text.specs.Code.Cut.{IsCutFirst};
 
@@ -52,4 +52,23 @@ fn cut_first(text: &str) -> Option<(&str, &str)>
     ensures { MatchOption result (colons text.entry.now ≡ 0) (λ p. IsCutFirst text.entry.now p.0.now p.1.now) }
 {
     text.split_once(':')
+}
+
+/// Whether the text has at least five colons, so that it can be cut into six parts.
+pub fn has_six_parts(text: &str) -> bool
+    ensures { result ≡ nat_le 5 (colons text.now) }
+{
+    count_colons(text.as_bytes()) >= 5
+}
+
+fn count_colons(text: &[u8]) -> usize
+    ensures { result ≡ colons text.now }
+{
+    let mut count = 0;
+    for &character in text {
+        if character == b':' {
+            count += 1;
+        }
+    }
+    count
 }

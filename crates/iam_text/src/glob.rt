@@ -27,6 +27,7 @@ enum Kind {
     Wild(Vec<u8>),
     /// The signs of an ASCII text whose characters are all given.
     Plain(Vec<u8>),
+    /// These signs.
     Listed(Vec<Sign>),
 }
 
@@ -124,7 +125,7 @@ impl Glob {
         equals(self.signs(), text, Case::Folded)
     }
 
-    /// Whether both are read alike from the same text, or made of the same signs, and so the same pattern.
+    /// `true` only where both are the same pattern; `false` says nothing, since like patterns may be kept unlike.
     pub fn is_same(&self, other: &Glob) -> bool
         ensures { IsTrue result → self.now ≡ other.now }
     {
@@ -136,7 +137,8 @@ impl Glob {
         }
     }
 
-    /// A number that tells most patterns apart, on top of that of others.
+    /// A number that tells most lists of patterns apart, where the last of them is this one and those before it have this
+    /// number. Nothing is claimed of it.
     pub fn print(&self, print: u64) -> u64 {
         let mut print = print;
         let signs = self.signs();

@@ -20,7 +20,7 @@ mod version;
 mod walk;
 
 pub use action::{is_action_pattern, is_wildcard};
-pub use arn::Arn;
+pub use arn::{Arn, has_six_parts};
 pub use characters::{is_account, is_label};
 pub use draft::{Draft, Piece, has_dollar, has_draft, has_forms_behind};
 pub use form::{Form, cut_form};

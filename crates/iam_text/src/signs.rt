@@ -21,6 +21,7 @@ enum Lent<'a> {
     Wild(&'a [u8]),
     /// Those of an ASCII text whose characters are all given.
     Plain(&'a [u8]),
+    /// These signs.
     Listed(&'a [Sign]),
 }
 
@@ -55,6 +56,7 @@ impl<'a> Signs<'a> {
         }
     }
 
+    /// How many signs there are.
     #[inline(always)]
     pub fn len(self) -> usize
         ensures { result ≡ length (signs_in self.entry) }
@@ -66,6 +68,7 @@ impl<'a> Signs<'a> {
         }
     }
 
+    /// Whether there is no sign.
     #[inline(always)]
     pub fn is_empty(self) -> bool
         ensures { result ≡ (length (signs_in self.entry) == 0) }
@@ -73,7 +76,7 @@ impl<'a> Signs<'a> {
         self.len() == 0
     }
 
-    /// The sign at this place.
+    /// The sign at this place, which has to be one of theirs.
     #[inline(always)]
     pub fn at(self, i: usize) -> Sign
         requires within { i < length (signs_in self) }
@@ -86,7 +89,7 @@ impl<'a> Signs<'a> {
         }
     }
 
-    /// The signs from this place on.
+    /// The signs from this place on, which may be their end.
     #[inline(always)]
     pub fn from(self, i: usize) -> Signs<'a>
         requires within { i ≤ length (signs_in self) }
@@ -99,7 +102,7 @@ impl<'a> Signs<'a> {
         }
     }
 
-    /// The signs before this place.
+    /// The signs before this place, which may be their end.
     #[inline(always)]
     pub fn until(self, i: usize) -> Signs<'a>
         requires within { i ≤ length (signs_in self) }

@@ -27,7 +27,7 @@ const MOST_GRAINS: u64 = 4096;
 /// pushed, popped and stolen, and a mark says who works a grain.
 ///
 /// No call waits for another. `pop`, `steal` and `mark` allocate nothing. What holds between any two marks, in every
-/// schedule, is `MarkRule` of `specs/`, and what holds of each deque is `HoldsRuns`. Nothing is said of which seat
+/// schedule, is `MarkRule` of `specs/Code/`, and what holds of each deque is `HoldsRuns`. Nothing is said of which seat
 /// gets a run, nor of progress.
 ///
 /// A contract sees which work it is, how many grains and how many seats.

@@ -8,3 +8,4 @@ pub mod Owners
 pub mod Unique
 pub mod Walks
 pub mod Worlds
+pub mod Yields

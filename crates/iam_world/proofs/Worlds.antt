@@ -14,7 +14,7 @@ use Rattle.iam_shape.specs.Few.{HasFewDocuments, HasFewLevels, HasFewLists}
 use Rattle.iam_shape.specs.View.{AccountViewValue, PrincipalViewValue, ResourceViewValue, WorldViewValue}
 use Rattle.iam_world_context.specs.Clean.{AllClean, AreClean}
 use Rattle.iam_world.specs.Invariants.{CanJoin, HasFewPolicies, IsSized}
-use Rattle.iam_world.specs.Code.Made.{bare_account, bare_resource, made_account, made_principal, made_resource}
+use Rattle.iam_world.specs.Code.Made.{made_account, made_principal, made_resource}
 use Rattle.iam_world_context.specs.Part.{part_of}
 use Rattle.iam_world.specs.Reads.{ReadsAccount, ReadsOptional, ReadsPrincipal, ReadsResource, ReadsWorld}
 use Rattle.iam_world.specs.World.{AccountValue, PrincipalValue, ResourceValue, WorldValue, world_cells}
@@ -26,7 +26,7 @@ use Rattle.iam_world.proofs.Walks.{zip_length}
 -- ---- putting together
 
 pub reads_accounts : {Y : Type 0} (g : Y → List (List PolicyValue)) (vs : List AccountViewValue) (org : List Y) → AllZip (λ v o. AllZip (AllZip (Reads kind.Org)) v.org (g o)) vs org
-    → AllZip ReadsAccount vs (map (λ p. made_account (p.0, g p.1)) (zip (map bare_account vs) org))
+    → AllZip ReadsAccount vs (map (λ p. made_account (p.0, g p.1)) (zip vs org))
 reads_accounts g [] [] zip = tt
 reads_accounts g [] (o ∷ org) zip = absurd zip
 reads_accounts g (v ∷ vs) [] zip = absurd zip
@@ -35,7 +35,7 @@ reads_accounts g (v ∷ vs) (o ∷ org) zip = (record { id = refl; management = 
 pub reads_resources : {X Y : Type 0} (f : X → List (List PolicyValue)) (g : Y → ContextValue) (vs : List ResourceViewValue) (ps : List (Option PolicyValue)) (ls : List X) (cs : List Y)
     → AllZip (λ v p. ReadsOptional kind.Resource v.policy p) vs ps → AllZip (λ v l. AllZip (AllZip (Reads kind.Control)) v.control (f l)) vs ls
     → map g cs ≡ map (λ v. part_of v.context) vs
-    → AllZip ReadsResource vs (map (λ p. made_resource ((p.0.0, f p.0.1), g p.1)) (zip (zip (zip (map bare_resource vs) ps) ls) cs))
+    → AllZip ReadsResource vs (map (λ p. made_resource ((p.0.0, f p.0.1), g p.1)) (zip (zip (zip vs ps) ls) cs))
 reads_resources f g [] [] [] cs p l same = tt
 reads_resources f g [] (x ∷ ps) ls cs p l same = absurd p
 reads_resources f g [] [] (x ∷ ls) cs p l same = absurd l

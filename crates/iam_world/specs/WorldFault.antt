@@ -1,6 +1,6 @@
 -- Why bytes are no world: the set of their faults, one case a number, and the first of them.
 -- LOGIC 1.3, 12.2, 12.4, 12.5 and 15.
-use Rattle.std.specs.Prelude.{◌≡◌, ◌⊎◌, ℕ, ◌+◌, ◌*◌, ◌<◌, ◌≤◌, List, [], ◌∷◌, ◌++◌, Bool, not, ◌&&◌, ◌||◌, ◌==◌, nat_eq, nat_lt, length, codes, decimal, Some, IsTrue, map}
+use Rattle.std.specs.Prelude.{◌≡◌, ◌⊎◌, ℕ, ◌+◌, ◌*◌, ◌<◌, ◌≤◌, List, [], ◌∷◌, ◌++◌, Bool, not, ◌&&◌, ◌||◌, ◌==◌, nat_eq, nat_le, length, codes, decimal, Some, IsTrue, map}
 use Rattle.std.specs.List.{before_first, after_first, starts_with, sum_by}
 use Rattle.std.specs.Option.{option_to_list}
 use Rattle.std.specs.Str.{bytes_eq, IsUtf8}
@@ -98,7 +98,7 @@ IsNoAction text = ¬ IsTrue (is_action text)
 -- `*`, or a text of six parts, which has five colons or more, that begins with `arn:`
 abbrev pub is_resource : List ℕ → Bool
 is_resource text =
-    bytes_eq text (codes "*") || (starts_with nat_eq text (codes "arn:") && not (nat_lt (colons text) 5))
+    bytes_eq text (codes "*") || (starts_with nat_eq text (codes "arn:") && nat_le 5 (colons text))
 
 abbrev pub HasNoResourceArn : ResourceViewValue → Type 0
 HasNoResourceArn resource = ¬ IsTrue (is_resource resource.arn)

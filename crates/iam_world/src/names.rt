@@ -13,7 +13,7 @@ ghost use Rattle.iam_world.specs.declared.fault.WorldFault.TheVariants as w;
 use crate::fault::WorldFault;
 use iam_match::{Requester, one_requester};
 use iam_shape::{Accounts, Name, Path, PrincipalView, ResourceView, WorldView};
-use iam_text::{Arn, OutOfMemory, is_label};
+use iam_text::{OutOfMemory, has_six_parts, is_label};
 use std::alloc::Global;
 
 /// The requester that the principal is.
@@ -76,7 +76,7 @@ fn all_name_characters(text: &[u8]) -> bool
 fn is_resource(text: &str) -> bool
     ensures { result ≡ is_resource text.now }
 {
-    text == "*" || text.starts_with("arn:") && Arn::cut(text).is_some()
+    text == "*" || text.starts_with("arn:") && has_six_parts(text)
 }
 
 fn first_no_action(actions: &[&str]) -> Option<usize>

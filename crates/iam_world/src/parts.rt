@@ -2,7 +2,7 @@
 ghost use Rattle.std.specs.Prelude.{◌≡◌, map, string_bytes, IfOk};
 ghost use Rattle.std.specs.List.{zip};
 ghost use Rattle.iam_shape.specs.Lent.{account_of, resource_of};
-ghost use Rattle.iam_world.specs.Code.Made.{bare_account, bare_resource, made_account, made_principal, made_resource};
+ghost use Rattle.iam_world.specs.Code.Made.{made_account, made_principal, made_resource};
 
 use iam_context::Part;
 use iam_match::Requester;
@@ -36,24 +36,21 @@ impl Model for Account {
 impl Account {
     ghost use Rattle.std.specs.Prelude.{◌≡◌, map, IfOk};
     ghost use Rattle.iam_shape.specs.Lent.{account_of};
-    ghost use Rattle.iam_world.specs.Code.Made.{bare_account, made_account};
+    ghost use Rattle.iam_world.specs.Code.Made.{made_account};
 
-    /// The account that a document gives, without its policies.
-    fn read(alloc: Global, account: &AccountView<'_>) -> Result<Account, OutOfMemory>
-        ensures { IfOk result (λ a. a ≡ bare_account (account_of account.now)) }
+    /// The account that a document gives, with these organisation policies.
+    fn read(
+        alloc: Global,
+        account: &AccountView<'_>,
+        org: Vec<Vec<Policy>>,
+    ) -> Result<Account, OutOfMemory>
+        ensures { IfOk result (λ a. a ≡ made_account (account_of account.now, map (λ level. level.items) org.items)) }
     {
         Ok(Account {
             id: String::from_str(alloc, account.id)?,
             management: account.management,
-            org: Vec::new(alloc),
+            org,
         })
-    }
-
-    /// The account with these organisation policies.
-    fn with(self, org: Vec<Vec<Policy>>) -> Account
-        ensures { result ≡ made_account (self, map (λ level. level.items) org.items) }
-    {
-        Account { org, ..self }
     }
 
     /// Whether it manages its organisation.
@@ -164,32 +161,26 @@ impl Model for Resource {
 impl Resource {
     ghost use Rattle.std.specs.Prelude.{◌≡◌, map, option_map, IfOk};
     ghost use Rattle.iam_shape.specs.Lent.{resource_of};
-    ghost use Rattle.iam_world.specs.Code.Made.{bare_resource, made_resource};
+    ghost use Rattle.iam_world.specs.Code.Made.{made_resource};
 
-    /// The resource that a document gives, without its policies and its context.
-    fn read(alloc: Global, resource: &ResourceView<'_>) -> Result<Resource, OutOfMemory>
-        ensures { IfOk result (λ r. r ≡ bare_resource (resource_of resource.now)) }
+    /// The resource that a document gives, with this policy, these resource control policies and this context.
+    fn read(
+        alloc: Global,
+        resource: &ResourceView<'_>,
+        policy: Option<Policy>,
+        control: Vec<Vec<Policy>>,
+        context: Part,
+    ) -> Result<Resource, OutOfMemory>
+        ensures { IfOk result (λ r. r ≡ made_resource (((resource_of resource.now, policy), map (λ level. level.items) control.items), context.items)) }
     {
         Ok(Resource {
             arn: String::from_str(alloc, resource.arn)?,
             account: String::from_str(alloc, resource.account)?,
-            policy: None,
-            sealed: resource.sealed,
-            context: Vec::new(alloc),
-            control: Vec::new(alloc),
-        })
-    }
-
-    /// The resource with this policy, these resource control policies and this context.
-    fn with(self, policy: Option<Policy>, control: Vec<Vec<Policy>>, context: Part) -> Resource
-        ensures { result ≡ made_resource (((self, policy), map (λ level. level.items) control.items), context.items) }
-    {
-        Resource {
             policy,
+            sealed: resource.sealed,
             context,
             control,
-            ..self
-        }
+        })
     }
 
     /// The ARN, or `*`.
@@ -235,17 +226,6 @@ impl Resource {
     }
 }
 
-/// The accounts that a document gives, without their policies.
-fn bare_accounts(alloc: Global, accounts: &[AccountView<'_>]) -> Result<Vec<Account>, OutOfMemory>
-    ensures { IfOk result (λ read. read.items ≡ map bare_account (map account_of accounts.now)) }
-{
-    let mut read = Vec::new(alloc);
-    for account in accounts {
-        read.push(Account::read(alloc, account)?)?;
-    }
-    Ok(read)
-}
-
 /// The accounts that a document gives, with these organisation policies.
 pub fn accounts(
     alloc: Global,
@@ -253,13 +233,13 @@ pub fn accounts(
     org: Vec<Vec<Vec<Policy>>>,
 ) -> Result<Vec<Account>, OutOfMemory>
     ensures { IfOk result (λ read. read.items ≡ map (λ p. made_account (p.0, map (λ level. level.items) p.1.items))
-        (zip (map bare_account (map account_of accounts.now)) org.items)) }
+        (zip (map account_of accounts.now) org.items)) }
 {
-    bare_accounts(alloc, accounts)?
-        .into_iter()
-        .zip(org)
-        .map(|(account, org)| account.with(org))
-        .collect(alloc)
+    let mut read = Vec::with_capacity(alloc, accounts.len())?;
+    for (account, org) in accounts.iter().zip(org) {
+        read.push(Account::read(alloc, account, org)?)?;
+    }
+    Ok(read)
 }
 
 /// The principals that are these requesters, with their policies and contexts.
@@ -301,20 +281,6 @@ pub fn read_actions(alloc: Global, actions: &[&str]) -> Result<Vec<String>, OutO
     Ok(read)
 }
 
-/// The resources that a document gives, without their policies and contexts.
-fn bare_resources(
-    alloc: Global,
-    resources: &[ResourceView<'_>],
-) -> Result<Vec<Resource>, OutOfMemory>
-    ensures { IfOk result (λ read. read.items ≡ map bare_resource (map resource_of resources.now)) }
-{
-    let mut read = Vec::new(alloc);
-    for resource in resources {
-        read.push(Resource::read(alloc, resource)?)?;
-    }
-    Ok(read)
-}
-
 /// The resources that a document gives, with these policies and contexts.
 pub fn resources(
     alloc: Global,
@@ -325,13 +291,16 @@ pub fn resources(
 ) -> Result<Vec<Resource>, OutOfMemory>
     ensures { IfOk result (λ read. read.items
         ≡ map (λ p. made_resource ((p.0.0, map (λ level. level.items) p.0.1.items), p.1.items))
-        (zip (zip (zip (map bare_resource (map resource_of resources.now)) policies.items) control.items) contexts.items)) }
+        (zip (zip (zip (map resource_of resources.now) policies.items) control.items) contexts.items)) }
 {
-    bare_resources(alloc, resources)?
-        .into_iter()
+    let mut read = Vec::with_capacity(alloc, resources.len())?;
+    for (((resource, policy), control), context) in resources
+        .iter()
         .zip(policies)
         .zip(control)
         .zip(contexts)
-        .map(|(((resource, policy), control), context)| resource.with(policy, control, context))
-        .collect(alloc)
+    {
+        read.push(Resource::read(alloc, resource, policy, control, context)?)?;
+    }
+    Ok(read)
 }

@@ -1,27 +1,12 @@
 -- How accounts, principals and resources are put together of what was read.
-use Rattle.std.specs.Prelude.{List, [], Option, None}
+use Rattle.std.specs.Prelude.{List, Option}
 use Rattle.iam_context.specs.Context.{ContextValue}
 use Rattle.iam_match.specs.Requester.{RequesterValue}
 use Rattle.iam_policy.specs.Reading.{PolicyValue}
 use Rattle.iam_shape.specs.View.{AccountViewValue, ResourceViewValue}
 use Rattle.iam_world.specs.World.{AccountValue, PrincipalValue, ResourceValue}
 
--- without policies and context
-abbrev pub bare_account : AccountViewValue → AccountValue
-bare_account view = record { id = view.id; management = view.management; org = [] }
-
-abbrev pub bare_resource : ResourceViewValue → ResourceValue
-bare_resource view = record {
-  arn = view.arn;
-  account = view.account;
-  policy = None;
-  sealed = view.sealed;
-  context = [];
-  control = [];
-}
-
--- with these
-abbrev pub made_account : AccountValue × List (List PolicyValue) → AccountValue
+abbrev pub made_account : AccountViewValue × List (List PolicyValue) → AccountValue
 made_account p = record { id = p.0.id; management = p.0.management; org = p.1 }
 
 abbrev pub made_principal :
@@ -34,7 +19,7 @@ made_principal p = record {
   context = p.1;
 }
 
-abbrev pub made_resource : ((ResourceValue × Option PolicyValue) × List (List PolicyValue)) × ContextValue → ResourceValue
+abbrev pub made_resource : ((ResourceViewValue × Option PolicyValue) × List (List PolicyValue)) × ContextValue → ResourceValue
 made_resource p = record {
   arn = p.0.0.0.arn;
   account = p.0.0.0.account;

@@ -3,7 +3,7 @@ use Rattle.std.specs.Str.{chars}
 use Rattle.iam_text.specs.Draft.{sign_of}
 use Rattle.iam_text.specs.Stretches.{piece_of}
 use Rattle.iam_context.specs.Resolve.{piece_signs, resolved}
-use Rattle.iam_context.proofs.Signs.{no-value, over-all, over-piece, over-plain}
+use Rattle.iam_context.proofs.Signs.{no_value, over_all, over_piece, over_plain}
 use Rattle.iam_context.proofs.pattern.resolve.Goals as goal
 
 pub returns-then-not-branch : goal.returns-then-not-branch
@@ -14,9 +14,9 @@ returns-then-not-branch c =
     let now = c.add_form.new.signs.items in
     sym (
     c.loop-front.invariant
-    ∙ over-plain c.args.context.now c.loop-front.signs.items grown left.wild c.is_wild.result c.in-Some.front.now left.pieces (piece ∷ c.in-Some.behind.pieces)
+    ∙ over_plain c.args.context.now c.loop-front.signs.items grown left.wild c.is_wild.result c.in-Some.front.now left.pieces (piece ∷ c.in-Some.behind.pieces)
     c.in-Some.ensures.0 c.is_wild.ensures c.in_ok-add_signs.ensures
-    ∙ no-value grown (piece_signs c.args.context.now piece) (resolved c.args.context.now c.in-Some.behind.pieces)
+    ∙ no_value grown (piece_signs c.args.context.now piece) (resolved c.args.context.now c.in-Some.behind.pieces)
     (c.in_ok-add_form.ensures ∙ ap (λ b. if b then Some now else None) c.if-not-branch.true)
     )
 
@@ -27,9 +27,9 @@ loop-front-preserved c =
     let grown = c.add_signs.new.signs.items in
     let now = c.add_form.new.signs.items in
     c.loop-front.invariant
-    ∙ over-plain c.args.context.now c.loop-front.signs.items grown left.wild c.is_wild.result c.in-Some.front.now left.pieces (piece ∷ c.in-Some.behind.pieces)
+    ∙ over_plain c.args.context.now c.loop-front.signs.items grown left.wild c.is_wild.result c.in-Some.front.now left.pieces (piece ∷ c.in-Some.behind.pieces)
     c.in-Some.ensures.0 c.is_wild.ensures c.in_ok-add_signs.ensures
-    ∙ over-piece grown now (piece_signs c.args.context.now piece) (resolved c.args.context.now c.in-Some.behind.pieces)
+    ∙ over_piece grown now (piece_signs c.args.context.now piece) (resolved c.args.context.now c.in-Some.behind.pieces)
     (c.in_ok-add_form.ensures ∙ ap (λ b. if b then Some now else None) c.if-not-branch.false)
 
 pub returns : goal.returns
@@ -39,6 +39,6 @@ returns c =
     ap (λ signs. Some signs) c.from_vec.ensures
     ∙ sym (
     c.loop-front.invariant
-    ∙ over-all c.args.context.now before c.add_signs-2.new.signs.items left.wild c.is_wild-2.result left.text left.pieces c.in_default.ensures c.is_wild-2.ensures
+    ∙ over_all c.args.context.now before c.add_signs-2.new.signs.items left.wild c.is_wild-2.result left.text left.pieces c.in_default.ensures c.is_wild-2.ensures
     (c.in_ok-add_signs-2.ensures ∙ ap (λ t. before ++ map (sign_of c.is_wild-2.result) (chars t)) c.text-2.ensures)
     )

@@ -1,6 +1,6 @@
 use Rattle.std.proofs.Common.{arith, below_more, sym, ◌∙◌}
 use Rattle.std.proofs.lemmas.Option.{get_or_from_slice_get, slice_get_within}
-use Rattle.iam_element.proofs.SameLemmas.{SameAt, same-lists}
+use Rattle.iam_element.proofs.SameLemmas.{SameAt, same_lists}
 use Rattle.iam_element.proofs.actions.are_same.Goals as goal
 
 pub loop-i-preserved : goal.loop-i-preserved
@@ -15,5 +15,5 @@ loop-i-preserved c =
 
 pub returns : goal.returns
 returns c = λ _.
-    same-lists c.args.ones.now c.args.others.now c.if-ones-others.false
+    same_lists c.args.ones.now c.args.others.now c.if-ones-others.false
     (λ i x y at there. c.loop-i.invariant i (let within = slice_get_within c.args.ones.now i x at in omega (arith, within, c.loop-i-test.false)) x y at there)

@@ -2,7 +2,7 @@ use Rattle.std.proofs.Common.{◌≡◌, ◌+◌, ◌++◌, ◌∷◌, [], ℕ, 
 use Rattle.std.proofs.lemmas.List.{length-append}
 use Rattle.iam_layers.specs.Cell.{IsAction}
 use Rattle.iam_engine.specs.Elements.{TellActs}
-use Rattle.iam_engine.proofs.ElementLemmas.{tell-more}
+use Rattle.iam_engine.proofs.ElementLemmas.{tell_more}
 use Rattle.iam_engine.proofs.elements.element_of.Goals as goal
 
 pub loop-a-preserved : goal.loop-a-preserved
@@ -16,4 +16,4 @@ loop-a-preserved c =
     let at : IsAction world (length acts) text = subst A (sym c.loop-a.invariant.0) c.action_text.ensures in
     let P : List Bool → Type 0 = λ items. (length items ≡ c.loop-a.a + 1) × TellActs world action items in
     let count : length (acts ++ act ∷ []) ≡ c.loop-a.a + 1 = length-append acts (act ∷ []) ∙ ap (λ n. n + 1) c.loop-a.invariant.0 in
-    subst P (sym c.in_ok-push.ensures.items) (count, tell-more world action acts act text at c.action_matches.ensures c.loop-a.invariant.1)
+    subst P (sym c.in_ok-push.ensures.items) (count, tell_more world action acts act text at c.action_matches.ensures c.loop-a.invariant.1)

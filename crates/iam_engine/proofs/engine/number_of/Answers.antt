@@ -7,7 +7,7 @@ use Rattle.iam_decision.specs.Matched.{placed}
 use Rattle.iam_decision.specs.declared.living.Matched.{Matched}
 use Rattle.iam_engine.specs.Memo.{IsNumber}
 use Rattle.iam_engine.specs.declared.memo.Class.{Class}
-use Rattle.iam_engine.proofs.ListLemmas.{get-within, some-same}
+use Rattle.iam_engine.proofs.ListLemmas.{get_within, some_same}
 use Rattle.iam_engine.proofs.engine.number_of.Goals as goal
 
 pub returns-in-Some-clause-number : goal.returns-in-Some-clause-number
@@ -16,7 +16,7 @@ returns-in-Some-clause-number c = λ class at.
     let memo = c.args.memo.now in
     let (other, there, is) = c.in-Some.ensures world c.requires.right in
     let N : Class → Type 0 = λ k. IsNumber world k.shared memo.rulings.items c.args.a c.in-Some.number in
-    subst N (some-same other class (sym there ∙ at)) is
+    subst N (some_same other class (sym there ∙ at)) is
 
 -- the verdict of the number is the one on all requests of the class
 numbered : (c : goal.After-keep_number) (class : Class) → slice_get c.args.memo.now.classes.items c.args.class ≡ Some class
@@ -32,14 +32,14 @@ numbered c class at =
           let V : List ℕ → Type 0 = λ t. IsVerdict applicable (request_for access t) ruling.verdict in
           let F : List Matched → Type 0 = λ found. AreFound (request_for access text) (placed applicable) found in
           let (framed, found) = finds applicable access shared in
-          subst V (some-same text action (sym c.action_text.ensures ∙ asked))
+          subst V (some_same text action (sym c.action_text.ensures ∙ asked))
           (is.follows applicable (request_for access text) (framed ∙ shared.frame) (subst F (sym c.as_slice.ensures.value) found)),
     )
 
 pub returns-clause-right : goal.returns-clause-right
 returns-clause-right c =
     let world = c.args.world.now in
-    let (class, at) = get-within c.args.memo.now.classes.items c.args.class c.requires.class in
+    let (class, at) = get_within c.args.memo.now.classes.items c.args.class c.requires.class in
     let there : slice_get c.ruling.new.self.classes.items c.args.class ≡ Some class =
     ap (λ classes. slice_get classes.items c.args.class) c.ruling.ensures.same ∙ at in
     c.keep_number.ensures.right world (c.ruling.ensures.right world c.requires.right) (class, there, numbered c class at)

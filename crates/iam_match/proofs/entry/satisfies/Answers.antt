@@ -1,7 +1,7 @@
 use Rattle.std.proofs.Common.{◌↔◌, Bool, IsTrue, IfOk, All, Any, MatchBool, sym, subst}
 use Rattle.std.proofs.lemmas.Result.{IfOk-weaker}
 use Rattle.iam_match.specs.Entry.{Resolves, ValueMatches}
-use Rattle.iam_match.proofs.StatementLemmas.{all-but}
+use Rattle.iam_match.proofs.StatementLemmas.{all_but}
 use Rattle.iam_match.proofs.entry.satisfies.Goals as goal
 
 pub returns-then-operator : goal.returns-then-operator
@@ -10,7 +10,7 @@ returns-then-operator c =
     let b = c.args.operator.base in
     let values = c.args.values.now in
     let text = c.args.text.now in
-    let both = all-but (Resolves context b) (ValueMatches context b text) values in
+    let both = all_but (Resolves context b) (ValueMatches context b text) values in
     let some = Any (ValueMatches context b text) values in
     let P : Bool → Type 0 = λ negated. IfOk c.differs_from_all.result (λ s. IsTrue s ↔ MatchBool negated (All (Resolves context b) values × ¬ some) some) in
     subst P (sym c.if-operator.true)

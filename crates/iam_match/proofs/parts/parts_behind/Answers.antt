@@ -2,7 +2,7 @@ use Rattle.std.proofs.Common.{◌≡◌, ◌++◌, true, false, sym, ◌∙◌, 
 use Rattle.std.proofs.lemmas.List.{append_cancel_left}
 use Rattle.iam_match.specs.Code.Parts.{is_of_account, path_from}
 use Rattle.iam_match.proofs.PathLemmas.{path_test}
-use Rattle.iam_match.proofs.PartsLemmas.{parts_of, parts-is_arn, parts-from_cut, parts_pass, same_parts}
+use Rattle.iam_match.proofs.PartsLemmas.{parts_of, parts_is_arn, parts_from_cut, parts_pass, same_parts}
 use Rattle.iam_match.proofs.parts.parts_behind.Goals as goal
 use Rattle.iam_match.proofs.parts.parts_behind.Goals.{else-is_of_account-via-then-is_of_account+else-is_path, else-is_of_account-via-else-is_of_account}
 
@@ -14,7 +14,7 @@ returns-in_err-path-clause-value c =
     let a = c.in_ok-parts.parts in
     let pass =
     parts_pass r c.args.arn.now c.args.word.now a.prefix.now a.partition.now a.service.now a.region.now a.account.now a.resource.now p
-    (c.in_ok-parts.ensures.only (parts_of c.args.word.now r) (parts-is_arn c.args.arn.now c.args.word.now r p)) in
+    (c.in_ok-parts.ensures.only (parts_of c.args.word.now r) (parts_is_arn c.args.arn.now c.args.word.now r p)) in
     c.in_err-path.ensures.cases r.path pass.1
     )
 
@@ -22,7 +22,7 @@ pub returns-then-is_path-clause-value : goal.returns-then-is_path-clause-value
 returns-then-is_path-clause-value c =
     let a = c.in_ok-parts.parts in
     let strip = c.in_ok-path.ensures.cases in
-    parts-from_cut c.args.arn.now c.args.word.now a.prefix.now a.partition.now a.service.now a.region.now a.account.now a.resource.now
+    parts_from_cut c.args.arn.now c.args.word.now a.prefix.now a.partition.now a.service.now a.region.now a.account.now a.resource.now
     c.in_ok-path.path.now c.in_ok-parts.ensures.parts (sym c.is_of_account.ensures ∙ c.if-is_of_account.true)
     (strip.1.1 ∙ ap (λ p. c.args.word.now ++ p) (sym strip.2))
     (ap (path_from false) (sym c.as_bytes.ensures.value) ∙ sym c.is_path.ensures ∙ c.if-is_path.true)
@@ -32,7 +32,7 @@ returns-then-is_path-clause-only c = λ other p.
     let a = c.in_ok-parts.parts in
     let strip = c.in_ok-path.ensures.cases in
     same_parts other c.args.word.now a.prefix.now a.partition.now a.service.now a.region.now a.account.now a.resource.now c.in_ok-path.path.now
-    (c.in_ok-parts.ensures.only (parts_of c.args.word.now other) (parts-is_arn c.args.arn.now c.args.word.now other p))
+    (c.in_ok-parts.ensures.only (parts_of c.args.word.now other) (parts_is_arn c.args.arn.now c.args.word.now other p))
     (strip.1.1 ∙ ap (λ p. c.args.word.now ++ p) (sym strip.2))
 
 pub returns-else-is_of_account-clause-value : goal.returns-else-is_of_account-clause-value
@@ -40,7 +40,7 @@ returns-else-is_of_account-clause-value c = λ r p.
     let a = c.in_ok-parts.parts in
     let pass =
     parts_pass r c.args.arn.now c.args.word.now a.prefix.now a.partition.now a.service.now a.region.now a.account.now a.resource.now p
-    (c.in_ok-parts.ensures.only (parts_of c.args.word.now r) (parts-is_arn c.args.arn.now c.args.word.now r p)) in
+    (c.in_ok-parts.ensures.only (parts_of c.args.word.now r) (parts_is_arn c.args.arn.now c.args.word.now r p)) in
     elim c.else-is_of_account.branch [
       | else-is_of_account-via-then-is_of_account+else-is_path w ↦ (
           let strip = c.in_ok-path.ensures.cases in

@@ -1,6 +1,6 @@
 use Rattle.std.proofs.Common.{◌∙◌, ◌++◌, [], ◌∷◌, ap, sym, map, take}
 use Rattle.std.proofs.lemmas.List.{map_more}
-use Rattle.iam_match.proofs.GrantLemmas.{greatest-push, max-is}
+use Rattle.iam_match.proofs.GrantLemmas.{greatest_push, max_is}
 use Rattle.iam_match.specs.Principal.{grant_of_text, greatest, higher}
 use Rattle.iam_match.proofs.principal.greatest_grant.Goals as goal
 
@@ -10,11 +10,11 @@ loop-principal-preserved c =
     let grants = map f (take c.loop-principal.principal-index c.args.principals.now) in
     let principal = c.principal-item.result in
     c.max-greatest.ensures
-    ∙ max-is c.loop-principal.greatest c.grant_of_text.result
+    ∙ max_is c.loop-principal.greatest c.grant_of_text.result
     ∙ ap (higher c.grant_of_text.result) c.loop-principal.invariant
     ∙ ap (λ g. higher g (greatest grants)) c.grant_of_text.ensures
     ∙ sym (
     ap greatest (map_more f c.args.principals.now c.loop-principal.principal-index principal c.loop-principal-test.true)
     ∙ ap (λ x. greatest (grants ++ f x ∷ [])) (sym c.principal-item.is)
-    ∙ greatest-push grants (f principal)
+    ∙ greatest_push grants (f principal)
     )

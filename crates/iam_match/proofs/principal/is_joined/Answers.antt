@@ -1,7 +1,7 @@
 use Rattle.std.proofs.Common.{◌∙◌, sym, ap, map, drop, ◌++◌, ◌+◌, get_or, Bor, ℕ, List, [], rules}
 use Rattle.std.specs.List.{concat}
 use Rattle.std.specs.Str.{bytes_eq}
-use Rattle.iam_match.proofs.JoinLemmas.{join-other, join-same, pieces-from}
+use Rattle.iam_match.proofs.JoinLemmas.{join_other, join_same, pieces_from}
 use Rattle.iam_match.proofs.principal.is_joined.Goals as goal
 
 pub returns-in-None : goal.returns-in-None
@@ -9,8 +9,8 @@ returns-in-None c =
     let left = concat (map (λ p. p.now) (drop (c.loop-piece.piece-index + 1) c.args.pieces.now)) in
     sym (
     c.loop-piece.invariant.1
-    ∙ ap (bytes_eq c.loop-piece.rest.now) (pieces-from c.args.pieces.now c.loop-piece.piece-index _ c.loop-piece-test.true)
-    ∙ join-other c.loop-piece.rest.now _ left c.in-None.ensures.cases
+    ∙ ap (bytes_eq c.loop-piece.rest.now) (pieces_from c.args.pieces.now c.loop-piece.piece-index _ c.loop-piece-test.true)
+    ∙ join_other c.loop-piece.rest.now _ left c.in-None.ensures.cases
     )
 
 pub loop-piece-preserved : goal.loop-piece-preserved
@@ -21,8 +21,8 @@ loop-piece-preserved c =
     let piece = (get_or c.args.pieces.now c.loop-piece.piece-index none).now in (
       search rules,
       c.loop-piece.invariant.1
-          ∙ ap (bytes_eq c.loop-piece.rest.now) (pieces-from c.args.pieces.now c.loop-piece.piece-index none c.loop-piece-test.true)
+          ∙ ap (bytes_eq c.loop-piece.rest.now) (pieces_from c.args.pieces.now c.loop-piece.piece-index none c.loop-piece-test.true)
           ∙ ap (λ t. bytes_eq t (piece ++ left)) strip.1.1
-          ∙ join-same piece (drop strip.0 c.loop-piece.rest.now) left
+          ∙ join_same piece (drop strip.0 c.loop-piece.rest.now) left
           ∙ ap (λ t. bytes_eq t left) (sym strip.2),
     )

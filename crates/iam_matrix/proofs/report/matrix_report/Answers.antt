@@ -5,17 +5,17 @@ use Rattle.iam_row.specs.declared.quoted.Format.{Format}
 use Rattle.iam_row.specs.declared.tail.Tail.{Tail}
 use Rattle.iam_matrix.specs.Report.{IsMatrixReport}
 use Rattle.iam_matrix.specs.Code.Tiles.{AreTailsOf, Chain}
-use Rattle.iam_matrix.proofs.Tails.{count-tails, report}
-use Rattle.iam_matrix.proofs.Tiles.{chain-all}
+use Rattle.iam_matrix.proofs.Tails.{count_tails, report}
+use Rattle.iam_matrix.proofs.Tiles.{chain_all}
 use Rattle.iam_matrix.proofs.report.matrix_report.Goals as goal
 
 pub of-requires-2 : goal.of-requires-2
 of-requires-2 g c =
     let gathered = c.in_ok-gathered.ensures in
     let outputs = c.in_ok-gathered.gathered.outputs.items in
-    let chained = chain-all (λ from n output. AreTailsOf c.args.format c.args.brief c.args.world.now from n output) c.args.cut.now outputs
+    let chained = chain_all (λ from n output. AreTailsOf c.args.format c.args.brief c.args.world.now from n output) c.args.cut.now outputs
     (gathered.count ∙ ap (λ (ls : List ℕ). length ls) c.lengths.ensures.value) gathered.given in
-    omega (arith, count-tails c.args.format c.args.brief c.args.world.now c.args.cut.now outputs chained, c.requires, c.cells-cells.ensures.value, c.cells-cells.ensures.few)
+    omega (arith, count_tails c.args.format c.args.brief c.args.world.now c.args.cut.now outputs chained, c.requires, c.cells-cells.ensures.value, c.cells-cells.ensures.few)
 
 pub returns-clause-ok : goal.returns-clause-ok
 returns-clause-ok g c =
@@ -25,7 +25,7 @@ returns-clause-ok g c =
     let quoted = c.in_ok-quoted.quoted in
     let gathered = c.in_ok-gathered.ensures in
     let outputs = c.in_ok-gathered.gathered.outputs.items in
-    let chained = chain-all (λ from n output. AreTailsOf c.args.format brief world from n output) lengths outputs
+    let chained = chain_all (λ from n output. AreTailsOf c.args.format brief world from n output) lengths outputs
     (gathered.count ∙ ap (λ (ls : List ℕ). length ls) c.lengths.ensures.value) gathered.given in
     let same = c.in_ok-quoted.ensures.format in
     let F : Format → Type 0 = λ f. Chain (λ from n (output : List Tail). AreTailsOf f brief world from n output) 0 lengths outputs in

@@ -4,7 +4,7 @@ use Rattle.iam_layers.specs.Cell.{IsCell, IsDecisionOf}
 use Rattle.iam_row.specs.Piece.{bare}
 use Rattle.iam_world.specs.World.{WorldValue, world_cells}
 use Rattle.iam_matrix.specs.Code.Tiles.{AreEntries}
-use Rattle.iam_matrix.proofs.Tiles.{more-entries, no-entries}
+use Rattle.iam_matrix.proofs.Tiles.{more_entries, no_entries}
 use Rattle.iam_matrix.proofs.rows.brief_entries.Goals as goal
 
 pub loop-at-init : goal.loop-at-init
@@ -18,7 +18,7 @@ loop-at-init c =
       most = omega (arith, at.cell, c.end_of-end.ensures.value);
       there = λ below. at.is (omega (arith, below, at.cell));
       same = sym c.world-world.ensures;
-      so_far = ([], subst P zero_is (no-entries (IsDecisionOf world) from), c.in_ok-entries.ensures);
+      so_far = ([], subst P zero_is (no_entries (IsDecisionOf world) from), c.in_ok-entries.ensures);
     }
 
 pub decision_at-requires : goal.decision_at-requires
@@ -42,7 +42,7 @@ loop-at-preserved c =
     let W : WorldValue → Type 0 = λ w. IsDecisionOf w at.cell decision in
     let same = c.in_ok-decision_at.ensures.same ∙ so_far.same in
     let told = subst W so_far.same c.in_ok-decision_at.ensures.decision in
-    let more = more-entries (IsDecisionOf world) from at.cell old.0 decision so_far.least old.1 told in
+    let more = more_entries (IsDecisionOf world) from at.cell old.0 decision so_far.least old.1 told in
     let R : ℕ → Type 0 = λ n. AreEntries (IsDecisionOf world) from (n - from) (old.0 ++ decision ∷ []) in
     record {
       least = omega (arith, so_far.least, next.cell);

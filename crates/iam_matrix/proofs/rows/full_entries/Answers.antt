@@ -4,7 +4,7 @@ use Rattle.iam_decision.specs.declared.verdict.Verdict.{Verdict}
 use Rattle.iam_layers.specs.Cell.{IsVerdictAt, IsVerdictOf}
 use Rattle.iam_world.specs.World.{WorldValue, world_cells}
 use Rattle.iam_matrix.specs.Code.Tiles.{AreEntries}
-use Rattle.iam_matrix.proofs.Tiles.{more-entries, no-entries}
+use Rattle.iam_matrix.proofs.Tiles.{more_entries, no_entries}
 use Rattle.iam_matrix.proofs.rows.full_entries.Goals as goal
 
 pub loop-at-init : goal.loop-at-init
@@ -19,7 +19,7 @@ loop-at-init c =
       most = omega (arith, at.cell, c.end_of-end.ensures.value);
       there = λ below. at.is (omega (arith, below, at.cell));
       same = sym c.world-world.ensures;
-      so_far = subst Q (sym c.in_ok-entries.ensures) (subst P zero_is (no-entries (IsVerdictOf world) from));
+      so_far = subst Q (sym c.in_ok-entries.ensures) (subst P zero_is (no_entries (IsVerdictOf world) from));
     }
 
 pub verdict-requires : goal.verdict-requires
@@ -41,7 +41,7 @@ loop-at-preserved c =
     let W : WorldValue → Type 0 = λ w. IsVerdictAt w at.principal at.action at.resource verdict in
     let same = c.in_ok-number.ensures.same ∙ so_far.same in
     let told = subst W same (c.verdict.ensures at.principal at.action at.resource c.in_ok-number.ensures.number) in
-    let more = more-entries (IsVerdictOf world) from at.cell c.loop-at.entries verdict so_far.least so_far.so_far
+    let more = more_entries (IsVerdictOf world) from at.cell c.loop-at.entries verdict so_far.least so_far.so_far
     (at.principal, at.action, at.resource, here, told) in
     let Q : List Verdict → Type 0 = λ xs. AreEntries (IsVerdictOf world) from (at.cell + 1 - from) xs in
     let R : ℕ → Type 0 = λ n. AreEntries (IsVerdictOf world) from (n - from) c.push_hinted.new.self in record {

@@ -2,7 +2,7 @@ use Rattle.std.proofs.Common.{◌≡◌, ◌∙◌, ◌∷◌, ◌++◌, ◌==�
 use Rattle.std.proofs.lemmas.Str.Pattern.{strip_prefix_char}
 use Rattle.iam_text.specs.Draft.{is_key}
 use Rattle.iam_text.specs.Code.Forms.{IsQuoted}
-use Rattle.iam_text.proofs.FormLemmas.{literal, plain, fallback, form-cut}
+use Rattle.iam_text.proofs.FormLemmas.{literal, plain, fallback, form_cut}
 use Rattle.iam_text.proofs.form.form_behind.Goals as goal
 
 no-key : (key : List ℕ) → length key ≡ 0 → IsTrue (is_key key) → ⊥
@@ -21,7 +21,7 @@ returns-in_err-character c =
     rw c.from_residual.ensures
     (
     λ piece rest has.
-    elim (form-cut c.args.text.now key behind c.cut_key.ensures piece rest has) [
+    elim (form_cut c.args.text.now key behind c.cut_key.ensures piece rest has) [
       | literal d empty is ↦ c.in_err-character.ensures d rest (is.0, c.cut_key.ensures.joined ∙ ap (λ k. k ++ behind) empty ∙ is.1)
       | plain is same ↦ no-key key none is
       | fallback default more is same quoted ↦ no-key key none is
@@ -36,7 +36,7 @@ returns-in_err-strip_prefix c =
     rw c.from_residual-in_err-strip_prefix.ensures
     (
     λ piece rest has.
-    elim (form-cut c.args.text.now key behind c.cut_key.ensures piece rest has) [
+    elim (form_cut c.args.text.now key behind c.cut_key.ensures piece rest has) [
       | literal d empty is ↦ empty-key key empty some
       | plain is same ↦ strip_prefix_char 125 behind None c.in_default.ensures.cases (omega arith) rest same
       | fallback default more is same quoted ↦ strip_prefix_char 44 behind None c.in_err-strip_prefix.ensures.cases (omega arith) more same
@@ -52,7 +52,7 @@ returns-in_err-default c =
     rw c.from_residual-in_err-default.ensures
     (
     λ piece rest has.
-    elim (form-cut c.args.text.now key behind c.cut_key.ensures piece rest has) [
+    elim (form_cut c.args.text.now key behind c.cut_key.ensures piece rest has) [
       | literal d empty is ↦ empty-key key empty some
       | plain is same ↦ strip_prefix_char 125 behind None c.in_default.ensures.cases (omega arith) rest same
       | fallback default more is same quoted ↦ (

@@ -1,7 +1,7 @@
 use Rattle.std.proofs.Common.{◌∙◌, ◌+◌, ◌∷◌, [], ◌++◌, ◌≤◌, ◌≡◌, ap, append_assoc, arith, drop, length, sym, take, true, false}
 use Rattle.std.proofs.lemmas.List.{drop_all, take_all}
-use Rattle.iam_context.proofs.KeyLemmas.{keys-left-of, keys-more-of}
-use Rattle.iam_context.proofs.Shares.{not-there, shares-here, shares-next, there}
+use Rattle.iam_context.proofs.KeyLemmas.{keys_left_of, keys_more_of}
+use Rattle.iam_context.proofs.Shares.{not_there, shares_here, shares_next, there}
 use Rattle.iam_context.specs.Keys.{shares}
 use Rattle.iam_context.specs.Context.{has_key, keys_of}
 use Rattle.iam_context.proofs.keys.Keys.add_new.Goals as goal
@@ -12,11 +12,11 @@ returns-then-not-branch c = λ keys has.
     let i = c.loop-key.key-index in
     let e = c.loop-key-item.result in
     let seen = keys ++ keys_of (take i xs) in
-    let rest = keys-left-of xs _ i e c.deref-key-items.ensures.value c.loop-key-test.true c.loop-key-item.is in
+    let rest = keys_left_of xs _ i e c.deref-key-items.ensures.value c.loop-key-test.true c.loop-key-item.is in
     let known = c.loop-key.invariant keys has in
     let inserted = c.in_ok-insert.ensures seen known.0 in
     let present : has_key seen e.0 ≡ true = ap (has_key seen) (sym c.as_str.ensures) ∙ there _ _ inserted.0 c.if-not-branch.true in
-    (sym (known.1 ∙ ap (shares seen) rest ∙ shares-here seen (keys_of (drop (i + 1) xs)) e.0 present), λ never. cc)
+    (sym (known.1 ∙ ap (shares seen) rest ∙ shares_here seen (keys_of (drop (i + 1) xs)) e.0 present), λ never. cc)
 
 pub loop-key-preserved : goal.loop-key-preserved
 loop-key-preserved c = λ keys has.
@@ -24,13 +24,13 @@ loop-key-preserved c = λ keys has.
     let i = c.loop-key.key-index in
     let e = c.loop-key-item.result in
     let seen = keys ++ keys_of (take i xs) in
-    let more = keys-more-of xs _ i e c.deref-key-items.ensures.value c.loop-key-test.true c.loop-key-item.is in
-    let rest = keys-left-of xs _ i e c.deref-key-items.ensures.value c.loop-key-test.true c.loop-key-item.is in
+    let more = keys_more_of xs _ i e c.deref-key-items.ensures.value c.loop-key-test.true c.loop-key-item.is in
+    let rest = keys_left_of xs _ i e c.deref-key-items.ensures.value c.loop-key-test.true c.loop-key-item.is in
     let known = c.loop-key.invariant keys has in
     let inserted = c.in_ok-insert.ensures seen known.0 in
-    let absent : has_key seen e.0 ≡ false = ap (has_key seen) (sym c.as_str.ensures) ∙ not-there _ _ inserted.0 c.if-not-branch.false in (
+    let absent : has_key seen e.0 ≡ false = ap (has_key seen) (sym c.as_str.ensures) ∙ not_there _ _ inserted.0 c.if-not-branch.false in (
       rw (more, ← append_assoc, ← c.as_str.ensures) inserted.1,
-      known.1 ∙ ap (shares seen) rest ∙ shares-next seen (keys_of (drop (i + 1) xs)) e.0 absent
+      known.1 ∙ ap (shares seen) rest ∙ shares_next seen (keys_of (drop (i + 1) xs)) e.0 absent
           ∙ ap (λ l. shares l (keys_of (drop (i + 1) xs))) (append_assoc keys (keys_of (take i xs)) (e.0 ∷ []) ∙ ap (λ l. keys ++ l) (sym more)),
     )
 

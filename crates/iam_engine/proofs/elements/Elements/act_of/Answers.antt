@@ -4,7 +4,7 @@ use Rattle.std.specs.List.{slice_get}
 use Rattle.iam_element.specs.Reading.{ActionElement}
 use Rattle.iam_match.specs.Statement.{ActionMatches}
 use Rattle.iam_engine.specs.declared.elements.Element.{Element}
-use Rattle.iam_engine.proofs.ListLemmas.{some-same}
+use Rattle.iam_engine.proofs.ListLemmas.{some_same}
 use Rattle.iam_engine.proofs.elements.Elements.act_of.Goals as goal
 
 pub returns : goal.returns
@@ -20,6 +20,6 @@ returns c = λ world action text right has asked.
     let there = subst E c.deref.ensures.value (slice_get-get_or c.deref.result.now n element inside ∙ ap Some (sym first)) in
     let here = subst B c.deref-2.ensures.value (slice_get-get_or c.deref-2.result.now c.args.a act within ∙ ap Some (sym second)) in
     let (other, at, same) = rw c.in_ok-number.was at has in
-    let own : element ≡ other = some-same element other (sym there ∙ at) in
+    let own : element ≡ other = some_same element other (sym there ∙ at) in
     let A : ActionElement → Type 0 = λ e. IsTrue act ↔ ActionMatches e text in
     subst A (ap (λ (e : Element). e.action.now) own ∙ same) (right n element there c.args.a act text here asked)

@@ -2,8 +2,8 @@ use Rattle.std.proofs.Common.{◌≡◌, ◌++◌, ◌∷◌, [], ℕ, List, Som
 use Rattle.std.specs.List.{slice_get}
 use Rattle.iam_engine.specs.Elements.{AreElements, HasElement}
 use Rattle.iam_engine.specs.declared.elements.Element.{Element}
-use Rattle.iam_engine.proofs.ElementLemmas.{elements-more}
-use Rattle.iam_engine.proofs.ListLemmas.{get-next}
+use Rattle.iam_engine.proofs.ElementLemmas.{elements_more}
+use Rattle.iam_engine.proofs.ListLemmas.{get_next}
 use Rattle.iam_engine.proofs.elements.Elements.number.Goals as goal
 
 pub returns-clause-right : goal.returns-clause-right
@@ -11,7 +11,7 @@ returns-clause-right c = λ right.
     let world = c.args.world.now in
     let elements = c.args.self.now.elements.items in
     let P : List Element → Type 0 = AreElements world in
-    subst P (sym c.in_ok-push.ensures.items) (elements-more world elements c.in_ok-element.element c.in_ok-element.ensures.0 right)
+    subst P (sym c.in_ok-push.ensures.items) (elements_more world elements c.in_ok-element.element c.in_ok-element.ensures.0 right)
 
 pub returns-clause-number : goal.returns-clause-number
 returns-clause-number c =
@@ -20,4 +20,4 @@ returns-clause-number c =
     let R : List Element → Type 0 = λ es. HasElement es c.len-number.result c.args.statement.now.action.now in
     let N : ℕ → Type 0 = λ n. slice_get (elements ++ element ∷ []) n ≡ Some element in
     let is : length elements ≡ c.len-number.result = omega (arith, c.len-number.ensures) in
-    subst R (sym c.in_ok-push.ensures.items) (element, subst N is (get-next elements element), c.in_ok-element.ensures.1)
+    subst R (sym c.in_ok-push.ensures.items) (element, subst N is (get_next elements element), c.in_ok-element.ensures.1)

@@ -9,8 +9,8 @@ use Rattle.iam_layers.specs.Cell.{IsAction}
 use Rattle.iam_world.specs.World.{WorldValue}
 use Rattle.iam_engine.specs.Elements.{AreElements, AreElementNumbers, HasElement}
 use Rattle.iam_engine.specs.Slots.{Keeps}
-use Rattle.iam_engine.proofs.ElementLemmas.{acts-more}
-use Rattle.iam_engine.proofs.ListLemmas.{if-some}
+use Rattle.iam_engine.proofs.ElementLemmas.{acts_more}
+use Rattle.iam_engine.proofs.ListLemmas.{if_some}
 use Rattle.iam_engine.proofs.elements.Elements.put_acts.Goals as goal
 
 pub loop-i-preserved : goal.loop-i-preserved
@@ -39,7 +39,7 @@ loop-i-preserved c =
       λ world right rows asked.
           let H : Living → Type 0 = λ z. IfSome c.kept-row.result (λ n. HasElement elements n z.action.now) in
           let A : Living → Type 0 = λ z. IsTrue act ↔ ActionMatches z.action.now text in
-          let row = if-some (Keeps c.args.rows.now i) (λ n. HasElement elements n x.action) c.kept-row.result (λ n kept. rows i n x kept at) c.kept-row.ensures in
+          let row = if_some (Keeps c.args.rows.now i) (λ n. HasElement elements n x.action) c.kept-row.result (λ n kept. rows i n x kept at) c.kept-row.ensures in
           let acting = subst A (sym c.index-living-i.is) (c.acts.ensures world right (subst H c.index-living-i.is row) asked) in
-          acts-more text xs acts x act here acting (c.loop-i.invariant.1 world right rows asked),
+          acts_more text xs acts x act here acting (c.loop-i.invariant.1 world right rows asked),
     )

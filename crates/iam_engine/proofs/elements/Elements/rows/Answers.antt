@@ -5,7 +5,7 @@ use Rattle.std.specs.List.{slice_get}
 use Rattle.iam_decision.specs.Living.{LivingValue, living_value}
 use Rattle.iam_engine.specs.Elements.{AreElementNumbers}
 use Rattle.iam_engine.specs.declared.elements.Element.{Element}
-use Rattle.iam_engine.proofs.ElementLemmas.{rows-grow, rows-more}
+use Rattle.iam_engine.proofs.ElementLemmas.{rows_grow, rows_more}
 use Rattle.iam_engine.proofs.elements.Elements.rows.Goals as goal
 
 pub loop-statement-preserved : goal.loop-statement-preserved
@@ -31,7 +31,7 @@ loop-statement-preserved c =
     let E : List Element → Type 0 = λ elements. AreElementNumbers elements xs rows in
     let P : List (Option ℕ) → Type 0 = λ items. (length items ≡ i + 1) × AreElementNumbers after xs items in
     let number : length (rows ++ row ∷ []) ≡ i + 1 = length-append rows (row ∷ []) ∙ ap (λ n. n + 1) count in
-    let all = rows-more after xs rows x row here c.in_ok-number.ensures.number (subst E (sym grows) (rows-grow before further xs rows are)) in
+    let all = rows_more after xs rows x row here c.in_ok-number.ensures.number (subst E (sym grows) (rows_grow before further xs rows are)) in
     let both = subst P (sym c.in_ok-push.ensures.items) (number, all) in (
       λ given. c.in_ok-number.ensures.right (right given),
       (more ++ further, grows ∙ ap (λ e. e ++ further) grown ∙ append_assoc first more further),

@@ -5,8 +5,8 @@ use Rattle.iam_engine.specs.Elements.{AreElementNumbers}
 use Rattle.iam_engine.specs.Memo.{AreAnswers, ArePairs, HasShared, HaveRows}
 use Rattle.iam_engine.specs.declared.elements.Element.{Element}
 use Rattle.iam_engine.specs.declared.memo.Class.{Class}
-use Rattle.iam_engine.proofs.ListLemmas.{get-next}
-use Rattle.iam_engine.proofs.MemoLemmas.{answers-more, class-rows-grow, class-rows-more, pairs-more}
+use Rattle.iam_engine.proofs.ListLemmas.{get_next}
+use Rattle.iam_engine.proofs.MemoLemmas.{answers_more, class_rows_grow, class_rows_more, pairs_more}
 use Rattle.iam_engine.proofs.memo.Memo.add.Goals as goal
 
 pub returns-in_err-rows-clause-right : goal.returns-in_err-rows-clause-right
@@ -18,7 +18,7 @@ returns-in_err-rows-clause-right c = λ right.
       pairs = right.pairs;
       answers = right.answers;
       elements = c.in_err-rows.ensures.right right.elements;
-      rows = subst H (sym grown) (class-rows-grow memo.elements.elements.items more memo.classes.items right.rows);
+      rows = subst H (sym grown) (class_rows_grow memo.elements.elements.items more memo.classes.items right.rows);
     }
 
 pub returns-clause-right : goal.returns-clause-right
@@ -33,15 +33,15 @@ returns-clause-right c = λ right.
     let R : List Class → Type 0 = λ classes. HaveRows elements classes in
     let H : List Element → Type 0 = λ e. HaveRows e memo.classes.items in
     let L : List LivingValue → Type 0 = λ living. AreElementNumbers elements living class.rows.items in
-    let before = subst H (sym grown) (class-rows-grow memo.elements.elements.items more memo.classes.items right.rows) in
+    let before = subst H (sym grown) (class_rows_grow memo.elements.elements.items more memo.classes.items right.rows) in
     let own = subst L c.living.ensures c.in_ok-rows.ensures.rows in
     record {
-      pairs = subst P (sym c.in_ok-push.ensures.items) (pairs-more world memo.classes.items (class ∷ []) memo.pairs.items right.pairs);
+      pairs = subst P (sym c.in_ok-push.ensures.items) (pairs_more world memo.classes.items (class ∷ []) memo.pairs.items right.pairs);
       answers =
           subst Q (sym c.in_ok-push.ensures.items)
-          (answers-more world memo.classes.items (class ∷ []) memo.rulings.items memo.answers.items right.answers);
+          (answers_more world memo.classes.items (class ∷ []) memo.rulings.items memo.answers.items right.answers);
       elements = c.in_ok-rows.ensures.right right.elements;
-      rows = subst R (sym c.in_ok-push.ensures.items) (class-rows-more elements memo.classes.items class own before);
+      rows = subst R (sym c.in_ok-push.ensures.items) (class_rows_more elements memo.classes.items class own before);
     }
 
 pub returns-clause-class : goal.returns-clause-class
@@ -51,7 +51,7 @@ returns-clause-class c =
     let S : List Class → Type 0 = λ cs. HasShared cs c.args.shared c.len-class.result in
     let N : ℕ → Type 0 = λ n. slice_get (classes ++ class ∷ []) n ≡ Some class in
     let is : length classes ≡ c.len-class.result = omega (arith, c.len-class.ensures) in
-    subst S (sym c.in_ok-push.ensures.items) (class, subst N is (get-next classes class), refl)
+    subst S (sym c.in_ok-push.ensures.items) (class, subst N is (get_next classes class), refl)
 
 pub returns-in_err-push-clause-right : goal.returns-in_err-push-clause-right
 returns-in_err-push-clause-right c = λ right.
@@ -63,7 +63,7 @@ returns-in_err-push-clause-right c = λ right.
     let Q : List Class → Type 0 = λ classes. AreAnswers world classes memo.rulings.items memo.answers.items in
     let R : List Class → Type 0 = λ classes. HaveRows elements classes in
     let H : List Element → Type 0 = λ e. HaveRows e memo.classes.items in
-    let before = subst H (sym grown) (class-rows-grow memo.elements.elements.items more memo.classes.items right.rows) in
+    let before = subst H (sym grown) (class_rows_grow memo.elements.elements.items more memo.classes.items right.rows) in
     record {
       pairs = subst P (sym c.in_err-push.ensures.items) right.pairs;
       answers = subst Q (sym c.in_err-push.ensures.items) right.answers;

@@ -4,7 +4,7 @@ use Rattle.iam_layers.specs.Cell.{IsSharedAt}
 use Rattle.iam_engine.specs.Memo.{HasClass}
 use Rattle.iam_engine.specs.Slots.{GainsOnly}
 use Rattle.iam_engine.specs.declared.memo.Pair.{Pair}
-use Rattle.iam_engine.proofs.SlotLemmas.{all-gained}
+use Rattle.iam_engine.proofs.SlotLemmas.{all_gained}
 use Rattle.iam_engine.proofs.memo.Memo.class_with.Goals as goal
 
 pub returns-in_err-class-clause-right : goal.returns-in_err-class-clause-right
@@ -27,7 +27,7 @@ returns-in-Some-clause-right c = λ right shared.
     let gains : GainsOnly memo.pairs.items c.keep.new.slots.items pair = subst (GainsOnly memo.pairs.items c.keep.new.slots.items) c.in-Some.ensures c.keep.ensures in
     let P : Pair → Type 0 = λ p. HasClass world memo.classes.items p.principal p.resource p.class in
     record {
-      pairs = all-gained P memo.pairs.items c.keep.new.slots.items pair gains fine.pairs (of-class c shared);
+      pairs = all_gained P memo.pairs.items c.keep.new.slots.items pair gains fine.pairs (of-class c shared);
       answers = fine.answers;
       elements = fine.elements;
       rows = fine.rows;

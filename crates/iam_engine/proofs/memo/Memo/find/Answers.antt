@@ -4,7 +4,7 @@ use Rattle.std.specs.List.{slice_get}
 use Rattle.iam_decision.specs.Living.{AreActs, IsShared, LivingValue, living_value}
 use Rattle.iam_engine.specs.Elements.{AreElementNumbers}
 use Rattle.iam_engine.specs.declared.memo.Class.{Class}
-use Rattle.iam_engine.proofs.ListLemmas.{some-same}
+use Rattle.iam_engine.proofs.ListLemmas.{some_same}
 use Rattle.iam_engine.proofs.memo.Memo.find.Goals as goal
 
 pub returns : goal.returns
@@ -17,7 +17,7 @@ returns c = λ world class_is right at asked applicable access shared.
     let living : List LivingValue = map living_value c.living-living.result.now in
     let there : slice_get classes c.args.class ≡ Some class =
     slice_get-get_or classes c.args.class class c.requires ∙ ap Some (sym c.index-class.ensures) in
-    let own : class ≡ class_is = some-same class class_is (sym there ∙ at) in
+    let own : class ≡ class_is = some_same class class_is (sym there ∙ at) in
     let L : List LivingValue → Type 0 = λ l. AreElementNumbers elements l class.rows.items in
     let R : List (Option ℕ) → Type 0 = λ r. AreElementNumbers elements living r in
     let rows = subst R (sym c.as_slice-rows.ensures.value) (subst L (sym c.living-living.ensures) (right.rows c.args.class class there)) in

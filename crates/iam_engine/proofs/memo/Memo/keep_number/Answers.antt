@@ -2,7 +2,7 @@ use Rattle.std.proofs.Common.{subst}
 use Rattle.iam_engine.specs.Memo.{HasNumber}
 use Rattle.iam_engine.specs.Slots.{GainsOnly}
 use Rattle.iam_engine.specs.declared.memo.Answer.{Answer}
-use Rattle.iam_engine.proofs.SlotLemmas.{all-gained}
+use Rattle.iam_engine.proofs.SlotLemmas.{all_gained}
 use Rattle.iam_engine.proofs.memo.Memo.keep_number.Goals as goal
 
 pub returns-in-Some-clause-right : goal.returns-in-Some-clause-right
@@ -13,7 +13,7 @@ returns-in-Some-clause-right c = λ world right is.
     let P : Answer → Type 0 = λ a. HasNumber world memo.classes.items memo.rulings.items a.class a.action a.number in
     record {
       pairs = right.pairs;
-      answers = all-gained P memo.answers.items c.keep.new.slots.items answer gains right.answers is;
+      answers = all_gained P memo.answers.items c.keep.new.slots.items answer gains right.answers is;
       elements = right.elements;
       rows = right.rows;
     }

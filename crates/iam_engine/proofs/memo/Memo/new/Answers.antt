@@ -1,8 +1,8 @@
 use Rattle.iam_engine.specs.Memo.{HasClass, HasNumber}
 use Rattle.iam_engine.specs.declared.memo.Answer.{Answer}
 use Rattle.iam_engine.specs.declared.memo.Pair.{Pair}
-use Rattle.iam_engine.proofs.MemoLemmas.{no-rows}
-use Rattle.iam_engine.proofs.SlotLemmas.{all-empty}
+use Rattle.iam_engine.proofs.MemoLemmas.{no_rows}
+use Rattle.iam_engine.proofs.SlotLemmas.{all_empty}
 use Rattle.iam_engine.proofs.memo.Memo.new.Goals as goal
 
 pub returns : goal.returns
@@ -10,10 +10,10 @@ returns c = λ world.
     let classes = c.new.result.items in
     let rulings = c.new-2.result.items in
     record {
-      pairs = all-empty (λ (p : Pair). HasClass world classes p.principal p.resource p.class) c.in_ok-empty_slots.field-0.items c.in_ok-empty_slots.ensures;
+      pairs = all_empty (λ (p : Pair). HasClass world classes p.principal p.resource p.class) c.in_ok-empty_slots.field-0.items c.in_ok-empty_slots.ensures;
       answers =
-          all-empty (λ (a : Answer). HasNumber world classes rulings a.class a.action a.number) c.in_ok-empty_slots-2.field-0.items
+          all_empty (λ (a : Answer). HasNumber world classes rulings a.class a.action a.number) c.in_ok-empty_slots-2.field-0.items
           c.in_ok-empty_slots-2.ensures;
       elements = c.in_ok-new.ensures world;
-      rows = no-rows c.in_ok-new.field-0.elements.items classes c.new.ensures.items;
+      rows = no_rows c.in_ok-new.field-0.elements.items classes c.new.ensures.items;
     }

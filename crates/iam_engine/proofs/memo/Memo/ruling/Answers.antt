@@ -2,8 +2,8 @@ use Rattle.std.proofs.Common.{◌≡◌, ℕ, List, [], ◌∷◌, ◌++◌, Som
 use Rattle.std.specs.List.{slice_get}
 use Rattle.iam_decision.specs.Ruling.{RulingValue}
 use Rattle.iam_engine.specs.Memo.{AreAnswers, HasRuling}
-use Rattle.iam_engine.proofs.ListLemmas.{get-next}
-use Rattle.iam_engine.proofs.MemoLemmas.{answers-behind}
+use Rattle.iam_engine.proofs.ListLemmas.{get_next}
+use Rattle.iam_engine.proofs.MemoLemmas.{answers_behind}
 use Rattle.iam_engine.proofs.memo.Memo.ruling.Goals as goal
 
 pub returns-in_err-push-clause-right : goal.returns-in_err-push-clause-right
@@ -27,7 +27,7 @@ returns-clause-right c = λ world right.
       pairs = fine.pairs;
       answers =
           subst Q (sym c.in_ok-push.ensures.items)
-          (answers-behind world memo.classes.items memo.rulings.items (c.in_ok-ruling.ruling ∷ []) memo.answers.items fine.answers);
+          (answers_behind world memo.classes.items memo.rulings.items (c.in_ok-ruling.ruling ∷ []) memo.answers.items fine.answers);
       elements = fine.elements;
       rows = fine.rows;
     }
@@ -39,4 +39,4 @@ returns-clause-number c =
     let R : List RulingValue → Type 0 = λ rs. HasRuling rs c.args.frame c.args.found.now c.len-number.result in
     let N : ℕ → Type 0 = λ n. slice_get (rulings ++ ruling ∷ []) n ≡ Some ruling in
     let is : length rulings ≡ c.len-number.result = omega (arith, c.len-number.ensures) in
-    subst R (sym c.in_ok-push.ensures.items) (ruling, subst N is (get-next rulings ruling), c.in_ok-ruling.ensures)
+    subst R (sym c.in_ok-push.ensures.items) (ruling, subst N is (get_next rulings ruling), c.in_ok-ruling.ensures)

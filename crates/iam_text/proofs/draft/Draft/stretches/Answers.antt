@@ -1,6 +1,6 @@
 use Rattle.std.proofs.Common.{List, subst, sym, ℕ}
 use Rattle.iam_text.specs.Code.Kept.{OneDraft}
-use Rattle.iam_text.proofs.KeptLemmas.{kept-same}
+use Rattle.iam_text.proofs.KeptLemmas.{kept_same}
 use Rattle.iam_text.proofs.draft.Draft.stretches.Goals as goal
 
 pub invariant_of-result : goal.invariant_of-result
@@ -11,4 +11,4 @@ invariant_of-result c =
 pub returns : goal.returns
 returns c =
     let left = c.self.inside in
-    rw (← c.self.view_is) (search (kept-same left.version left.wild left.text c.as_str.result.now c.as_str.ensures left.pieces))
+    rw (← c.self.view_is) (search (kept_same left.version left.wild left.text c.as_str.result.now c.as_str.ensures left.pieces))

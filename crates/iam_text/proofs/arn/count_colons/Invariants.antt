@@ -1,6 +1,6 @@
 use Rattle.std.proofs.Common.{◌≡◌, take}
 use Rattle.iam_text.specs.Arn.{colons}
-use Rattle.iam_element.proofs.grammar.colons.Given as goal
+use Rattle.iam_text.proofs.arn.count_colons.Given as goal
 
 -- the colons so far
 abbrev pub invariant-loop-character : goal.invariant-loop-character
