@@ -20,6 +20,7 @@ use iam_options::{Options, Task};
 use iam_report::buffer;
 use std::alloc::Global;
 use std::io::{Read, Write};
+use std::mem;
 use std::thread::Threads;
 
 fn has_triple(world: &World, p: u64, a: u64, r: u64) -> bool
@@ -109,7 +110,12 @@ fn answer<T: Threads + Sync>(
     ensures fault { IfErr result (λ fault. IsRefusal options.now bytes.items fault) }
 {
     match world_of(alloc, bytes) {
-        Ok(world) => report(rt, alloc, options, &world),
+        Ok(world) => {
+            let report = report(rt, alloc, options, &world);
+            // The run ends soon: letting go of each piece of the world would cost a tenth of its reading.
+            mem::forget(world);
+            report
+        }
         Err(fault) => Err(RunFault::World(fault)),
     }
 }
@@ -130,7 +136,8 @@ fn input_fault(fault: InputFault) -> RunFault
 /// `Cut`, `Matrix`, `Write`; that there is no memory can come at any point before the writing: as `World` while the world is
 /// read, as `Cut` while the cells are cut, as `Matrix` while the matrix or the first allowed cell and its text are made,
 /// as `OutOfMemory` elsewhere. After every fault except `Write` nothing was written; after `Write` a beginning of the
-/// report. `Matrix` and `First` start threads, and wait for their end.
+/// report. `Matrix` and `First` start threads, and wait for their end. The memory of the world is not given back, since a run
+/// mostly ends its process.
 pub fn run<T: Threads + Sync, R: Read, W: Write>(
     rt: &T,
     alloc: Global,

@@ -1,5 +1,6 @@
 // Parts of a context: keys that stand twice, and derived keys that are given.
-ghost use Rattle.std.specs.Prelude.{◌≡◌, ◌||◌, ℕ, List, MatchOption, IfOk, map};
+ghost use Rattle.std.specs.Prelude.{◌≡◌, ◌≢◌, ◌||◌, ℕ, List, MatchOption, IfOk, false, map};
+ghost use Rattle.std.specs.Char.{to_ascii_lowercase};
 ghost use Rattle.std.specs.List.{list_any};
 ghost use Rattle.iam_context.specs.Context.{all_of, derived_names, has_derived, has_key, has_twice, is_same_key, keys_of};
 ghost use Rattle.iam_context.specs.Keys.{HasKeys, shares};
@@ -110,5 +111,22 @@ fn is_one_of(names: &[&str], key: &str) -> bool
 pub fn is_same_key(key: &str, other: &str) -> bool
     ensures { result ≡ is_same_key key.now other.now }
 {
-    key.eq_ignore_ascii_case(other)
+    if key.len() != other.len() {
+        return false;
+    }
+    // Keys are mostly written alike, or differ in their last characters.
+    if key == other {
+        return true;
+    }
+    ends_alike(key.as_bytes(), other.as_bytes()) && key.eq_ignore_ascii_case(other)
+}
+
+/// `false` only where the last characters tell the keys apart.
+fn ends_alike(key: &[u8], other: &[u8]) -> bool
+    ensures { result ≡ false → map to_ascii_lowercase key.now ≢ map to_ascii_lowercase other.now }
+{
+    match (key.last(), other.last()) {
+        (Some(one), Some(two)) => one.eq_ignore_ascii_case(two),
+        _ => true,
+    }
 }

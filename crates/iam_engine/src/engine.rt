@@ -97,6 +97,7 @@ impl<'a> Engine<'a> {
 
     /// The number of the verdict on principal p's request for action a on resource r, each below the number of its kind. It
     /// is that of the verdict until the next call.
+    #[inline(always)]
     pub fn find(&mut self, alloc: Global, p: u64, a: u64, r: u64) -> Result<usize, OutOfMemory>
         requires principal { p < length self.old.world.principals }
         requires action { a < length self.old.world.actions }
@@ -109,6 +110,7 @@ impl<'a> Engine<'a> {
     }
 
     /// The verdict of a number that [`Engine::find`] gave, on the request that it was given for.
+    #[inline(always)]
     pub fn verdict(&self, number: usize) -> &Verdict
         requires { number < length self.now.rulings }
         ensures { (p a r : ℕ) → IsNumberAt self.now p a r number → IsVerdictAt self.now.world p a r result.now }
@@ -118,6 +120,7 @@ impl<'a> Engine<'a> {
 }
 
 /// The class of principal p and resource r.
+#[inline(always)]
 fn class_of<'a>(
     alloc: Global,
     world: &'a World,
@@ -134,14 +137,36 @@ fn class_of<'a>(
     ensures keys { All (AreKeys world.entry.now) keys.new.items }
     ensures class { IfOk result (HasClass world.entry.now memo.new.classes.items p r) }
 {
-    if let Some(class) = memo.class_of(p, r) {
-        return Ok(class);
+    match memo.class_of(p, r) {
+        Some(class) => Ok(class),
+        None => find_class(alloc, world, memo, keys, p, r),
     }
+}
+
+/// The class of principal p and resource r, by a scan of all statements that apply.
+#[inline(never)]
+fn find_class<'a>(
+    alloc: Global,
+    world: &'a World,
+    memo: &mut Memo<'a>,
+    keys: &mut Vec<Keys>,
+    p: u64,
+    r: u64,
+) -> Result<usize, OutOfMemory>
+    requires principal { p < length world.now.principals }
+    requires resource { r < length world.now.resources }
+    requires right { IsRight world.now memo.old }
+    requires keys { All (AreKeys world.now) keys.old.items }
+    ensures right { IsRight world.entry.now memo.new }
+    ensures keys { All (AreKeys world.entry.now) keys.new.items }
+    ensures class { IfOk result (HasClass world.entry.now memo.new.classes.items p r) }
+{
     let shared = shared_by(alloc, world, keys, p, r)?;
     memo.class_with(alloc, world, p, r, shared)
 }
 
 /// The number of the verdict on requests of a class for action a.
+#[inline(always)]
 fn number_of(
     alloc: Global,
     world: &World,
@@ -157,9 +182,29 @@ fn number_of(
     ensures number { (class_is : Class) → slice_get memo.old.classes.items class ≡ Some class_is
         → IfOk result (IsNumber world.now class_is.shared memo.new.rulings.items a) }
 {
-    if let Some(number) = memo.number_of(class, a) {
-        return Ok(number);
+    match memo.number_of(class, a) {
+        Some(number) => Ok(number),
+        None => find_number(alloc, world, memo, room, class, a),
     }
+}
+
+/// The number of the verdict on requests of a class for action a, from the statements of the class that act on it.
+#[inline(never)]
+fn find_number(
+    alloc: Global,
+    world: &World,
+    memo: &mut Memo<'_>,
+    room: &mut Room,
+    class: usize,
+    a: u64,
+) -> Result<usize, OutOfMemory>
+    requires action { a < length world.now.actions }
+    requires class { class < length memo.old.classes.items }
+    requires right { IsRight world.now memo.old }
+    ensures right { IsRight world.now memo.new }
+    ensures number { (class_is : Class) → slice_get memo.old.classes.items class ≡ Some class_is
+        → IfOk result (IsNumber world.now class_is.shared memo.new.rulings.items a) }
+{
     let frame = memo.find(room, class, a, world.action_text(a))?;
     let number = memo.ruling(alloc, frame, room.found.as_slice())?;
     memo.keep_number(class, a, number);

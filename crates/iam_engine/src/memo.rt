@@ -142,6 +142,7 @@ impl<'a> Memo<'a> {
     }
 
     /// The class of principal p and resource r, where it is known.
+    #[inline(always)]
     pub fn class_of(&self, p: u64, r: u64) -> Option<usize>
         ensures { (world : WorldValue) → IsRight world self.now → IfSome result (HasClass world self.now.classes.items p r) }
     {
@@ -256,6 +257,7 @@ impl<'a> Memo<'a> {
     }
 
     /// The number of the verdict on requests of the class for action a, where it is known.
+    #[inline(always)]
     pub fn number_of(&self, class: usize, a: u64) -> Option<usize>
         ensures { (world : WorldValue) → IsRight world self.now
             → IfSome result (HasNumber world self.now.classes.items self.now.rulings.items class a) }

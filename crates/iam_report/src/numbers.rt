@@ -60,7 +60,7 @@ impl Numbers {
     }
 
     /// Puts a number behind the others.
-    #[inline]
+    #[inline(always)]
     pub fn push(&mut self, number: u32) -> Result<(), OutOfMemory>
         ensures ok { OnOk result (self.new ≡ self.old ++ number ∷ []) }
         ensures err { OnErr result (self.new ≡ self.old) }
