@@ -20,6 +20,7 @@ pub fn end_of(world: &World, from: u64, count: u64) -> u64
 }
 
 /// The decision on the request of a cell.
+#[inline(always)]
 pub fn decision_at(
     alloc: Global,
     engine: &mut Engine<'_>,
