@@ -3,8 +3,8 @@ use Rattle.std.proofs.Common.{◌≡◌, inl, inr, ℕ, suc, zero, ◌+◌, ◌<
 use Rattle.std.proofs.lemmas.List.{take_more, map-append, append-nil, get_or-map}
 use Rattle.std.specs.List.{AllByRecursion, enumerate_from, flat_map}
 use Rattle.iam_match.specs.Statement.{AccessValue}
-use Rattle.iam_decision.specs.Code.Scan.{Acts, Adds, AreActing}
-use Rattle.iam_decision.specs.Living.{Lives, LivingValue, living_of}
+use Rattle.iam_decision.specs.Code.Scan.{Adds}
+use Rattle.iam_decision.specs.Living.{Acts, AreActing, Lives, LivingValue, living_of}
 use Rattle.iam_decision.specs.Matched.{Placed, Selects}
 use Rattle.iam_decision.specs.declared.living.Matched.{Matched}
 

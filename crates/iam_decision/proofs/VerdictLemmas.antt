@@ -9,8 +9,7 @@ use Rattle.iam_match.specs.Requester.{RequesterValue}
 use Rattle.iam_match.specs.Statement.{AccessValue, RequestValue, request_for}
 use Rattle.iam_decision.specs.Applicable.{ApplicableValue}
 use Rattle.iam_decision.specs.Matched.{Placed, IsMatched, Selects, placed}
-use Rattle.iam_decision.specs.Code.Scan.{Acts, AreActing}
-use Rattle.iam_decision.specs.Living.{AreFound, AreLiving, Lives, LivingValue, item_of, living_of}
+use Rattle.iam_decision.specs.Living.{Acts, AreActing, AreFound, AreLiving, Lives, LivingValue, item_of, living_of}
 use Rattle.iam_decision.specs.Code.Found.{DeniesIn, AllowsIn, GrantsIn, ArePlaces}
 use Rattle.iam_decision.specs.Decision.{Says, Denies, Allows, Grants, LevelsHold, BoundaryHolds, SessionHolds, AllHold, GrantSuffices, IsAllowed, IsDecided, Fails, AreLacking, AreDeciding, deciding_effect, layers_in_order}
 use Rattle.iam_decision.specs.declared.frame.Frame.{Frame}

@@ -1,11 +1,10 @@
 -- The statements of the applicable policies that match a request once their action elements do, and those that match: what
 -- a decision needs of them. No action is looked at for the former, so requests for many actions share them. LOGIC 11.1.
-use Rattle.std.specs.Prelude.{◌≡◌, ◌↔◌, ℕ, Bool, IsTrue, List, Some, map}
-use Rattle.std.specs.List.{slice_get}
+use Rattle.std.specs.Prelude.{◌≡◌, ◌+◌, ◌<◌, ℕ, List, [], ◌∷◌, ◌++◌, get_or, length, map, take}
 use Rattle.iam_element.specs.Reading.{ActionElement}
 use Rattle.iam_match.specs.Principal.{grant_of}
 use Rattle.iam_match.specs.Requester.{RequesterValue}
-use Rattle.iam_match.specs.Statement.{AccessValue, ActionMatches, RequestValue, RestMatches}
+use Rattle.iam_match.specs.Statement.{AccessValue, ActionMatches, RequestValue, RestMatches, request_for}
 use Rattle.iam_decision.specs.Applicable.{ApplicableValue, frame_of}
 use Rattle.iam_decision.specs.Matched.{IsMatched, Placed, Selects, placed}
 use Rattle.iam_decision.specs.declared.frame.Frame.{Frame}
@@ -56,8 +55,25 @@ pub record IsShared (a : ApplicableValue) (access : AccessValue) (shared : Share
   pub frame : shared.frame ≡ frame_of a
   pub living : AreLiving access (placed a) shared.living
 
--- each of these says whether the action element of the living statement at its place matches the action
-abbrev pub AreActs : List ℕ → List LivingValue → List Bool → Type 0
-AreActs action living acts =
-    (i : ℕ) (statement : LivingValue) (act : Bool) → slice_get living i ≡ Some statement → slice_get acts i ≡ Some act
-    → IsTrue act ↔ ActionMatches statement.action action
+-- the action element of the statement matches the action
+abbrev pub Acts : List ℕ → LivingValue → Type 0
+Acts action living = ActionMatches living.action action
+
+-- those of these statements that match a request for the action, in order
+abbrev pub AreActing : List ℕ → List LivingValue → List Matched → Type 0
+AreActing action living found =
+    (kept : List LivingValue) × Selects (Acts action) living kept × (found ≡ map (λ l. l.matched) kept)
+
+-- one more of the statements is looked at: where it acts it is put behind what was found, else what was found stays
+abbrev pub ActingOneByOne : Type 0
+ActingOneByOne =
+    (action : List ℕ) (living : List LivingValue) (i : ℕ) (x : LivingValue) (found : List Matched) → i < length living → x ≡ get_or living i x
+    → AreActing action (take i living) found
+    → (Acts action x → AreActing action (take (i + 1) living) (found ++ x.matched ∷ []))
+    × (¬ Acts action x → AreActing action (take (i + 1) living) found)
+
+-- of the statements that requests share, those that act on an action are those that match the request for it
+abbrev pub ActingAreFound : Type 0
+ActingAreFound =
+    (a : ApplicableValue) (access : AccessValue) (action : List ℕ) (shared : SharedValue) (found : List Matched) → IsShared a access shared
+    → AreActing action shared.living found → AreFound (request_for access action) (placed a) found

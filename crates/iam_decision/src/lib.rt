@@ -15,8 +15,8 @@ mod verdict;
 pub use applicable::Applicable;
 pub use frame::Frame;
 pub use laws::{
-    allowed_is_granted, both_accounts_allow, boundary_and_session_bind, deny_wins,
-    direct_grant_names_itself, each_level_allows, further_allow_takes_nothing,
+    acting_are_found, allowed_is_granted, both_accounts_allow, boundary_and_session_bind,
+    deny_wins, direct_grant_names_itself, each_level_allows, further_allow_takes_nothing,
     further_deny_allows_no_more, further_limits_allow_no_more, one_decision, one_verdict,
     order_is_free, sealed_resource_grants,
 };

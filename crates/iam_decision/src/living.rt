@@ -1,7 +1,6 @@
 // Statements that match but for their action, and which of them act on an action.
-ghost use Rattle.std.specs.Prelude.{◌≡◌, List, ℕ, IfOk, IsTrue, OnOk, length, map};
-ghost use Rattle.iam_decision.specs.Living.{AreActs, living_value};
-ghost use Rattle.iam_decision.specs.Code.Scan.{AreActing};
+ghost use Rattle.std.specs.Prelude.{◌≡◌, IfOk, IsTrue, map};
+ghost use Rattle.iam_decision.specs.Living.{AreActing, living_value};
 
 use crate::place::Place;
 use iam_match::{Grant, OutOfMemory, action_matches};
@@ -23,35 +22,21 @@ pub struct Living<'a> {
     pub action: &'a Actions,
 }
 
-/// Of each of the living statements whether its action element matches the action.
-pub fn acts_of(alloc: Global, living: &[Living<'_>], action: &str) -> Result<Vec<bool>, OutOfMemory>
-    ensures count { IfOk result (λ acts. length acts.items ≡ length living.now) }
-    ensures acts { IfOk result (λ acts. AreActs action.now (map living_value living.now) acts.items) }
-{
-    let mut acts = Vec::with_capacity(alloc, living.len())?;
-    for statement in living {
-        acts.push(action_matches(statement.action, action))?;
-    }
-    Ok(acts)
-}
-
-/// Puts into `found`, in place of what is there, those of the living statements whose action elements match an action.
-pub fn put_acting(
-    found: &mut Vec<Matched>,
+/// Those of the living statements whose action elements match the action.
+pub fn acting(
+    alloc: Global,
     living: &[Living<'_>],
-    acts: &[bool],
-) -> Result<(), OutOfMemory>
-    requires { length acts.now ≡ length living.now }
-    ensures { (action : List ℕ) → AreActs action (map living_value living.now) acts.now
-        → OnOk result (AreActing action (map living_value living.now) found.new.items) }
+    action: &str,
+) -> Result<Vec<Matched>, OutOfMemory>
+    ensures { IfOk result (λ found. AreActing action.now (map living_value living.now) found.items) }
 {
-    found.clear();
-    for i in 0..living.len() {
-        if acts[i] {
-            found.push(living[i].matched)?;
+    let mut found = Vec::new(alloc);
+    for statement in living {
+        if action_matches(statement.action, action) {
+            found.push(statement.matched)?;
         }
     }
-    Ok(())
+    Ok(found)
 }
 
 /// Whether both statements are the same.

@@ -1,7 +1,7 @@
 // What the requests of one requester for one resource share.
 use crate::decide::verdict_of;
 use crate::frame::Frame;
-use crate::living::{Living, Matched, acts_of, are_same, put_acting};
+use crate::living::{Living, acting, are_same};
 use crate::verdict::Verdict;
 use iam_match::OutOfMemory;
 use std::alloc::Global;
@@ -25,12 +25,11 @@ impl<'a> Model for Shared<'a> {
 }
 
 impl<'a> Shared<'a> {
-    ghost use Rattle.std.specs.Prelude.{◌≡◌, ℕ, List, IfOk, IsTrue, OnOk, length, map};
+    ghost use Rattle.std.specs.Prelude.{◌≡◌, IfOk, IsTrue, map};
     ghost use Rattle.iam_match.specs.Statement.{AccessValue, request_for};
     ghost use Rattle.iam_decision.specs.Applicable.{ApplicableValue};
     ghost use Rattle.iam_decision.specs.Decision.{IsVerdict};
-    ghost use Rattle.iam_decision.specs.Living.{AreActs, AreFound, IsShared, living_value};
-    ghost use Rattle.iam_decision.specs.Matched.{placed};
+    ghost use Rattle.iam_decision.specs.Living.{IsShared, living_value};
 
     pub(crate) fn new(frame: Frame, living: Vec<Living<'a>>) -> Shared<'a>
         ensures { result ≡ record { frame = frame; living = map living_value living.entry.items } }
@@ -75,19 +74,7 @@ impl<'a> Shared<'a> {
         ensures { (a : ApplicableValue) (access : AccessValue) → IsShared a access self.now
             → IfOk result (IsVerdict a (request_for access action.now)) }
     {
-        let acts = acts_of(alloc, self.living.as_slice(), action)?;
-        let mut found = Vec::new(alloc);
-        self.find(&mut found, acts.as_slice())?;
+        let found = acting(alloc, self.living.as_slice(), action)?;
         verdict_of(alloc, found.as_slice(), self.frame)
-    }
-
-    /// Puts the statements that match the request for an action into `found`, in place of what is there, where of each of the
-    /// living ones it is known whether its action element matches.
-    pub fn find(&self, found: &mut Vec<Matched>, acts: &[bool]) -> Result<(), OutOfMemory>
-        requires { length acts.now ≡ length self.now.living }
-        ensures { (a : ApplicableValue) (access : AccessValue) (action : List ℕ) → IsShared a access self.now
-            → AreActs action self.now.living acts.now → OnOk result (AreFound (request_for access action) (placed a) found.new.items) }
-    {
-        put_acting(found, self.living.as_slice(), acts)
     }
 }

@@ -3,7 +3,7 @@ use Rattle.std.proofs.Common.{◌≡◌, ◌↔◌, inl, inr, ℕ, Bool, IsTrue,
 use Rattle.std.specs.List.{slice_get}
 use Rattle.iam_element.specs.Reading.{ActionElement}
 use Rattle.iam_match.specs.Statement.{ActionMatches}
-use Rattle.iam_decision.specs.Living.{AreActs, LivingValue}
+use Rattle.iam_decision.specs.Living.{LivingValue}
 use Rattle.iam_layers.specs.Cell.{IsAction}
 use Rattle.iam_world.specs.World.{WorldValue}
 use Rattle.iam_engine.specs.Elements.{AreElements, AreElementNumbers, HasElement, IsElement, TellActs}
@@ -51,16 +51,4 @@ rows_more elements living rows x row at is all i n statement kept there =
           let A : LivingValue → Type 0 = λ l. HasElement elements n l.action in
           let R : Option ℕ → Type 0 = λ r. IfSome r (λ m. HasElement elements m x.action) in
           subst A own (subst R (sym same) is)
-    ]
-
-pub acts_more : (action : List ℕ) (living : List LivingValue) (acts : List Bool) (x : LivingValue) (act : Bool) → slice_get living (length acts) ≡ Some x
-    → (IsTrue act ↔ ActionMatches x.action action) → AreActs action living acts → AreActs action living (acts ++ act ∷ [])
-acts_more action living acts x act at is all i statement other there here =
-    elim (get_back acts act i other here) [
-      | inl before ↦ all i statement other there before
-      | inr (last, same) ↦
-          let own : x ≡ statement = some_same x statement (sym at ∙ ap (slice_get living) (sym last) ∙ there) in
-          let A : LivingValue → Type 0 = λ l. IsTrue act ↔ ActionMatches l.action action in
-          let B : Bool → Type 0 = λ b. IsTrue b ↔ ActionMatches statement.action action in
-          subst B (sym same) (subst A own is)
     ]

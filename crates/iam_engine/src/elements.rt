@@ -1,6 +1,6 @@
 // Action elements, and which actions of a world they match.
-ghost use Rattle.std.specs.Prelude.{◌≡◌, ◌++◌, ◌↔◌, ℕ, List, IfOk, IfSome, IsTrue, OnOk, length, map};
-ghost use Rattle.iam_decision.specs.Living.{AreActs, living_value};
+ghost use Rattle.std.specs.Prelude.{◌≡◌, ◌++◌, ◌↔◌, ℕ, List, IfOk, IfSome, IsTrue, OnOk, map};
+ghost use Rattle.iam_decision.specs.Living.{AreActing, living_value};
 ghost use Rattle.iam_layers.specs.Cell.{IsAction};
 ghost use Rattle.iam_match.specs.Statement.{ActionMatches};
 ghost use Rattle.iam_world.specs.World.{WorldValue};
@@ -9,7 +9,8 @@ ghost use Rattle.iam_element.specs.Reading.{ActionElement};
 ghost use Rattle.iam_engine.specs.declared.elements.Element.{Element};
 
 use crate::slots::{empty, empty_slots, keep, kept, slot_of};
-use iam_layers::{Living, World};
+use iam_decision::acting_are_found;
+use iam_layers::{Living, Matched, World};
 use iam_match::action_matches;
 use iam_policy::Actions;
 use iam_text::OutOfMemory;
@@ -115,24 +116,26 @@ impl<'a> Elements<'a> {
         self.elements.clear();
     }
 
-    /// Puts into `acts`, in place of what is there, of each of the living statements whether its action element matches
-    /// action a, which has this text.
-    pub fn put_acts(
+    /// Puts into `found`, in place of what is there, those of the living statements whose action elements match action a,
+    /// which has this text.
+    pub fn put_acting(
         &self,
-        acts: &mut Vec<bool>,
+        found: &mut Vec<Matched>,
         living: &[Living<'_>],
         rows: &[Option<usize>],
         a: u64,
         text: &str,
     ) -> Result<(), OutOfMemory>
-        ensures count { OnOk result (length acts.new.items ≡ length living.now) }
-        ensures acts { (world : WorldValue) → AreElements world self.now.elements.items → AreElementNumbers self.now.elements.items (map living_value living.now) rows.now
-            → IsAction world a text.now → OnOk result (AreActs text.now (map living_value living.now) acts.new.items) }
+        ensures { (world : WorldValue) → AreElements world self.now.elements.items → AreElementNumbers self.now.elements.items (map living_value living.now) rows.now
+            → IsAction world a text.now → OnOk result (AreActing text.now (map living_value living.now) found.new.items) }
     {
-        acts.clear();
+        acting_are_found();
+        found.clear();
         for i in 0..living.len() {
             let row = kept(rows, i as u64);
-            acts.push(self.acts(row, living[i].action, a, text))?;
+            if self.acts(row, living[i].action, a, text) {
+                found.push(living[i].matched)?;
+            }
         }
         Ok(())
     }

@@ -6,8 +6,8 @@ ghost use Rattle.iam_engine.specs.Memo.{HasClass, IsNumber, IsRight};
 ghost use Rattle.iam_engine.specs.declared.memo.Class.{Class};
 
 use crate::keys::{Keys, no_keys, shared_by};
-use crate::memo::{Memo, Room};
-use iam_layers::{Decision, Verdict, World};
+use crate::memo::Memo;
+use iam_layers::{Decision, Matched, Verdict, World};
 use iam_text::OutOfMemory;
 use std::alloc::Global;
 use std::marker::Model;
@@ -20,7 +20,8 @@ pub struct Engine<'a> {
     memo: Memo<'a>,
     // The derived keys that were made last, of one principal.
     keys: Vec<Keys>,
-    room: Room,
+    // Room for the statements that match a request.
+    found: Vec<Matched>,
 }
 
 impl<'a> Model for Engine<'a> {
@@ -57,10 +58,7 @@ impl<'a> Engine<'a> {
             world,
             memo,
             keys: no_keys(alloc),
-            room: Room {
-                found: Vec::new(alloc),
-                acts: Vec::new(alloc),
-            },
+            found: Vec::new(alloc),
         })
     }
 
@@ -106,7 +104,7 @@ impl<'a> Engine<'a> {
         ensures same { self.new.world ≡ self.old.world }
     {
         let class = class_of(alloc, self.world, &mut self.memo, &mut self.keys, p, r)?;
-        number_of(alloc, self.world, &mut self.memo, &mut self.room, class, a)
+        number_of(alloc, self.world, &mut self.memo, &mut self.found, class, a)
     }
 
     /// The verdict of a number that [`Engine::find`] gave, on the request that it was given for.
@@ -171,7 +169,7 @@ fn number_of(
     alloc: Global,
     world: &World,
     memo: &mut Memo<'_>,
-    room: &mut Room,
+    found: &mut Vec<Matched>,
     class: usize,
     a: u64,
 ) -> Result<usize, OutOfMemory>
@@ -184,7 +182,7 @@ fn number_of(
 {
     match memo.number_of(class, a) {
         Some(number) => Ok(number),
-        None => find_number(alloc, world, memo, room, class, a),
+        None => find_number(alloc, world, memo, found, class, a),
     }
 }
 
@@ -194,7 +192,7 @@ fn find_number(
     alloc: Global,
     world: &World,
     memo: &mut Memo<'_>,
-    room: &mut Room,
+    found: &mut Vec<Matched>,
     class: usize,
     a: u64,
 ) -> Result<usize, OutOfMemory>
@@ -205,8 +203,8 @@ fn find_number(
     ensures number { (class_is : Class) → slice_get memo.old.classes.items class ≡ Some class_is
         → IfOk result (IsNumber world.now class_is.shared memo.new.rulings.items a) }
 {
-    let frame = memo.find(room, class, a, world.action_text(a))?;
-    let number = memo.ruling(alloc, frame, room.found.as_slice())?;
+    let frame = memo.find(found, class, a, world.action_text(a))?;
+    let number = memo.ruling(alloc, frame, found.as_slice())?;
     memo.keep_number(class, a, number);
     Ok(number)
 }

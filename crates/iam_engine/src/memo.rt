@@ -8,6 +8,7 @@ ghost use Rattle.iam_engine.specs.declared.memo.Class.{Class};
 
 use crate::elements::Elements;
 use crate::slots::{WIDTH, empty, empty_slots, keep, kept, slot_at, slot_of};
+use iam_decision::acting_are_found;
 use iam_layers::{Frame, Matched, Ruling, Shared, World};
 use iam_text::OutOfMemory;
 use std::alloc::Global;
@@ -30,13 +31,6 @@ const PRINTS: u64 = 4_096;
 pub struct Class<'a> {
     pub shared: Shared<'a>,
     pub rows: Vec<Option<usize>>,
-}
-
-/// Room for the statements that match a request, and for which action elements match an action.
-#[derive(Drop)]
-pub struct Room {
-    pub found: Vec<Matched>,
-    pub acts: Vec<bool>,
 }
 
 /// The class of a principal and a resource.
@@ -285,25 +279,24 @@ impl<'a> Memo<'a> {
         }
     }
 
-    /// Puts the statements that match requests of the class for action a, which has this text, into the room; what is asked
-    /// beside them.
+    /// Puts the statements that match requests of the class for action a, which has this text, into `found`, in place of what
+    /// is there; what is asked beside them.
     pub fn find(
         &self,
-        room: &mut Room,
+        found: &mut Vec<Matched>,
         class: usize,
         a: u64,
         text: &str,
     ) -> Result<Frame, OutOfMemory>
         requires { class < length self.now.classes.items }
         ensures { (world : WorldValue) (class_is : Class) → IsRight world self.now → slice_get self.now.classes.items class ≡ Some class_is
-            → IsAction world a text.now → IfOk result (λ frame. Finds class_is.shared text.now frame room.new.found.items) }
+            → IsAction world a text.now → IfOk result (λ frame. Finds class_is.shared text.now frame found.new.items) }
     {
         let class = &self.classes[class];
         let rows = class.rows.as_slice();
         let living = class.shared.living();
-        self.elements
-            .put_acts(&mut room.acts, living, rows, a, text)?;
-        class.shared.find(&mut room.found, room.acts.as_slice())?;
+        acting_are_found();
+        self.elements.put_acting(found, living, rows, a, text)?;
         Ok(class.shared.frame())
     }
 
