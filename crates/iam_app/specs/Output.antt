@@ -12,7 +12,7 @@ use Rattle.iam_row.specs.CsvRow.{IsCsvRow}
 use Rattle.iam_row.specs.declared.quoted.Format.{Format}
 use Rattle.iam_row.specs.declared.quoted.Format.TheVariants.{Csv, Json}
 use Rattle.iam_matrix.specs.Cut.{IsEvenCut, IsEvenFault}
-use Rattle.iam_matrix.specs.Fault.{IsUnlawful}
+use Rattle.iam_matrix.specs.Workers.{IsUnlawful}
 use Rattle.iam_matrix.specs.Report.{IsFirstReport, IsMatrixReport}
 use Rattle.iam_matrix.specs.declared.cut.CutFault.{CutFault}
 use Rattle.iam_matrix.specs.declared.cut.CutFault.TheVariants as c

@@ -1,5 +1,5 @@
 -- The faults of cuts and of matrices. LOGIC 11.7 and 14.
-use Rattle.std.specs.Prelude.{◌≡◌, ℕ, ◌⊎◌, ◌<◌, List, ◌++◌, codes, decimal}
+use Rattle.std.specs.Prelude.{ℕ, List, ◌++◌, codes, decimal}
 use Rattle.iam_matrix.specs.declared.cut.CutFault.{CutFault}
 use Rattle.iam_matrix.specs.declared.cut.CutFault.TheVariants as c
 use Rattle.iam_matrix.specs.declared.fault.MatrixFault.{MatrixFault}
@@ -32,7 +32,3 @@ matrix_name_of m.OutOfMemory = codes "OutOfMemory"
 -- `1 Workers`
 abbrev pub matrix_text : MatrixFault → List ℕ
 matrix_text fault = decimal (matrix_number_of fault) ++ (codes " " ++ matrix_name_of fault)
-
--- no worker, or over 64
-abbrev pub IsUnlawful : ℕ → Type 0
-IsUnlawful workers = (workers ≡ 0) ⊎ (64 < workers)

@@ -4,3 +4,4 @@ pub mod Fault
 pub mod Laws
 pub mod Matrix
 pub mod Report
+pub mod Workers

@@ -2,13 +2,14 @@
 ghost use Rattle.std.specs.Prelude.{◌≡◌, ◌+◌, ◌<◌, ◌≤◌, ◌↔◌, ℕ, IfOk, sum};
 ghost use Rattle.std.specs.List.{flat_map};
 ghost use Rattle.iam_world.specs.World.{world_cells};
-ghost use Rattle.iam_matrix.specs.Fault.{IsUnlawful};
 ghost use Rattle.iam_matrix.specs.Matrix.{IsBriefMatrix, IsMatrix};
 ghost use Rattle.iam_matrix.specs.Code.Tiles.{AreEntries};
+ghost use Rattle.iam_matrix.specs.Workers.{IsUnlawful};
 
 use crate::cut::Cut;
 use crate::each::end_of;
-use crate::fault::{MatrixFault, is_unlawful};
+use crate::fault::MatrixFault;
+use crate::workers::is_unlawful;
 use iam_crew::{Bound, Crew, Gate, gather};
 use iam_engine::Engine;
 use iam_layers::{Decision, Verdict, World};

@@ -1,7 +1,4 @@
 // Why there is no matrix.
-ghost use Rattle.std.specs.Prelude.{◌≡◌, ◌↔◌, ◌<◌, IsTrue};
-ghost use Rattle.iam_matrix.specs.Fault.{IsUnlawful};
-
 use iam_text::OutOfMemory;
 use std::fmt::{self, Display, Formatter, Write};
 use thiserror::Error;
@@ -62,11 +59,4 @@ impl From<OutOfMemory> for MatrixFault {
     fn from(_: OutOfMemory) -> MatrixFault {
         MatrixFault::OutOfMemory
     }
-}
-
-/// Whether so many workers are none, or more than 64.
-pub(crate) fn is_unlawful(workers: u32) -> bool
-    ensures { IsTrue result ↔ IsUnlawful workers }
-{
-    workers == 0 || workers > 64
 }

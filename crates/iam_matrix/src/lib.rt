@@ -11,6 +11,7 @@ mod laws;
 mod report;
 mod rows;
 mod search;
+mod workers;
 
 pub use cells::{matrix, matrix_brief};
 pub use cut::{Cut, CutFault};

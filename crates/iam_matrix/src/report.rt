@@ -2,14 +2,15 @@
 ghost use Rattle.std.specs.Prelude.{◌≡◌, ◌↔◌, IfOk, sum};
 ghost use Rattle.iam_world.specs.World.{world_cells};
 ghost use Rattle.iam_row.specs.Piece.{text_of};
-ghost use Rattle.iam_matrix.specs.Fault.{IsUnlawful};
 ghost use Rattle.iam_matrix.specs.Matrix.{IsFirstAllowed};
 ghost use Rattle.iam_matrix.specs.Report.{IsFirstReport, IsFirstText, IsMatrixReport};
+ghost use Rattle.iam_matrix.specs.Workers.{IsUnlawful};
 
 use crate::cut::Cut;
-use crate::fault::{MatrixFault, is_unlawful};
+use crate::fault::MatrixFault;
 use crate::rows::Rows;
 use crate::search::first;
+use crate::workers::is_unlawful;
 use iam_crew::{Gate, gather};
 use iam_layers::{Decision, World};
 use iam_report::MatrixText;

@@ -2,13 +2,14 @@
 ghost use Rattle.std.specs.Prelude.{◌≡◌, ◌+◌, ◌<◌, ◌≤◌, ◌↔◌, IfOk, IsTrue, sum};
 ghost use Rattle.iam_crew.specs.Bound.{bound_of};
 ghost use Rattle.iam_world.specs.World.{world_cells};
-ghost use Rattle.iam_matrix.specs.Fault.{IsUnlawful};
 ghost use Rattle.iam_matrix.specs.Matrix.{IsFirstAllowed};
 ghost use Rattle.iam_matrix.specs.Code.Tiles.{IsAllowedCell, IsFirstIn};
+ghost use Rattle.iam_matrix.specs.Workers.{IsUnlawful};
 
 use crate::cut::Cut;
 use crate::each::{decision_at, end_of};
-use crate::fault::{MatrixFault, is_unlawful};
+use crate::fault::MatrixFault;
+use crate::workers::is_unlawful;
 use iam_crew::{Bound, Crew, Gate, gather};
 use iam_engine::Engine;
 use iam_layers::{Decision, World};

@@ -1,7 +1,7 @@
 -- Why there is no report of a world, beside the definition for its bytes (`Output`).
 use Rattle.std.specs.Prelude.{◌≡◌, ◌≢◌, ⊤}
 use Rattle.iam_world.specs.World.{WorldValue}
-use Rattle.iam_matrix.specs.Fault.{IsUnlawful}
+use Rattle.iam_matrix.specs.Workers.{IsUnlawful}
 use Rattle.iam_matrix.specs.declared.cut.CutFault.TheVariants as c
 use Rattle.iam_matrix.specs.declared.fault.MatrixFault.TheVariants as m
 use Rattle.iam_app.specs.Output.{HasCut, HasCutFault, LacksCell, LacksCut, LacksWorkers}
