@@ -5,9 +5,6 @@ ghost use Rattle.iam_app.specs.Code.Refusal.{IsWorldRefusal};
 ghost use Rattle.iam_app.specs.Output.{EndsBy, HasTriple, IsAnswer, IsOutput, IsRefusal, IsAskedReport, WritesOutput, check_text, counts_text, fault_of_input};
 ghost use Rattle.iam_app.specs.Streams.{ConsumesAtMost};
 ghost use Rattle.iam_app.specs.declared.fault.RunFault.TheVariants as f;
-ghost use Rattle.iam_world.specs.Reads.{IsWorld};
-ghost use Rattle.iam_world.specs.WorldFault.{IsFirstWorldFault};
-ghost use Rattle.iam_world.specs.declared.fault.WorldFault.TheVariants as w;
 
 use crate::OutOfMemory;
 use crate::cells::{first, matrix};
@@ -91,14 +88,6 @@ fn report<T: Threads + Sync>(
     }
 }
 
-/// The world of these bytes, which are let go once it is read.
-fn world_of(alloc: Global, bytes: Vec<u8>) -> Result<World, WorldFault>
-    ensures ok { IfOk result (IsWorld bytes.items) }
-    ensures fault { IfErr result (λ fault. fault ≢ w.OutOfMemory → IsFirstWorldFault bytes.items fault) }
-{
-    World::read(alloc, bytes.as_slice())
-}
-
 /// The report that the options ask for, of the world of these bytes.
 fn answer<T: Threads + Sync>(
     rt: &T,
@@ -109,7 +98,7 @@ fn answer<T: Threads + Sync>(
     ensures ok { IfOk result (λ report. IsOutput options.now bytes.items (report_text report)) }
     ensures fault { IfErr result (λ fault. IsRefusal options.now bytes.items fault) }
 {
-    match world_of(alloc, bytes) {
+    match World::from_vec(alloc, bytes) {
         Ok(world) => {
             let report = report(rt, alloc, options, &world);
             // The run ends soon: letting go of each piece of the world would cost a tenth of its reading.

@@ -1,6 +1,7 @@
 //! The conditions of statements: their operators, and their values, read once.
 #![tactic(auto)]
 
+mod apart;
 mod entry;
 mod form;
 mod laws;
@@ -10,6 +11,7 @@ mod operator;
 mod reading;
 mod values;
 
+pub use apart::Apart;
 pub use entry::Entry;
 pub use form::{has_bad_text, has_many_values, has_unknown_operator, is_bad_form};
 pub use laws::one_condition;

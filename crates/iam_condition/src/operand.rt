@@ -3,6 +3,7 @@ ghost use Rattle.std.specs.Prelude.{◌≡◌, IfOk};
 ghost use Rattle.iam_value.specs.Reading.{IsReading};
 ghost use Rattle.iam_condition.specs.Code.Operands.{IsAddressOperand, IsBytesOperand, IsDateOperand, IsNumberOperand, IsTruthOperand};
 
+use crate::apart::Apart;
 use crate::operator::{Base, TextTest};
 use iam_text::{Items, OutOfMemory, Template};
 use iam_value::{Range, bytes, moment, truth, whole};
@@ -16,13 +17,13 @@ pub enum Operand {
     /// A whole number.
     Number(i64),
     /// An instant, in nanoseconds from 1970-01-01T00:00:00Z.
-    Instant(i128),
+    Instant(Apart<i128>),
     /// A truth value.
     Truth(bool),
     /// Bytes.
     Bytes(Items<u8>),
     /// A range of addresses.
-    Range(Range),
+    Range(Apart<Range>),
 }
 
 impl Operand {
@@ -41,10 +42,10 @@ impl Operand {
         match base {
             Base::Text(_) | Base::Arn => Ok(None),
             Base::Number(_) => Ok(read_number(text)),
-            Base::Date(_) => Ok(read_date(text)),
+            Base::Date(_) => read_date(alloc, text),
             Base::Truth | Base::Null => Ok(read_truth(text)),
             Base::Binary => read_bytes(alloc, text),
-            Base::Address => Ok(read_range(text)),
+            Base::Address => read_range(alloc, text),
         }
     }
 }
@@ -98,12 +99,12 @@ fn read_number(text: &str) -> Option<Operand>
     }
 }
 
-fn read_date(text: &str) -> Option<Operand>
-    ensures { IsReading result (IsDateOperand text.now) }
+fn read_date(alloc: Global, text: &str) -> Result<Option<Operand>, OutOfMemory>
+    ensures { IfOk result (λ found. IsReading found (IsDateOperand text.now)) }
 {
     match moment(text) {
-        Some(instant) => Some(Operand::Instant(instant)),
-        None => None,
+        Some(instant) => Ok(Some(Operand::Instant(Apart::new(alloc, instant)?))),
+        None => Ok(None),
     }
 }
 
@@ -125,11 +126,11 @@ fn read_bytes(alloc: Global, text: &str) -> Result<Option<Operand>, OutOfMemory>
     }
 }
 
-fn read_range(text: &str) -> Option<Operand>
-    ensures { IsReading result (IsAddressOperand text.now) }
+fn read_range(alloc: Global, text: &str) -> Result<Option<Operand>, OutOfMemory>
+    ensures { IfOk result (λ found. IsReading found (IsAddressOperand text.now)) }
 {
     match Range::read(text) {
-        Some(range) => Some(Operand::Range(range)),
-        None => None,
+        Some(range) => Ok(Some(Operand::Range(Apart::new(alloc, range)?))),
+        None => Ok(None),
     }
 }

@@ -131,7 +131,7 @@ fn read_values(
     requires { AllByRecursion (IsFine version base) (map view values.now) }
     ensures { IfOk result (λ read. AllZip (ReadsValue version base) (map view values.now) read.items) }
 {
-    let mut read = Vec::new(alloc);
+    let mut read = Vec::with_capacity(alloc, values.len())?;
     for value in values {
         read.push(read_value(alloc, base, value, version)?)?;
     }

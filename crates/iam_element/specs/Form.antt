@@ -2,7 +2,7 @@
 use Rattle.std.specs.Prelude.{ℕ, List, Bool}
 use Rattle.iam_element.specs.declared.grammar.TextForm.{TextForm}
 use Rattle.iam_element.specs.declared.grammar.TextForm.TheVariants.{Action, Resource, BadVariable, AwsName, AnyName}
-use Rattle.iam_text.specs.Action.{is_action_pattern}
+use Rattle.iam_element.specs.ActionPattern.{is_action_pattern}
 use Rattle.iam_element.specs.Grammar.{is_resource_pattern, is_bad_variable, is_aws_name, is_any_name}
 
 abbrev pub form_of : TextForm → List ℕ → Bool

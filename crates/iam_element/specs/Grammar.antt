@@ -7,7 +7,7 @@ use Rattle.std.specs.Str.{bytes_eq}
 use Rattle.std.specs.Char.{is_ascii_alphanumeric}
 use Rattle.iam_text.specs.declared.version.Version.{Version}
 use Rattle.iam_text.specs.declared.version.Version.TheVariants.{V2012, V2008}
-use Rattle.iam_text.specs.Action.{is_wildcard}
+use Rattle.iam_element.specs.ActionPattern.{is_wildcard}
 use Rattle.iam_text.specs.Arn.{colons}
 use Rattle.iam_text.specs.Characters.{is_run, is_account}
 use Rattle.iam_text.specs.Variables.{is_draft}

@@ -1,3 +1,4 @@
+pub mod ActionPattern
 pub mod Element
 pub mod Form
 pub mod Grammar

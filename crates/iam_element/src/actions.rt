@@ -83,7 +83,7 @@ pub fn read_action(alloc: Global, statement: &Value) -> Result<Actions, OutOfMem
 fn patterns(alloc: Global, values: &[Value]) -> Result<Vec<Glob>, OutOfMemory>
     ensures { IfOk result (λ globs. globs.items ≡ map pattern_of (filter_map as_str (map view values.now))) }
 {
-    let mut globs = Vec::new(alloc);
+    let mut globs = Vec::with_capacity(alloc, values.len())?;
     for value in values {
         if let Some(text) = value.as_str() {
             globs.push(Glob::read(alloc, text)?)?;

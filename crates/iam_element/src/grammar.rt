@@ -2,14 +2,12 @@
 ghost use Rattle.std.specs.Prelude.{◌≡◌, ◌||◌, not};
 ghost use Rattle.std.specs.List.{list_all, list_any};
 ghost use Rattle.std.specs.Char.{is_ascii_alphanumeric};
-ghost use Rattle.iam_text.specs.Action.{is_wildcard};
+ghost use Rattle.iam_element.specs.ActionPattern.{is_wildcard};
 ghost use Rattle.iam_text.specs.Variables.{is_draft};
 ghost use Rattle.iam_element.specs.Grammar.{begins_as_arn, is_resource_pattern, has_early_variable, is_bad_variable, is_whole_arn, is_unique_id, is_aws_name};
 
-use iam_text::{
-    Version, cut_form, has_dollar, has_forms_behind, has_six_parts, is_account, is_action_pattern,
-    is_wildcard,
-};
+use crate::action_pattern::{is_action_pattern, is_wildcard};
+use iam_text::{Version, cut_form, has_dollar, has_forms_behind, has_six_parts, is_account};
 
 /// A form that a text of a statement may have.
 #[derive(Clone, Copy)]

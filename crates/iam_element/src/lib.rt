@@ -1,6 +1,7 @@
 //! The elements of a statement: each tested, and read, by itself.
 #![tactic(auto)]
 
+mod action_pattern;
 mod actions;
 mod element;
 mod grammar;

@@ -103,7 +103,7 @@ fn templates(
     requires { list_any (is_text (is_bad_variable version)) (map view values.now) ≡ false }
     ensures { IfOk result (λ templates. AllZip (IsDraftIn version true) (filter_map as_str (map view values.now)) templates.items) }
 {
-    let mut templates = Vec::new(alloc);
+    let mut templates = Vec::with_capacity(alloc, values.len())?;
     for value in values {
         if let Some(text) = value.as_str() {
             templates.push(Template::of(alloc, text, true, version)?)?;

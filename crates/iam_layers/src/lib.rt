@@ -1,6 +1,6 @@
 //! Worlds, and the verdicts of their policies on requests.
 //!
-//! `World::read` reads the bytes of a world document, or answers their first fault; `World::decide_plain` gives the
+//! `World::read` and `World::from_vec` read the bytes of a world document, or answer their first fault; `World::decide_plain` gives the
 //! verdict on one request by a scan of all statements that apply.
 #![tactic(auto)]
 

@@ -55,10 +55,18 @@ impl World {
 
     /// The world of a JSON document, or the first fault of its bytes: `TooLarge` for over 8,388,608 of them, then 1
     /// to 8 by number, each at its first place, then `TooLarge` for over 16,777,216 cells or 4,096 statements.
-    /// `OutOfMemory` can come at any point.
+    /// `OutOfMemory` can come at any point. The bytes are copied; [`World::from_vec`] takes them.
     pub fn read(alloc: Global, bytes: &[u8]) -> Result<World, WorldFault>
         ensures ok { IfOk result (IsWorld bytes.now) }
         ensures fault { IfErr result (λ fault. fault ≢ w.OutOfMemory → IsFirstWorldFault bytes.now fault) }
+    {
+        World::from_vec(alloc, Vec::from_slice(alloc, bytes)?)
+    }
+
+    /// The world of a JSON document as [`World::read`] gives it, of bytes that are let go once they are parsed.
+    pub fn from_vec(alloc: Global, bytes: Vec<u8>) -> Result<World, WorldFault>
+        ensures ok { IfOk result (IsWorld bytes.items) }
+        ensures fault { IfErr result (λ fault. fault ≢ w.OutOfMemory → IsFirstWorldFault bytes.items fault) }
     {
         match WorldParts::read(alloc, bytes) {
             Ok(parts) => Ok(World::of(alloc, parts)?),

@@ -139,7 +139,7 @@ fn is_instant(order: Order, nanos: i128, value: &Operand) -> bool
     ensures { IsTrue result ↔ ((m : ℤ) × (value.now ≡ operand.Instant m) × Ordered order nanos m) }
 {
     match value {
-        Operand::Instant(other) => is_ordered(order, nanos, *other),
+        Operand::Instant(other) => is_ordered(order, nanos, *other.get()),
         _ => false,
     }
 }
@@ -179,7 +179,7 @@ fn holds_address(address: &Address, value: &Operand) -> bool
     ensures { IsTrue result ↔ ((range : Block) × (value.now ≡ operand.Range range) × Holds range address.now) }
 {
     match value {
-        Operand::Range(range) => range.holds(address),
+        Operand::Range(range) => range.get().holds(address),
         _ => false,
     }
 }

@@ -14,7 +14,7 @@ pub draft_unique_in : (version : Version) (wild : Bool) (text : List ℕ) (piece
 draft_unique_in V2012 wild text pieces other a b = draft_unique wild text pieces other a b
 draft_unique_in V2008 wild text pieces other a b = a ∙ sym b
 
-pub draft_tested_in : (version : Version) (wild : Bool) (text : List ℕ) → IsUtf8 text → IsTrue (is_draft_in version text) ↔ ((pieces : List Piece) × IsDraftIn version wild text pieces)
+draft_tested_in : (version : Version) (wild : Bool) (text : List ℕ) → IsUtf8 text → IsTrue (is_draft_in version text) ↔ ((pieces : List Piece) × IsDraftIn version wild text pieces)
 draft_tested_in V2012 wild text utf8 = draft_tested wild text utf8
 draft_tested_in V2008 wild text utf8 = (λ holds. (plain_draft (map (sign_of wild) (chars text)), refl), λ d. refl)
 

@@ -1,4 +1,3 @@
-pub mod Action
 pub mod Arn
 pub mod Characters
 pub mod Code

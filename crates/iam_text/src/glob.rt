@@ -3,10 +3,12 @@ ghost use Rattle.std.specs.Prelude.{◌≡◌, ◌↔◌, IsTrue, IfOk, map};
 ghost use Rattle.std.specs.Str.{chars};
 ghost use Rattle.iam_text.specs.Draft.{sign_of};
 ghost use Rattle.iam_text.specs.Glob.{wild_sign, plain_sign, Equals, EqualsFold, Matches, MatchesFold};
+ghost use Rattle.iam_text.specs.Code.Globs.{kept_signs};
 ghost use Rattle.iam_text.specs.Signs.{signs_in};
 
 use crate::OutOfMemory;
 use crate::case::Case;
+use crate::short::Short;
 use crate::sign::{Sign, add_characters};
 use crate::signs::Signs;
 use crate::walk::{equals, matches};
@@ -15,7 +17,8 @@ use std::marker::Model;
 
 /// A pattern over texts: a list of signs.
 ///
-/// A character is one Unicode scalar value. The pattern of an ASCII text, as most are, is kept in a byte a character.
+/// A character is one Unicode scalar value. The pattern of an ASCII text, as most are, is kept in a byte a character, and
+/// in place where it is short.
 #[derive(Debug, Drop)]
 pub struct Glob {
     kind: Kind,
@@ -23,10 +26,10 @@ pub struct Glob {
 
 #[derive(Debug, Drop)]
 enum Kind {
-    /// The signs of an ASCII text in which `*` and `?` are wildcards.
-    Wild(Vec<u8>),
-    /// The signs of an ASCII text whose characters are all given.
-    Plain(Vec<u8>),
+    /// The signs of a short ASCII text, and whether `*` and `?` are wildcards there.
+    Short(bool, Short),
+    /// The same of a longer one.
+    Long(bool, Vec<u8>),
     /// These signs.
     Listed(Vec<Sign>),
 }
@@ -46,22 +49,24 @@ impl Glob {
     pub fn read(alloc: Global, text: &str) -> Result<Glob, OutOfMemory>
         ensures { IfOk result (λ g. g ≡ map wild_sign (chars text.now)) }
     {
-        let kind = if text.is_ascii() {
-            Kind::Wild(Vec::from_slice(alloc, text.as_bytes())?)
-        } else {
-            Kind::Listed(read_signs(alloc, text, true)?)
-        };
-        Ok(Glob { kind })
+        Glob::of_text(alloc, text, true)
     }
 
     /// The pattern of a text whose characters are all given, `*` and `?` too.
     pub fn plain(alloc: Global, text: &str) -> Result<Glob, OutOfMemory>
         ensures { IfOk result (λ g. g ≡ map plain_sign (chars text.now)) }
     {
+        Glob::of_text(alloc, text, false)
+    }
+
+    /// The pattern of a text in which `*` and `?` are wildcards where `wild` says so.
+    pub(crate) fn of_text(alloc: Global, text: &str, wild: bool) -> Result<Glob, OutOfMemory>
+        ensures { IfOk result (λ g. g ≡ map (sign_of wild) (chars text.now)) }
+    {
         let kind = if text.is_ascii() {
-            Kind::Plain(Vec::from_slice(alloc, text.as_bytes())?)
+            kind_of(alloc, text.as_bytes(), wild)?
         } else {
-            Kind::Listed(read_signs(alloc, text, false)?)
+            Kind::Listed(read_signs(alloc, text, wild)?)
         };
         Ok(Glob { kind })
     }
@@ -70,10 +75,7 @@ impl Glob {
     pub fn of(alloc: Global, signs: &[Sign]) -> Result<Glob, OutOfMemory>
         ensures { IfOk result (λ g. g ≡ signs.now) }
     {
-        let signs = Vec::from_slice(alloc, signs)?;
-        Ok(Glob {
-            kind: Kind::Listed(signs),
-        })
+        Ok(Glob::from_vec(Vec::from_slice(alloc, signs)?))
     }
 
     /// The pattern of these signs, uncopied.
@@ -91,8 +93,8 @@ impl Glob {
         ensures { signs_in result ≡ self.now }
     {
         match &self.kind {
-            Kind::Wild(text) => Signs::wild(text.as_slice()),
-            Kind::Plain(text) => Signs::plain(text.as_slice()),
+            Kind::Short(wild, text) => Signs::of_bytes(text.as_slice(), *wild),
+            Kind::Long(wild, text) => Signs::of_bytes(text.as_slice(), *wild),
             Kind::Listed(signs) => Signs::listed(signs.as_slice()),
         }
     }
@@ -130,8 +132,12 @@ impl Glob {
         ensures { IsTrue result → self.now ≡ other.now }
     {
         match (&self.kind, &other.kind) {
-            (Kind::Wild(one), Kind::Wild(other)) => one.as_slice() == other.as_slice(),
-            (Kind::Plain(one), Kind::Plain(other)) => one.as_slice() == other.as_slice(),
+            (Kind::Short(wild, one), Kind::Short(other_wild, other)) => {
+                wild == other_wild && one.as_slice() == other.as_slice()
+            }
+            (Kind::Long(wild, one), Kind::Long(other_wild, other)) => {
+                wild == other_wild && one.as_slice() == other.as_slice()
+            }
             (Kind::Listed(one), Kind::Listed(other)) => one.as_slice() == other.as_slice(),
             _ => false,
         }
@@ -148,6 +154,16 @@ impl Glob {
                 .rotate_left(23);
         }
         print
+    }
+}
+
+/// How the signs of an ASCII text are kept: in place where it is short.
+fn kind_of(alloc: Global, text: &[u8], wild: bool) -> Result<Kind, OutOfMemory>
+    ensures { IfOk result (λ kind. kept_signs kind ≡ map (sign_of wild) text.now) }
+{
+    match Short::of(text) {
+        Some(short) => Ok(Kind::Short(wild, short)),
+        None => Ok(Kind::Long(wild, Vec::from_slice(alloc, text)?)),
     }
 }
 

@@ -1,11 +1,9 @@
 // Laws about the definitions, for the crates above.
-ghost use Rattle.std.specs.Prelude.{◌≡◌, ◌↔◌, ℕ, List, Bool, IsTrue};
-ghost use Rattle.std.specs.Str.{IsUtf8};
+ghost use Rattle.std.specs.Prelude.{◌≡◌, ℕ, List, Bool};
 ghost use Rattle.iam_text.specs.Arn.{IsArn};
 ghost use Rattle.iam_text.specs.declared.draft.Piece.{Piece};
 ghost use Rattle.iam_text.specs.declared.version.Version.{Version};
 ghost use Rattle.iam_text.specs.Draft.{IsDraftIn};
-ghost use Rattle.iam_text.specs.Variables.{is_draft_in};
 
 /// A text has at most one list of six parts.
 pub fn one_arn()
@@ -15,9 +13,4 @@ pub fn one_arn()
 /// A text has at most one draft in a document of a version.
 pub fn one_draft()
     ensures { (version : Version) (wild : Bool) (text : List ℕ) (pieces other : List Piece) → IsDraftIn version wild text pieces → IsDraftIn version wild text other → pieces ≡ other }
-{}
-
-/// A text has a draft just where it passes the test of the variable grammar.
-pub fn drafts_are_tested()
-    ensures { (version : Version) (wild : Bool) (text : List ℕ) → IsUtf8 text → IsTrue (is_draft_in version text) ↔ ((pieces : List Piece) × IsDraftIn version wild text pieces) }
 {}

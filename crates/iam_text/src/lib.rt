@@ -1,7 +1,6 @@
 //! Texts of IAM policies: patterns with wildcards, texts with variables, and the parts of an ARN.
 #![tactic(auto)]
 
-mod action;
 mod arn;
 mod ascii;
 mod case;
@@ -11,6 +10,7 @@ mod form;
 mod glob;
 mod items;
 mod laws;
+mod short;
 mod sign;
 mod signs;
 mod stretches;
@@ -19,14 +19,13 @@ mod text;
 mod version;
 mod walk;
 
-pub use action::{is_action_pattern, is_wildcard};
 pub use arn::{Arn, has_six_parts};
 pub use characters::{is_account, is_label};
 pub use draft::{Draft, Piece, has_dollar, has_draft, has_forms_behind};
 pub use form::{Form, cut_form};
 pub use glob::Glob;
 pub use items::Items;
-pub use laws::{drafts_are_tested, one_arn, one_draft};
+pub use laws::{one_arn, one_draft};
 pub use sign::{Sign, add_signs};
 pub use signs::Signs;
 pub use stretches::Stretches;

@@ -1,7 +1,8 @@
 // The signs of a pattern, as they are lent.
 ghost use Rattle.std.specs.Prelude.{◌≡◌, ◌<◌, ◌≤◌, ◌↔◌, ◌==◌, IsTrue, drop, length, map, slice_index_or, take};
 ghost use Rattle.std.specs.Str.{chars};
-ghost use Rattle.iam_text.specs.Glob.{Matches, plain_sign, wild_sign};
+ghost use Rattle.iam_text.specs.Draft.{sign_of};
+ghost use Rattle.iam_text.specs.Glob.{Matches};
 ghost use Rattle.iam_text.specs.Signs.{signs_in};
 ghost use Rattle.iam_text.specs.declared.sign.Sign.TheVariants as sign;
 
@@ -26,23 +27,17 @@ enum Lent<'a> {
 }
 
 impl<'a> Signs<'a> {
-    /// The signs of an ASCII text in which `*` and `?` are wildcards.
+    /// The signs of an ASCII text, by whether `*` and `?` are wildcards there.
     #[inline(always)]
-    pub(crate) fn wild(text: &'a [u8]) -> Signs<'a>
-        ensures { signs_in result ≡ map wild_sign text.entry.now }
+    pub(crate) fn of_bytes(text: &'a [u8], wild: bool) -> Signs<'a>
+        ensures { signs_in result ≡ map (sign_of wild) text.entry.now }
     {
         Signs {
-            kind: Lent::Wild(text),
-        }
-    }
-
-    /// The signs of an ASCII text whose characters are all given.
-    #[inline(always)]
-    pub(crate) fn plain(text: &'a [u8]) -> Signs<'a>
-        ensures { signs_in result ≡ map plain_sign text.entry.now }
-    {
-        Signs {
-            kind: Lent::Plain(text),
+            kind: if wild {
+                Lent::Wild(text)
+            } else {
+                Lent::Plain(text)
+            },
         }
     }
 
@@ -96,8 +91,8 @@ impl<'a> Signs<'a> {
         ensures { signs_in result ≡ drop i (signs_in self.entry) }
     {
         match self.kind {
-            Lent::Wild(text) => Signs::wild(&text[i..]),
-            Lent::Plain(text) => Signs::plain(&text[i..]),
+            Lent::Wild(text) => Signs::of_bytes(&text[i..], true),
+            Lent::Plain(text) => Signs::of_bytes(&text[i..], false),
             Lent::Listed(signs) => Signs::listed(&signs[i..]),
         }
     }
@@ -109,8 +104,8 @@ impl<'a> Signs<'a> {
         ensures { signs_in result ≡ take i (signs_in self.entry) }
     {
         match self.kind {
-            Lent::Wild(text) => Signs::wild(&text[..i]),
-            Lent::Plain(text) => Signs::plain(&text[..i]),
+            Lent::Wild(text) => Signs::of_bytes(&text[..i], true),
+            Lent::Plain(text) => Signs::of_bytes(&text[..i], false),
             Lent::Listed(signs) => Signs::listed(&signs[..i]),
         }
     }

@@ -1,8 +1,4 @@
 // A text that may have variables: a pattern where it has none, else a draft.
-ghost use Rattle.std.specs.Prelude.{◌≡◌, IfOk, map};
-ghost use Rattle.std.specs.Str.{chars};
-ghost use Rattle.iam_text.specs.Draft.{sign_of};
-
 use crate::OutOfMemory;
 use crate::draft::{Draft, is_plain};
 use crate::glob::Glob;
@@ -61,7 +57,7 @@ impl Template {
         ensures { IfOk result (IsDraftIn version wild text.now) }
     {
         if is_plain(text, version) {
-            let glob = pattern(alloc, text, wild)?;
+            let glob = Glob::of_text(alloc, text, wild)?;
             return Ok(Template {
                 kind: Kind::Fixed(glob),
             });
@@ -80,16 +76,5 @@ impl Template {
             Kind::Fixed(glob) => TemplateForm::Fixed(glob),
             Kind::Open(draft) => TemplateForm::Open(draft),
         }
-    }
-}
-
-/// The pattern of a text without variables.
-fn pattern(alloc: Global, text: &str, wild: bool) -> Result<Glob, OutOfMemory>
-    ensures { IfOk result (λ glob. glob ≡ map (sign_of wild) (chars text.now)) }
-{
-    if wild {
-        Glob::read(alloc, text)
-    } else {
-        Glob::plain(alloc, text)
     }
 }

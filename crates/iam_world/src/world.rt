@@ -1,8 +1,7 @@
 // Reading a world, from its bytes.
-ghost use Rattle.std.specs.Prelude.{◌≡◌, ◌≢◌, ◌≤◌, map, option_map, IfOk, IfErr};
+ghost use Rattle.std.specs.Prelude.{◌≡◌, ◌≢◌, ◌≤◌, length, map, option_map, IfOk, IfErr};
 ghost use Rattle.std.specs.List.{AllZip, find};
 ghost use Rattle.std.specs.Str.{bytes_eq};
-ghost use Rattle.serde_json.specs.Data.{Data};
 ghost use Rattle.serde_json.specs.View.{view};
 ghost use Rattle.iam_world.specs.Code.ViewFault.{IsFirstViewFault};
 ghost use Rattle.iam_world_context.specs.Clean.{HasContexts};
@@ -12,7 +11,7 @@ ghost use Rattle.iam_shape.specs.Few.{HasFewLists};
 ghost use Rattle.iam_shape.specs.Lent.{principal_of};
 ghost use Rattle.iam_shape.specs.LentWorld.{world_of};
 ghost use Rattle.iam_world.specs.Reads.{ReadsWorld};
-ghost use Rattle.iam_world.specs.WorldFault.{IsJson, IsOverLimits, IsRequesterAt, ViewHasFault, cell_count, statement_count};
+ghost use Rattle.iam_world.specs.WorldFault.{IsFirstWorldFault, IsJson, IsOverLimits, IsRequesterAt, ViewHasFault, cell_count, statement_count};
 ghost use Rattle.iam_world.specs.declared.fault.WorldFault.{WorldFault};
 ghost use Rattle.iam_world.specs.declared.fault.WorldFault.TheVariants as w;
 
@@ -75,17 +74,27 @@ impl Model for WorldParts {
     }) w.cells w.statements w.numbers };
 }
 
-/// The JSON value of bytes.
+/// The JSON value of bytes of which there are not too many.
 fn parse(alloc: Global, bytes: &[u8]) -> Result<Value, WorldFault>
-    ensures ok { IfOk result (λ value. IsJson bytes.now (view value)) }
-    ensures fault { IfErr result (λ fault. fault ≢ w.OutOfMemory
-        → (fault ≡ w.NotJson) × ((d : Data) → ¬ IsJson bytes.now d)) }
+    ensures ok { IfOk result (λ value. (length bytes.now ≤ 8388608) × IsJson bytes.now (view value)) }
+    ensures fault { IfErr result (λ fault. fault ≢ w.OutOfMemory → IsFirstWorldFault bytes.now fault) }
 {
+    if bytes.len() > MOST_BYTES {
+        return Err(WorldFault::TooLarge);
+    }
     match Value::from_slice(alloc, bytes) {
         Ok(value) => Ok(value),
         Err(error) if error.is_memory() => Err(WorldFault::OutOfMemory),
         Err(_) => Err(WorldFault::NotJson),
     }
+}
+
+/// The same of bytes that are let go once their value is made.
+fn parse_vec(alloc: Global, bytes: Vec<u8>) -> Result<Value, WorldFault>
+    ensures ok { IfOk result (λ value. (length bytes.items ≤ 8388608) × IsJson bytes.items (view value)) }
+    ensures fault { IfErr result (λ fault. fault ≢ w.OutOfMemory → IsFirstWorldFault bytes.items fault) }
+{
+    parse(alloc, bytes.as_slice())
 }
 
 /// The number of each account by its id.
@@ -193,15 +202,12 @@ impl WorldParts {
 
     /// The world of a JSON document, or the first fault of its bytes: `TooLarge` for over 8,388,608 of them, then 1
     /// to 8 by number, each at its first place, then `TooLarge` for over 16,777,216 cells or 4,096 statements.
-    /// `OutOfMemory` can come at any point.
-    pub fn read(alloc: Global, bytes: &[u8]) -> Result<WorldParts, WorldFault>
-        ensures ok { IfOk result (IsWorld bytes.now) }
-        ensures fault { IfErr result (λ fault. fault ≢ w.OutOfMemory → IsFirstWorldFault bytes.now fault) }
+    /// `OutOfMemory` can come at any point. The bytes are let go once they are parsed.
+    pub fn read(alloc: Global, bytes: Vec<u8>) -> Result<WorldParts, WorldFault>
+        ensures ok { IfOk result (IsWorld bytes.items) }
+        ensures fault { IfErr result (λ fault. fault ≢ w.OutOfMemory → IsFirstWorldFault bytes.items fault) }
     {
-        if bytes.len() > MOST_BYTES {
-            return Err(WorldFault::TooLarge);
-        }
-        let value = parse(alloc, bytes)?;
+        let value = parse_vec(alloc, bytes)?;
         let world = walk(alloc, &value)?;
         one_view();
         few_documents();

@@ -1,7 +1,7 @@
 // Patterns of actions.
 ghost use Rattle.std.specs.Prelude.{◌≡◌};
 ghost use Rattle.std.specs.List.{list_all};
-ghost use Rattle.iam_text.specs.Action.{is_action_pattern, is_name_character, is_prefix_character, is_wildcard};
+ghost use Rattle.iam_element.specs.ActionPattern.{is_action_pattern, is_name_character, is_prefix_character, is_wildcard};
 ghost use Rattle.iam_text.specs.Characters.{is_run};
 
 /// Whether a text is an action pattern: `*`, or a service prefix, a colon and a name, in which wildcards may stand.
