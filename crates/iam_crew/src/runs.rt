@@ -15,11 +15,10 @@ pub const IDLE_IN_ALL: u32 = 1_048_576;
 fn seat_behind(number: u32, steps: u32, seats: u32) -> u32
     requires few { seats ≤ 64 }
     requires number { number < seats }
-    requires some { 0 < steps }
-    requires steps { steps < seats }
+    requires steps { steps ≤ seats }
     ensures behind { result ≡ (number + steps) % seats }
     ensures inside { result < seats }
-    ensures other { ¬ (result ≡ number) }
+    ensures other { 0 < steps → steps < seats → ¬ (result ≡ number) }
 {
     let behind = number + steps;
     if behind < seats {
@@ -65,12 +64,14 @@ fn seek(work: &Work, seat: &mut WorkSeat, seats: u32, idle: &mut u32) -> Option<
     ensures left { IfSome result (λ _. (idle.new ≤ idle.old) × (idle.old < idle.new + 65_536) × (0 < idle.new)) }
     ensures none { IfNone result ((seat.new ≡ seat.old) × IsSpent idle.old idle.new) }
 {
-    for turn in 0..IDLE_IN_A_ROW.min(*idle) {
-        let found = find(work, seat, turn % seats, seats);
+    let mut steps = 0;
+    for _turn in 0..IDLE_IN_A_ROW.min(*idle) {
+        let found = find(work, seat, steps, seats);
         if found.is_some() {
             return found;
         }
         *idle -= 1;
+        steps = seat_behind(steps, 1, seats);
     }
     None
 }

@@ -1,7 +1,7 @@
 // Patterns against ASCII text, byte by byte.
-ghost use Rattle.std.specs.Prelude.{◌≡◌, ◌↔◌, ◌≤◌, ◌<◌, IsTrue, length, slice_index};
+ghost use Rattle.std.specs.Prelude.{◌≡◌, ◌↔◌, ◌≤◌, ◌<◌, IfSome, IsTrue, length, slice_index};
 ghost use Rattle.iam_text.specs.Signs.{signs_in};
-ghost use Rattle.iam_text.specs.Code.Walk.{Begins, Covers, char_in, Walks, found_at, IsFront, Settles, Later, signs_left};
+ghost use Rattle.iam_text.specs.Code.Walk.{Covers, char_in, IsInFront, Walks, found_at, IsFront, Settles, Later, signs_left};
 
 use crate::case::{Case, covers};
 use crate::sign::Sign;
@@ -34,17 +34,19 @@ pub fn covers_at(sign: Sign, text: &[u8], i: usize, case: Case) -> bool
     i < text.len() && covers(sign, char::from(text[i]), case)
 }
 
-/// How many signs stand before the first `Any`.
-fn front_len(signs: Signs<'_>) -> usize
-    ensures within { result ≤ length (signs_in signs.entry) }
-    ensures begins { Begins (signs_in signs.entry) result }
+/// The last sign before the first `Any`, with its place, if there is one. That none stands behind it only saves time.
+fn last_in_front(signs: Signs<'_>) -> Option<(usize, Sign)>
+    ensures { IfSome result (λ p. IsInFront (signs_in signs.entry) p.0 p.1) }
 {
+    let mut last = None;
     for i in 0..signs.len() {
-        if let Sign::Any = signs.at(i) {
-            return i;
+        let sign = signs.at(i);
+        if let Sign::Any = sign {
+            return last;
         }
+        last = Some((i, sign));
     }
-    signs.len()
+    last
 }
 
 /// Walks the signs before the first `Any`, each of which stands for one character.
@@ -68,17 +70,20 @@ fn walk_front<'a>(signs: Signs<'a>, text: &'a [u8], case: Case) -> Place<'a>
     }
 }
 
-/// Walks the signs before the first `Any`, of which there are so many: the last of them first, which often does not fit.
+/// Walks the signs before the first `Any`: first the last of them alone, which often does not fit.
 #[inline(always)]
-fn try_front<'a>(signs: Signs<'a>, len: usize, text: &'a [u8], case: Case) -> Place<'a>
-    requires within { len ≤ length (signs_in signs) }
-    requires begins { Begins (signs_in signs) len }
+fn try_front<'a>(
+    signs: Signs<'a>,
+    last: Option<(usize, Sign)>,
+    text: &'a [u8],
+    case: Case,
+) -> Place<'a>
+    requires { IfSome last (λ p. IsInFront (signs_in signs) p.0 p.1) }
     ensures { IsFront (char_in case) (signs_in signs.entry) text.entry.now (found_at result) }
 {
-    if len > 0 && !covers_at(signs.at(len - 1), text, len - 1, case) {
-        Place::Off
-    } else {
-        walk_front(signs, text, case)
+    match last {
+        Some((at, sign)) if !covers_at(sign, text, at, case) => Place::Off,
+        _ => walk_front(signs, text, case),
     }
 }
 
@@ -88,10 +93,10 @@ fn first_place<'a>(signs: Signs<'a>, text: &'a [u8], case: Case) -> Place<'a>
     ensures settles { Settles (char_in case) (Later (Walks (char_in case) (signs_in signs.entry)) text.entry.now) (found_at result) }
     ensures fewer { signs_left (found_at result) ≤ length (signs_in signs.entry) }
 {
-    let len = front_len(signs);
+    let last = last_in_front(signs);
     let mut text = text;
     loop {
-        match try_front(signs, len, text, case) {
+        match try_front(signs, last, text, case) {
             Place::Off => {}
             found => return found,
         }
@@ -102,10 +107,8 @@ fn first_place<'a>(signs: Signs<'a>, text: &'a [u8], case: Case) -> Place<'a>
     }
 }
 
-/// Whether the signs match some end of the text.
-///
-/// Each `Any` gives up its text for good once the signs up to the next `Any` fit somewhere, so at each
-/// position a character is compared at most once with each sign (the count is not proved).
+/// Whether the signs match some end of the text, as `match_end` of `walk.rt` says it of any text.
+#[inline(always)]
 pub fn match_end(signs: Signs<'_>, text: &[u8], case: Case) -> bool
     ensures { IsTrue result ↔ Later (Walks (char_in case) (signs_in signs.entry)) text.now }
 {

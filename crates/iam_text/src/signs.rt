@@ -4,8 +4,10 @@ ghost use Rattle.std.specs.Str.{chars};
 ghost use Rattle.iam_text.specs.Draft.{sign_of};
 ghost use Rattle.iam_text.specs.Glob.{Matches};
 ghost use Rattle.iam_text.specs.Signs.{signs_in};
+ghost use Rattle.iam_text.specs.Code.Walk.{char_in, Later, Walks};
 ghost use Rattle.iam_text.specs.declared.sign.Sign.TheVariants as sign;
 
+use crate::ascii::match_end;
 use crate::case::Case;
 use crate::sign::Sign;
 use crate::walk::matches;
@@ -107,6 +109,17 @@ impl<'a> Signs<'a> {
             Lent::Wild(text) => Signs::of_bytes(&text[..i], true),
             Lent::Plain(text) => Signs::of_bytes(&text[..i], false),
             Lent::Listed(signs) => Signs::listed(&signs[..i]),
+        }
+    }
+
+    /// Whether the signs match some end of a text of ASCII characters. How they are kept is asked once, and not at each sign.
+    pub(crate) fn matches_end(self, text: &[u8], case: Case) -> bool
+        ensures { IsTrue result ↔ Later (Walks (char_in case) (signs_in self.entry)) text.now }
+    {
+        match self.kind {
+            Lent::Wild(signs) => match_end(Signs::of_bytes(signs, true), text, case),
+            Lent::Plain(signs) => match_end(Signs::of_bytes(signs, false), text, case),
+            Lent::Listed(signs) => match_end(Signs::listed(signs), text, case),
         }
     }
 

@@ -168,7 +168,7 @@ fn end_matches(signs: Signs<'_>, text: &str, case: Case) -> bool
     if signs.is_empty() {
         true
     } else if text.is_ascii() {
-        ascii::match_end(signs, text.as_bytes(), case)
+        signs.matches_end(text.as_bytes(), case)
     } else {
         match_end(signs, text, case)
     }

@@ -1,5 +1,5 @@
 -- The walk that the matcher takes, beside the definition that it meets (`Glob`).
-use Rattle.std.specs.Prelude.{◌≡◌, ◌↔◌, ℕ, zero, suc, List, [], ◌∷◌, ◌++◌, ⊤, ◌⊎◌, length, All}
+use Rattle.std.specs.Prelude.{◌≡◌, ◌↔◌, ◌<◌, ℕ, zero, suc, List, [], ◌∷◌, ◌++◌, ⊤, ◌⊎◌, length, All, slice_index_or}
 use Rattle.std.specs.Str.{chars}
 use Rattle.iam_text.specs.Glob.{folded}
 use Rattle.iam_text.specs.Signs.{signs_in}
@@ -106,6 +106,10 @@ Begins [] (suc n) = ⊥
 Begins (Given c ∷ signs) (suc n) = Begins signs n
 Begins (One ∷ signs) (suc n) = Begins signs n
 Begins (Any ∷ signs) (suc n) = ⊥
+
+-- a sign before the first `Any`, by its place
+abbrev pub IsInFront : List Sign → ℕ → Sign → Type 0
+IsInFront signs i sign = (i < length signs) × Begins signs (suc i) × (sign ≡ slice_index_or signs i Any)
 
 -- a given character
 abbrev pub IsGiven : Sign → Type 0

@@ -10,5 +10,5 @@ returns-then-is_empty c = (λ t. later_all _ _ _ (sym c.is_empty.ensures ∙ c.i
 
 pub returns-then-is_ascii : goal.returns-then-is_ascii
 returns-then-is_ascii c =
-    let P : List ℕ → Type 0 = λ t. IsTrue c.match_end.result ↔ Later (Walks (char_in c.args.case) (signs_in c.args.signs)) t in
-    subst P (c.as_bytes.ensures.value ∙ sym (chars-IsAscii c.args.text.now c.if-is_ascii.ensures.cases)) c.match_end.ensures
+    let P : List ℕ → Type 0 = λ t. IsTrue c.matches_end.result ↔ Later (Walks (char_in c.args.case) (signs_in c.args.signs)) t in
+    subst P (c.as_bytes.ensures.value ∙ sym (chars-IsAscii c.args.text.now c.if-is_ascii.ensures.cases)) c.matches_end.ensures
