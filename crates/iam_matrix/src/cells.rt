@@ -90,8 +90,7 @@ impl<'a, E: Entry + Send + Sync> Crew for Entries<'a, E> {
         _bound: &mut Bound<'_>,
         tile: u64,
     ) -> Result<Vec<E>, OutOfMemory> {
-        gate.before(tile);
-        let (from, count) = self.cut.cells_of(tile);
+        let (from, count) = self.cut.begin(gate, tile);
         entries_of(alloc, engine, from, count)
     }
 

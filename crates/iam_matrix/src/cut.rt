@@ -3,6 +3,7 @@ ghost use Rattle.std.specs.Prelude.{◌≡◌, ◌≢◌, ◌↔◌, ℕ, ◌+�
 ghost use Rattle.iam_matrix.specs.Code.Starts.{AreStarts};
 ghost use Rattle.iam_matrix.specs.Cut.{even_lengths};
 
+use iam_crew::Gate;
 use iam_text::OutOfMemory;
 use std::alloc::Global;
 use std::fmt::{self, Display, Formatter, Write};
@@ -140,13 +141,24 @@ impl Cut {
         self.lengths.as_slice()
     }
 
-    /// The first cell of a tile, and how many it has; there has to be such a tile.
-    pub(crate) fn cells_of(&self, tile: u64) -> (u64, u64)
+    /// The first cell of a tile; there has to be such a tile.
+    pub(crate) fn first_cell(&self, tile: u64) -> u64
+        requires { tile < length self.now }
+        ensures { result ≡ start_of self.now tile }
+    {
+        self.starts[tile as usize]
+    }
+
+    /// Tells the gate that a tile begins: its first cell, and how many it has; there has to be such a tile.
+    ///
+    /// No other call gives the cells of a tile, so none of them is decided before the gate is told.
+    pub(crate) fn begin<G: Gate>(&self, gate: &G, tile: u64) -> (u64, u64)
         requires { tile < length self.now }
         ensures from { result.0 ≡ start_of self.now tile }
         ensures count { result.1 ≡ slice_index self.now tile }
         ensures within { result.0 + result.1 ≤ sum self.now }
     {
+        gate.before(tile);
         (self.starts[tile as usize], self.lengths[tile as usize])
     }
 }

@@ -54,8 +54,7 @@ impl<'a> Crew for Rows<'a> {
         _bound: &mut Bound<'_>,
         tile: u64,
     ) -> Result<Tile, OutOfMemory> {
-        gate.before(tile);
-        let (from, count) = self.cut.cells_of(tile);
+        let (from, count) = self.cut.begin(gate, tile);
         tile_of(alloc, engine, self.format, self.brief, from, count)
     }
 

@@ -56,11 +56,10 @@ impl<'a> Crew for Search<'a> {
         bound: &mut Bound<'_>,
         tile: u64,
     ) -> Result<(), OutOfMemory> {
-        let (from, count) = self.cut.cells_of(tile);
-        if is_behind(bound.look(), from) {
+        if is_behind(bound.look(), self.cut.first_cell(tile)) {
             return Ok(());
         }
-        gate.before(tile);
+        let (from, count) = self.cut.begin(gate, tile);
         let Some(cell) = first_in(alloc, engine, from, count)? else {
             return Ok(());
         };
