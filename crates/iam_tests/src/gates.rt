@@ -1,8 +1,8 @@
 // The gate that is told before each tile: in which order, by which workers, and what they steal from one another.
 
-use crate::matrix::{CSV, DENIED, HOME, are_verdicts};
+use crate::matrix::{CSV, DENIED, HOME, are_decisions, are_verdicts};
 use iam_layers::World;
-use iam_matrix::{Cut, Format, Gate, first, matrix, matrix_report};
+use iam_matrix::{Cut, Format, Gate, first, matrix, matrix_brief, matrix_report};
 use std::alloc::Global;
 use std::hint::spin_loop;
 use std::sync::atomic::{AtomicBool, AtomicU64, Ordering};
@@ -121,45 +121,75 @@ impl Gate for Ahead {
     }
 }
 
-/// Whether so many workers bring the report of the twelve cells in tiles of one cell.
-fn is_reported<R: Threads + Sync, G: Gate + Sync>(
+/// What is asked of the twelve cells.
+#[derive(Clone, Copy)]
+enum Asked {
+    Report,
+    Verdicts,
+    Decisions,
+}
+
+const EACH: [Asked; 3] = [Asked::Report, Asked::Verdicts, Asked::Decisions];
+
+/// Whether so many workers bring it, in tiles of one cell.
+fn is_brought<R: Threads + Sync, G: Gate + Sync>(
     rt: &R,
     alloc: Global,
+    asked: Asked,
     workers: u32,
     gate: &G,
 ) -> Result<bool, Fail> {
     let world = World::read(alloc, HOME.as_bytes())?;
     let cut = Cut::even(alloc, 1, world.cells())?;
-    let report = matrix_report(rt, alloc, &world, &cut, workers, gate, Format::Csv, false)?;
-    let mut text = Vec::new(alloc);
-    let mut kept = Vec::new(alloc);
-    report.write_to(&mut text, &mut kept)?;
-    Ok(text.as_slice() == CSV.as_bytes())
+    match asked {
+        Asked::Report => {
+            let report = matrix_report(rt, alloc, &world, &cut, workers, gate, Format::Csv, false)?;
+            let mut text = Vec::new(alloc);
+            let mut kept = Vec::new(alloc);
+            report.write_to(&mut text, &mut kept)?;
+            Ok(text.as_slice() == CSV.as_bytes())
+        }
+        Asked::Verdicts => {
+            let verdicts = matrix(rt, alloc, &world, &cut, workers, gate)?;
+            Ok(are_verdicts(&verdicts))
+        }
+        Asked::Decisions => {
+            let decisions = matrix_brief(rt, alloc, &world, &cut, workers, gate)?;
+            Ok(are_decisions(&decisions))
+        }
+    }
 }
 
 #[test]
 fn one_worker_halves_its_runs_and_takes_them_from_the_front(rt: HostRuntime) -> Result<(), Fail> {
-    let gate = Record::of(&rt, rt.alloc(), 1);
-    assert!(rt; is_reported(&rt, rt.alloc(), 1, &gate)?);
     let order = [0, 6, 3, 1, 9, 7, 4, 2, 10, 8, 5, 11];
-    assert_eq!(rt; gate.tiles.lock(&rt).as_slice(), order.as_slice());
+    for asked in EACH {
+        let gate = Record::of(&rt, rt.alloc(), 1);
+        assert!(rt; is_brought(&rt, rt.alloc(), asked, 1, &gate)?);
+        assert_eq!(rt; gate.tiles.lock(&rt).as_slice(), order.as_slice());
+    }
     Ok(())
+}
+
+/// Whether so many workers tell the gate of each tile once.
+fn is_told_once<R: Threads + Wait + Sync>(
+    rt: &R,
+    alloc: Global,
+    asked: Asked,
+    workers: u32,
+) -> Result<bool, Fail> {
+    let gate = Record::of(rt, alloc, 1);
+    let is_right = is_brought(rt, alloc, asked, workers, &gate)?;
+    let mut tiles = gate.tiles.lock(rt);
+    tiles.sort_unstable();
+    Ok(is_right && tiles.as_slice() == [0, 1, 2, 3, 4, 5, 6, 7, 8, 9, 10, 11].as_slice())
 }
 
 #[test]
 fn the_gate_is_told_of_each_tile_once(rt: HostRuntime) -> Result<(), Fail> {
-    let alloc = rt.alloc();
-    let world = World::read(alloc, HOME.as_bytes())?;
-    let cut = Cut::even(alloc, 1, world.cells())?;
     for workers in [1, 4, 64] {
-        let gates = [Record::of(&rt, alloc, 1), Record::of(&rt, alloc, 1)];
-        assert!(rt; is_reported(&rt, alloc, workers, &gates[0])?);
-        assert!(rt; are_verdicts(&matrix(&rt, alloc, &world, &cut, workers, &gates[1])?));
-        for gate in &gates {
-            let mut tiles = gate.tiles.lock(&rt);
-            tiles.sort_unstable();
-            let each = [0, 1, 2, 3, 4, 5, 6, 7, 8, 9, 10, 11];
-            assert_eq!(rt; tiles.as_slice(), each.as_slice());
+        for asked in EACH {
+            assert!(rt; is_told_once(&rt, rt.alloc(), asked, workers)?);
         }
     }
     Ok(())
@@ -174,7 +204,7 @@ fn do_begin_at<R: Threads + Wait + Sync>(
 ) -> Result<bool, Fail> {
     for _run in 0..3 {
         let gate = Record::of(rt, alloc, u64::from(workers));
-        if !is_reported(rt, alloc, workers, &gate)? {
+        if !is_brought(rt, alloc, Asked::Report, workers, &gate)? {
             return Ok(false);
         }
         let mut begun = gate.tiles.lock(rt);
@@ -196,17 +226,18 @@ fn each_worker_begins_with_a_run_of_its_own(rt: HostRuntime) -> Result<(), Fail>
     Ok(())
 }
 
-/// Whether so many workers begin the awaited tiles of a report while the held ones wait, in one of three runs.
+/// Whether so many workers begin the awaited tiles while the held ones wait, in one of three runs.
 fn are_stolen<R: Threads + Sync>(
     rt: &R,
     alloc: Global,
+    asked: Asked,
     workers: u32,
     held: [u64; 2],
     awaited: [u64; 2],
 ) -> Result<bool, Fail> {
     for _run in 0..3 {
         let gate = Hold::of(held, awaited);
-        if is_reported(rt, alloc, workers, &gate)? && gate.is_met() {
+        if is_brought(rt, alloc, asked, workers, &gate)? && gate.is_met() {
             return Ok(true);
         }
     }
@@ -215,8 +246,9 @@ fn are_stolen<R: Threads + Sync>(
 
 #[test]
 fn tiles_of_workers_that_wait_are_stolen_by_another(rt: HostRuntime) -> Result<(), Fail> {
-    for (workers, held, awaited) in [(2, [0, 1], [0, 1]), (3, [0, 8], [1, 9])] {
-        assert!(rt; are_stolen(&rt, rt.alloc(), workers, held, awaited)?);
+    for asked in EACH {
+        assert!(rt; are_stolen(&rt, rt.alloc(), asked, 2, [0, 1], [0, 1])?);
+        assert!(rt; are_stolen(&rt, rt.alloc(), asked, 3, [0, 8], [1, 9])?);
     }
     Ok(())
 }

@@ -104,7 +104,7 @@ pub fn are_verdicts(verdicts: &[Verdict]) -> bool {
     verdicts.len() == 12 && cells.all(|(cell, verdict)| is_verdict(cell, verdict))
 }
 
-fn are_decisions(decisions: &[Decision]) -> bool {
+pub fn are_decisions(decisions: &[Decision]) -> bool {
     let mut cells = decisions.iter().enumerate();
     decisions.len() == 12 && cells.all(|(cell, decision)| is_decision(cell, *decision))
 }
