@@ -71,6 +71,7 @@ fn seek(work: &Work, seat: &mut WorkSeat, seats: u32, idle: &mut u32) -> Option<
             return found;
         }
         *idle -= 1;
+        // Steps go round as seats do: behind the last deque comes the worker's own.
         steps = seat_behind(steps, 1, seats);
     }
     None

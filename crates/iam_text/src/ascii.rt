@@ -34,7 +34,7 @@ pub fn covers_at(sign: Sign, text: &[u8], i: usize, case: Case) -> bool
     i < text.len() && covers(sign, char::from(text[i]), case)
 }
 
-/// The last sign before the first `Any`, with its place, if there is one. That none stands behind it only saves time.
+/// The last sign before the first `Any`, with its place. Another one before the `Any` would do too, and take longer.
 fn last_in_front(signs: Signs<'_>) -> Option<(usize, Sign)>
     ensures { IfSome result (λ p. IsInFront (signs_in signs.entry) p.0 p.1) }
 {
@@ -107,7 +107,7 @@ fn first_place<'a>(signs: Signs<'a>, text: &'a [u8], case: Case) -> Place<'a>
     }
 }
 
-/// Whether the signs match some end of the text, as `match_end` of `walk.rt` says it of any text.
+/// Whether the signs match some end of the text.
 #[inline(always)]
 pub fn match_end(signs: Signs<'_>, text: &[u8], case: Case) -> bool
     ensures { IsTrue result ↔ Later (Walks (char_in case) (signs_in signs.entry)) text.now }
