@@ -151,7 +151,7 @@ impl Cut {
 
     /// Tells the gate that a tile begins: its first cell, and how many it has; there has to be such a tile.
     ///
-    /// No other call gives the cells of a tile, so none of them is decided before the gate is told.
+    /// Each crew takes the cells of its tile from here, so it decides none of them before the gate is told. No contract says so.
     pub(crate) fn begin<G: Gate>(&self, gate: &G, tile: u64) -> (u64, u64)
         requires { tile < length self.now }
         ensures from { result.0 ≡ start_of self.now tile }
