@@ -2,3 +2,4 @@ mod ListLemmas
 mod SlotLemmas
 mod ElementLemmas
 mod MemoLemmas
+mod SurveyLemmas

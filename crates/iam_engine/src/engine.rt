@@ -1,13 +1,17 @@
 // The engine as its callers see it.
-ghost use Rattle.std.specs.Prelude.{◌≡◌, ◌<◌, All, IfOk, Some, length};
+ghost use Rattle.std.specs.Prelude.{◌≡◌, ◌<◌, All, IfOk, IfSome, Some, length};
 ghost use Rattle.std.specs.List.{slice_get};
+ghost use Rattle.iam_layers.specs.Cell.{IsSharedAt};
+ghost use Rattle.iam_world.specs.World.{WorldValue};
 ghost use Rattle.iam_engine.specs.Keys.{AreKeys};
 ghost use Rattle.iam_engine.specs.Memo.{HasClass, IsNumber, IsRight};
 ghost use Rattle.iam_engine.specs.declared.memo.Class.{Class};
 
+use crate::held::Held;
 use crate::keys::{Keys, no_keys, shared_by};
 use crate::memo::Memo;
-use iam_layers::{Decision, Matched, Verdict, World};
+use crate::survey::Survey;
+use iam_layers::{Decision, Matched, Shared, Verdict, World};
 use iam_text::OutOfMemory;
 use std::alloc::Global;
 use std::marker::Model;
@@ -17,6 +21,8 @@ use std::marker::Model;
 #[derive(Drop)]
 pub struct Engine<'a> {
     world: &'a World,
+    // What was found before.
+    survey: Option<&'a Survey<'a>>,
     memo: Memo<'a>,
     // The derived keys that were made last, of one principal.
     keys: Vec<Keys>,
@@ -25,7 +31,7 @@ pub struct Engine<'a> {
 }
 
 impl<'a> Model for Engine<'a> {
-    ghost use Rattle.std.specs.Prelude.{All};
+    ghost use Rattle.std.specs.Prelude.{◌≡◌, All, IfSome};
     ghost use Rattle.iam_engine.specs.Engine.{EngineValue};
     ghost use Rattle.iam_engine.specs.Keys.{AreKeys};
     ghost use Rattle.iam_engine.specs.Memo.{IsRight};
@@ -34,17 +40,41 @@ impl<'a> Model for Engine<'a> {
 
     ghost view = { λ engine. record { world = engine.world.now; rulings = engine.memo.rulings.items } };
 
-    ghost invariant = { λ engine. IsRight engine.world.now engine.memo × All (AreKeys engine.world.now) engine.keys.items };
+    ghost invariant = { λ engine. IfSome engine.survey (λ survey. survey.now ≡ engine.world.now) × IsRight engine.world.now engine.memo
+        × All (AreKeys engine.world.now) engine.keys.items };
 }
 
 impl<'a> Engine<'a> {
-    ghost use Rattle.std.specs.Prelude.{◌≡◌, ◌<◌, ℕ, IfOk, length};
+    ghost use Rattle.std.specs.Prelude.{◌≡◌, ◌<◌, ℕ, IfOk, IfSome, length};
     ghost use Rattle.iam_world.specs.World.{world_cells};
     ghost use Rattle.iam_layers.specs.Cell.{IsDecisionOf, IsVerdictAt, IsVerdictOf};
     ghost use Rattle.iam_engine.specs.Engine.{IsNumberAt};
 
     /// An engine of this world, one of so many that share the bounds on what is kept.
     pub fn new(alloc: Global, world: &'a World, engines: u32) -> Result<Engine<'a>, OutOfMemory>
+        ensures { IfOk result (λ engine. engine.world ≡ world.entry.now) }
+    {
+        Engine::with(alloc, world, None, engines)
+    }
+
+    /// An engine of the world of a survey, which begins with what was found there, as [`Engine::new`] gives it.
+    pub fn surveyed(
+        alloc: Global,
+        survey: &'a Survey<'a>,
+        engines: u32,
+    ) -> Result<Engine<'a>, OutOfMemory>
+        ensures { IfOk result (λ engine. engine.world ≡ survey.entry.now) }
+    {
+        Engine::with(alloc, survey.world(), Some(survey), engines)
+    }
+
+    fn with(
+        alloc: Global,
+        world: &'a World,
+        survey: Option<&'a Survey<'a>>,
+        engines: u32,
+    ) -> Result<Engine<'a>, OutOfMemory>
+        requires { IfSome survey (λ survey. survey.now ≡ world.now) }
         ensures { IfOk result (λ engine. engine.world ≡ world.entry.now) }
     {
         let memo = Memo::new(
@@ -56,6 +86,7 @@ impl<'a> Engine<'a> {
         )?;
         Ok(Engine {
             world,
+            survey,
             memo,
             keys: no_keys(alloc),
             found: Vec::new(alloc),
@@ -103,7 +134,15 @@ impl<'a> Engine<'a> {
         ensures number { IfOk result (IsNumberAt self.new p a r) }
         ensures same { self.new.world ≡ self.old.world }
     {
-        let class = class_of(alloc, self.world, &mut self.memo, &mut self.keys, p, r)?;
+        let class = class_of(
+            alloc,
+            self.world,
+            self.survey,
+            &mut self.memo,
+            &mut self.keys,
+            p,
+            r,
+        )?;
         number_of(alloc, self.world, &mut self.memo, &mut self.found, class, a)
     }
 
@@ -122,11 +161,13 @@ impl<'a> Engine<'a> {
 fn class_of<'a>(
     alloc: Global,
     world: &'a World,
+    survey: Option<&'a Survey<'a>>,
     memo: &mut Memo<'a>,
     keys: &mut Vec<Keys>,
     p: u64,
     r: u64,
 ) -> Result<usize, OutOfMemory>
+    requires survey { IfSome survey (λ survey. survey.now ≡ world.now) }
     requires principal { p < length world.now.principals }
     requires resource { r < length world.now.resources }
     requires right { IsRight world.now memo.old }
@@ -137,20 +178,22 @@ fn class_of<'a>(
 {
     match memo.class_of(p, r) {
         Some(class) => Ok(class),
-        None => find_class(alloc, world, memo, keys, p, r),
+        None => find_class(alloc, world, survey, memo, keys, p, r),
     }
 }
 
-/// The class of principal p and resource r, by a scan of all statements that apply.
+/// The class of principal p and resource r, by what a survey found, or else by a scan of all statements that apply.
 #[inline(never)]
 fn find_class<'a>(
     alloc: Global,
     world: &'a World,
+    survey: Option<&'a Survey<'a>>,
     memo: &mut Memo<'a>,
     keys: &mut Vec<Keys>,
     p: u64,
     r: u64,
 ) -> Result<usize, OutOfMemory>
+    requires survey { IfSome survey (λ survey. survey.now ≡ world.now) }
     requires principal { p < length world.now.principals }
     requires resource { r < length world.now.resources }
     requires right { IsRight world.now memo.old }
@@ -159,8 +202,38 @@ fn find_class<'a>(
     ensures keys { All (AreKeys world.entry.now) keys.new.items }
     ensures class { IfOk result (HasClass world.entry.now memo.new.classes.items p r) }
 {
-    let shared = shared_by(alloc, world, keys, p, r)?;
+    let shared = held_by(alloc, world, survey, keys, p, r)?;
     memo.class_with(alloc, world, p, r, shared)
+}
+
+/// What the requests of principal p for resource r share, as a survey found it, or by a scan.
+fn held_by<'a>(
+    alloc: Global,
+    world: &'a World,
+    survey: Option<&'a Survey<'a>>,
+    keys: &mut Vec<Keys>,
+    p: u64,
+    r: u64,
+) -> Result<Held<'a>, OutOfMemory>
+    requires survey { IfSome survey (λ survey. survey.now ≡ world.now) }
+    requires principal { p < length world.now.principals }
+    requires resource { r < length world.now.resources }
+    requires keys { All (AreKeys world.now) keys.old.items }
+    ensures keys { All (AreKeys world.entry.now) keys.new.items }
+    ensures shared { IfOk result (IsSharedAt world.entry.now p r) }
+{
+    match lent(survey, p, r) {
+        Some(shared) => Ok(Held::lent(shared)),
+        None => Ok(Held::own(shared_by(alloc, world, keys, p, r)?)),
+    }
+}
+
+/// What the requests of principal p for resource r share, where a survey found it.
+fn lent<'a>(survey: Option<&'a Survey<'a>>, p: u64, r: u64) -> Option<&'a Shared<'a>>
+    requires { IfSome survey (λ survey. r < length survey.now.resources) }
+    ensures { (world : WorldValue) → IfSome survey.entry (λ survey. survey.now ≡ world) → IfSome result (λ shared. IsSharedAt world p r shared.now) }
+{
+    survey?.shared(p, r)
 }
 
 /// The number of the verdict on requests of a class for action a.

@@ -3,8 +3,11 @@
 
 mod elements;
 mod engine;
+mod held;
 mod keys;
 mod memo;
 mod slots;
+mod survey;
 
 pub use engine::Engine;
+pub use survey::{Block, Survey, Surveyor, wants_survey};

@@ -7,6 +7,7 @@ ghost use Rattle.iam_engine.specs.Memo.{HasClass, HasNumber, HasRuling, HasShare
 ghost use Rattle.iam_engine.specs.declared.memo.Class.{Class};
 
 use crate::elements::Elements;
+use crate::held::Held;
 use crate::slots::{WIDTH, empty, empty_slots, keep, kept, slot_at, slot_of};
 use iam_decision::acting_are_found;
 use iam_layers::{Frame, Matched, Ruling, Shared, World};
@@ -29,7 +30,7 @@ const PRINTS: u64 = 4_096;
 /// Requests that share the same: what they share, and which of the kept action elements are those of its statements.
 #[derive(Drop)]
 pub struct Class<'a> {
-    pub shared: Shared<'a>,
+    pub shared: Held<'a>,
     pub rows: Vec<Option<usize>>,
 }
 
@@ -158,7 +159,7 @@ impl<'a> Memo<'a> {
         world: &World,
         p: u64,
         r: u64,
-        shared: Shared<'a>,
+        shared: Held<'a>,
     ) -> Result<usize, OutOfMemory>
         ensures right { IsRight world.now self.old → IsSharedAt world.now p r shared.entry → IsRight world.now self.new }
         ensures class { IsSharedAt world.now p r shared.entry → IfOk result (HasClass world.now self.new.classes.items p r) }
@@ -177,17 +178,17 @@ impl<'a> Memo<'a> {
         &mut self,
         alloc: Global,
         world: &World,
-        shared: Shared<'a>,
+        shared: Held<'a>,
     ) -> Result<usize, OutOfMemory>
         ensures right { IsRight world.now self.old → IsRight world.now self.new }
         ensures class { IfOk result (HasShared self.new.classes.items shared.entry) }
     {
-        let print = shared.print();
-        if let Some(class) = self.class_printed(print, &shared) {
+        let print = shared.get().print();
+        if let Some(class) = self.class_printed(print, shared.get()) {
             return Ok(class);
         }
         // A class without statements takes room too.
-        self.make_room(shared.living().len().saturating_add(1));
+        self.make_room(shared.get().living().len().saturating_add(1));
         self.add(alloc, world, print, shared)
     }
 
@@ -199,7 +200,7 @@ impl<'a> Memo<'a> {
             self.class_prints.as_slice(),
             slot_of(0, print, PRINTS as usize),
         )?;
-        if class < self.classes.len() && self.classes[class].shared.equals(shared) {
+        if class < self.classes.len() && self.classes[class].shared.get().equals(shared) {
             Some(class)
         } else {
             None
@@ -222,12 +223,12 @@ impl<'a> Memo<'a> {
         alloc: Global,
         world: &World,
         print: u64,
-        shared: Shared<'a>,
+        shared: Held<'a>,
     ) -> Result<usize, OutOfMemory>
         ensures right { IsRight world.now self.old → IsRight world.now self.new }
         ensures class { IfOk result (HasShared self.new.classes.items shared.entry) }
     {
-        let rows = self.elements.rows(alloc, world, shared.living())?;
+        let rows = self.elements.rows(alloc, world, shared.get().living())?;
         let class = self.classes.len();
         self.classes.push(Class { shared, rows })?;
         keep(
@@ -294,10 +295,11 @@ impl<'a> Memo<'a> {
     {
         let class = &self.classes[class];
         let rows = class.rows.as_slice();
-        let living = class.shared.living();
+        let shared = class.shared.get();
         acting_are_found();
-        self.elements.put_acting(found, living, rows, a, text)?;
-        Ok(class.shared.frame())
+        self.elements
+            .put_acting(found, shared.living(), rows, a, text)?;
+        Ok(shared.frame())
     }
 
     /// The number of the verdict that follows from this; it is made where it is not kept.

@@ -6,12 +6,13 @@ ghost use Rattle.iam_matrix.specs.Matrix.{IsBriefMatrix, IsMatrix};
 ghost use Rattle.iam_matrix.specs.Code.Tiles.{AreEntries};
 ghost use Rattle.iam_matrix.specs.Workers.{IsUnlawful};
 
-use crate::cut::Cut;
+use crate::cut::{Begun, Cut};
 use crate::each::end_of;
 use crate::fault::MatrixFault;
+use crate::survey::survey_of;
 use crate::workers::is_unlawful;
 use iam_crew::{Bound, Crew, Gate, gather};
-use iam_engine::Engine;
+use iam_engine::{Engine, Survey};
 use iam_layers::{Decision, Verdict, World};
 use iam_text::OutOfMemory;
 use std::alloc::Global;
@@ -55,7 +56,7 @@ impl Entry for Decision {
 /// Those who make the entries of a world's cells.
 #[derive(Drop)]
 struct Entries<'a, E> {
-    world: &'a World,
+    survey: &'a Survey<'a>,
     cut: &'a Cut,
     workers: u32,
     made: PhantomData<E>,
@@ -70,16 +71,16 @@ impl<'a, E: Entry + Send + Sync> Crew for Entries<'a, E> {
 
     type Tools = Engine<'a>;
 
-    ghost fits = { λ crew engine. engine.world ≡ crew.world.now };
+    ghost fits = { λ crew engine. engine.world ≡ crew.survey.now };
 
-    ghost takes = { λ crew tile. IsTileOf crew.world.now crew.cut.now tile };
+    ghost takes = { λ crew tile. IsTileOf crew.survey.now crew.cut.now tile };
 
     ghost offers = { λ _ _. ⊥ };
 
-    ghost gives = { λ crew tile output _. AreEntries (E.is crew.world.now) (start_of crew.cut.now tile) (slice_index crew.cut.now tile) output.items };
+    ghost gives = { λ crew tile output _. AreEntries (E.is crew.survey.now) (start_of crew.cut.now tile) (slice_index crew.cut.now tile) output.items };
 
     fn tools(&self, alloc: Global) -> Result<Engine<'a>, OutOfMemory> {
-        Engine::new(alloc, self.world, self.workers)
+        Engine::surveyed(alloc, self.survey, self.workers)
     }
 
     fn work<G: Gate>(
@@ -90,27 +91,25 @@ impl<'a, E: Entry + Send + Sync> Crew for Entries<'a, E> {
         _bound: &mut Bound<'_>,
         tile: u64,
     ) -> Result<Vec<E>, OutOfMemory> {
-        let (from, count) = self.cut.begin(gate, tile);
-        entries_of(alloc, engine, from, count)
+        entries_of(alloc, engine, self.cut.begin(gate, tile))
     }
 
     ghost lasts = { λ _ _ _ _ _ _ given. given };
 }
 
-/// The entries of so many cells from this one on.
+/// The entries of the cells of a tile.
 fn entries_of<E: Entry>(
     alloc: Global,
     engine: &mut Engine<'_>,
-    from: u64,
-    count: u64,
+    tile: Begun,
 ) -> Result<Vec<E>, OutOfMemory>
-    requires { from + count ≤ world_cells engine.old.world }
-    ensures entries { IfOk result (λ entries. AreEntries (E.is engine.old.world) from count entries.items) }
+    requires { tile.from + tile.count ≤ world_cells engine.old.world }
+    ensures entries { IfOk result (λ entries. AreEntries (E.is engine.old.world) tile.from tile.count entries.items) }
     ensures same { engine.new.world ≡ engine.old.world }
 {
-    let end = end_of(engine.world(), from, count);
+    let end = end_of(engine.world(), tile.from, tile.count);
     let mut entries = Vec::new(alloc);
-    for cell in from..end {
+    for cell in tile.from..end {
         entries.push(E::at(alloc, engine, cell)?)?;
     }
     Ok(entries)
@@ -143,15 +142,33 @@ fn all_entries<R: Threads + Sync, G: Gate + Sync, E: Entry + Send + Sync>(
     if is_unlawful(workers) {
         return Err(MatrixFault::Workers);
     }
+    let survey = survey_of(rt, alloc, world, workers)?;
+    Ok(surveyed_entries(rt, alloc, &survey, cut, workers, gate)?)
+}
+
+/// The entries of all cells of a survey's world, in the order of the cells' numbers.
+fn surveyed_entries<R: Threads + Sync, G: Gate + Sync, E: Entry + Send + Sync>(
+    rt: &R,
+    alloc: Global,
+    survey: &Survey<'_>,
+    cut: &Cut,
+    workers: u32,
+    gate: &G,
+) -> Result<Vec<E>, OutOfMemory>
+    requires some { 1 ≤ workers }
+    requires few { workers ≤ 64 }
+    requires cut { sum cut.now ≡ world_cells survey.now }
+    ensures { IfOk result (λ entries. AreEntries (E.is survey.now) 0 (world_cells survey.now) entries.items) }
+{
     let tiles = cut.lengths().len() as u64;
     let crew = Entries {
-        world,
+        survey,
         cut,
         workers,
         made: PhantomData,
     };
     let gathered = gather(rt, alloc, &crew, tiles, workers, gate)?;
-    Ok(joined(alloc, gathered.outputs)?)
+    joined(alloc, gathered.outputs)
 }
 
 /// The matrix of a world: the verdict of each cell, in the order of the cells' numbers. The tiles of the cut, which has

@@ -20,6 +20,15 @@ pub struct Cut {
     starts: Vec<u64>,
 }
 
+/// The cells of a tile that has begun: so many from this one on. Tiles are decided by what [`Cut::begin`] gives alone, and nothing
+/// else can make it, so no cell is decided before the gate is told.
+#[derive(Clone, Copy)]
+pub(crate) struct Begun {
+    pub(crate) from: u64,
+    pub(crate) count: u64,
+    _told: (),
+}
+
 impl Model for Cut {
     ghost use Rattle.std.specs.Prelude.{◌≤◌, List, ℕ, vec_len};
     ghost use Rattle.iam_matrix.specs.Code.Starts.{AreStarts};
@@ -149,17 +158,19 @@ impl Cut {
         self.starts[tile as usize]
     }
 
-    /// Tells the gate that a tile begins: its first cell, and how many it has; there has to be such a tile.
-    ///
-    /// Each crew takes the cells of its tile from here, so it decides none of them before the gate is told. No contract says so.
-    pub(crate) fn begin<G: Gate>(&self, gate: &G, tile: u64) -> (u64, u64)
+    /// Tells the gate that a tile begins, and gives its cells; there has to be such a tile.
+    pub(crate) fn begin<G: Gate>(&self, gate: &G, tile: u64) -> Begun
         requires { tile < length self.now }
-        ensures from { result.0 ≡ start_of self.now tile }
-        ensures count { result.1 ≡ slice_index self.now tile }
-        ensures within { result.0 + result.1 ≤ sum self.now }
+        ensures from { result.from ≡ start_of self.now tile }
+        ensures count { result.count ≡ slice_index self.now tile }
+        ensures within { result.from + result.count ≤ sum self.now }
     {
         gate.before(tile);
-        (self.starts[tile as usize], self.lengths[tile as usize])
+        Begun {
+            from: self.starts[tile as usize],
+            count: self.lengths[tile as usize],
+            _told: (),
+        }
     }
 }
 

@@ -11,6 +11,7 @@ mod laws;
 mod report;
 mod rows;
 mod search;
+mod survey;
 mod workers;
 
 pub use cells::{matrix, matrix_brief};

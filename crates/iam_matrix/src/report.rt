@@ -1,19 +1,22 @@
 // The reports of the matrix and of the first allowed cell.
-ghost use Rattle.std.specs.Prelude.{◌≡◌, ◌↔◌, IfOk, sum};
+ghost use Rattle.std.specs.Prelude.{◌≡◌, ◌≤◌, ◌↔◌, IfOk, sum};
 ghost use Rattle.iam_world.specs.World.{world_cells};
 ghost use Rattle.iam_row.specs.Piece.{text_of};
 ghost use Rattle.iam_matrix.specs.Matrix.{IsFirstAllowed};
 ghost use Rattle.iam_matrix.specs.Report.{IsFirstReport, IsFirstText, IsMatrixReport};
+ghost use Rattle.iam_matrix.specs.Code.Tiles.{AreTailsOf, Chain};
 ghost use Rattle.iam_matrix.specs.Workers.{IsUnlawful};
 
 use crate::cut::Cut;
 use crate::fault::MatrixFault;
-use crate::rows::Rows;
+use crate::rows::{Asked, Rows};
 use crate::search::first;
+use crate::survey::survey_of;
 use crate::workers::is_unlawful;
 use iam_crew::{Gate, gather};
+use iam_engine::Survey;
 use iam_layers::{Decision, World};
-use iam_report::MatrixText;
+use iam_report::{MatrixText, Tile};
 use iam_row::{Format, Quoted, brief_texts, csv_row_brief, full_texts, opening};
 use iam_text::OutOfMemory;
 use std::alloc::Global;
@@ -43,16 +46,34 @@ pub fn matrix_report<R: Threads + Sync, G: Gate + Sync>(
     // A world has at most 16,777,216 cells.
     let _cells = world.cells();
     let quoted = Quoted::of(alloc, world, format)?;
-    let crew = Rows {
-        world,
-        cut,
+    let survey = survey_of(rt, alloc, world, workers)?;
+    let asked = Asked {
         workers,
         format,
         brief,
     };
+    let tiles = tiles_of(rt, alloc, &survey, cut, gate, asked)?;
+    Ok(MatrixText::of(quoted, brief, tiles))
+}
+
+/// The tails of the rows of all tiles, in the order of tiles.
+fn tiles_of<R: Threads + Sync, G: Gate + Sync>(
+    rt: &R,
+    alloc: Global,
+    survey: &Survey<'_>,
+    cut: &Cut,
+    gate: &G,
+    asked: Asked,
+) -> Result<Vec<Tile>, OutOfMemory>
+    requires some { 1 ≤ asked.workers }
+    requires few { asked.workers ≤ 64 }
+    requires cut { sum cut.now ≡ world_cells survey.now }
+    ensures { IfOk result (λ tiles. Chain (AreTailsOf asked.format asked.brief survey.now) 0 cut.now tiles.items) }
+{
     let tiles = cut.lengths().len() as u64;
-    let gathered = gather(rt, alloc, &crew, tiles, workers, gate)?;
-    Ok(MatrixText::of(quoted, brief, gathered.outputs))
+    let crew = Rows { survey, cut, asked };
+    let gathered = gather(rt, alloc, &crew, tiles, asked.workers, gate)?;
+    Ok(gathered.outputs)
 }
 
 /// The brief header, and the brief row of the first allowed cell where there is one. The cut, the workers and the gate

@@ -5,24 +5,29 @@ ghost use Rattle.iam_row.specs.Piece.{bare};
 ghost use Rattle.iam_world.specs.World.{world_cells};
 ghost use Rattle.iam_matrix.specs.Code.Tiles.{AreDecisions, AreEntriesOf, AreTailsOf, AreVerdicts};
 
-use crate::cut::Cut;
+use crate::cut::{Begun, Cut};
 use crate::each::{decision_at, end_of};
 use iam_crew::{Bound, Crew, Gate};
-use iam_engine::Engine;
-use iam_layers::World;
+use iam_engine::{Engine, Survey};
 use iam_report::{Entries, Tile};
 use iam_row::{Format, Position};
 use iam_text::OutOfMemory;
 use std::alloc::Global;
 
-/// Those who make the tails of the rows of a world's cells.
+/// What is asked of a report: by how many workers it is made, and what its rows are.
 #[derive(Clone, Copy)]
-pub struct Rows<'a> {
-    pub world: &'a World,
-    pub cut: &'a Cut,
+pub struct Asked {
     pub workers: u32,
     pub format: Format,
     pub brief: bool,
+}
+
+/// Those who make the tails of the rows of a world's cells.
+#[derive(Clone, Copy)]
+pub struct Rows<'a> {
+    pub survey: &'a Survey<'a>,
+    pub cut: &'a Cut,
+    pub asked: Asked,
 }
 
 impl<'a> Crew for Rows<'a> {
@@ -34,16 +39,16 @@ impl<'a> Crew for Rows<'a> {
 
     type Tools = Engine<'a>;
 
-    ghost fits = { λ crew engine. engine.world ≡ crew.world.now };
+    ghost fits = { λ crew engine. engine.world ≡ crew.survey.now };
 
-    ghost takes = { λ crew tile. IsTileOf crew.world.now crew.cut.now tile };
+    ghost takes = { λ crew tile. IsTileOf crew.survey.now crew.cut.now tile };
 
     ghost offers = { λ _ _. ⊥ };
 
-    ghost gives = { λ crew tile output _. AreTailsOf crew.format crew.brief crew.world.now (start_of crew.cut.now tile) (slice_index crew.cut.now tile) output };
+    ghost gives = { λ crew tile output _. AreTailsOf crew.asked.format crew.asked.brief crew.survey.now (start_of crew.cut.now tile) (slice_index crew.cut.now tile) output };
 
     fn tools(&self, alloc: Global) -> Result<Engine<'a>, OutOfMemory> {
-        Engine::new(alloc, self.world, self.workers)
+        Engine::surveyed(alloc, self.survey, self.asked.workers)
     }
 
     fn work<G: Gate>(
@@ -54,64 +59,57 @@ impl<'a> Crew for Rows<'a> {
         _bound: &mut Bound<'_>,
         tile: u64,
     ) -> Result<Tile, OutOfMemory> {
-        let (from, count) = self.cut.begin(gate, tile);
-        tile_of(alloc, engine, self.format, self.brief, from, count)
+        let tile = self.cut.begin(gate, tile);
+        tile_of(alloc, engine, self.asked.format, self.asked.brief, tile)
     }
 
     ghost lasts = { λ _ _ _ _ _ _ given. given };
 }
 
-/// The tails of so many cells from this one on.
+/// The tails of the cells of a tile.
 fn tile_of(
     alloc: Global,
     engine: &mut Engine<'_>,
     format: Format,
     brief: bool,
-    from: u64,
-    count: u64,
+    tile: Begun,
 ) -> Result<Tile, OutOfMemory>
-    requires { from + count ≤ world_cells engine.old.world }
-    ensures tails { IfOk result (λ tile. AreTailsOf format brief engine.old.world from count tile) }
+    requires { tile.from + tile.count ≤ world_cells engine.old.world }
+    ensures tails { IfOk result (λ tails. AreTailsOf format brief engine.old.world tile.from tile.count tails) }
     ensures same { engine.new.world ≡ engine.old.world }
 {
-    let entries = entries_of(alloc, engine, brief, from, count)?;
+    let entries = entries_of(alloc, engine, brief, tile)?;
     entries.tile(alloc, format, brief)
 }
 
-/// The verdicts of so many cells from this one on, or in brief their decisions.
+/// The verdicts of the cells of a tile, or in brief their decisions.
 fn entries_of(
     alloc: Global,
     engine: &mut Engine<'_>,
     brief: bool,
-    from: u64,
-    count: u64,
+    tile: Begun,
 ) -> Result<Entries, OutOfMemory>
-    requires { from + count ≤ world_cells engine.old.world }
-    ensures entries { IfOk result (λ entries. AreEntriesOf brief engine.old.world from count entries) }
+    requires { tile.from + tile.count ≤ world_cells engine.old.world }
+    ensures entries { IfOk result (λ entries. AreEntriesOf brief engine.old.world tile.from tile.count entries) }
     ensures same { engine.new.world ≡ engine.old.world }
 {
     if brief {
-        brief_entries(alloc, engine, from, count)
+        brief_entries(alloc, engine, tile)
     } else {
-        full_entries(alloc, engine, from, count)
+        full_entries(alloc, engine, tile)
     }
 }
 
-/// The verdicts of so many cells from this one on.
-fn full_entries(
-    alloc: Global,
-    engine: &mut Engine<'_>,
-    from: u64,
-    count: u64,
-) -> Result<Entries, OutOfMemory>
-    requires { from + count ≤ world_cells engine.old.world }
-    ensures entries { IfOk result (λ entries. AreVerdicts engine.old.world from count entries) }
+/// The verdicts of the cells of a tile.
+fn full_entries(alloc: Global, engine: &mut Engine<'_>, tile: Begun) -> Result<Entries, OutOfMemory>
+    requires { tile.from + tile.count ≤ world_cells engine.old.world }
+    ensures entries { IfOk result (λ entries. AreVerdicts engine.old.world tile.from tile.count entries) }
     ensures same { engine.new.world ≡ engine.old.world }
 {
     let world = engine.world();
-    let end = end_of(world, from, count);
-    let mut entries = Entries::new(alloc, count as usize)?;
-    let mut at = Position::of(world, from);
+    let end = end_of(world, tile.from, tile.count);
+    let mut entries = Entries::new(alloc, tile.count as usize)?;
+    let mut at = Position::of(world, tile.from);
     while at.cell < end {
         let number = engine.find(alloc, at.principal, at.action, at.resource)?;
         entries.push_hinted(alloc, number, engine.verdict(number))?;
@@ -120,21 +118,20 @@ fn full_entries(
     Ok(entries)
 }
 
-/// The decisions of so many cells from this one on.
+/// The decisions of the cells of a tile.
 fn brief_entries(
     alloc: Global,
     engine: &mut Engine<'_>,
-    from: u64,
-    count: u64,
+    tile: Begun,
 ) -> Result<Entries, OutOfMemory>
-    requires { from + count ≤ world_cells engine.old.world }
-    ensures entries { IfOk result (λ entries. (decisions : List Decision) × AreDecisions engine.old.world from count decisions × (entries ≡ map bare decisions)) }
+    requires { tile.from + tile.count ≤ world_cells engine.old.world }
+    ensures entries { IfOk result (λ entries. (decisions : List Decision) × AreDecisions engine.old.world tile.from tile.count decisions × (entries ≡ map bare decisions)) }
     ensures same { engine.new.world ≡ engine.old.world }
 {
     let world = engine.world();
-    let end = end_of(world, from, count);
-    let mut entries = Entries::new(alloc, count as usize)?;
-    let mut at = Position::of(world, from);
+    let end = end_of(world, tile.from, tile.count);
+    let mut entries = Entries::new(alloc, tile.count as usize)?;
+    let mut at = Position::of(world, tile.from);
     while at.cell < end {
         entries.push_decision(alloc, decision_at(alloc, engine, at)?)?;
         at = at.next_in(world);

@@ -6,7 +6,7 @@ ghost use Rattle.iam_matrix.specs.Matrix.{IsFirstAllowed};
 ghost use Rattle.iam_matrix.specs.Code.Tiles.{IsAllowedCell, IsFirstIn};
 ghost use Rattle.iam_matrix.specs.Workers.{IsUnlawful};
 
-use crate::cut::Cut;
+use crate::cut::{Begun, Cut};
 use crate::each::{decision_at, end_of};
 use crate::fault::MatrixFault;
 use crate::workers::is_unlawful;
@@ -59,8 +59,7 @@ impl<'a> Crew for Search<'a> {
         if is_behind(bound.look(), self.cut.first_cell(tile)) {
             return Ok(());
         }
-        let (from, count) = self.cut.begin(gate, tile);
-        let Some(cell) = first_in(alloc, engine, from, count)? else {
+        let Some(cell) = first_in(alloc, engine, self.cut.begin(gate, tile))? else {
             return Ok(());
         };
         bound.offer(cell);
@@ -86,20 +85,15 @@ fn is_allowed(decision: Decision) -> bool
     matches!(decision, Decision::Allowed)
 }
 
-/// The first allowed cell of so many from this one on.
-fn first_in(
-    alloc: Global,
-    engine: &mut Engine<'_>,
-    from: u64,
-    count: u64,
-) -> Result<Option<u64>, OutOfMemory>
-    requires { from + count ≤ world_cells engine.old.world }
-    ensures first { IfOk result (IsFirstIn engine.old.world from count) }
+/// The first allowed cell of a tile.
+fn first_in(alloc: Global, engine: &mut Engine<'_>, tile: Begun) -> Result<Option<u64>, OutOfMemory>
+    requires { tile.from + tile.count ≤ world_cells engine.old.world }
+    ensures first { IfOk result (IsFirstIn engine.old.world tile.from tile.count) }
     ensures same { engine.new.world ≡ engine.old.world }
 {
     let world = engine.world();
-    let end = end_of(world, from, count);
-    let mut at = Position::of(world, from);
+    let end = end_of(world, tile.from, tile.count);
+    let mut at = Position::of(world, tile.from);
     while at.cell < end {
         if is_allowed(decision_at(alloc, engine, at)?) {
             return Ok(Some(at.cell));

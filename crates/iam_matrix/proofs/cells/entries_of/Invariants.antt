@@ -6,5 +6,5 @@ use Rattle.iam_matrix.proofs.cells.entries_of.Given as goal
 abbrev pub invariant-loop-cell : goal.invariant-loop-cell
 invariant-loop-cell g l = record {
   same : l.engine.world ≡ l.initial.engine.world;
-  so_far : AreEntries (g.E.Entry.is l.initial.engine.world) l.from (l.cell - l.from) l.entries.items;
+  so_far : AreEntries (g.E.Entry.is l.initial.engine.world) l.fn.tile.from (l.cell - l.fn.tile.from) l.entries.items;
 }

@@ -10,7 +10,7 @@ use Rattle.iam_matrix.proofs.rows.brief_entries.Goals as goal
 pub loop-at-init : goal.loop-at-init
 loop-at-init c =
     let world = c.world-world.result.now in
-    let from = c.args.from in
+    let from = c.args.tile.from in
     let at = c.of-at.ensures in
     let P : ℕ → Type 0 = λ n. AreEntries (IsDecisionOf world) from n [] in
     let zero_is : 0 ≡ c.of-at.result.cell - from = omega (arith, at.cell) in record {
@@ -25,7 +25,7 @@ pub decision_at-requires : goal.decision_at-requires
 decision_at-requires c =
     let at = c.loop-at.at in
     let so_far = c.loop-at.invariant in
-    let F : WorldValue → Type 0 = λ w. c.args.from + c.args.count ≤ world_cells w in
+    let F : WorldValue → Type 0 = λ w. c.args.tile.from + c.args.tile.count ≤ world_cells w in
     let few = subst F (sym c.world-world.ensures) c.requires in
     let P : WorldValue → Type 0 = λ w. IsCell w at.cell at.principal at.action at.resource in
     subst P (sym so_far.same) (so_far.there (omega (arith, c.loop-at-test.true, c.end_of-end.ensures.value, few)))
@@ -33,7 +33,7 @@ decision_at-requires c =
 pub loop-at-preserved : goal.loop-at-preserved
 loop-at-preserved c =
     let world = c.world-world.result.now in
-    let from = c.args.from in
+    let from = c.args.tile.from in
     let at = c.loop-at.at in
     let next = c.next_in-at.ensures in
     let so_far = c.loop-at.invariant in

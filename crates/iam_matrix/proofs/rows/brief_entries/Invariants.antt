@@ -9,11 +9,11 @@ use Rattle.iam_matrix.proofs.rows.brief_entries.Given as goal
 -- the cells so far
 abbrev pub invariant-loop-at : goal.invariant-loop-at
 invariant-loop-at l = record {
-  least : l.from ≤ l.at.cell;
+  least : l.fn.tile.from ≤ l.at.cell;
   most : l.at.cell ≤ l.end;
   there : l.at.cell < world_cells l.world → IsCell l.world l.at.cell l.at.principal l.at.action l.at.resource;
   same : l.engine.world ≡ l.world;
-  so_far : (decisions : List Decision) × AreDecisions l.world l.from (l.at.cell - l.from) decisions × (l.entries ≡ map bare decisions);
+  so_far : (decisions : List Decision) × AreDecisions l.world l.fn.tile.from (l.at.cell - l.fn.tile.from) decisions × (l.entries ≡ map bare decisions);
 }
 
 abbrev pub decreases-loop-at : goal.decreases-loop-at

@@ -10,7 +10,7 @@ use Rattle.iam_matrix.proofs.rows.full_entries.Goals as goal
 pub loop-at-init : goal.loop-at-init
 loop-at-init c =
     let world = c.world-world.result.now in
-    let from = c.args.from in
+    let from = c.args.tile.from in
     let at = c.of-at.ensures in
     let P : ℕ → Type 0 = λ n. AreEntries (IsVerdictOf world) from n [] in
     let zero_is : 0 ≡ c.of-at.result.cell - from = omega (arith, at.cell) in
@@ -30,12 +30,12 @@ verdict-requires c =
 pub loop-at-preserved : goal.loop-at-preserved
 loop-at-preserved c =
     let world = c.world-world.result.now in
-    let from = c.args.from in
+    let from = c.args.tile.from in
     let at = c.loop-at.at in
     let next = c.next_in-at.ensures in
     let so_far = c.loop-at.invariant in
     let verdict = c.verdict.result.now in
-    let F : WorldValue → Type 0 = λ w. from + c.args.count ≤ world_cells w in
+    let F : WorldValue → Type 0 = λ w. from + c.args.tile.count ≤ world_cells w in
     let few = subst F (sym c.world-world.ensures) c.requires in
     let here = so_far.there (omega (arith, c.loop-at-test.true, c.end_of-end.ensures.value, few)) in
     let W : WorldValue → Type 0 = λ w. IsVerdictAt w at.principal at.action at.resource verdict in
@@ -55,9 +55,9 @@ loop-at-preserved c =
 pub returns-clause-entries : goal.returns-clause-entries
 returns-clause-entries c =
     let world = c.world-world.result.now in
-    let from = c.args.from in
+    let from = c.args.tile.from in
     let so_far = c.loop-at.invariant in
-    let count : c.loop-at.at.cell - from ≡ c.args.count = omega (arith, c.end_of-end.ensures.value, so_far.least, so_far.most, c.loop-at-test.false) in
+    let count : c.loop-at.at.cell - from ≡ c.args.tile.count = omega (arith, c.end_of-end.ensures.value, so_far.least, so_far.most, c.loop-at-test.false) in
     let P : ℕ → Type 0 = λ n. AreEntries (IsVerdictOf world) from n c.loop-at.entries in
-    let Q : WorldValue → Type 0 = λ w. AreEntries (IsVerdictOf w) from c.args.count c.loop-at.entries in
+    let Q : WorldValue → Type 0 = λ w. AreEntries (IsVerdictOf w) from c.args.tile.count c.loop-at.entries in
     subst Q c.world-world.ensures (subst P count so_far.so_far)

@@ -7,11 +7,11 @@ use Rattle.iam_matrix.proofs.rows.full_entries.Given as goal
 -- the cells so far
 abbrev pub invariant-loop-at : goal.invariant-loop-at
 invariant-loop-at l = record {
-  least : l.from ≤ l.at.cell;
+  least : l.fn.tile.from ≤ l.at.cell;
   most : l.at.cell ≤ l.end;
   there : l.at.cell < world_cells l.world → IsCell l.world l.at.cell l.at.principal l.at.action l.at.resource;
   same : l.engine.world ≡ l.world;
-  so_far : AreVerdicts l.world l.from (l.at.cell - l.from) l.entries;
+  so_far : AreVerdicts l.world l.fn.tile.from (l.at.cell - l.fn.tile.from) l.entries;
 }
 
 abbrev pub decreases-loop-at : goal.decreases-loop-at

@@ -6,5 +6,5 @@ pub returns-clause-tails : goal.returns-clause-tails
 returns-clause-tails c =
     let entries = c.in_ok-entries.entries in
     IfOk-weaker c.tile.result _ _
-    (λ tile. tails_of c.args.format c.args.brief c.args.engine.now.world c.args.from c.args.count entries tile c.in_ok-entries.ensures.entries)
+    (λ tails. tails_of c.args.format c.args.brief c.args.engine.now.world c.args.tile.from c.args.tile.count entries tails c.in_ok-entries.ensures.entries)
     c.tile.ensures

@@ -11,7 +11,7 @@ pub decision_at-requires : goal.decision_at-requires
 decision_at-requires c =
     let at = c.loop-at.at in
     let so_far = c.loop-at.invariant in
-    let F : WorldValue → Type 0 = λ w. c.args.from + c.args.count ≤ world_cells w in
+    let F : WorldValue → Type 0 = λ w. c.args.tile.from + c.args.tile.count ≤ world_cells w in
     let few = subst F (sym c.world-world.ensures) c.requires in
     let P : WorldValue → Type 0 = λ w. IsCell w at.cell at.principal at.action at.resource in
     subst P (c.world-world.ensures ∙ sym so_far.same) (so_far.there (omega (arith, c.loop-at-test.true, c.end_of-end.ensures.value, few)))

@@ -1,6 +1,6 @@
-use Rattle.std.proofs.Common.{◌≡◌, ℕ, List, [], ◌∷◌, ◌++◌, Some, length, refl, sym, subst, arith}
+use Rattle.std.proofs.Common.{◌≡◌, ℕ, List, [], ◌∷◌, ◌++◌, Some, length, refl, sym, ap, ◌∙◌, subst, arith}
 use Rattle.std.specs.List.{slice_get}
-use Rattle.iam_decision.specs.Living.{LivingValue}
+use Rattle.iam_decision.specs.Living.{LivingValue, SharedValue}
 use Rattle.iam_engine.specs.Elements.{AreElementNumbers}
 use Rattle.iam_engine.specs.Memo.{AreAnswers, ArePairs, HasShared, HaveRows}
 use Rattle.iam_engine.specs.declared.elements.Element.{Element}
@@ -34,7 +34,7 @@ returns-clause-right c = λ right.
     let H : List Element → Type 0 = λ e. HaveRows e memo.classes.items in
     let L : List LivingValue → Type 0 = λ living. AreElementNumbers elements living class.rows.items in
     let before = subst H (sym grown) (class_rows_grow memo.elements.elements.items more memo.classes.items right.rows) in
-    let own = subst L c.living.ensures c.in_ok-rows.ensures.rows in
+    let own = subst L (c.living.ensures ∙ ap (λ (s : SharedValue). s.living) c.get.ensures) c.in_ok-rows.ensures.rows in
     record {
       pairs = subst P (sym c.in_ok-push.ensures.items) (pairs_more world memo.classes.items (class ∷ []) memo.pairs.items right.pairs);
       answers =

@@ -8,4 +8,4 @@ returns-then-equals c =
     let n = c.in_ok-class.class in
     let class = c.index.result.now in
     let within : n < length classes = omega (arith, c.if-class-len.true, c.len.ensures) in
-    (class, slice_get-get_or classes n class within ∙ ap Some (sym c.index.ensures), c.equals.ensures c.if-equals.true)
+    (class, slice_get-get_or classes n class within ∙ ap Some (sym c.index.ensures), sym c.get.ensures ∙ c.equals.ensures c.if-equals.true)

@@ -1,7 +1,7 @@
 use Rattle.std.proofs.Common.{◌≡◌, ℕ, List, Option, Some, map, sym, ◌∙◌, ap, subst}
 use Rattle.std.proofs.lemmas.Option.{slice_get-get_or}
 use Rattle.std.specs.List.{slice_get}
-use Rattle.iam_decision.specs.Living.{AreActing, IsShared, LivingValue, living_value}
+use Rattle.iam_decision.specs.Living.{AreActing, IsShared, LivingValue, SharedValue, living_value}
 use Rattle.iam_engine.specs.Elements.{AreElementNumbers}
 use Rattle.iam_engine.specs.declared.memo.Class.{Class}
 use Rattle.iam_engine.proofs.ListLemmas.{some_same}
@@ -15,16 +15,17 @@ returns c = λ world class_is right at asked applicable access shared.
     let class = c.index-class.result.now in
     let text = c.args.text.now in
     let found = c.put_acting.new.found.items in
-    let living : List LivingValue = map living_value c.living-living.result.now in
+    let living : List LivingValue = map living_value c.living.result.now in
     let there : slice_get classes c.args.class ≡ Some class =
     slice_get-get_or classes c.args.class class c.requires ∙ ap Some (sym c.index-class.ensures) in
+    let own_living = c.living.ensures ∙ ap (λ (s : SharedValue). s.living) c.get-shared.ensures in
     let own : class ≡ class_is = some_same class class_is (sym there ∙ at) in
     let L : List LivingValue → Type 0 = λ l. AreElementNumbers elements l class.rows.items in
     let R : List (Option ℕ) → Type 0 = λ r. AreElementNumbers elements living r in
-    let rows = subst R (sym c.as_slice-rows.ensures.value) (subst L (sym c.living-living.ensures) (right.rows c.args.class class there)) in
+    let rows = subst R (sym c.as_slice-rows.ensures.value) (subst L (sym own_living) (right.rows c.args.class class there)) in
     let A : List LivingValue → Type 0 = λ l. AreActing text l found in
-    let acting = subst A c.living-living.ensures (c.in_ok-put_acting.ensures world right.elements rows asked) in
+    let acting = subst A own_living (c.in_ok-put_acting.ensures world right.elements rows asked) in
     let S : Class → Type 0 = λ k. IsShared applicable access k.shared in (
-      c.frame.ensures ∙ ap (λ (k : Class). k.shared.frame) own,
+      c.frame.ensures ∙ ap (λ (s : SharedValue). s.frame) c.get-shared.ensures ∙ ap (λ (k : Class). k.shared.frame) own,
       c.acting_are_found.ensures.found applicable access text class.shared found (subst S (sym own) shared) acting,
     )

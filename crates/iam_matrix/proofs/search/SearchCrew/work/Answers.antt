@@ -20,7 +20,7 @@ pub returns-clause-offered : goal.returns-clause-offered
 returns-clause-offered g c =
     let world = c.args.self.now.world.now in
     let P : List ℕ → Type 0 = λ os. All (IsAllowedCell world) os in
-    let Q : Option ℕ → Type 0 = λ found. IsFirstIn c.args.engine.now.world c.begin-from.result.0 c.begin-from.result.1 found in
+    let Q : Option ℕ → Type 0 = λ found. IsFirstIn c.args.engine.now.world c.begin.result.from c.begin.result.count found in
     let R : WorldValue → Type 0 = λ w. IsAllowedCell w c.in-Some.cell in
     offered_more world c.look.new.self.offers c.offer.new.self.offers c.in-Some.cell c.offer.ensures.offers (subst P (sym c.look.ensures.offers) c.requires.offered)
     (subst R c.requires.tools (subst Q c.in-Some.is c.in_ok-cell.ensures.first).0)
