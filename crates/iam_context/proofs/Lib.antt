@@ -3,3 +3,4 @@ pub mod Joining
 pub mod KeyLemmas
 pub mod Shares
 pub mod Signs
+mod Wildcards

@@ -15,7 +15,7 @@ both : (before more : List Sign) (rest : Option (List Sign))
 both before more None = refl
 both before more (Some rest) = ap (λ l. Some l) (sym (append_assoc before more rest))
 
-none : (rest : Option (List Sign)) → rest ≡ option_map (λ rest. [] ++ rest) rest
+pub none : (rest : Option (List Sign)) → rest ≡ option_map (λ rest. [] ++ rest) rest
 none None = refl
 none (Some rest) = refl
 

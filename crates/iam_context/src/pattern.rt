@@ -1,16 +1,99 @@
 // What a text with variables becomes in a context.
-ghost use Rattle.std.specs.Prelude.{◌≡◌, ◌++◌, Some, None, option_map, IfOk, if◌then◌else◌};
+ghost use Rattle.std.specs.Prelude.{◌≡◌, ◌++◌, Bool, Some, None, map, option_map, IfOk, IfSome, if◌then◌else◌};
+ghost use Rattle.std.specs.List.{list_all};
+ghost use Rattle.std.specs.Str.{chars};
+ghost use Rattle.std.specs.String.{string_bytes};
+ghost use Rattle.iam_text.specs.Draft.{sign_of};
 ghost use Rattle.iam_text.specs.Stretches.{piece_of};
 ghost use Rattle.iam_context.specs.Resolve.{one_or, piece_signs, resolved};
+ghost use Rattle.iam_context.specs.Code.Wildcards.{is_no_wildcard};
 
 use crate::OutOfMemory;
 use crate::context::Context;
-use iam_text::{Draft, Form, Glob, Sign, Text, add_signs};
+use iam_text::{Draft, Form, Glob, Sign, Stretches, Text, add_signs};
 use std::alloc::Global;
 
 /// The pattern that a text with variables becomes in the context, where the characters of a value are no wildcards;
 /// `None` where some variable has neither one value nor a default.
 pub fn resolve<'a>(
+    alloc: Global,
+    draft: &'a Draft,
+    context: &Context<'a>,
+) -> Result<Option<Glob>, OutOfMemory>
+    ensures { IfOk result (λ found. found ≡ resolved context.now draft.now) }
+{
+    let whole = draft.stretches();
+    let wild = whole.is_wild();
+    match text_of(alloc, whole, context)? {
+        Some(text) => Ok(Some(pattern_of(alloc, text.as_str(), wild)?)),
+        None => sign_by_sign(alloc, draft, context),
+    }
+}
+
+/// The pattern of a text in which `*` and `?` are wildcards where `wild` says so.
+fn pattern_of(alloc: Global, text: &str, wild: bool) -> Result<Glob, OutOfMemory>
+    ensures { IfOk result (λ glob. glob ≡ map (sign_of wild) (chars text.now)) }
+{
+    if wild {
+        Glob::read(alloc, text)
+    } else {
+        Glob::plain(alloc, text)
+    }
+}
+
+/// The text of whose characters the pattern is made, with values in place of variables. There is none where a variable has no
+/// value, or one with wildcards, or where a wildcard is written as a form.
+fn text_of<'a>(
+    alloc: Global,
+    mut left: Stretches<'a>,
+    context: &Context<'a>,
+) -> Result<Option<String>, OutOfMemory>
+    ensures { IfOk result (λ found. IfSome found (λ text. resolved context.now left.entry.pieces
+        ≡ Some (map (sign_of left.entry.wild) (chars (string_bytes text))))) }
+{
+    let mut text = String::with_capacity(alloc, left.text().len())?;
+    while let Some((front, form, behind)) = left.first_form() {
+        let Some(value) = plain_value(form, context) else {
+            return Ok(None);
+        };
+        text.push_str(front)?;
+        text.push_str(value)?;
+        left = behind;
+    }
+    text.push_str(left.text())?;
+    Ok(Some(text))
+}
+
+/// The value of a form, where it is that of a variable and has no wildcards.
+fn plain_value<'a: 'c, 'c>(form: Form<'a>, context: &'c Context<'a>) -> Option<&'c str>
+    ensures { IfSome result (λ value. (wild : Bool) → piece_signs context.now (piece_of form.entry) ≡ Some (map (sign_of wild) (chars value.now))) }
+{
+    let Form::Named(key, default) = form else {
+        return None;
+    };
+    let value = one_or(context.values(key), default)?;
+    if has_no_wildcard(value) {
+        Some(value)
+    } else {
+        None
+    }
+}
+
+/// Whether neither `*` nor `?` stands in a text.
+fn has_no_wildcard(text: &str) -> bool
+    ensures { result ≡ list_all is_no_wildcard (chars text.now) }
+{
+    text.chars().all(|character| is_no_wildcard(character))
+}
+
+fn is_no_wildcard(character: char) -> bool
+    ensures { result ≡ is_no_wildcard character }
+{
+    character != '*' && character != '?'
+}
+
+/// The same pattern, made sign by sign.
+fn sign_by_sign<'a>(
     alloc: Global,
     draft: &'a Draft,
     context: &Context<'a>,

@@ -1,6 +1,6 @@
 use Rattle.std.proofs.Common.{◌≡◌, ◌++◌, length, option_map}
 use Rattle.iam_context.specs.Resolve.{resolved}
-use Rattle.iam_context.proofs.pattern.resolve.Given as goal
+use Rattle.iam_context.proofs.pattern.sign_by_sign.Given as goal
 
 -- the signs so far, and those of what is left
 abbrev pub invariant-loop-front : goal.invariant-loop-front

@@ -4,7 +4,7 @@ use Rattle.iam_text.specs.Draft.{sign_of}
 use Rattle.iam_text.specs.Stretches.{piece_of}
 use Rattle.iam_context.specs.Resolve.{piece_signs, resolved}
 use Rattle.iam_context.proofs.Signs.{no_value, over_all, over_piece, over_plain}
-use Rattle.iam_context.proofs.pattern.resolve.Goals as goal
+use Rattle.iam_context.proofs.pattern.sign_by_sign.Goals as goal
 
 pub returns-then-not-branch : goal.returns-then-not-branch
 returns-then-not-branch c =
