@@ -51,6 +51,29 @@ fn find(work: &Work, seat: &mut WorkSeat, steps: u32, seats: u32) -> Option<Run>
     }
 }
 
+// Looks for a run where there is one worker. Nobody else pushes onto its deque, so once that is empty its further turns are
+// counted without a look.
+fn seek_alone(work: &Work, seat: &mut WorkSeat, idle: &mut u32) -> Option<Run>
+    requires seat { seat.old.work ≡ work.now }
+    requires number { seat.old.number < 1 }
+    requires seats { work.now.seats ≡ 1 }
+    ensures work { seat.new.work ≡ work.now }
+    ensures number { seat.new.number ≡ seat.old.number }
+    ensures within { IfSome result (IsWithin work.now.grains) }
+    ensures found { IfSome result (λ run. IsFound 1 0 seat.old run seat.new) }
+    ensures left { IfSome result (λ _. (idle.new ≡ idle.old) × (0 < idle.old)) }
+    ensures none { IfNone result ((seat.new ≡ seat.old) × IsSpent idle.old idle.new) }
+{
+    if *idle == 0 {
+        return None;
+    }
+    let found = find(work, seat, 0, 1);
+    if found.is_none() {
+        *idle -= IDLE_IN_A_ROW.min(*idle);
+    }
+    found
+}
+
 // Looks for a run, one deque a turn: first in the worker's own, then in the others', and so round.
 fn seek(work: &Work, seat: &mut WorkSeat, seats: u32, idle: &mut u32) -> Option<Run>
     requires seat { seat.old.work ≡ work.now }
@@ -64,6 +87,9 @@ fn seek(work: &Work, seat: &mut WorkSeat, seats: u32, idle: &mut u32) -> Option<
     ensures left { IfSome result (λ _. (idle.new ≤ idle.old) × (idle.old < idle.new + 65_536) × (0 < idle.new)) }
     ensures none { IfNone result ((seat.new ≡ seat.old) × IsSpent idle.old idle.new) }
 {
+    if seats == 1 {
+        return seek_alone(work, seat, idle);
+    }
     let mut steps = 0;
     for _turn in 0..IDLE_IN_A_ROW.min(*idle) {
         let found = find(work, seat, steps, seats);

@@ -1,9 +1,9 @@
 // An engine that is asked for the same cells again and again, in any order, and one that was refused memory.
-ghost use Rattle.std.specs.Prelude.{◌≡◌, ◌<◌};
+ghost use Rattle.std.specs.Prelude.{◌≡◌, ◌<◌, IfOk};
 ghost use Rattle.iam_world.specs.World.{world_cells};
 
 use crate::matrix::{HOME, is_decision, is_verdict};
-use iam_engine::Engine;
+use iam_engine::{Engine, Survey, Surveyor, wants_survey};
 use iam_layers::{Decision, Verdict, World};
 use std::alloc::Global;
 use std::test::Fail;
@@ -83,6 +83,43 @@ fn cells_asked_again(rt: HostRuntime) -> Result<(), Fail> {
         let verdict = decide_again(alloc, &mut engine, cell)?;
         assert!(rt; is_decision(cell as usize, decision));
         assert!(rt; is_verdict(cell as usize, &verdict));
+    }
+    Ok(())
+}
+
+/// A survey of the six pairs of a world.
+fn survey_of<'a>(alloc: Global, world: &'a World) -> Result<Survey<'a>, Fail>
+    ensures { IfOk result (λ survey. survey ≡ world.entry.now) }
+{
+    let mut surveyor = Surveyor::new(alloc, world, 1)?;
+    let block = surveyor.block(alloc, 0, 6)?;
+    let mut blocks = Vec::new(alloc);
+    blocks.push(block)?;
+    Ok(Survey::of(world, 6, blocks))
+}
+
+#[test]
+fn a_survey_finds_each_pair_and_an_engine_begins_with_it(rt: HostRuntime) -> Result<(), Fail> {
+    let alloc = rt.alloc();
+    let world = World::read(alloc, HOME.as_bytes())?;
+    let survey = survey_of(alloc, &world)?;
+    for pair in 0..8 {
+        assert!(rt; pair % 2 < world.resources());
+        assert!(rt; survey.shared(pair / 2, pair % 2).is_some() == (pair < 6));
+    }
+    let mut engine = Engine::surveyed(alloc, &survey, 1)?;
+    for cell in 0..12 {
+        assert!(rt; answers(alloc, &mut engine, cell)?);
+    }
+    Ok(())
+}
+
+#[test]
+fn a_survey_is_wanted_where_a_worker_would_be_waited_for(rt: HostRuntime) -> Result<(), Fail> {
+    // Three principals of one statement each.
+    let world = World::read(rt.alloc(), HOME.as_bytes())?;
+    for (workers, wanted) in [(1, false), (3, false), (4, true)] {
+        assert_eq!(rt; wants_survey(&world, workers), wanted);
     }
     Ok(())
 }

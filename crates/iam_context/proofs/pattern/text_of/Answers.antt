@@ -51,7 +51,7 @@ returns c =
     let text = string_bytes c.loop-front.text in
     let grown = string_bytes c.push_str-2.new.self in
     let last =
-        signs_more wild text left.text grown (IsUtf8-string_bytes c.loop-front.text) (c.in_ok-push_str-3.ensures.bytes ∙ ap (λ t. text ++ t) c.text-2.ensures) in
+    signs_more wild text left.text grown (IsUtf8-string_bytes c.loop-front.text) (c.in_ok-push_str-3.ensures.bytes ∙ ap (λ t. text ++ t) c.text-2.ensures) in
     c.loop-front.invariant.all
     ∙ over_all c.args.context.now (map (sign_of wild) (chars text)) (map (sign_of wild) (chars grown)) left.wild wild left.text left.pieces
     c.in_default.ensures (sym c.loop-front.invariant.wild) last
