@@ -17,8 +17,11 @@ use std::marker::Model;
 /// How many statements a survey keeps at most.
 const MOST_STATEMENTS: usize = 2_097_152;
 
-/// Nothing is surveyed in a world of more pairs.
+/// Nothing is surveyed in a world of more pairs, or in which fewer statements are tried on a resource each: there is less to share
+/// than workers cost.
 const MOST_PAIRS: u64 = 131_072;
+
+const LEAST_TRIALS: u64 = 32_768;
 
 /// The classes that were found last, by the prints of what they hang on.
 const PRINTS: u64 = 4_096;
@@ -289,7 +292,8 @@ pub fn wants_survey(world: &World, workers: u32) -> bool {
         most = most.max(own);
         all = all.saturating_add(own);
     }
-    most.saturating_mul(workers as usize) > all
+    let trials = (all as u64).saturating_mul(world.resources());
+    trials >= LEAST_TRIALS && most.saturating_mul(workers as usize) > all
 }
 
 /// How many statements the policies of principal p have.

@@ -3,6 +3,7 @@ ghost use Rattle.std.specs.Prelude.{◌≡◌, ◌<◌, IfOk};
 ghost use Rattle.iam_world.specs.World.{world_cells};
 
 use crate::matrix::{HOME, is_decision, is_verdict};
+use crate::streams::many;
 use iam_engine::{Engine, Survey, Surveyor, wants_survey};
 use iam_layers::{Decision, Verdict, World};
 use std::alloc::Global;
@@ -124,9 +125,11 @@ fn a_survey_finds_each_pair_and_an_engine_begins_with_it(rt: HostRuntime) -> Res
 
 #[test]
 fn a_survey_is_wanted_where_a_worker_would_be_waited_for(rt: HostRuntime) -> Result<(), Fail> {
-    // Three principals of one statement each.
-    let world = World::read(rt.alloc(), HOME.as_bytes())?;
-    for (workers, wanted) in [(1, false), (3, false), (4, true)] {
+    let alloc = rt.alloc();
+    // One principal; as many statements as resources.
+    for (resources, workers, wanted) in [(181, 2, false), (182, 1, false), (182, 2, true)] {
+        let (document, _report) = many(alloc, resources)?;
+        let world = World::read(alloc, document.as_bytes())?;
         assert_eq!(rt; wants_survey(&world, workers), wanted);
     }
     Ok(())

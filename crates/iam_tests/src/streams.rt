@@ -254,7 +254,7 @@ fn a_writer_that_fails_at_each_write_and_at_the_flush(rt: HostRuntime) -> Result
 }
 
 /// A world in which each of so many resources has a statement of its own, and the report of its cells.
-fn many(alloc: Global, resources: u32) -> Result<(String, String), OutOfMemory> {
+pub fn many(alloc: Global, resources: u32) -> Result<(String, String), OutOfMemory> {
     let mut statements = String::new(alloc);
     let mut arns = String::new(alloc);
     let mut report = String::from_str(
@@ -282,7 +282,8 @@ fn many(alloc: Global, resources: u32) -> Result<(String, String), OutOfMemory> 
     Ok((world, report))
 }
 
-/// So many tails that the table by which equal ones are found grows, and rows that are longer together than the buffer.
+/// So many tails that the table by which equal ones are found grows, and rows that are longer together than the buffer; so many
+/// statements of one principal that workers begin with a survey.
 #[test]
 fn a_report_whose_tails_all_differ(rt: HostRuntime) -> Result<(), Fail> {
     let (world, report) = many(rt.alloc(), 1000)?;
@@ -290,6 +291,7 @@ fn a_report_whose_tails_all_differ(rt: HostRuntime) -> Result<(), Fail> {
     let mut writer = Vec::new(rt.alloc());
     let options = Options {
         tile: Some(600),
+        workers: 4,
         ..MATRIX
     };
     let outcome = run(&rt, rt.alloc(), &options, &mut reader, &mut writer);
