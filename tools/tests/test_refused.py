@@ -9,7 +9,8 @@ import shutil
 import subprocess
 import tempfile
 
-from harness import EXAMPLES, IAMSIM, Skipped, TOOLS, answer, data, matrix, on_all_processors, row_world, run, same
+from harness import (EXAMPLES, IAMSIM, Skipped, TOOLS, answer, data, document, matrix, on_all_processors, row_world, run, same, small_world,
+                     statement)
 
 HERE = os.path.dirname(os.path.abspath(__file__))
 
@@ -52,15 +53,15 @@ def shim():
 
 
 def refusals(job):
-    """How often the program was run until it met no refusal, and what was wrong. Right is the whole answer, or status 1 with
+    """The number of the call at which the program met no refusal, and what was wrong. Right is the whole answer, or status 1 with
     nothing written and a line. The line may be absent until one was told, since the command line is read first, and wherever
     memory for the line is refused: of a world with a fault, or where all later calls are refused too."""
-    program, library, seconds, kind, later, words, world = job
+    program, library, seconds, step, kind, later, words, world = job
     read, write = os.pipe()
     os.set_blocking(read, False)
     whole = answer(words, world, program=program)
     findings, lines = [], LINES
-    for number in itertools.count(1):
+    for number in itertools.count(1, step):
         setting = {"LD_PRELOAD": library, kind: str(number), "REFUSE_LATER": str(later), "REFUSE_TOLD": str(write)}
         try:
             found = answer(words, world, seconds, program, env=setting, pass_fds=[write])
@@ -80,11 +81,11 @@ def refusals(job):
             return number, findings
 
 
-def refused(program, jobs, seconds=20):
-    """How many runs all jobs took together, and what was wrong."""
+def refused(program, jobs, seconds=20, step=1):
+    """How many runs all jobs took together, in which each call was refused, or one of so many; and what was wrong."""
     library = shim()
-    found = on_all_processors(refusals, [(program, library, seconds, *job) for job in jobs])
-    return sum(runs for runs, _ in found), [it for _, several in found for it in several]
+    found = on_all_processors(refusals, [(program, library, seconds, step, *job) for job in jobs])
+    return sum(-(-runs // step) for runs, _ in found), [it for _, several in found for it in several]
 
 
 def tell(what, runs, findings):
@@ -108,6 +109,23 @@ def test_refused_threads():
     many = [["matrix", "--workers", "64", "--tile", "1"], ["first", "--workers", "64", "--tile", "1"]]
     jobs = [("REFUSE_THREAD", later, words, world) for world in worlds().values() for words in [*MATRICES, *FIRSTS, *many] for later in (0, 1)]
     tell("refused threads", *refused(IAMSIM, jobs))
+
+
+def lone(count):
+    """A world of one principal with so many statements, and as many resources, each allowed by one of them."""
+    texts = [f"arn:aws:s3:::b/{n}" for n in range(count)]
+    resources = [{"arn": text, "account": "111122223333"} for text in texts]
+    allowed = document(*(statement(resource=text) for text in texts))
+    return json.dumps(small_world(allowed, resources=resources)).encode()
+
+
+def test_a_survey_that_is_refused():
+    # 182 statements on 182 resources are the least that workers survey; for that they start as many threads again.
+    for count, threads in [(181, 3), (182, 6)]:
+        met, findings = refused(IAMSIM, [("REFUSE_THREAD", 0, ["matrix"], lone(count))])
+        same((met - 1, findings), (threads, []), count)
+    jobs = [("REFUSE_CALL", later, ["matrix", *more], lone(182)) for more in ([], ["--format", "json", "--tile", "50"]) for later in (0, 1)]
+    tell("a survey that was refused", *refused(IAMSIM, jobs, step=11))
 
 
 def test_an_engine_that_was_refused():
