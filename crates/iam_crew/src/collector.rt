@@ -5,7 +5,7 @@ ghost use Rattle.iam_crew.specs.Bound.{bound_of, Lowers};
 ghost use Rattle.iam_crew.specs.Code.Order.{AreGivenBelow, IsCompleted};
 
 use crate::bound::Bound;
-use crate::crew::{Crew, Gate, Open};
+use crate::crew::{Crew, Gate, Open, output_at};
 use crate::order::place;
 use crate::seats::{deal, open_bound, open_work};
 use crate::shares::Shares;
@@ -79,7 +79,7 @@ fn output_of<C: Crew>(
         return Ok(output);
     }
     let mut own = tools_of(alloc, crew, tools.take())?;
-    let output = crew.work(alloc, &mut own, &Open, bound, tile)?;
+    let output = output_at(alloc, crew, &mut own, &Open, bound, tile)?;
     *tools = Some(own);
     Ok(output)
 }

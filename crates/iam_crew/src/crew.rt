@@ -1,5 +1,5 @@
 // What a crew makes of a tile, and what is told before it begins one.
-ghost use Rattle.std.specs.Prelude.{ℕ, ◌≤◌, All, IfOk};
+ghost use Rattle.std.specs.Prelude.{ℕ, ◌≤◌, All, IfOk, IfSome};
 ghost use Rattle.iam_crew.specs.Bound.{Lowers};
 
 use crate::bound::Bound;
@@ -30,11 +30,13 @@ impl Gate for Open {
 /// cells a tile has is known to `gives` alone.
 ///
 /// A plain crew offers nothing (`offers` is `⊥`), makes the same output at any bound (`gives` does not look
-/// at it, and `lasts` hands its last argument back) and leaves the bound alone. A crew that searches for the
-/// least cell of some kind gives, of a tile, that each such cell is at or above the bound. It looks at the
-/// bound first ([`Bound::look`]), and where the tile lies behind it, it is done; else it tells the gate, searches
-/// the tile, and offers what it finds ([`Bound::offer`]). Both calls say what becomes of the bound, so `work` is
-/// proved from their clauses where the search of one tile stands in a function of its own.
+/// at it, and `lasts` hands its last argument back), skips no tile and leaves the bound alone. A crew that searches
+/// for the least cell of some kind gives, of a tile, that each such cell is at or above the bound. It looks at the
+/// bound ([`Bound::look`]) and skips a tile that lies behind it; else it searches the tile, and offers what it finds
+/// ([`Bound::offer`]). Both calls say what becomes of the bound, so `skip` and `work` are proved from their clauses
+/// where the search of one tile stands in a function of its own.
+///
+/// No crew sees the gate: it is told in one place, before a tile that is not skipped is worked.
 pub trait Crew {
     /// What is made of one tile.
     type Output: Drop + Send;
@@ -58,15 +60,19 @@ pub trait Crew {
     fn tools(&self, alloc: Global) -> Result<Self::Tools, OutOfMemory>
         ensures { IfOk result (fits self.now) };
 
-    /// Makes the output of a tile. The only error is want of memory.
-    ///
-    /// The crew tells the gate before it begins the tile, and need not where it passes the tile over. It may look
-    /// at the bound and offer cells.
-    fn work<G: Gate>(
+    /// The output of a tile that need not be worked, where the bound says so; `None` for one that has to be.
+    fn skip(&self, bound: &mut Bound<'_>, tile: u64) -> Option<Self::Output>
+        requires tile { takes self.now tile }
+        requires offered { All (offers self.now) bound.old.offers }
+        ensures given { IfSome result (λ output. gives self.now tile output bound.new.floor) }
+        ensures offered { All (offers self.now) bound.new.offers }
+        ensures lower { Lowers bound.old bound.new };
+
+    /// Makes the output of a tile. It may look at the bound and offer cells. The only error is want of memory.
+    fn work(
         &self,
         alloc: Global,
         tools: &mut Self::Tools,
-        gate: &G,
         bound: &mut Bound<'_>,
         tile: u64,
     ) -> Result<Self::Output, OutOfMemory>
@@ -80,4 +86,28 @@ pub trait Crew {
 
     // What is given at a bound is given at every lower one.
     ghost lasts: { (crew : Self) (tile : ℕ) (output : Self.Output) (bound lower : ℕ) → lower ≤ bound → gives crew tile output bound → gives crew tile output lower };
+}
+
+/// The output of a tile, which the crew skips, or works once the gate was told. The only error is want of memory.
+pub fn output_at<G: Gate, C: Crew>(
+    alloc: Global,
+    crew: &C,
+    tools: &mut C::Tools,
+    gate: &G,
+    bound: &mut Bound<'_>,
+    tile: u64,
+) -> Result<C::Output, OutOfMemory>
+    requires tile { C.takes crew.now tile }
+    requires tools { C.fits crew.now tools.old }
+    requires offered { All (C.offers crew.now) bound.old.offers }
+    ensures fits { C.fits crew.now tools.new }
+    ensures given { IfOk result (λ output. C.gives crew.now tile output bound.new.floor) }
+    ensures offered { All (C.offers crew.now) bound.new.offers }
+    ensures lower { Lowers bound.old bound.new }
+{
+    if let Some(output) = crew.skip(bound, tile) {
+        return Ok(output);
+    }
+    gate.before(tile);
+    crew.work(alloc, tools, bound, tile)
 }

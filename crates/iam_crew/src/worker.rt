@@ -5,7 +5,7 @@ ghost use Rattle.iam_crew.specs.Code.Runs.{IsAsReady, IsMarked, IsOver, IsTurn};
 ghost use Rattle.iam_crew.specs.Code.Worker.{IsAtWork, IsDone, IsReady};
 
 use crate::bound::Bound;
-use crate::crew::{Crew, Gate};
+use crate::crew::{Crew, Gate, output_at};
 use crate::runs::{IDLE_IN_ALL, halve, next_run};
 use crate::seats::Seats;
 use crate::shares::Shares;
@@ -60,7 +60,14 @@ fn work_tile<G: Gate, C: Crew>(
     if !work.mark(&mut worker.seat, tile) {
         return Ok(());
     }
-    let output = crew.work(alloc, &mut worker.tools, gate, &mut worker.bound, tile)?;
+    let output = output_at(
+        alloc,
+        crew,
+        &mut worker.tools,
+        gate,
+        &mut worker.bound,
+        tile,
+    )?;
     worker.made.push(Made { tile, output })?;
     Ok(())
 }

@@ -57,7 +57,7 @@ impl<'a> Engine<'a> {
         Engine::with(alloc, world, None, engines)
     }
 
-    /// An engine of the world of a survey, which begins with what was found there, as [`Engine::new`] gives it.
+    /// An engine of the world of a survey, which begins with what was found there; one of so many that share the bounds.
     pub fn surveyed(
         alloc: Global,
         survey: &'a Survey<'a>,

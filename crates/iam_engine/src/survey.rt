@@ -14,20 +14,20 @@ use iam_text::OutOfMemory;
 use std::alloc::Global;
 use std::marker::Model;
 
-/// How many statements a survey keeps at most.
+/// How many statements a survey keeps, and one class for each surveyor more at most.
 const MOST_STATEMENTS: usize = 2_097_152;
 
-/// Nothing is surveyed in a world of more pairs, or in which fewer statements are tried on a resource each: there is less to share
-/// than workers cost.
+/// A world of more pairs is not surveyed: what is found of each would take too much room.
 const MOST_PAIRS: u64 = 131_072;
 
+/// Nor is one in which fewer statements are tried, one on one resource: that is done sooner than workers start.
 const LEAST_TRIALS: u64 = 32_768;
 
 /// The classes that were found last, by the prints of what they hang on.
 const PRINTS: u64 = 4_096;
 
-/// What the requests of pairs that follow one another share, each different one once. Pairs of a principal and a resource are
-/// numbered by principals, then by resources. A contract sees the world.
+/// What the requests of pairs that follow one another share; what several share stands once where its print tells. Pairs of a
+/// principal and a resource are numbered by principals, then by resources. A contract sees the world.
 #[derive(Drop)]
 pub struct Block<'a> {
     world: &'a World,
@@ -282,7 +282,7 @@ impl<'a> Survey<'a> {
 /// share of those of all principals, so that one worker would be busy with it while the others have ended.
 pub fn wants_survey(world: &World, workers: u32) -> bool {
     let pairs = world.principals().saturating_mul(world.resources());
-    if workers < 2 || world.resources() == 0 || pairs > MOST_PAIRS {
+    if workers < 2 || world.resources() == 0 || world.actions() == 0 || pairs > MOST_PAIRS {
         return false;
     }
     let mut most: usize = 0;

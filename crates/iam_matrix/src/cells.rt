@@ -6,7 +6,7 @@ ghost use Rattle.iam_matrix.specs.Matrix.{IsBriefMatrix, IsMatrix};
 ghost use Rattle.iam_matrix.specs.Code.Tiles.{AreEntries};
 ghost use Rattle.iam_matrix.specs.Workers.{IsUnlawful};
 
-use crate::cut::{Begun, Cut};
+use crate::cut::{Cells, Cut};
 use crate::each::end_of;
 use crate::fault::MatrixFault;
 use crate::survey::survey_of;
@@ -83,15 +83,18 @@ impl<'a, E: Entry + Send + Sync> Crew for Entries<'a, E> {
         Engine::surveyed(alloc, self.survey, self.workers)
     }
 
-    fn work<G: Gate>(
+    fn skip(&self, _bound: &mut Bound<'_>, _tile: u64) -> Option<Vec<E>> {
+        None
+    }
+
+    fn work(
         &self,
         alloc: Global,
         engine: &mut Engine<'a>,
-        gate: &G,
         _bound: &mut Bound<'_>,
         tile: u64,
     ) -> Result<Vec<E>, OutOfMemory> {
-        entries_of(alloc, engine, self.cut.begin(gate, tile))
+        entries_of(alloc, engine, self.cut.cells(tile))
     }
 
     ghost lasts = { λ _ _ _ _ _ _ given. given };
@@ -101,7 +104,7 @@ impl<'a, E: Entry + Send + Sync> Crew for Entries<'a, E> {
 fn entries_of<E: Entry>(
     alloc: Global,
     engine: &mut Engine<'_>,
-    tile: Begun,
+    tile: Cells,
 ) -> Result<Vec<E>, OutOfMemory>
     requires { tile.from + tile.count ≤ world_cells engine.old.world }
     ensures entries { IfOk result (λ entries. AreEntries (E.is engine.old.world) tile.from tile.count entries.items) }
@@ -142,7 +145,7 @@ fn all_entries<R: Threads + Sync, G: Gate + Sync, E: Entry + Send + Sync>(
     if is_unlawful(workers) {
         return Err(MatrixFault::Workers);
     }
-    let survey = survey_of(rt, alloc, world, workers)?;
+    let survey = survey_of(rt, alloc, world, workers);
     Ok(surveyed_entries(rt, alloc, &survey, cut, workers, gate)?)
 }
 

@@ -3,7 +3,6 @@ ghost use Rattle.std.specs.Prelude.{◌≡◌, ◌≢◌, ◌↔◌, ℕ, ◌+�
 ghost use Rattle.iam_matrix.specs.Code.Starts.{AreStarts};
 ghost use Rattle.iam_matrix.specs.Cut.{even_lengths};
 
-use iam_crew::Gate;
 use iam_text::OutOfMemory;
 use std::alloc::Global;
 use std::fmt::{self, Display, Formatter, Write};
@@ -20,13 +19,11 @@ pub struct Cut {
     starts: Vec<u64>,
 }
 
-/// The cells of a tile that has begun: so many from this one on. Tiles are decided by what [`Cut::begin`] gives alone, and nothing
-/// else can make it, so no cell is decided before the gate is told.
+/// The cells of a tile: so many from this one on.
 #[derive(Clone, Copy)]
-pub(crate) struct Begun {
+pub(crate) struct Cells {
     pub(crate) from: u64,
     pub(crate) count: u64,
-    _told: (),
 }
 
 impl Model for Cut {
@@ -150,26 +147,16 @@ impl Cut {
         self.lengths.as_slice()
     }
 
-    /// The first cell of a tile; there has to be such a tile.
-    pub(crate) fn first_cell(&self, tile: u64) -> u64
-        requires { tile < length self.now }
-        ensures { result ≡ start_of self.now tile }
-    {
-        self.starts[tile as usize]
-    }
-
-    /// Tells the gate that a tile begins, and gives its cells; there has to be such a tile.
-    pub(crate) fn begin<G: Gate>(&self, gate: &G, tile: u64) -> Begun
+    /// The cells of a tile; there has to be such a tile.
+    pub(crate) fn cells(&self, tile: u64) -> Cells
         requires { tile < length self.now }
         ensures from { result.from ≡ start_of self.now tile }
         ensures count { result.count ≡ slice_index self.now tile }
         ensures within { result.from + result.count ≤ sum self.now }
     {
-        gate.before(tile);
-        Begun {
+        Cells {
             from: self.starts[tile as usize],
             count: self.lengths[tile as usize],
-            _told: (),
         }
     }
 }

@@ -46,7 +46,7 @@ pub fn matrix_report<R: Threads + Sync, G: Gate + Sync>(
     // A world has at most 16,777,216 cells.
     let _cells = world.cells();
     let quoted = Quoted::of(alloc, world, format)?;
-    let survey = survey_of(rt, alloc, world, workers)?;
+    let survey = survey_of(rt, alloc, world, workers);
     let asked = Asked {
         workers,
         format,

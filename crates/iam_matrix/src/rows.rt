@@ -5,9 +5,9 @@ ghost use Rattle.iam_row.specs.Piece.{bare};
 ghost use Rattle.iam_world.specs.World.{world_cells};
 ghost use Rattle.iam_matrix.specs.Code.Tiles.{AreDecisions, AreEntriesOf, AreTailsOf, AreVerdicts};
 
-use crate::cut::{Begun, Cut};
+use crate::cut::{Cells, Cut};
 use crate::each::{decision_at, end_of};
-use iam_crew::{Bound, Crew, Gate};
+use iam_crew::{Bound, Crew};
 use iam_engine::{Engine, Survey};
 use iam_report::{Entries, Tile};
 use iam_row::{Format, Position};
@@ -51,15 +51,18 @@ impl<'a> Crew for Rows<'a> {
         Engine::surveyed(alloc, self.survey, self.asked.workers)
     }
 
-    fn work<G: Gate>(
+    fn skip(&self, _bound: &mut Bound<'_>, _tile: u64) -> Option<Tile> {
+        None
+    }
+
+    fn work(
         &self,
         alloc: Global,
         engine: &mut Engine<'a>,
-        gate: &G,
         _bound: &mut Bound<'_>,
         tile: u64,
     ) -> Result<Tile, OutOfMemory> {
-        let tile = self.cut.begin(gate, tile);
+        let tile = self.cut.cells(tile);
         tile_of(alloc, engine, self.asked.format, self.asked.brief, tile)
     }
 
@@ -72,7 +75,7 @@ fn tile_of(
     engine: &mut Engine<'_>,
     format: Format,
     brief: bool,
-    tile: Begun,
+    tile: Cells,
 ) -> Result<Tile, OutOfMemory>
     requires { tile.from + tile.count ≤ world_cells engine.old.world }
     ensures tails { IfOk result (λ tails. AreTailsOf format brief engine.old.world tile.from tile.count tails) }
@@ -87,7 +90,7 @@ fn entries_of(
     alloc: Global,
     engine: &mut Engine<'_>,
     brief: bool,
-    tile: Begun,
+    tile: Cells,
 ) -> Result<Entries, OutOfMemory>
     requires { tile.from + tile.count ≤ world_cells engine.old.world }
     ensures entries { IfOk result (λ entries. AreEntriesOf brief engine.old.world tile.from tile.count entries) }
@@ -101,7 +104,7 @@ fn entries_of(
 }
 
 /// The verdicts of the cells of a tile.
-fn full_entries(alloc: Global, engine: &mut Engine<'_>, tile: Begun) -> Result<Entries, OutOfMemory>
+fn full_entries(alloc: Global, engine: &mut Engine<'_>, tile: Cells) -> Result<Entries, OutOfMemory>
     requires { tile.from + tile.count ≤ world_cells engine.old.world }
     ensures entries { IfOk result (λ entries. AreVerdicts engine.old.world tile.from tile.count entries) }
     ensures same { engine.new.world ≡ engine.old.world }
@@ -122,7 +125,7 @@ fn full_entries(alloc: Global, engine: &mut Engine<'_>, tile: Begun) -> Result<E
 fn brief_entries(
     alloc: Global,
     engine: &mut Engine<'_>,
-    tile: Begun,
+    tile: Cells,
 ) -> Result<Entries, OutOfMemory>
     requires { tile.from + tile.count ≤ world_cells engine.old.world }
     ensures entries { IfOk result (λ entries. (decisions : List Decision) × AreDecisions engine.old.world tile.from tile.count decisions × (entries ≡ map bare decisions)) }

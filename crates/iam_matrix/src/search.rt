@@ -6,7 +6,7 @@ ghost use Rattle.iam_matrix.specs.Matrix.{IsFirstAllowed};
 ghost use Rattle.iam_matrix.specs.Code.Tiles.{IsAllowedCell, IsFirstIn};
 ghost use Rattle.iam_matrix.specs.Workers.{IsUnlawful};
 
-use crate::cut::{Begun, Cut};
+use crate::cut::{Cells, Cut};
 use crate::each::{decision_at, end_of};
 use crate::fault::MatrixFault;
 use crate::workers::is_unlawful;
@@ -48,18 +48,22 @@ impl<'a> Crew for Search<'a> {
         Engine::new(alloc, self.world, self.workers)
     }
 
-    fn work<G: Gate>(
+    fn skip(&self, bound: &mut Bound<'_>, tile: u64) -> Option<()> {
+        if is_behind(bound.look(), self.cut.cells(tile).from) {
+            Some(())
+        } else {
+            None
+        }
+    }
+
+    fn work(
         &self,
         alloc: Global,
         engine: &mut Engine<'a>,
-        gate: &G,
         bound: &mut Bound<'_>,
         tile: u64,
     ) -> Result<(), OutOfMemory> {
-        if is_behind(bound.look(), self.cut.first_cell(tile)) {
-            return Ok(());
-        }
-        let Some(cell) = first_in(alloc, engine, self.cut.begin(gate, tile))? else {
+        let Some(cell) = first_in(alloc, engine, self.cut.cells(tile))? else {
             return Ok(());
         };
         bound.offer(cell);
@@ -86,7 +90,7 @@ fn is_allowed(decision: Decision) -> bool
 }
 
 /// The first allowed cell of a tile.
-fn first_in(alloc: Global, engine: &mut Engine<'_>, tile: Begun) -> Result<Option<u64>, OutOfMemory>
+fn first_in(alloc: Global, engine: &mut Engine<'_>, tile: Cells) -> Result<Option<u64>, OutOfMemory>
     requires { tile.from + tile.count ≤ world_cells engine.old.world }
     ensures first { IfOk result (IsFirstIn engine.old.world tile.from tile.count) }
     ensures same { engine.new.world ≡ engine.old.world }

@@ -1,7 +1,7 @@
 // What the requests of a world's pairs share, found by all workers before its tiles.
-ghost use Rattle.std.specs.Prelude.{◌≡◌, ◌≤◌, IfOk};
+ghost use Rattle.std.specs.Prelude.{◌≡◌, ◌≤◌};
 
-use iam_crew::{Bound, Crew, Gate, Open, gather};
+use iam_crew::{Bound, Crew, Open, gather};
 use iam_engine::{Block, Survey, Surveyor, wants_survey};
 use iam_layers::World;
 use iam_text::OutOfMemory;
@@ -38,35 +38,37 @@ impl<'a> Crew for Surveyors<'a> {
         Surveyor::new(alloc, self.world, self.workers)
     }
 
-    fn work<G: Gate>(
+    fn skip(&self, _bound: &mut Bound<'_>, _tile: u64) -> Option<Block<'a>> {
+        None
+    }
+
+    fn work(
         &self,
         alloc: Global,
         surveyor: &mut Surveyor<'a>,
-        gate: &G,
         _bound: &mut Bound<'_>,
         tile: u64,
     ) -> Result<Block<'a>, OutOfMemory> {
-        gate.before(tile);
         surveyor.block(alloc, tile.saturating_mul(self.length), self.length)
     }
 
     ghost lasts = { λ _ _ _ _ _ _ given. given };
 }
 
-/// What the requests of a world's pairs share, found by so many workers where they had else to wait for one of them; where they had
-/// not, nothing, and each finds what it needs.
+/// What the requests of a world's pairs share, found by so many workers where they had else to wait for one of them. Where they had
+/// not, or memory is refused, it has nothing, and each worker finds what it needs.
 pub fn survey_of<'a, R: Threads + Sync>(
     rt: &R,
     alloc: Global,
     world: &'a World,
     workers: u32,
-) -> Result<Survey<'a>, OutOfMemory>
+) -> Survey<'a>
     requires some { 1 ≤ workers }
     requires few { workers ≤ 64 }
-    ensures { IfOk result (λ survey. survey ≡ world.entry.now) }
+    ensures { result ≡ world.entry.now }
 {
     if !wants_survey(world, workers) {
-        return Ok(Survey::of(world, 1, Vec::new(alloc)));
+        return Survey::of(world, 1, Vec::new(alloc));
     }
     let pairs = world.principals().saturating_mul(world.resources());
     let crew = Surveyors {
@@ -74,6 +76,8 @@ pub fn survey_of<'a, R: Threads + Sync>(
         length: pairs.div_ceil(BLOCKS),
         workers,
     };
-    let gathered = gather(rt, alloc, &crew, BLOCKS, workers, &Open)?;
-    Ok(Survey::of(world, crew.length, gathered.outputs))
+    match gather(rt, alloc, &crew, BLOCKS, workers, &Open) {
+        Ok(gathered) => Survey::of(world, crew.length, gathered.outputs),
+        Err(_) => Survey::of(world, 1, Vec::new(alloc)),
+    }
 }
