@@ -1,7 +1,7 @@
 // Crews of many workers, over tiles that cost nothing.
 ghost use Rattle.std.specs.Prelude.{◌≡◌};
 
-use iam_crew::{Bound, Crew, Gate, Open, gather};
+use iam_crew::{Bound, Crew, Open, gather};
 use std::alloc::{AllocError, Global};
 use std::test::Fail;
 
@@ -27,15 +27,17 @@ impl Crew for Numbers {
         Ok(())
     }
 
-    fn work<G: Gate>(
+    fn skip(&self, _bound: &mut Bound<'_>, _tile: u64) -> Option<u64> {
+        None
+    }
+
+    fn work(
         &self,
         _alloc: Global,
         _tools: &mut (),
-        gate: &G,
         _bound: &mut Bound<'_>,
         tile: u64,
     ) -> Result<u64, AllocError> {
-        gate.before(tile);
         Ok(tile)
     }
 
