@@ -3,7 +3,7 @@
 import json
 import os
 
-from harness import EXAMPLES, TOOLS, Skipped, matrix, run, same
+from harness import EXAMPLES, TOOLS, matrix, run, same
 
 ANN, BOB = "arn:aws:iam::111122223333:user/ann", "arn:aws:iam::111122223333:user/bob"
 BUILD = "arn:aws:sts::111122223333:assumed-role/build/run-1"
@@ -37,12 +37,7 @@ def test_the_key_that_the_vault_asks_for():
 
 
 def test_a_bucket_shared_across_accounts():
-    try:
-        found = matrix(example("shared.json"))
-    except AssertionError as error:
-        if "BadShape at resources/0" in str(error):
-            raise Skipped("the program does not read resource control policies yet")
-        raise
+    found = matrix(example("shared.json"))
     allows = "control/0/0/0 control/1/0/0"
     rows = {
         # dee is of the bucket's account, and needs nothing of its policy; ann may read by it, and not write; eve is

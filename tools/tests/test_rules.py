@@ -9,8 +9,8 @@ import re
 from harness import ROWS, TOOLS, run
 
 TOP = os.path.dirname(TOOLS)
-# What is left out, and what is planned.
-WITHOUT_ROWS = {"1.2", "17"}
+# What is left out.
+WITHOUT_ROWS = {"1.2"}
 # The same, and the examples of other sections.
 WITHOUT_DEFINITIONS = WITHOUT_ROWS | {"6.11", "11.5"}
 

@@ -4,7 +4,7 @@ import json
 import os
 import tempfile
 
-from harness import IAMSIM, TOOLS, Skipped, data, document, matrix, run, same, statement, world
+from harness import IAMSIM, TOOLS, data, document, matrix, run, same, statement, world
 
 ACCOUNT = "arn:aws:iam::111122223333:"
 SESSION = "arn:aws:sts::111122223333:assumed-role/"
@@ -231,12 +231,7 @@ def test_worlds_with_control_are_read():
         [document({"Effect": "Allow", "Principal": "*", "Action": "*", "Resource": "*"}),
          document({"Effect": "Deny", "Principal": "*", "Action": "s3:PutObject", "Resource": "*"})]]}]
     made = world("--actions", file("s3:GetObject\ns3:PutObject"), "--resources", file(resources), "--principal", "*/bob", data("account.json"))
-    try:
-        found = matrix(made)
-    except AssertionError as error:
-        if "BadShape at resources/0" in str(error):
-            raise Skipped("the program does not read resource control policies yet")
-        raise
+    found = matrix(made)
     bob = f"{ACCOUNT}user/ops/bob"
     same(found[bob, "s3:PutObject", "arn:aws:s3:::b/k"], ("explicitDeny", "control/0/1/0", ""))
     same(found[bob, "s3:GetObject", "arn:aws:s3:::b/k"][0], "allowed")

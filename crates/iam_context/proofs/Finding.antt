@@ -1,5 +1,6 @@
 -- The first entry with a key.
-use Rattle.std.proofs.Common.{◌≡◌, ℕ, suc, ◌+◌, ◌<◌, List, ◌∷◌, ◌++◌, true, false, cond, length, get_or, drop, refl, sym, ap, ◌∙◌, add-one, drop-cons, subst, Option, Some, None, map, option_map}
+use Rattle.std.proofs.Common.{◌≡◌, ℕ, suc, ◌+◌, ◌<◌, List, [], ◌∷◌, ◌++◌, true, false, cond, length, get_or, drop, refl, sym, ap, ◌∙◌, add-one, drop-cons, subst, Option, Some, None, map, option_map}
+use Rattle.std.proofs.lemmas.List.{append-nil}
 use Rattle.std.proofs.lemmas.List.Folds.{find-append}
 use Rattle.std.specs.List.{find}
 use Rattle.std.specs.Option.{option_or}
@@ -39,7 +40,7 @@ first_next xs ys i e key name same below is named has =
     (ap (λ n. is_same_key n key) (sym named) ∙ has)
 
 -- of two contexts, one behind the other, the first that has the key
-first_append : (a b : ContextValue) (key : List ℕ) → first_values (a ++ b) key ≡ option_or (first_values a key) (first_values b key)
+pub first_append : (a b : ContextValue) (key : List ℕ) → first_values (a ++ b) key ≡ option_or (first_values a key) (first_values b key)
 first_append a b key =
     ap (λ o. option_map (λ (entry : Entry). entry.1) o) (find-append (λ (entry : Entry). is_same_key entry.0 key) a b)
     ∙ go (find (λ (entry : Entry). is_same_key entry.0 key) a)
@@ -64,3 +65,15 @@ found_next f parts i e key below is has =
     ap (λ l. first_values l key) (parts_left f parts i e below is)
     ∙ first_append (f e) (all_of (map f (drop (i + 1) parts))) key
     ∙ ap (λ o. option_or o (first_values (all_of (map f (drop (i + 1) parts))) key)) (sym has)
+
+-- of four contexts, one behind the other
+pub four_first : (a b c d : ContextValue) (key : List ℕ) → first_values (all_of (a ∷ (b ∷ (c ∷ (d ∷ []))))) key
+    ≡ option_or (first_values a key) (option_or (first_values b key) (option_or (first_values c key) (first_values d key)))
+four_first a b c d key =
+    first_append a (b ++ (c ++ (d ++ []))) key
+    ∙ ap (option_or (first_values a key)) (
+    first_append b (c ++ (d ++ [])) key
+    ∙ ap (option_or (first_values b key)) (
+    first_append c (d ++ []) key ∙ ap (λ (l : ContextValue). option_or (first_values c key) (first_values l key)) (append-nil d)
+    )
+    )

@@ -1,3 +1,5 @@
 pub mod Parts
+pub mod Places
+pub mod Ties
 pub mod Values
 pub mod Wildcards

@@ -1,18 +1,18 @@
 -- A set of keys that stands for a list of them. LOGIC 9.2 and 9.3.
-use Rattle.std.specs.Prelude.{◌≡◌, ℕ, List, Bool, ◌||◌, map}
+use Rattle.std.specs.Prelude.{◌≡◌, ℕ, List, Bool, ◌||◌}
 use Rattle.std.specs.BTreeSet.{BTreeSet, contains_by}
-use Rattle.std.specs.Char.{to_ascii_lowercase}
 use Rattle.std.specs.Cmp.Lexicographic.{slice_cmp}
 use Rattle.std.specs.List.{list_any}
 use Rattle.std.specs.Ordering.{nat_cmp}
 use Rattle.std.specs.declared.cmp.Ordering.{Ordering}
 use Rattle.iam_context.specs.Context.{has_key, has_twice}
+use Rattle.iam_context.specs.Order.{backwards}
 use Rattle.iam_context.specs.declared.key.Key.{Key}
 use Rattle.iam_context.specs.declared.keys.Keys.{Keys}
 
--- the order of keys: that of their bytes once the letters A to Z are folded
+-- the order of keys: that of their bytes from the last to the first, once the letters A to Z are folded
 abbrev pub key_cmp : List ℕ → List ℕ → Ordering
-key_cmp key other = slice_cmp nat_cmp (map to_ascii_lowercase key) (map to_ascii_lowercase other)
+key_cmp key other = slice_cmp nat_cmp (backwards key) (backwards other)
 
 -- whether the set has the key
 abbrev pub contains_key : BTreeSet Key → List ℕ → Bool

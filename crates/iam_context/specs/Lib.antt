@@ -2,4 +2,5 @@ pub mod Code
 pub mod Context
 pub mod ContextFault
 pub mod Keys
+pub mod Order
 pub mod Resolve

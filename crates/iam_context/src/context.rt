@@ -1,14 +1,12 @@
-// The context of a request: the values of each key, sought in the parts that it is made of or in a table.
-ghost use Rattle.std.specs.Prelude.{◌≡◌, ◌≢◌, ℕ, List, [], ◌∷◌, ◌++◌, map, option_map, IfOk, IfErr};
-ghost use Rattle.iam_context.specs.Context.{ContextValue, all_of, has_derived, joined, keys_of, values_of};
-ghost use Rattle.iam_context.specs.Code.Values.{first_values};
+// The context of a request: the values of each key, sought in the parts that it is made of.
+ghost use Rattle.std.specs.Prelude.{◌≡◌, ◌≢◌, [], ◌∷◌, map, IfOk, IfErr};
+ghost use Rattle.iam_context.specs.Context.{all_of, has_derived, joined, keys_of, values_of};
 
 use crate::OutOfMemory;
 use crate::fault::ContextFault;
-use crate::key::Key;
-use crate::part::{Derived, Part, has_derived, is_same_key, stand_twice};
-use crate::parts::{Four, Parts};
-use crate::table::{Table, table_of};
+use crate::part::{Derived, Part, has_derived, stand_twice};
+use crate::parts::{Four, Parts, Three};
+use crate::sought::Sought;
 use iam_text::Text;
 use std::alloc::Global;
 use std::marker::Model;
@@ -16,28 +14,19 @@ use std::marker::Model;
 /// The keys of a request with their values.
 #[derive(Drop)]
 pub struct Context<'a> {
-    // What the contracts see as the context.
     parts: Parts<'a>,
-    // The same by key, where there are many.
-    table: Option<Table<'a>>,
 }
 
 impl<'a> Model for Context<'a> {
-    ghost use Rattle.std.specs.Option.{ForSome};
     ghost use Rattle.iam_context.specs.Context.{ContextValue, all_of};
     ghost use Rattle.iam_context.specs.Code.Parts.{parts_of};
 
     ghost Value = { ContextValue };
 
-    ghost use Rattle.iam_context.specs.Code.Values.{HasValues};
-
     ghost view = { λ c. all_of (parts_of c.parts) };
-
-    ghost invariant = { λ c. ForSome c.table (λ table. HasValues table (all_of (parts_of c.parts))) };
 }
 
 impl<'a> Context<'a> {
-    ghost use Rattle.iam_context.specs.Code.Parts.{parts_of};
     ghost use Rattle.iam_context.specs.ContextFault.{IsClean, JoinFault};
     ghost use Rattle.iam_context.specs.declared.fault.ContextFault.TheVariants as f;
 
@@ -61,13 +50,15 @@ impl<'a> Context<'a> {
         }
         let mut parts = Vec::from_slice(alloc, given)?;
         parts.push(derived)?;
-        Ok(Context::over(alloc, Parts::Any(parts))?)
+        Ok(Context {
+            parts: Parts::Any(parts),
+        })
     }
 
-    /// The context of three given parts and of the keys that follow from requester, resource and moment. It takes no memory
-    /// where there are few keys. Of equal keys the first one counts.
+    /// The context of three given parts and of the keys that follow from requester, resource and moment. It takes no memory:
+    /// keys are sought one by one. Of equal keys the first one counts.
     pub fn of(
-        alloc: Global,
+        _alloc: Global,
         given: [&'a Part; 3],
         derived: &'a Derived,
     ) -> Result<Context<'a>, OutOfMemory>
@@ -75,34 +66,37 @@ impl<'a> Context<'a> {
     {
         let [first, second, third] = given;
         let parts = [first, second, third, derived];
-        Context::over(alloc, Parts::Four(Four { parts }))
+        Ok(Context {
+            parts: Parts::Four(Four { parts }),
+        })
     }
 
-    /// The context of these parts.
-    fn over(alloc: Global, parts: Parts<'a>) -> Result<Context<'a>, OutOfMemory>
-        ensures { IfOk result (λ c. c ≡ all_of (parts_of parts.entry)) }
+    /// The same of three parts whose keys are sought by their places. It takes no memory. Of equal keys the first one counts.
+    pub fn sought<'p, 'q, 'r>(
+        first: &'a Sought<'p>,
+        second: &'a Sought<'q>,
+        third: &'a Sought<'r>,
+        derived: &'a Derived,
+    ) -> Context<'a>
+        ensures { result ≡ joined (first.entry.now ∷ (second.entry.now ∷ (third.entry.now ∷ []))) derived.entry.now.items }
     {
-        let table = table_of(alloc, parts.as_slice())?;
-        Ok(Context { parts, table })
+        Context {
+            parts: Parts::Three(Three {
+                first: first.lend(),
+                second: second.lend(),
+                third: third.lend(),
+                derived,
+            }),
+        }
     }
 
     /// The values of the key, compared without regard to case; none where the key is not there. It takes no memory.
     pub fn values(&self, key: &'a str) -> &[Text]
         ensures { result.now ≡ values_of self.now key.now }
     {
-        match self.find(key) {
+        match self.parts.find(key) {
             Some(values) => values,
             None => &[],
-        }
-    }
-
-    /// The values of the first entry with the key.
-    fn find(&self, key: &'a str) -> Option<&'a [Text]>
-        ensures { option_map (λ values. values.now) result ≡ first_values self.now key.now }
-    {
-        match &self.table {
-            Some(table) => table.get(&Key(key)).copied(),
-            None => find_in_parts(self.parts.as_slice(), key),
         }
     }
 }
@@ -117,29 +111,4 @@ fn some_derived(given: &[&Part]) -> bool
         }
     }
     false
-}
-
-/// The values of the first entry of the parts with the key.
-fn find_in_parts<'a>(parts: &[&'a Part], key: &str) -> Option<&'a [Text]>
-    ensures { option_map (λ values. values.now) result
-        ≡ first_values (all_of (map (λ part. part.now.items) parts.now)) key.now }
-{
-    for part in parts {
-        if let Some(values) = find_in_part(part, key) {
-            return Some(values);
-        }
-    }
-    None
-}
-
-/// The values of the first entry of the part with the key.
-fn find_in_part<'a>(part: &'a Part, key: &str) -> Option<&'a [Text]>
-    ensures { option_map (λ values. values.now) result ≡ first_values part.entry.now.items key.now }
-{
-    for (name, values) in part {
-        if is_same_key(name.as_str(), key) {
-            return Some(values.as_slice());
-        }
-    }
-    None
 }

@@ -2,12 +2,14 @@
 ghost use Rattle.std.specs.Prelude.{◌≡◌, ◌↔◌, IsTrue, map, refl};
 ghost use Rattle.std.specs.Char.{to_ascii_lowercase};
 ghost use Rattle.std.specs.Cmp;
-ghost use Rattle.std.specs.Cmp.Lexicographic.{slice_cmp, on_texts, on_texts_equal, texts_ties};
+ghost use Rattle.std.specs.Cmp.Lexicographic.{slice_cmp, on_texts, on_texts_equal};
 ghost use Rattle.std.specs.Cmp.{partial_order_from_own_ties};
 ghost use Rattle.std.specs.Ordering.{nat_cmp, on, as_partial_cmp};
 ghost use Rattle.std.specs.Str.{bytes_eq};
 ghost use Rattle.std.specs.Cmp.Rules.{comparing};
 ghost use Rattle.std.proofs.Common.{rules};
+ghost use Rattle.iam_context.specs.Order.{backwards};
+ghost use Rattle.iam_context.specs.Code.Ties.{backwards_ties};
 
 use std::cmp::Ordering;
 
@@ -15,20 +17,28 @@ use std::cmp::Ordering;
 #[derive(Clone, Copy, Debug)]
 pub struct Key<'a>(pub &'a str);
 
-/// The order of two texts once the letters A to Z of both are folded.
+/// The order of two texts once the letters A to Z of both are folded, read from their ends: keys of one context mostly begin
+/// alike, and differ in their last characters.
 fn folded_cmp(left: &[u8], right: &[u8]) -> Ordering
-    ensures { result ≡ slice_cmp nat_cmp (map to_ascii_lowercase left.now) (map to_ascii_lowercase right.now) }
+    ensures { result ≡ slice_cmp nat_cmp (backwards left.now) (backwards right.now) }
 {
-    for (i, byte) in left.iter().enumerate() {
-        let Some(other) = right.get(i) else {
-            return Ordering::Greater;
-        };
-        let order = byte.to_ascii_lowercase().cmp(&other.to_ascii_lowercase());
-        if order != Ordering::Equal {
-            return order;
+    let mut left = left;
+    let mut right = right;
+    loop {
+        match (left.split_last(), right.split_last()) {
+            (Some((one, before)), Some((other, before_other))) => {
+                let order = one.to_ascii_lowercase().cmp(&other.to_ascii_lowercase());
+                if order != Ordering::Equal {
+                    return order;
+                }
+                left = before;
+                right = before_other;
+            }
+            (Some(_), None) => return Ordering::Greater,
+            (None, Some(_)) => return Ordering::Less,
+            (None, None) => return Ordering::Equal,
         }
     }
-    left.len().cmp(&right.len())
 }
 
 impl PartialEq for Key<'_> {
@@ -46,9 +56,9 @@ impl Eq for Key<'_> {
 }
 
 impl PartialOrd for Key<'_> {
-    ghost partial_cmp = { as_partial_cmp (on (λ k. map to_ascii_lowercase k.0.now) (slice_cmp nat_cmp)) };
+    ghost partial_cmp = { as_partial_cmp (on (λ k. backwards k.0.now) (slice_cmp nat_cmp)) };
 
-    ghost laws = { partial_order_from_own_ties (Prim.search (comparing, rules)) (Prim.search (comparing, rules)) };
+    ghost laws = { partial_order_from_own_ties (Prim.search (comparing, rules)) (λ x y. backwards_ties x.0.now y.0.now) };
 
     fn partial_cmp(&self, other: &Self) -> Option<Ordering> {
         Some(self.cmp(other))
@@ -56,13 +66,13 @@ impl PartialOrd for Key<'_> {
 }
 
 impl Ord for Key<'_> {
-    ghost cmp = { on (λ k. map to_ascii_lowercase k.0.now) (slice_cmp nat_cmp) };
+    ghost cmp = { on (λ k. backwards k.0.now) (slice_cmp nat_cmp) };
 
-    ghost total = { on_texts (λ k. map to_ascii_lowercase k.0.now) };
+    ghost total = { on_texts (λ k. backwards k.0.now) };
 
     ghost matches_partial_cmp = { λ x y. refl };
 
-    ghost matches_eq = { λ x y. texts_ties (map to_ascii_lowercase x.0.now) (map to_ascii_lowercase y.0.now) };
+    ghost matches_eq = { λ x y. backwards_ties x.0.now y.0.now };
 
     fn cmp(&self, other: &Self) -> Ordering {
         folded_cmp(self.0.as_bytes(), other.0.as_bytes())

@@ -3,12 +3,14 @@
 
 mod context;
 mod fault;
+mod find;
 mod key;
 mod keys;
 mod part;
 mod parts;
 mod pattern;
-mod table;
+mod places;
+mod sought;
 
 pub use context::Context;
 pub use fault::ContextFault;
@@ -16,3 +18,4 @@ pub use iam_text::OutOfMemory;
 pub use keys::Keys;
 pub use part::{Derived, Part, part_fault};
 pub use pattern::resolve;
+pub use sought::Sought;

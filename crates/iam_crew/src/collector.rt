@@ -1,8 +1,9 @@
 // All workers together, and what they brought back.
-ghost use Rattle.std.specs.Prelude.{◌≡◌, ℕ, ◌<◌, ◌≤◌, ◌⊎◌, All, IfOk, IfSome, OnOk, Some, length, map, slice_get, vec_len};
+ghost use Rattle.std.specs.Prelude.{◌≡◌, ℕ, ◌<◌, ◌≤◌, ◌⊎◌, All, IfNone, IfOk, IfSome, IsSome, OnOk, Some, length, map, slice_get, vec_len};
 ghost use Rattle.std.specs.List.{flat_map};
 ghost use Rattle.iam_crew.specs.Bound.{bound_of, Lowers};
-ghost use Rattle.iam_crew.specs.Code.Order.{AreGivenBelow, IsCompleted};
+ghost use Rattle.iam_crew.specs.Code.Order.{AreBrought, AreGivenBelow, IsCompleted, IsKept};
+ghost use Rattle.iam_crew.specs.Code.Worker.{IsDone};
 
 use crate::bound::Bound;
 use crate::crew::{Crew, Gate, Open, output_at};
@@ -36,7 +37,13 @@ fn part<O: Drop>(
     let mut seats = Vec::new(alloc);
     let mut all = Vec::new(alloc);
     for done in workers {
-        let Done { seat, mut made } = done;
+        let Done {
+            seat,
+            work: _,
+            mut made,
+            idle: _,
+            halves: _,
+        } = done;
         seats.push(seat)?;
         all.append(&mut made)?;
     }
@@ -50,7 +57,8 @@ fn tools_of<C: Crew>(
     tools: Option<C::Tools>,
 ) -> Result<C::Tools, OutOfMemory>
     requires { IfSome tools (C.fits crew.now) }
-    ensures { IfOk result (C.fits crew.now) }
+    ensures fits { IfOk result (C.fits crew.now) }
+    ensures kept { IfSome tools (λ own. IfOk result (λ r. r ≡ own)) }
 {
     match tools {
         Some(tools) => Ok(tools),
@@ -58,7 +66,7 @@ fn tools_of<C: Crew>(
     }
 }
 
-// The output that a worker brought of a tile, or one that is made now, without a gate.
+// The output that a worker brought of a tile, or one that is made now, without a gate. Tools that it took are put back.
 fn output_of<C: Crew>(
     alloc: Global,
     crew: &C,
@@ -71,6 +79,8 @@ fn output_of<C: Crew>(
     requires tools { IfSome tools.old (C.fits crew.now) }
     requires offered { All (C.offers crew.now) bound.old.offers }
     ensures fits { OnOk result (IfSome tools.new (C.fits crew.now)) }
+    ensures back { OnOk result (IfNone brought (IsSome tools.new)) }
+    ensures kept { IfSome brought (λ own. IfOk result (λ output. output ≡ own)) }
     ensures given { IfOk result (λ output. (brought ≡ Some output) ⊎ C.gives crew.now tile output bound.new.floor) }
     ensures offered { OnOk result (All (C.offers crew.now) bound.new.offers) }
     ensures lower { OnOk result (Lowers bound.old bound.new) }
@@ -123,6 +133,7 @@ fn finish<C: Crew>(
     requires given { AreGivenBelow (C.gives crew.now) seats.items slots.items }
     ensures count { IfOk result (λ g. length g.outputs.items ≡ length slots.items) }
     ensures given { IfOk result (λ g. (tile : ℕ) (output : C.Output) → slice_get g.outputs.items tile ≡ Some output → C.gives crew.now tile output (bound_of g.low)) }
+    ensures kept { IfOk result (λ g. IsKept slots.items g.outputs.items) }
     ensures low { IfOk result (λ g. IfSome g.low (C.offers crew.now)) }
 {
     let Some(seat) = seats.pop() else {
@@ -136,6 +147,29 @@ fn finish<C: Crew>(
         outputs,
         low: closed.low,
     })
+}
+
+// The outputs of all tiles, of what the workers brought back: each output that one of them made of a tile, or where two made one
+// of it either, and for each other tile one that is made now.
+fn collect<C: Crew>(
+    alloc: Global,
+    crew: &C,
+    lanes: Lanes,
+    done: Vec<Done<C::Output>>,
+    tiles: u64,
+) -> Result<Gathered<C::Output>, OutOfMemory>
+    requires takes { (tile : ℕ) → tile < tiles → C.takes crew.now tile }
+    requires some { 0 < vec_len done }
+    requires count { vec_len done ≡ lanes.seats }
+    requires done { All (IsDone tiles lanes (C.offers crew.now) (C.gives crew.now)) done.items }
+    ensures count { IfOk result (λ g. length g.outputs.items ≡ tiles) }
+    ensures brought { IfOk result (λ g. AreBrought (flat_map (λ d. d.made.items) done.items) g.outputs.items) }
+    ensures given { IfOk result (λ g. (tile : ℕ) (output : C.Output) → slice_get g.outputs.items tile ≡ Some output → C.gives crew.now tile output (bound_of g.low)) }
+    ensures low { IfOk result (λ g. IfSome g.low (C.offers crew.now)) }
+{
+    let (seats, made) = part(alloc, done)?;
+    let slots = place(alloc, made, tiles)?;
+    finish(alloc, crew, lanes, seats, slots)
 }
 
 /// Has a crew work off the tiles 0, 1, 2, .. below `tiles`, and gathers its outputs in the order of tiles.
@@ -169,7 +203,5 @@ pub fn gather<R: Threads + Sync, G: Gate + Sync, C: Crew + Sync>(
     let (work, seats) = open_work(alloc, shares)?;
     let all = deal(alloc, &lanes, &work, shares, bounds, seats)?;
     let done = run(rt, alloc, crew, &lanes, &work, gate, shares, all)?;
-    let (seats, made) = part(alloc, done)?;
-    let slots = place(alloc, made, tiles)?;
-    finish(alloc, crew, lanes, seats, slots)
+    collect(alloc, crew, lanes, done, tiles)
 }

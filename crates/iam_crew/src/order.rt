@@ -1,5 +1,5 @@
 // The outputs of all workers, put into the order of tiles.
-ghost use Rattle.std.specs.Prelude.{◌≡◌, ◌<◌, ◌++◌, ◌∷◌, [], All, IfOk, List, None, length, replicate};
+ghost use Rattle.std.specs.Prelude.{◌≡◌, ◌<◌, ◌++◌, ◌∷◌, [], All, IfOk, List, None, Some, length, replicate, slice_get};
 ghost use Rattle.iam_crew.specs.declared.worker.Made.{Made};
 ghost use Rattle.iam_crew.specs.Code.Order.{IsPlaced};
 
@@ -19,10 +19,10 @@ fn empty_slots<O: Drop>(alloc: Global, tiles: u64) -> Result<Vec<Option<O>>, Out
 }
 
 // Puts an output into the slot of its tile.
-#[tactic(auto, using(crate::proofs::Slots::placed_more))]
 fn put<O: Drop>(slots: &mut Vec<Option<O>>, one: Made<O>)
     requires { one.tile < length slots.old.items }
     ensures count { length slots.new.items ≡ length slots.old.items }
+    ensures filled { slice_get slots.new.items one.tile ≡ Some (Some one.output) }
     ensures placed { (made : List (Made O)) → IsPlaced slots.old.items made → IsPlaced slots.new.items (made ++ one ∷ []) }
 {
     let Made { tile, output } = one;

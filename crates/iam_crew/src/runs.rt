@@ -1,9 +1,9 @@
 // How a worker comes by a run of tiles, and how it shares one.
 ghost use Rattle.std.specs.Prelude.{◌≡◌, ◌+◌, ◌-◌, ◌%◌, ◌<◌, ◌≤◌, IfNone, IfSome, Some};
-ghost use Rattle.iam_work.specs.Work.{IsWithin};
+ghost use Rattle.iam_lanes.specs.Work.{IsWithin};
 ghost use Rattle.iam_crew.specs.Code.Runs.{IsFound, IsHalved, IsSpent};
 
-use iam_work::{Run, Stolen, Work, WorkSeat};
+use iam_lanes::{Run, Stolen, Work, WorkSeat};
 
 // A worker that found no run in so many turns, one after the other, looks for none any more.
 const IDLE_IN_A_ROW: u32 = 65_536;
@@ -37,6 +37,7 @@ fn find(work: &Work, seat: &mut WorkSeat, steps: u32, seats: u32) -> Option<Run>
     requires steps { steps < seats }
     ensures work { seat.new.work ≡ work.now }
     ensures number { seat.new.number ≡ seat.old.number }
+    ensures marked { seat.new.marked ≡ seat.old.marked }
     ensures within { IfSome result (IsWithin work.now.grains) }
     ensures found { IfSome result (λ run. IsFound seats steps seat.old run seat.new) }
     ensures none { IfNone result (seat.new ≡ seat.old) }
@@ -59,6 +60,7 @@ fn seek_alone(work: &Work, seat: &mut WorkSeat, idle: &mut u32) -> Option<Run>
     requires seats { work.now.seats ≡ 1 }
     ensures work { seat.new.work ≡ work.now }
     ensures number { seat.new.number ≡ seat.old.number }
+    ensures marked { seat.new.marked ≡ seat.old.marked }
     ensures within { IfSome result (IsWithin work.now.grains) }
     ensures found { IfSome result (λ run. IsFound 1 0 seat.old run seat.new) }
     ensures left { IfSome result (λ _. (idle.new ≡ idle.old) × (0 < idle.old)) }
@@ -82,6 +84,7 @@ fn seek(work: &Work, seat: &mut WorkSeat, seats: u32, idle: &mut u32) -> Option<
     requires few { seats ≤ 64 }
     ensures work { seat.new.work ≡ work.now }
     ensures number { seat.new.number ≡ seat.old.number }
+    ensures marked { seat.new.marked ≡ seat.old.marked }
     ensures within { IfSome result (IsWithin work.now.grains) }
     ensures found { IfSome result (λ run. IsFound seats ((idle.old - idle.new) % seats) seat.old run seat.new) }
     ensures left { IfSome result (λ _. (idle.new ≤ idle.old) × (idle.old < idle.new + 65_536) × (0 < idle.new)) }
@@ -121,6 +124,7 @@ pub fn next_run(
     requires in_hand { in_hand.first + in_hand.count ≤ work.now.grains }
     ensures work { seat.new.work ≡ work.now }
     ensures number { seat.new.number ≡ seat.old.number }
+    ensures marked { seat.new.marked ≡ seat.old.marked }
     ensures within { IfSome result (IsWithin work.now.grains) }
     ensures in_hand { 0 < in_hand.count → (result ≡ Some in_hand) × (seat.new ≡ seat.old) × (idle.new ≡ idle.old) }
     ensures found { in_hand.count ≡ 0 → IfSome result (λ run. IsFound seats ((idle.old - idle.new) % seats) seat.old run seat.new) }
@@ -143,6 +147,7 @@ pub fn halve(work: &Work, seat: &mut WorkSeat, halves: &mut bool, run: Run) -> R
     requires inside { run.first + run.count ≤ work.now.grains }
     ensures work { seat.new.work ≡ work.now }
     ensures number { seat.new.number ≡ seat.old.number }
+    ensures marked { seat.new.marked ≡ seat.old.marked }
     ensures first { result.first ≡ run.first }
     ensures some { 0 < result.count }
     ensures fewer { result.count ≤ run.count }

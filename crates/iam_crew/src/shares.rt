@@ -3,7 +3,7 @@ ghost use Rattle.std.specs.Prelude.{◌≡◌, ◌+◌, ◌<◌, ◌≤◌};
 ghost use Rattle.iam_crew.specs.Code.Runs.{IsShare};
 ghost use Rattle.iam_crew.specs.Code.Shares.{start_of};
 
-use iam_work::Run;
+use iam_lanes::Run;
 
 /// So many tiles, dealt out to so many workers: each has a run of tiles, and no two differ by more than one.
 #[derive(Clone, Copy)]

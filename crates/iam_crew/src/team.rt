@@ -7,9 +7,8 @@ use crate::crew::{Crew, Gate};
 use crate::seats::Seats;
 use crate::shares::Shares;
 use crate::worker::{Done, work_by_turns};
-use iam_lanes::Lanes;
+use iam_lanes::{Lanes, Work};
 use iam_text::OutOfMemory;
-use iam_work::Work;
 use std::alloc::Global;
 use std::thread::{Threads, join};
 

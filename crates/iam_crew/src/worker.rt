@@ -1,6 +1,6 @@
 // A worker and its turns.
 ghost use Rattle.std.specs.Prelude.{◌≡◌, ℕ, ◌+◌, ◌<◌, ◌≤◌, IfOk, OnOk};
-ghost use Rattle.iam_work.specs.Work.{IsWithin};
+ghost use Rattle.iam_lanes.specs.Work.{IsWithin};
 ghost use Rattle.iam_crew.specs.Code.Runs.{IsAsReady, IsMarked, IsOver, IsTurn};
 ghost use Rattle.iam_crew.specs.Code.Worker.{IsAtWork, IsDone, IsReady};
 
@@ -9,9 +9,8 @@ use crate::crew::{Crew, Gate, output_at};
 use crate::runs::{IDLE_IN_ALL, halve, next_run};
 use crate::seats::Seats;
 use crate::shares::Shares;
-use iam_lanes::{LaneSeat, Lanes};
+use iam_lanes::{LaneSeat, Lanes, Run, Work, WorkSeat};
 use iam_text::OutOfMemory;
-use iam_work::{Run, Work, WorkSeat};
 use std::alloc::Global;
 
 /// The output of a tile.
@@ -21,11 +20,17 @@ pub struct Made<O> {
     pub output: O,
 }
 
-/// What a worker brings back: its seat at the lanes, and the outputs that it made.
+/// What a worker brings back: its seats, at the lanes and at the work, the outputs that it made, and what was left to it when
+/// it stopped.
 #[derive(Drop)]
 pub struct Done<O> {
     pub seat: LaneSeat,
+    pub work: WorkSeat,
     pub made: Vec<Made<O>>,
+    /// In how many more turns it might have found no run.
+    pub idle: u32,
+    /// Whether no push was refused.
+    pub halves: bool,
 }
 
 /// A worker between two turns.
@@ -99,7 +104,8 @@ fn take_turn<G: Gate, C: Crew>(
     })
 }
 
-// The turns of a worker, until it finds no further run. At most `2 * tiles + 1` of them have a run in hand.
+// The turns of a worker that begins with this run in hand, until it finds no further run. At most `2 * tiles + 1` of them
+// have a run in hand that is not empty.
 fn take_turns<G: Gate, C: Crew>(
     alloc: Global,
     crew: &C,
@@ -107,15 +113,17 @@ fn take_turns<G: Gate, C: Crew>(
     gate: &G,
     shares: Shares,
     worker: &mut Worker<'_, C::Tools, C::Output>,
+    in_hand: Run,
 ) -> Result<(), OutOfMemory>
     requires tiles { work.now.grains ≡ shares.tiles }
     requires workers { work.now.seats ≡ shares.workers }
     requires takes { (tile : ℕ) → tile < work.now.grains → C.takes crew.now tile }
     requires worker { IsAtWork work.now worker.old.bound.of (C.fits crew.now) (C.offers crew.now) (C.gives crew.now) worker.old }
+    requires in_hand { in_hand.first + in_hand.count ≤ work.now.grains }
     ensures worker { OnOk result (IsAtWork work.now worker.old.bound.of (C.fits crew.now) (C.offers crew.now) (C.gives crew.now) worker.new) }
     ensures over { OnOk result (IsOver shares.tiles worker.old worker.new) }
 {
-    let mut run = Run { first: 0, count: 0 };
+    let mut run = in_hand;
     for _turn in 0..2 * shares.tiles + 1 {
         let Some(next) = next_run(
             work,
@@ -147,7 +155,11 @@ pub fn work_by_turns<G: Gate, C: Crew>(
     requires seats { IsReady lanes.now work.now seats }
     ensures { IfOk result (IsDone shares.tiles lanes.now (C.offers crew.now) (C.gives crew.now)) }
 {
-    let Seats { bound, work: seat } = seats;
+    let Seats {
+        bound,
+        work: seat,
+        in_hand,
+    } = seats;
     let mut worker = Worker {
         seat,
         bound: Bound::new(lanes, bound),
@@ -156,17 +168,20 @@ pub fn work_by_turns<G: Gate, C: Crew>(
         idle: IDLE_IN_ALL,
         halves: true,
     };
-    take_turns(alloc, crew, work, gate, shares, &mut worker)?;
+    take_turns(alloc, crew, work, gate, shares, &mut worker, in_hand)?;
     let Worker {
-        seat: _,
+        seat,
         bound,
         tools: _,
         made,
-        idle: _,
-        halves: _,
+        idle,
+        halves,
     } = worker;
     Ok(Done {
         seat: bound.into_seat(),
+        work: seat,
         made,
+        idle,
+        halves,
     })
 }

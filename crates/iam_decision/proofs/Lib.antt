@@ -1,3 +1,4 @@
+mod EarlyLemmas
 mod GrantLemmas
 mod LawLemmas
 mod LivingLemmas

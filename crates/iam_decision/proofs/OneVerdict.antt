@@ -13,7 +13,7 @@ use Rattle.iam_decision.specs.declared.verdict.Decision.TheVariants.{Allowed, Ex
 use Rattle.iam_decision.specs.declared.verdict.Verdict.{Verdict}
 use Rattle.iam_decision.proofs.LawLemmas.{one_decision}
 
-one_selection : {X : Type 0} (P : X → Type 0) (xs chosen others : List X) → Selects P xs chosen → Selects P xs others → chosen ≡ others
+pub one_selection : {X : Type 0} (P : X → Type 0) (xs chosen others : List X) → Selects P xs chosen → Selects P xs others → chosen ≡ others
 one_selection P [] chosen others h k = h ∙ sym k
 one_selection P (x ∷ xs) chosen others (inl (p, (rest, is, h))) (inl (q, (more, same, k))) =
     is ∙ ap (λ z. x ∷ z) (one_selection P xs rest more h k) ∙ sym same

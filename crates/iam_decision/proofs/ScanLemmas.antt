@@ -1,10 +1,9 @@
--- A scan goes on, one statement, one policy and one level at a time.
+-- The statements are walked one statement, one policy and one level at a time.
 use Rattle.std.proofs.Common.{◌≡◌, inl, inr, ℕ, suc, zero, ◌+◌, ◌<◌, List, [], ◌∷◌, ◌++◌, map, take, length, get_or, refl, sym, ap, ◌∙◌, subst, arith, append_assoc}
 use Rattle.std.proofs.lemmas.List.{take_more, map-append, append-nil, get_or-map}
 use Rattle.std.specs.List.{AllByRecursion, enumerate_from, flat_map}
 use Rattle.iam_match.specs.Statement.{AccessValue}
-use Rattle.iam_decision.specs.Code.Scan.{Adds}
-use Rattle.iam_decision.specs.Living.{Acts, AreActing, Lives, LivingValue, living_of}
+use Rattle.iam_decision.specs.Living.{Acts, AreActing, AreLiving, Lives, LivingValue, living_of}
 use Rattle.iam_decision.specs.Matched.{Placed, Selects}
 use Rattle.iam_decision.specs.declared.living.Matched.{Matched}
 
@@ -15,18 +14,6 @@ selects_append P (x ∷ xs) ys a b (inl h) k =
     let Q : List _ → Type 0 = λ z. Selects P (x ∷ (xs ++ ys)) (z ++ b) in
     subst Q (sym h.1.1) (inl (h.0, (h.1.0 ++ b, refl, selects_append P xs ys h.1.0 b h.1.2 k)))
 selects_append P (x ∷ xs) ys a b (inr h) k = inr (h.0, selects_append P xs ys a b h.1 k)
-
--- nothing was added yet
-pub adds_none : (q : AccessValue) (old : List _) → Adds q [] old old
-adds_none q old = ([], refl, sym (append-nil old))
-
--- what is added of two lists, one after the other
-pub adds_more : (q : AccessValue) (xs ys : List Placed) (old mid new : List _) → Adds q xs old mid → Adds q ys mid new → Adds q (xs ++ ys) old new
-adds_more q xs ys old mid new h k = (
-  h.0 ++ k.0,
-  selects_append (Lives q) xs ys h.0 k.0 h.1 k.1,
-  (k.2 ∙ ap (λ m. m ++ map (living_of q.requester) k.0) h.2 ∙ append_assoc old (map (living_of q.requester) h.0) (map (living_of q.requester) k.0) ∙ ap (λ z. old ++ z) (sym (map-append (living_of q.requester) h.0 k.0))),
-)
 
 numbered_suc : {X Y : Type 0} (f : ℕ × X → List Y) (n : ℕ) (xs : List X) (i : ℕ) (x : X) → i < length xs → x ≡ get_or xs i x
     → flat_map f (enumerate_from n (take (suc i) xs)) ≡ flat_map f (enumerate_from n (take i xs)) ++ f (n + i, x)
@@ -49,20 +36,28 @@ numbered_more f xs i x below is =
     ap (λ k. flat_map f (enumerate_from 0 (take k xs))) next ∙ numbered_suc f 0 xs i x below is
     ∙ ap (λ k. flat_map f (enumerate_from 0 (take i xs)) ++ f (k, x)) number
 
--- the scan of numbered elements goes on by one
-pub scan_more : {X : Type 0} (q : AccessValue) (f : ℕ × X → List Placed) (xs : List X) (i : ℕ) (x : X) (old mid new : List _) → i < length xs
-    → x ≡ get_or xs i x → Adds q (flat_map f (enumerate_from 0 (take i xs))) old mid → Adds q (f (i, x)) mid new
-    → Adds q (flat_map f (enumerate_from 0 (take (i + 1) xs))) old new
-scan_more q f xs i x old mid new below is h k =
-    let P : List Placed → Type 0 = λ z. Adds q z old new in
-    subst P (sym (numbered_more f xs i x below is)) (adds_more q (flat_map f (enumerate_from 0 (take i xs))) (f (i, x)) old mid new h k)
+-- what was added of the first elements, and what is added of one more
+pub added_more : {X : Type 0} (f : ℕ × X → List Placed) (xs : List X) (i : ℕ) (x : X) (old mid new : List Placed) → i < length xs → x ≡ get_or xs i x
+    → mid ≡ old ++ flat_map f (enumerate_from 0 (take i xs)) → new ≡ mid ++ f (i, x)
+    → new ≡ old ++ flat_map f (enumerate_from 0 (take (i + 1) xs))
+added_more f xs i x old mid new below is before now =
+    now ∙ ap (λ z. z ++ f (i, x)) before ∙ append_assoc old (flat_map f (enumerate_from 0 (take i xs))) (f (i, x))
+    ∙ ap (λ z. old ++ z) (sym (numbered_more f xs i x below is))
 
--- one statement that matches, or does not
-pub adds_matched : (q : AccessValue) (s : Placed) (old new : List _) → Lives q s → new ≡ old ++ (living_of q.requester s ∷ []) → Adds q (s ∷ []) old new
-adds_matched q s old new matched is = (s ∷ [], inl (matched, ([], refl, refl)), is)
+-- one more statement that lives, or does not
+pub living_more : (q : AccessValue) (before : List Placed) (s : Placed) (old new : List LivingValue) → Lives q s
+    → new ≡ old ++ (living_of q.requester s ∷ []) → AreLiving q before old → AreLiving q (before ++ (s ∷ [])) new
+living_more q before s old new lives is (chosen, selected, old_is) = (
+  chosen ++ (s ∷ []),
+  selects_append (Lives q) before (s ∷ []) chosen (s ∷ []) selected (inl (lives, ([], refl, refl))),
+  is ∙ ap (λ z. z ++ (living_of q.requester s ∷ [])) old_is ∙ sym (map-append (living_of q.requester) chosen (s ∷ [])),
+)
 
-pub adds_unmatched : (q : AccessValue) (s : Placed) (old : List _) → ¬ Lives q s → Adds q (s ∷ []) old old
-adds_unmatched q s old unmatched = ([], inr (unmatched, refl), sym (append-nil old))
+pub living_skip : (q : AccessValue) (before : List Placed) (s : Placed) (old : List LivingValue) → ¬ Lives q s → AreLiving q before old
+    → AreLiving q (before ++ (s ∷ [])) old
+living_skip q before s old dead (chosen, selected, old_is) =
+    let P : List Placed → Type 0 = λ z. Selects (Lives q) (before ++ (s ∷ [])) z in
+    (chosen, subst P (append-nil chosen) (selects_append (Lives q) before (s ∷ []) chosen [] selected (inr (dead, refl))), old_is)
 
 -- what holds of each holds of the one at i
 pub all_at : {V D : Type 0} (P : D → Type 0) (f : V → D) (vs : List V) (i : ℕ) (v : V) → i < length vs → v ≡ get_or vs i v → AllByRecursion P (map f vs) → P (f v)

@@ -9,7 +9,7 @@ use Rattle.iam_match.specs.Requester.{RequesterValue}
 use Rattle.iam_match.specs.Statement.{AccessValue, RequestValue, request_for}
 use Rattle.iam_decision.specs.Applicable.{ApplicableValue}
 use Rattle.iam_decision.specs.Matched.{Placed, IsMatched, Selects, placed}
-use Rattle.iam_decision.specs.Living.{Acts, AreActing, AreFound, AreLiving, Lives, LivingValue, item_of, living_of}
+use Rattle.iam_decision.specs.Living.{Acts, AreActing, AreCandidates, AreFound, AreLiving, Lives, LivingValue, item_of, living_of}
 use Rattle.iam_decision.specs.Code.Found.{DeniesIn, AllowsIn, GrantsIn, ArePlaces}
 use Rattle.iam_decision.specs.Decision.{Says, Denies, Allows, Grants, LevelsHold, BoundaryHolds, SessionHolds, AllHold, GrantSuffices, IsAllowed, IsDecided, Fails, AreLacking, AreDeciding, deciding_effect, layers_in_order}
 use Rattle.iam_decision.specs.declared.frame.Frame.{Frame}
@@ -41,7 +41,7 @@ some_of_chosen P R S f back (x ∷ xs) chosen (inl (p, (rest, is, h))) some =
     elim (subst Q is some) [ inl s ↦ inl (back x p s) | inr later ↦ inr (some_of_chosen P R S f back xs rest h later) ]
 some_of_chosen P R S f back (x ∷ xs) chosen (inr (skipped, h)) some = inr (some_of_chosen P R S f back xs chosen h some)
 
-any_chosen : {X Y : Type 0} (P R : X → Type 0) (S : Y → Type 0) (f : X → Y) → ((x : X) → R x → P x × S (f x)) → ((x : X) → P x → S (f x) → R x)
+pub any_chosen : {X Y : Type 0} (P R : X → Type 0) (S : Y → Type 0) (f : X → Y) → ((x : X) → R x → P x × S (f x)) → ((x : X) → P x → S (f x) → R x)
     → (xs chosen : List X) → Selects P xs chosen → Any R xs ↔ Any S (map f chosen)
 any_chosen P R S f on back xs chosen h = (
   λ any. any_from_some S (map f chosen) (some_chosen P R S f on xs chosen h (some_from_any R xs any)),
@@ -49,7 +49,7 @@ any_chosen P R S f on back xs chosen h = (
 )
 
 -- elements that pass two tests, one after the other
-select_twice : {X Y : Type 0} (P : X → Type 0) (S : Y → Type 0) (f : X → Y) (xs chosen : List X) (kept : List Y) → Selects P xs chosen
+pub select_twice : {X Y : Type 0} (P : X → Type 0) (S : Y → Type 0) (f : X → Y) (xs chosen : List X) (kept : List Y) → Selects P xs chosen
     → Selects S (map f chosen) kept → (both : List X) × Selects (λ x. P x × S (f x)) xs both × (kept ≡ map f both)
 select_twice P S f [] chosen kept h k =
     let Q : List _ → Type 0 = λ z. Selects S (map f z) kept in ([], refl, subst Q h k)
@@ -68,7 +68,7 @@ select_twice {X} {Y} P S f (x ∷ xs) chosen kept (inl (p, (rest, is, h))) k =
 select_twice P S f (x ∷ xs) chosen kept (inr (skipped, h)) k =
     let more = select_twice P S f xs chosen kept h k in (more.0, inr ((λ both. skipped both.0), more.1), more.2)
 
-select_same : {X : Type 0} (P Q : X → Type 0) → ((x : X) → P x ↔ Q x) → (xs chosen : List X) → Selects P xs chosen → Selects Q xs chosen
+pub select_same : {X : Type 0} (P Q : X → Type 0) → ((x : X) → P x ↔ Q x) → (xs chosen : List X) → Selects P xs chosen → Selects Q xs chosen
 select_same P Q same [] chosen h = h
 select_same P Q same (x ∷ xs) chosen (inl (p, (rest, is, h))) = inl ((same x).0 p, (rest, is, select_same P Q same xs rest h))
 select_same P Q same (x ∷ xs) chosen (inr (skipped, h)) = inr ((λ q. skipped ((same x).1 q)), select_same P Q same xs chosen h)
@@ -90,34 +90,16 @@ acting_found access action statements living found (chosen, selected, is) (kept,
       found_is ∙ ap (map (λ (l : LivingValue). l.matched)) both.2 ∙ items_map access.requester both.0,
     )
 
+-- all statements are candidates
+pub all_candidates : (actions : List (List ℕ)) (statements : List Placed) → AreCandidates actions statements statements
+all_candidates actions [] = refl
+all_candidates actions (s ∷ statements) = inl (statements, refl, all_candidates actions statements)
+
 -- the statements that were found are the matched ones
-module _ (a : ApplicableValue) (q : RequestValue) (f : Frame) (found : List Matched) (scanned : AreFound q (placed a) found) where
-  denies_same : Denies a q ↔ DeniesIn found
-  denies_same =
-      let P : List Matched → Type 0 = λ z. Denies a q ↔ DeniesIn z in
-      subst P (sym scanned.2)
-      (any_chosen (IsMatched q) (Says q Deny) (λ (m : Matched). m.effect ≡ Deny) (item_of q.requester) (λ x r. r) (λ x p s. (p, s)) (placed a) scanned.0 scanned.1)
-
-  allows_same : (layer : Layer) (level : ℕ) → Allows a q layer level ↔ AllowsIn found layer level
-  allows_same layer level =
-      let P : List Matched → Type 0 = λ z. Allows a q layer level ↔ AllowsIn z layer level in
-      subst P (sym scanned.2)
-      (
-      any_chosen (IsMatched q) (λ s. Says q Allow s × (s.place.layer ≡ layer) × (s.place.level ≡ level))
-      (λ (m : Matched). (m.effect ≡ Allow) × (m.place.layer ≡ layer) × (m.place.level ≡ level)) (item_of q.requester)
-      (λ x r. (r.0.0, (r.0.1, r.1, r.2))) (λ x p s. ((p, s.0), s.1, s.2)) (placed a) scanned.0 scanned.1
-      )
-
-  grants_same : (least : Grant) → Grants a q least ↔ GrantsIn found least
-  grants_same least =
-      let P : List Matched → Type 0 = λ z. Grants a q least ↔ GrantsIn z least in
-      subst P (sym scanned.2)
-      (
-      any_chosen (IsMatched q) (λ s. Says q Allow s × (s.place.layer ≡ Resource) × (rank least ≤ rank (grant_of s.statement.principal q.requester)))
-      (λ (m : Matched). (m.effect ≡ Allow) × (m.place.layer ≡ Resource) × (rank least ≤ rank m.grant)) (item_of q.requester)
-      (λ x r. (r.0.0, (r.0.1, r.1, r.2))) (λ x p s. ((p, s.0), s.1, s.2)) (placed a) scanned.0 scanned.1
-      )
-
+-- in what they allow and grant
+module _ (a : ApplicableValue) (q : RequestValue) (f : Frame) (found : List Matched)
+    (allows_same : (layer : Layer) (level : ℕ) → Allows a q layer level ↔ AllowsIn found layer level)
+    (grants_same : (least : Grant) → Grants a q least ↔ GrantsIn found least) where
   levels_same : (layer : Layer) (levels : ℕ) → LevelsHold (AllowsIn found) layer levels ↔ LevelsHold (Allows a q) layer levels
   levels_same layer levels = (λ h level below. (allows_same layer level).1 (h level below), λ h level below. (allows_same layer level).0 (h level below))
 
@@ -145,38 +127,16 @@ module _ (a : ApplicableValue) (q : RequestValue) (f : Frame) (found : List Matc
     λ h. (h.0, elim h.1 [ inl g ↦ inl ((grants_same Direct).0 g) | inr g ↦ inr ((grants_same Role).0 g.0, boundary_same.1 g.1, session_same.1 g.2) ]),
   )
 
-  allowed_same : IsAllowed (AllowsIn found) (GrantsIn found) f ↔ IsAllowed (Allows a q) (Grants a q) f
+  pub allowed_same : IsAllowed (AllowsIn found) (GrantsIn found) f ↔ IsAllowed (Allows a q) (Grants a q) f
   allowed_same = (
     λ h. ((levels_same Org f.org).0 h.0, (levels_same Control f.control).0 h.1, elim h.2 [ inl g ↦ inl (grant_same.0 g) | inr all ↦ inr (all_same.0 all) ]),
     λ h. ((levels_same Org f.org).1 h.0, (levels_same Control f.control).1 h.1, elim h.2 [ inl g ↦ inl (grant_same.1 g) | inr all ↦ inr (all_same.1 all) ]),
   )
 
-  pub decided_same : (d : Decision) → IsDecided (DeniesIn found) (AllowsIn found) (GrantsIn found) f d → IsDecided (Denies a q) (Allows a q) (Grants a q) f d
-  decided_same ExplicitDeny h = denies_same.1 h
-  decided_same Allowed h = ((λ denies. h.0 (denies_same.0 denies)), allowed_same.0 h.1)
-  decided_same ImplicitDeny h = ((λ denies. h.0 (denies_same.0 denies)), (λ allowed. h.1 (allowed_same.1 allowed)))
-
-  fails_same : (layer : Layer) → Fails (AllowsIn found) (GrantsIn found) f layer ↔ Fails (Allows a q) (Grants a q) f layer
+  pub fails_same : (layer : Layer) → Fails (AllowsIn found) (GrantsIn found) f layer ↔ Fails (Allows a q) (Grants a q) f layer
   fails_same Org = ((λ h holds. h ((levels_same Org f.org).1 holds)), (λ h holds. h ((levels_same Org f.org).0 holds)))
   fails_same Control = ((λ h holds. h ((levels_same Control f.control).1 holds)), (λ h holds. h ((levels_same Control f.control).0 holds)))
   fails_same Resource = ((λ h. (h.0, (λ g. h.1 ((grants_same Account).0 g)))), (λ h. (h.0, (λ g. h.1 ((grants_same Account).1 g)))))
   fails_same Identity = ((λ h allows. h ((allows_same Identity 0).0 allows)), (λ h allows. h ((allows_same Identity 0).1 allows)))
   fails_same Boundary = ((λ h holds. h (boundary_same.1 holds)), (λ h holds. h (boundary_same.0 holds)))
   fails_same Session = ((λ h holds. h (session_same.1 holds)), (λ h holds. h (session_same.0 holds)))
-
-  pub lacking_same : (d : Decision) (lacks : List Layer) → AreLacking (AllowsIn found) (GrantsIn found) f d lacks → AreLacking (Allows a q) (Grants a q) f d lacks
-  lacking_same ExplicitDeny lacks h = h
-  lacking_same Allowed lacks h = h
-  lacking_same ImplicitDeny lacks h = select_same _ _ fails_same layers_in_order lacks h
-
-  pub deciding_same : (d : Decision) (places : List Place) → ArePlaces (deciding_effect d) found places → AreDeciding a q d places
-  deciding_same d places (kept, selected, is) =
-      let P : List Matched → Type 0 = λ z. Selects (λ m. m.effect ≡ deciding_effect d) z kept in
-      let both =
-      select_twice (IsMatched q) (λ (m : Matched). m.effect ≡ deciding_effect d) (item_of q.requester) (placed a) scanned.0 kept scanned.1
-      (subst P scanned.2 selected) in
-      (both.0, both.1, is ∙ ap (map (λ (m : Matched). m.place)) both.2 ∙ places_map both.0)
-    where
-      places_map : (xs : List Placed) → map (λ (m : Matched). m.place) (map (item_of q.requester) xs) ≡ map (λ s. s.place) xs
-      places_map [] = refl
-      places_map (x ∷ xs) = ap (λ z. x.place ∷ z) (places_map xs)

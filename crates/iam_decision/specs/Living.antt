@@ -1,6 +1,7 @@
 -- The statements of the applicable policies that match a request once their action elements do, and those that match: what
--- a decision needs of them. No action is looked at for the former, so requests for many actions share them. LOGIC 11.1.
-use Rattle.std.specs.Prelude.{◌≡◌, ◌+◌, ◌<◌, ℕ, List, [], ◌∷◌, ◌++◌, get_or, length, map, take}
+-- a decision needs of them. Requests for several actions share the former; a statement may be left out of them whose action
+-- element matches none of these actions. LOGIC 11.1.
+use Rattle.std.specs.Prelude.{◌≡◌, ◌⊎◌, ◌+◌, ◌<◌, ℕ, List, [], ◌∷◌, ◌++◌, All, Contains, get_or, length, map, take}
 use Rattle.iam_element.specs.Reading.{ActionElement}
 use Rattle.iam_match.specs.Principal.{grant_of}
 use Rattle.iam_match.specs.Requester.{RequesterValue}
@@ -45,15 +46,29 @@ abbrev pub AreFound : RequestValue → List Placed → List Matched → Type 0
 AreFound q statements found =
     (chosen : List Placed) × Selects (IsMatched q) statements chosen × (found ≡ map (item_of q.requester) chosen)
 
--- what requests share: what the decision asks beside the statements, and the living statements
+-- the action element of the statement matches none of the actions
+abbrev pub IsIdle : List (List ℕ) → Placed → Type 0
+IsIdle actions s = All (λ action. ¬ ActionMatches s.statement.action action) actions
+
+-- some of the statements, in their order, and among them each that is not idle
+abbrev pub AreCandidates : List (List ℕ) → List Placed → List Placed → Type 0
+AreCandidates actions [] candidates = candidates ≡ []
+AreCandidates actions (s ∷ statements) candidates =
+    ((rest : List Placed) × (candidates ≡ s ∷ rest) × AreCandidates actions statements rest)
+    ⊎ (IsIdle actions s × AreCandidates actions statements candidates)
+
+-- what requests share: what the decision asks beside the statements, and living statements
 pub record SharedValue : Type 0 where
   pub frame : Frame
   pub living : List LivingValue
 
--- these are shared by the requests for this access to which these policies apply
-pub record IsShared (a : ApplicableValue) (access : AccessValue) (shared : SharedValue) : Type 0 where
+-- these are shared by the requests for this access, for one of the actions, to which these policies apply: the living ones of
+-- their candidates
+pub record IsShared (actions : List (List ℕ)) (a : ApplicableValue) (access : AccessValue) (shared : SharedValue) : Type 0 where
+  pub candidates : List Placed
   pub frame : shared.frame ≡ frame_of a
-  pub living : AreLiving access (placed a) shared.living
+  pub are : AreCandidates actions (placed a) candidates
+  pub living : AreLiving access candidates shared.living
 
 -- the action element of the statement matches the action
 abbrev pub Acts : List ℕ → LivingValue → Type 0
@@ -72,8 +87,9 @@ ActingOneByOne =
     → (Acts action x → AreActing action (take (i + 1) living) (found ++ x.matched ∷ []))
     × (¬ Acts action x → AreActing action (take (i + 1) living) found)
 
--- of the statements that requests share, those that act on an action are those that match the request for it
+-- of the statements that requests share, those that act on one of their actions are those that match the request for it
 abbrev pub ActingAreFound : Type 0
 ActingAreFound =
-    (a : ApplicableValue) (access : AccessValue) (action : List ℕ) (shared : SharedValue) (found : List Matched) → IsShared a access shared
-    → AreActing action shared.living found → AreFound (request_for access action) (placed a) found
+    (actions : List (List ℕ)) (a : ApplicableValue) (access : AccessValue) (action : List ℕ) (shared : SharedValue) (found : List Matched)
+    → Contains actions action → IsShared actions a access shared → AreActing action shared.living found
+    → AreFound (request_for access action) (placed a) found

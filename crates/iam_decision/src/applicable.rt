@@ -1,6 +1,6 @@
 // The policies that apply to a request, each by its layer.
 use crate::frame::Frame;
-use crate::scan::scan;
+use crate::living::living_among;
 use crate::shared::Shared;
 use iam_match::{Access, OutOfMemory};
 use iam_policy::Policy;
@@ -30,7 +30,7 @@ pub struct Applicable<'a> {
 }
 
 impl<'a> Applicable<'a> {
-    ghost use Rattle.std.specs.Prelude.{◌≡◌, IfOk};
+    ghost use Rattle.std.specs.Prelude.{◌≡◌, ℕ, IfOk, List};
     ghost use Rattle.iam_match.specs.Request.{access_of};
     ghost use Rattle.iam_decision.specs.Applicable.{IsNumbered, frame_of, value_of};
     ghost use Rattle.iam_decision.specs.Living.{IsShared};
@@ -48,13 +48,15 @@ impl<'a> Applicable<'a> {
     where
         'a: 'c,
         requires { IsNumbered (value_of self.now) }
-        ensures { IfOk result (IsShared (value_of self.now) (access_of access.entry)) }
+        ensures { IfOk result (λ shared. (actions : List (List ℕ)) → IsShared actions (value_of self.now) (access_of access.entry) shared) }
     {
-        Ok(Shared::new(self.frame(), scan(alloc, self, access)?))
+        let statements = self.statements(alloc)?;
+        let living = living_among(alloc, statements.as_slice(), access)?;
+        Ok(Shared::of(self.frame(), living))
     }
 
-    /// What a decision asks beside the statements.
-    fn frame(&self) -> Frame
+    /// What a decision asks beside the statements. The lists of levels have to have fewer than 2^32 members.
+    pub fn frame(&self) -> Frame
         requires { IsNumbered (value_of self.now) }
         ensures { result ≡ frame_of (value_of self.now) }
     {

@@ -3,10 +3,11 @@ ghost use Rattle.std.specs.Prelude.{◌≡◌, ◌↔◌, ◌≤◌, IsTrue, IfO
 ghost use Rattle.iam_match.specs.Principal.{rank};
 ghost use Rattle.iam_match.specs.Statement.{RequestValue};
 ghost use Rattle.iam_decision.specs.Applicable.{ApplicableValue, frame_of};
+ghost use Rattle.iam_decision.specs.Early.{Suffices, Tells};
 ghost use Rattle.iam_decision.specs.Living.{AreFound};
 ghost use Rattle.iam_decision.specs.Matched.{Selects, placed};
 ghost use Rattle.iam_decision.specs.Code.Found.{AllowsIn, ArePlaces, DeniesIn, GrantsIn};
-ghost use Rattle.iam_decision.specs.Decision.{AllHold, AreLacking, deciding_effect, BoundaryHolds, Fails, GrantSuffices, IsAllowed, IsDecided, IsVerdict, LevelsHold, MustGrant, SessionHolds};
+ghost use Rattle.iam_decision.specs.Decision.{AllHold, AreLacking, deciding_effect, BoundaryHolds, Fails, GrantSuffices, IsAllowed, IsDecided, IsDecision, IsVerdict, LevelsHold, MustGrant, SessionHolds};
 
 use crate::frame::Frame;
 use crate::living::Matched;
@@ -26,13 +27,15 @@ const LAYERS: [Layer; 6] = [
     Layer::Session,
 ];
 
+/// Whether a deny was found.
 fn denies(found: &[Matched]) -> bool
     ensures { IsTrue result ↔ DeniesIn found.now }
 {
     found.iter().any(|matched| matched.effect == Effect::Deny)
 }
 
-fn allows(found: &[Matched], layer: Layer, level: u32) -> bool
+/// Whether an allow of this level of the layer was found.
+pub(crate) fn allows(found: &[Matched], layer: Layer, level: u32) -> bool
     ensures { IsTrue result ↔ AllowsIn found.now layer level }
 {
     found.iter().any(|m| m.effect == Effect::Allow
@@ -71,7 +74,7 @@ fn is_at_least(grant: Grant, least: Grant) -> bool
 }
 
 /// Whether an allow of the resource's policy grants at least this.
-fn grants(found: &[Matched], least: Grant) -> bool
+pub(crate) fn grants(found: &[Matched], least: Grant) -> bool
     ensures { IsTrue result ↔ GrantsIn found.now least }
 {
     found.iter().any(|m| m.effect == Effect::Allow
@@ -143,6 +146,17 @@ fn decision_of(found: &[Matched], frame: Frame) -> Decision
 pub fn verdict_of(alloc: Global, found: &[Matched], frame: Frame) -> Result<Verdict, OutOfMemory>
     ensures { (a : ApplicableValue) (q : RequestValue) → frame ≡ frame_of a → AreFound q (placed a) found.now → IfOk result (IsVerdict a q) }
 {
+    early_verdict(alloc, frame, found)
+}
+
+/// The verdict on a request, where these are all statements of the applicable policies that match it and deny and, unless one of
+/// them does, all that match it and allow.
+///
+/// AWS IAM User Guide, "Policy evaluation logic"; the deciding statements and the lacks are our choices.
+pub fn early_verdict(alloc: Global, frame: Frame, found: &[Matched]) -> Result<Verdict, OutOfMemory>
+    ensures { (a : ApplicableValue) (q : RequestValue) → frame ≡ frame_of a → Suffices q (placed a) found.now
+        → IfOk result (IsVerdict a q) }
+{
     let decision = decision_of(found, frame);
     let statements = places_of(alloc, found, deciding_effect(decision))?;
     let lacks = lacking(alloc, decision, found, frame)?;
@@ -151,6 +165,21 @@ pub fn verdict_of(alloc: Global, found: &[Matched], frame: Frame) -> Result<Verd
         statements: Items::from_vec(statements),
         lacks: Items::from_vec(lacks),
     })
+}
+
+/// The decision on a request that no statement of the applicable policies denies, where these allow and grant whatever those do
+/// that match it.
+///
+/// AWS IAM User Guide, "Policy evaluation logic".
+pub fn early_decision(frame: Frame, found: &[Matched]) -> Decision
+    ensures { (a : ApplicableValue) (q : RequestValue) → frame ≡ frame_of a → Tells q (placed a) found.now
+        → IsDecision a q result }
+{
+    if is_allowed(found, frame) {
+        Decision::Allowed
+    } else {
+        Decision::ImplicitDeny
+    }
 }
 
 /// What an implicit deny lacks; the other decisions lack nothing.

@@ -3,6 +3,7 @@
 
 mod applicable;
 mod decide;
+mod early;
 mod frame;
 mod laws;
 mod living;
@@ -13,6 +14,10 @@ mod shared;
 mod verdict;
 
 pub use applicable::Applicable;
+pub use decide::{early_decision, early_verdict};
+pub use early::{
+    Findings, candidates_suffice, deny_decides, is_open, suffices_one_by_one, tells_one_by_one,
+};
 pub use frame::Frame;
 pub use laws::{
     acting_are_found, allowed_is_granted, both_accounts_allow, boundary_and_session_bind,
@@ -20,8 +25,9 @@ pub use laws::{
     further_deny_allows_no_more, further_limits_allow_no_more, one_decision, one_verdict,
     order_is_free, sealed_resource_grants,
 };
-pub use living::{Living, Matched};
+pub use living::{Living, Matched, add_living};
 pub use place::{Layer, Place};
 pub use ruling::Ruling;
+pub use scan::Standing;
 pub use shared::Shared;
 pub use verdict::{Decision, Verdict};

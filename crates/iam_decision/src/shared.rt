@@ -25,13 +25,14 @@ impl<'a> Model for Shared<'a> {
 }
 
 impl<'a> Shared<'a> {
-    ghost use Rattle.std.specs.Prelude.{◌≡◌, IfOk, IsTrue, map};
+    ghost use Rattle.std.specs.Prelude.{◌≡◌, ℕ, Contains, IfOk, IsTrue, List, map};
     ghost use Rattle.iam_match.specs.Statement.{AccessValue, request_for};
     ghost use Rattle.iam_decision.specs.Applicable.{ApplicableValue};
     ghost use Rattle.iam_decision.specs.Decision.{IsVerdict};
     ghost use Rattle.iam_decision.specs.Living.{IsShared, living_value};
 
-    pub(crate) fn new(frame: Frame, living: Vec<Living<'a>>) -> Shared<'a>
+    /// What requests share that ask this beside these statements.
+    pub fn of(frame: Frame, living: Vec<Living<'a>>) -> Shared<'a>
         ensures { result ≡ record { frame = frame; living = map living_value living.entry.items } }
     {
         Shared { frame, living }
@@ -71,8 +72,8 @@ impl<'a> Shared<'a> {
     ///
     /// AWS IAM User Guide, "Policy evaluation logic"; the deciding statements and the lacks are our choices.
     pub fn verdict(&self, alloc: Global, action: &str) -> Result<Verdict, OutOfMemory>
-        ensures { (a : ApplicableValue) (access : AccessValue) → IsShared a access self.now
-            → IfOk result (IsVerdict a (request_for access action.now)) }
+        ensures { (actions : List (List ℕ)) (a : ApplicableValue) (access : AccessValue) → Contains actions action.now
+            → IsShared actions a access self.now → IfOk result (IsVerdict a (request_for access action.now)) }
     {
         let found = acting(alloc, self.living.as_slice(), action)?;
         verdict_of(alloc, found.as_slice(), self.frame)

@@ -1,5 +1,5 @@
 // The resource element of a statement.
-ghost use Rattle.std.specs.Prelude.{◌≡◌, IfOk, false, true, map};
+ghost use Rattle.std.specs.Prelude.{◌≡◌, IfOk, IsTrue, false, true, map};
 ghost use Rattle.std.specs.List.{AllZip, filter_map, list_any};
 ghost use Rattle.serde_json.specs.Find.{as_str};
 ghost use Rattle.serde_json.specs.View.{view};
@@ -12,7 +12,7 @@ ghost use Rattle.iam_element.specs.Resource.{has_bad_variable};
 use crate::OutOfMemory;
 use crate::element::{Element, either, has_text, values_in};
 use crate::grammar::TextForm;
-use iam_text::{Template, Version};
+use iam_text::{Template, TemplateForm, Version};
 use serde_json::Value;
 use std::alloc::Global;
 use std::marker::Model;
@@ -35,7 +35,7 @@ impl Model for Resources {
 }
 
 impl Resources {
-    ghost use Rattle.std.specs.Prelude.{◌≡◌, IfOk, Some, false, true};
+    ghost use Rattle.std.specs.Prelude.{◌≡◌, IfOk, IsTrue, Some, false, true};
     ghost use Rattle.std.specs.List.{AllZip};
     ghost use Rattle.serde_json.specs.View.{view};
     ghost use Rattle.iam_text.specs.Draft.{IsDraftIn};
@@ -54,6 +54,24 @@ impl Resources {
         ensures { result.now ≡ self.now.texts }
     {
         self.texts.as_slice()
+    }
+
+    /// `true` only where both elements are the same; `false` says nothing, and is the answer where a text has variables.
+    pub fn equals(&self, other: &Resources) -> bool
+        ensures { IsTrue result → self.now ≡ other.now }
+    {
+        self.is_negated == other.is_negated && are_same(self.texts(), other.texts())
+    }
+
+    /// A number that tells most elements apart whose texts have no variables. Nothing is claimed of it.
+    pub fn print(&self) -> u64 {
+        let mut print: u64 = if self.is_negated { 1 } else { 0 };
+        for text in self.texts() {
+            if let TemplateForm::Fixed(pattern) = text.form() {
+                print = pattern.print(print);
+            }
+        }
+        print
     }
 
     /// Reads the element, in a document of the version.
@@ -110,4 +128,29 @@ fn templates(
         }
     }
     Ok(templates)
+}
+
+/// Whether both lists have the same texts in the same order, and none of them has variables.
+fn are_same(ones: &[Template], others: &[Template]) -> bool
+    ensures { IsTrue result → ones.now ≡ others.now }
+{
+    if ones.len() != others.len() {
+        return false;
+    }
+    for i in 0..ones.len() {
+        if !is_same(&ones[i], &others[i]) {
+            return false;
+        }
+    }
+    true
+}
+
+/// Whether both texts are the same pattern, kept alike.
+fn is_same(one: &Template, other: &Template) -> bool
+    ensures { IsTrue result → one.now ≡ other.now }
+{
+    match (one.form(), other.form()) {
+        (TemplateForm::Fixed(pattern), TemplateForm::Fixed(other)) => pattern.is_same(other),
+        _ => false,
+    }
 }

@@ -1,12 +1,13 @@
 -- What is kept of action elements stays right where more is kept.
-use Rattle.std.proofs.Common.{◌≡◌, ◌↔◌, inl, inr, ℕ, Bool, IsTrue, List, [], ◌∷◌, ◌++◌, length, Option, Some, IfSome, sym, ap, subst, ◌∙◌}
+use Rattle.std.proofs.Common.{◌≡◌, ◌↔◌, ◌⊎◌, ◌+◌, ◌<◌, inl, inr, ℕ, zero, suc, Bool, IsTrue, get_or, refl, arith, List, [], ◌∷◌, ◌++◌, length, Option, Some, IfSome, sym, ap, subst, ◌∙◌}
+use Rattle.std.proofs.lemmas.Option.{slice_get-get_or}
 use Rattle.std.specs.List.{slice_get}
 use Rattle.iam_element.specs.Reading.{ActionElement}
 use Rattle.iam_match.specs.Statement.{ActionMatches}
 use Rattle.iam_decision.specs.Living.{LivingValue}
 use Rattle.iam_layers.specs.Cell.{IsAction}
 use Rattle.iam_world.specs.World.{WorldValue}
-use Rattle.iam_engine.specs.Elements.{AreElements, AreElementNumbers, HasElement, IsElement, TellActs}
+use Rattle.iam_engine.specs.Elements.{AreElements, AreElementNumbers, HasElement, IsElement, MatchesNone, TellActs}
 use Rattle.iam_engine.specs.declared.elements.Element.{Element}
 use Rattle.iam_engine.proofs.ListLemmas.{get_back, get_more, some_same}
 
@@ -23,6 +24,35 @@ tell_more world action acts act text at is all a other named here asked =
           subst B (sym same) (subst A own is)
     ]
 
+-- none of the first actions of the world is matched
+abbrev pub MatchesNoneBelow : WorldValue → ActionElement → ℕ → Type 0
+MatchesNoneBelow world element n = (a : ℕ) (text : List ℕ) → a < n → IsAction world a text → ¬ ActionMatches element text
+
+pub none_more : (world : WorldValue) (element : ActionElement) (n : ℕ) (text : List ℕ) → IsAction world n text → ¬ ActionMatches element text
+    → MatchesNoneBelow world element n → MatchesNoneBelow world element (n + 1)
+none_more world element n text at idle none a other below there matched =
+    elim (lt_or_eq a n below) [
+      | inl before ↦ none a other before there matched
+      | inr same ↦
+          let A : ℕ → Type 0 = λ k. IsAction world k other in
+          let M : List ℕ → Type 0 = ActionMatches element in
+          idle (subst M (some_same other text (sym (subst A same there) ∙ at)) matched)
+    ]
+  where
+    lt_or_eq : (a n : ℕ) → a < n + 1 → (a < n) ⊎ (a ≡ n)
+    lt_or_eq zero zero below = inr refl
+    lt_or_eq zero (suc n) below = inl (omega arith)
+    lt_or_eq (suc a) zero below = absurd (omega (arith, below))
+    lt_or_eq (suc a) (suc n) below =
+        let less : a < n + 1 = omega (arith, below) in
+        elim (lt_or_eq a n less) [ inl before ↦ inl (omega (arith, before)) | inr same ↦ inr (ap suc same) ]
+
+pub none_of_all : (world : WorldValue) (element : ActionElement) (n : ℕ) → length world.actions ≡ n → MatchesNoneBelow world element n
+    → MatchesNone world element
+none_of_all world element n long none k d below =
+    let within : k < n = omega (arith, long, below) in
+    none k (get_or world.actions k d) within (slice_get-get_or world.actions k d below)
+
 -- one more element
 pub elements_more : (world : WorldValue) (elements : List Element) (element : Element) → IsElement world element → AreElements world elements
     → AreElements world (elements ++ element ∷ [])
@@ -31,13 +61,6 @@ elements_more world elements element is all n other at =
       | inl before ↦ all n other before
       | inr (last, same) ↦ let E : Element → Type 0 = IsElement world in subst E (sym same) is
     ]
-
-pub element_more : (elements more : List Element) (n : ℕ) (action : ActionElement) → HasElement elements n action → HasElement (elements ++ more) n action
-element_more elements more n action (element, at, is) = (element, get_more elements more n element at, is)
-
-pub rows_grow : (elements more : List Element) (living : List LivingValue) (rows : List (Option ℕ)) → AreElementNumbers elements living rows
-    → AreElementNumbers (elements ++ more) living rows
-rows_grow elements more living rows all i n statement kept at = element_more elements more n statement.action (all i n statement kept at)
 
 -- one more statement
 pub rows_more : (elements : List Element) (living : List LivingValue) (rows : List (Option ℕ)) (x : LivingValue) (row : Option ℕ)

@@ -3,3 +3,5 @@ mod SlotLemmas
 mod ElementLemmas
 mod MemoLemmas
 mod SurveyLemmas
+mod IndexLemmas
+mod ListedLemmas

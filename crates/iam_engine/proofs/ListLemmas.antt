@@ -1,7 +1,9 @@
 -- Lists with one more behind them.
 use Rattle.std.proofs.Common.{◌≡◌, ◌⊎◌, inl, inr, ℕ, zero, suc, ◌<◌, List, [], ◌∷◌, ◌++◌, length, Option, None, Some, IfSome, refl, ap, arith}
-use Rattle.std.proofs.lemmas.Option.{slice_get_within}
-use Rattle.std.specs.List.{slice_get}
+use Rattle.std.proofs.lemmas.Option.{get_or_from_slice_get, slice_get_within}
+use Rattle.std.specs.List.{Contains, slice_get}
+use Rattle.iam_layers.specs.Cell.{IsAction}
+use Rattle.iam_world.specs.World.{WorldValue}
 
 -- what is in a list is in a longer one, and what is behind it is the next
 pub get_more : {X : Type 0} (xs ys : List X) (i : ℕ) (x : X) → slice_get xs i ≡ Some x → slice_get (xs ++ ys) i ≡ Some x
@@ -34,3 +36,7 @@ get_within (x ∷ xs) (suc i) below = get_within xs i (omega (arith, below))
 pub if_some : {X : Type 0} (P Q : X → Type 0) (found : Option X) → ((x : X) → P x → Q x) → IfSome found P → IfSome found Q
 if_some P Q None weaker is = is
 if_some P Q (Some x) weaker is = weaker x is
+
+-- an action of the world is one of its actions
+pub is_asked : (world : WorldValue) (a : ℕ) (text : List ℕ) → IsAction world a text → Contains world.actions text
+is_asked world a text at = (a, slice_get_within world.actions a text at, get_or_from_slice_get world.actions a text text at)

@@ -1,4 +1,4 @@
--- What is kept stays right where classes, verdicts and action elements are added.
+-- What is kept stays right where classes and verdicts are added.
 use Rattle.std.proofs.Common.{◌≡◌, inl, inr, List, [], ◌∷◌, ◌++◌, Option, Some, sym, subst, arith}
 use Rattle.std.proofs.lemmas.Option.{slice_get_within}
 use Rattle.std.specs.List.{slice_get}
@@ -10,7 +10,6 @@ use Rattle.iam_engine.specs.declared.elements.Element.{Element}
 use Rattle.iam_engine.specs.declared.memo.Answer.{Answer}
 use Rattle.iam_engine.specs.declared.memo.Class.{Class}
 use Rattle.iam_engine.specs.declared.memo.Pair.{Pair}
-use Rattle.iam_engine.proofs.ElementLemmas.{rows_grow}
 use Rattle.iam_engine.proofs.ListLemmas.{get_back, get_more}
 use Rattle.iam_engine.proofs.SlotLemmas.{all_weaker}
 
@@ -33,9 +32,6 @@ answers_behind world classes rulings more answers all =
     all_weaker (λ (a : Answer). HasNumber world classes rulings a.class a.action a.number)
     (λ (a : Answer). HasNumber world classes (rulings ++ more) a.class a.action a.number) answers
     (λ a (class, at, (ruling, here, is)). (class, at, (ruling, get_more rulings more a.number ruling here, is))) all
-
-pub class_rows_grow : (elements more : List Element) (classes : List Class) → HaveRows elements classes → HaveRows (elements ++ more) classes
-class_rows_grow elements more classes all n class at = rows_grow elements more class.shared.living class.rows.items (all n class at)
 
 pub class_rows_more : (elements : List Element) (classes : List Class) (class : Class) → AreElementNumbers elements class.shared.living class.rows.items
     → HaveRows elements classes → HaveRows elements (classes ++ class ∷ [])

@@ -1,5 +1,5 @@
 -- Action elements of which it is kept what they match. LOGIC 1.1.
-use Rattle.std.specs.Prelude.{◌≡◌, ◌↔◌, ℕ, Bool, IsTrue, List, Option, Some}
+use Rattle.std.specs.Prelude.{◌≡◌, ◌↔◌, ℕ, Bool, All, IsTrue, List, Option, Some, false}
 use Rattle.std.specs.List.{slice_get}
 use Rattle.iam_element.specs.Reading.{ActionElement}
 use Rattle.iam_match.specs.Statement.{ActionMatches}
@@ -14,9 +14,14 @@ abbrev pub TellActs : WorldValue → ActionElement → List Bool → Type 0
 TellActs world action acts =
     (a : ℕ) (act : Bool) (text : List ℕ) → slice_get acts a ≡ Some act → IsAction world a text → IsTrue act ↔ ActionMatches action text
 
+-- the action element matches no action of the world
+abbrev pub MatchesNone : WorldValue → ActionElement → Type 0
+MatchesNone world element = All (λ action. ¬ ActionMatches element action) world.actions
+
 -- what is kept of the element is right
-abbrev pub IsElement : WorldValue → Element → Type 0
-IsElement world element = TellActs world element.action.now element.acts.items
+pub record IsElement (world : WorldValue) (element : Element) : Type 0 where
+  pub acts : TellActs world element.action.now element.acts.items
+  pub idle : element.some ≡ false → MatchesNone world element.action.now
 
 abbrev pub AreElements : WorldValue → List Element → Type 0
 AreElements world elements = (n : ℕ) (element : Element) → slice_get elements n ≡ Some element → IsElement world element

@@ -32,8 +32,8 @@ HasClass world classes p r n = (class : Class) × (slice_get classes n ≡ Some 
 -- this is the verdict on every request for action a that shares this
 abbrev pub IsSharedVerdict : WorldValue → SharedValue → ℕ → Verdict → Type 0
 IsSharedVerdict world shared a verdict =
-    (action : List ℕ) (applicable : ApplicableValue) (access : AccessValue) → IsAction world a action → IsShared applicable access shared
-    → IsVerdict applicable (request_for access action) verdict
+    (action : List ℕ) (applicable : ApplicableValue) (access : AccessValue) → IsAction world a action
+    → IsShared world.actions applicable access shared → IsVerdict applicable (request_for access action) verdict
 
 -- the verdict of this number is the one on requests for action a that share this
 abbrev pub IsNumber : WorldValue → SharedValue → List RulingValue → ℕ → ℕ → Type 0
@@ -50,9 +50,9 @@ abbrev pub HasRuling : List RulingValue → Frame → List Matched → ℕ → T
 HasRuling rulings frame found number = (ruling : RulingValue) × (slice_get rulings number ≡ Some ruling) × IsRuling frame found ruling
 
 -- what is asked of requests that share this, and which statements match those of them that are for the action
-abbrev pub Finds : SharedValue → List ℕ → Frame → List Matched → Type 0
-Finds shared action frame found =
-    (applicable : ApplicableValue) (access : AccessValue) → IsShared applicable access shared
+abbrev pub Finds : WorldValue → SharedValue → List ℕ → Frame → List Matched → Type 0
+Finds world shared action frame found =
+    (applicable : ApplicableValue) (access : AccessValue) → IsShared world.actions applicable access shared
     → (frame ≡ shared.frame) × AreFound (request_for access action) (placed applicable) found
 
 -- each pair is of its class
@@ -73,5 +73,5 @@ HaveRows elements classes =
 pub record IsRight (world : WorldValue) (memo : Memo) : Type 0 where
   pub pairs : ArePairs world memo.classes.items memo.pairs.items
   pub answers : AreAnswers world memo.classes.items memo.rulings.items memo.answers.items
-  pub elements : AreElements world memo.elements.elements.items
-  pub rows : HaveRows memo.elements.elements.items memo.classes.items
+  pub elements : AreElements world memo.elements.now.elements.items
+  pub rows : HaveRows memo.elements.now.elements.items memo.classes.items

@@ -1,14 +1,14 @@
 // Action elements, and which actions of a world they match.
-ghost use Rattle.std.specs.Prelude.{◌≡◌, ◌++◌, ◌↔◌, ℕ, List, IfOk, IfSome, IsTrue, OnOk, map};
+ghost use Rattle.std.specs.Prelude.{◌≡◌, ◌↔◌, ℕ, List, IfOk, IfSome, IsTrue, OnOk, false, map};
 ghost use Rattle.iam_decision.specs.Living.{AreActing, living_value};
 ghost use Rattle.iam_layers.specs.Cell.{IsAction};
 ghost use Rattle.iam_match.specs.Statement.{ActionMatches};
 ghost use Rattle.iam_world.specs.World.{WorldValue};
-ghost use Rattle.iam_engine.specs.Elements.{AreElements, AreElementNumbers, HasElement, IsElement};
+ghost use Rattle.iam_engine.specs.Elements.{AreElements, AreElementNumbers, HasElement, IsElement, MatchesNone};
 ghost use Rattle.iam_element.specs.Reading.{ActionElement};
 ghost use Rattle.iam_engine.specs.declared.elements.Element.{Element};
 
-use crate::slots::{empty, empty_slots, keep, kept, slot_of};
+use crate::slots::{empty_slots, keep, kept, slot_of};
 use iam_decision::acting_are_found;
 use iam_layers::{Living, Matched, World};
 use iam_match::action_matches;
@@ -16,7 +16,7 @@ use iam_policy::Actions;
 use iam_text::OutOfMemory;
 use std::alloc::Global;
 
-/// How many answers are kept at most by the engines of a run.
+/// How many answers are kept at most.
 const MOST_ACTS: u64 = 16_777_216;
 
 /// The elements that were found last, by their prints.
@@ -27,9 +27,12 @@ const PRINTS: u64 = 8_192;
 pub struct Element<'a> {
     pub action: &'a Actions,
     pub acts: Vec<bool>,
+    // Whether it matches some action.
+    pub some: bool,
 }
 
-/// Action elements of statements, with what they match. Where there is no room for another, it is not kept.
+/// The action elements of a world's statements, each distinct one once, with what they match. Where there is no room for another, it
+/// is not kept.
 #[derive(Drop)]
 pub struct Elements<'a> {
     pub elements: Vec<Element<'a>>,
@@ -40,60 +43,63 @@ pub struct Elements<'a> {
 }
 
 impl<'a> Elements<'a> {
-    /// None yet; for one of so many engines that share the bound, in a world of so many actions.
-    pub fn new(alloc: Global, actions: u64, engines: u32) -> Result<Elements<'a>, OutOfMemory>
+    /// None yet, for a world of so many actions.
+    pub fn new(alloc: Global, actions: u64) -> Result<Elements<'a>, OutOfMemory>
         ensures { IfOk result (λ elements. (world : WorldValue) → AreElements world elements.elements.items) }
     {
-        let most = MOST_ACTS / engines.max(1) as u64 / actions.max(1);
         Ok(Elements {
             elements: Vec::new(alloc),
             prints: empty_slots(alloc, PRINTS)?,
-            most: most as usize,
+            most: (MOST_ACTS / actions.max(1)) as usize,
         })
+    }
+
+    /// Whether an action element matches some action of the world; it is kept where there is room.
+    pub fn concerns(
+        &mut self,
+        alloc: Global,
+        world: &World,
+        action: &'a Actions,
+    ) -> Result<bool, OutOfMemory>
+        ensures right { AreElements world.now self.old.elements.items → AreElements world.now self.new.elements.items }
+        ensures idle { AreElements world.now self.old.elements.items → IfOk result (λ concerned. concerned ≡ false → MatchesNone world.now action.entry.now) }
+    {
+        let slot = slot_of(0, print_of(action), PRINTS as usize);
+        if let Some(number) = self.known(slot, action) {
+            return Ok(self.elements[number].some);
+        }
+        if self.elements.len() >= self.most {
+            return Ok(some_matches(world, action));
+        }
+        let number = self.elements.len();
+        let element = element_of(alloc, world, action)?;
+        let some = element.some;
+        self.elements.push(element)?;
+        keep(&mut self.prints, slot, number);
+        Ok(some)
     }
 
     /// The element of each of the living statements, where it is kept.
     pub fn rows(
-        &mut self,
+        &self,
         alloc: Global,
-        world: &World,
-        living: &[Living<'a>],
+        living: &[Living<'_>],
     ) -> Result<Vec<Option<usize>>, OutOfMemory>
-        ensures right { AreElements world.now self.old.elements.items → AreElements world.now self.new.elements.items }
-        ensures more { (more : List Element) × (self.new.elements.items ≡ self.old.elements.items ++ more) }
-        ensures rows { IfOk result (λ rows. AreElementNumbers self.new.elements.items (map living_value living.now) rows.items) }
+        ensures { IfOk result (λ rows. AreElementNumbers self.now.elements.items (map living_value living.now) rows.items) }
     {
         let mut rows = Vec::with_capacity(alloc, living.len())?;
         for statement in living {
-            let number = self.number(alloc, world, statement)?;
-            rows.push(number)?;
+            rows.push(self.number(statement.action))?;
         }
         Ok(rows)
     }
 
-    /// The element of a living statement, where it is kept.
-    fn number(
-        &mut self,
-        alloc: Global,
-        world: &World,
-        statement: &Living<'a>,
-    ) -> Result<Option<usize>, OutOfMemory>
-        ensures right { AreElements world.now self.old.elements.items → AreElements world.now self.new.elements.items }
-        ensures more { (more : List Element) × (self.new.elements.items ≡ self.old.elements.items ++ more) }
-        ensures number { IfOk result (λ number. IfSome number (λ n. HasElement self.new.elements.items n (living_value statement.now).action)) }
+    /// The number of an action element, where it is kept.
+    fn number(&self, action: &Actions) -> Option<usize>
+        ensures { IfSome result (λ n. HasElement self.now.elements.items n action.now) }
     {
-        let slot = slot_of(0, print_of(statement.action), PRINTS as usize);
-        if let Some(number) = self.known(slot, statement.action) {
-            return Ok(Some(number));
-        }
-        if self.elements.len() >= self.most {
-            return Ok(None);
-        }
-        let number = self.elements.len();
-        let element = element_of(alloc, world, statement.action)?;
-        self.elements.push(element)?;
-        keep(&mut self.prints, slot, number);
-        Ok(Some(number))
+        let slot = slot_of(0, print_of(action), PRINTS as usize);
+        self.known(slot, action)
     }
 
     /// The element that a slot has, where it is this one.
@@ -106,14 +112,6 @@ impl<'a> Elements<'a> {
         } else {
             None
         }
-    }
-
-    /// Lets go everything that is kept.
-    pub fn clear(&mut self)
-        ensures { (world : WorldValue) → AreElements world self.new.elements.items }
-    {
-        empty(&mut self.prints);
-        self.elements.clear();
     }
 
     /// Puts into `found`, in place of what is there, those of the living statements whose action elements match action a,
@@ -174,10 +172,31 @@ fn element_of<'a>(
     ensures { IfOk result (λ element. IsElement world.now element × (element.action.now ≡ action.entry.now)) }
 {
     let mut acts = Vec::with_capacity(alloc, world.actions() as usize)?;
+    let mut some = false;
     for a in 0..world.actions() {
-        acts.push(action_matches(action, world.action_text(a)))?;
+        let act = action_matches(action, world.action_text(a));
+        some = either(some, act);
+        acts.push(act)?;
     }
-    Ok(Element { action, acts })
+    Ok(Element { action, acts, some })
+}
+
+fn either(one: bool, other: bool) -> bool
+    ensures { result ≡ false → (one ≡ false) × (other ≡ false) }
+{
+    one || other
+}
+
+/// Whether an action element matches some action of the world.
+fn some_matches(world: &World, action: &Actions) -> bool
+    ensures { result ≡ false → MatchesNone world.now action.now }
+{
+    for a in 0..world.actions() {
+        if action_matches(action, world.action_text(a)) {
+            return true;
+        }
+    }
+    false
 }
 
 /// A number that tells most action elements apart.

@@ -8,6 +8,7 @@ ghost use Rattle.iam_engine.specs.Memo.{HasClass, IsNumber, IsRight};
 ghost use Rattle.iam_engine.specs.declared.memo.Class.{Class};
 
 use crate::held::Held;
+use crate::index::Index;
 use crate::keys::{Keys, no_keys, shared_by};
 use crate::memo::Memo;
 use crate::survey::Survey;
@@ -20,7 +21,7 @@ use std::marker::Model;
 /// is kept, within bounds, for the next such request, and so are verdicts on requests that share the same.
 #[derive(Drop)]
 pub struct Engine<'a> {
-    world: &'a World,
+    index: &'a Index<'a>,
     // What was found before.
     survey: Option<&'a Survey<'a>>,
     memo: Memo<'a>,
@@ -38,10 +39,10 @@ impl<'a> Model for Engine<'a> {
 
     ghost Value = { EngineValue };
 
-    ghost view = { λ engine. record { world = engine.world.now; rulings = engine.memo.rulings.items } };
+    ghost view = { λ engine. record { world = engine.index.now; rulings = engine.memo.rulings.items } };
 
-    ghost invariant = { λ engine. IfSome engine.survey (λ survey. survey.now ≡ engine.world.now) × IsRight engine.world.now engine.memo
-        × All (AreKeys engine.world.now) engine.keys.items };
+    ghost invariant = { λ engine. IfSome engine.survey (λ survey. survey.now ≡ engine.index.now) × IsRight engine.index.now engine.memo
+        × All (AreKeys engine.index.now) engine.keys.items };
 }
 
 impl<'a> Engine<'a> {
@@ -50,11 +51,11 @@ impl<'a> Engine<'a> {
     ghost use Rattle.iam_layers.specs.Cell.{IsDecisionOf, IsVerdictAt, IsVerdictOf};
     ghost use Rattle.iam_engine.specs.Engine.{IsNumberAt};
 
-    /// An engine of this world, one of so many that share the bounds on what is kept.
-    pub fn new(alloc: Global, world: &'a World, engines: u32) -> Result<Engine<'a>, OutOfMemory>
-        ensures { IfOk result (λ engine. engine.world ≡ world.entry.now) }
+    /// An engine of the world of an index, one of so many that share the bounds on what is kept.
+    pub fn new(alloc: Global, index: &'a Index<'a>, engines: u32) -> Result<Engine<'a>, OutOfMemory>
+        ensures { IfOk result (λ engine. engine.world ≡ index.entry.now) }
     {
-        Engine::with(alloc, world, None, engines)
+        Engine::with(alloc, index, None, engines)
     }
 
     /// An engine of the world of a survey, which begins with what was found there; one of so many that share the bounds.
@@ -65,27 +66,29 @@ impl<'a> Engine<'a> {
     ) -> Result<Engine<'a>, OutOfMemory>
         ensures { IfOk result (λ engine. engine.world ≡ survey.entry.now) }
     {
-        Engine::with(alloc, survey.world(), Some(survey), engines)
+        Engine::with(alloc, survey.index(), Some(survey), engines)
     }
 
     fn with(
         alloc: Global,
-        world: &'a World,
+        index: &'a Index<'a>,
         survey: Option<&'a Survey<'a>>,
         engines: u32,
     ) -> Result<Engine<'a>, OutOfMemory>
-        requires { IfSome survey (λ survey. survey.now ≡ world.now) }
-        ensures { IfOk result (λ engine. engine.world ≡ world.entry.now) }
+        requires { IfSome survey (λ survey. survey.now ≡ index.now) }
+        ensures { IfOk result (λ engine. engine.world ≡ index.entry.now) }
     {
+        let world = index.world();
         let memo = Memo::new(
             alloc,
+            index.elements(),
             world.principals(),
             world.actions(),
             world.resources(),
             engines,
         )?;
         Ok(Engine {
-            world,
+            index,
             survey,
             memo,
             keys: no_keys(alloc),
@@ -97,7 +100,7 @@ impl<'a> Engine<'a> {
     pub fn world(&self) -> &'a World
         ensures { result.now ≡ self.now.world }
     {
-        self.world
+        self.index.world()
     }
 
     /// The verdict on the request of a cell, which has to be below `cells()` of the world, whatever was asked before. After a
@@ -107,7 +110,8 @@ impl<'a> Engine<'a> {
         ensures verdict { IfOk result (IsVerdictOf self.old.world cell) }
         ensures same { self.new.world ≡ self.old.world }
     {
-        let (p, a, r) = self.world.triple(cell);
+        let world = self.world();
+        let (p, a, r) = world.triple(cell);
         let number = self.find(alloc, p, a, r)?;
         let verdict = self.verdict(number).copy(alloc)?;
         Ok(verdict)
@@ -119,7 +123,8 @@ impl<'a> Engine<'a> {
         ensures decision { IfOk result (IsDecisionOf self.old.world cell) }
         ensures same { self.new.world ≡ self.old.world }
     {
-        let (p, a, r) = self.world.triple(cell);
+        let world = self.world();
+        let (p, a, r) = world.triple(cell);
         let number = self.find(alloc, p, a, r)?;
         Ok(self.verdict(number).decision)
     }
@@ -136,14 +141,14 @@ impl<'a> Engine<'a> {
     {
         let class = class_of(
             alloc,
-            self.world,
+            self.index,
             self.survey,
             &mut self.memo,
             &mut self.keys,
             p,
             r,
         )?;
-        number_of(alloc, self.world, &mut self.memo, &mut self.found, class, a)
+        number_of(alloc, self.index, &mut self.memo, &mut self.found, class, a)
     }
 
     /// The verdict of a number that [`Engine::find`] gave, on the request that it was given for.
@@ -160,25 +165,25 @@ impl<'a> Engine<'a> {
 #[inline(always)]
 fn class_of<'a>(
     alloc: Global,
-    world: &'a World,
+    index: &'a Index<'a>,
     survey: Option<&'a Survey<'a>>,
     memo: &mut Memo<'a>,
     keys: &mut Vec<Keys>,
     p: u64,
     r: u64,
 ) -> Result<usize, OutOfMemory>
-    requires survey { IfSome survey (λ survey. survey.now ≡ world.now) }
-    requires principal { p < length world.now.principals }
-    requires resource { r < length world.now.resources }
-    requires right { IsRight world.now memo.old }
-    requires keys { All (AreKeys world.now) keys.old.items }
-    ensures right { IsRight world.entry.now memo.new }
-    ensures keys { All (AreKeys world.entry.now) keys.new.items }
-    ensures class { IfOk result (HasClass world.entry.now memo.new.classes.items p r) }
+    requires survey { IfSome survey (λ survey. survey.now ≡ index.now) }
+    requires principal { p < length index.now.principals }
+    requires resource { r < length index.now.resources }
+    requires right { IsRight index.now memo.old }
+    requires keys { All (AreKeys index.now) keys.old.items }
+    ensures right { IsRight index.entry.now memo.new }
+    ensures keys { All (AreKeys index.entry.now) keys.new.items }
+    ensures class { IfOk result (HasClass index.entry.now memo.new.classes.items p r) }
 {
     match memo.class_of(p, r) {
         Some(class) => Ok(class),
-        None => find_class(alloc, world, survey, memo, keys, p, r),
+        None => find_class(alloc, index, survey, memo, keys, p, r),
     }
 }
 
@@ -186,45 +191,45 @@ fn class_of<'a>(
 #[inline(never)]
 fn find_class<'a>(
     alloc: Global,
-    world: &'a World,
+    index: &'a Index<'a>,
     survey: Option<&'a Survey<'a>>,
     memo: &mut Memo<'a>,
     keys: &mut Vec<Keys>,
     p: u64,
     r: u64,
 ) -> Result<usize, OutOfMemory>
-    requires survey { IfSome survey (λ survey. survey.now ≡ world.now) }
-    requires principal { p < length world.now.principals }
-    requires resource { r < length world.now.resources }
-    requires right { IsRight world.now memo.old }
-    requires keys { All (AreKeys world.now) keys.old.items }
-    ensures right { IsRight world.entry.now memo.new }
-    ensures keys { All (AreKeys world.entry.now) keys.new.items }
-    ensures class { IfOk result (HasClass world.entry.now memo.new.classes.items p r) }
+    requires survey { IfSome survey (λ survey. survey.now ≡ index.now) }
+    requires principal { p < length index.now.principals }
+    requires resource { r < length index.now.resources }
+    requires right { IsRight index.now memo.old }
+    requires keys { All (AreKeys index.now) keys.old.items }
+    ensures right { IsRight index.entry.now memo.new }
+    ensures keys { All (AreKeys index.entry.now) keys.new.items }
+    ensures class { IfOk result (HasClass index.entry.now memo.new.classes.items p r) }
 {
-    let shared = held_by(alloc, world, survey, keys, p, r)?;
-    memo.class_with(alloc, world, p, r, shared)
+    let shared = held_by(alloc, index, survey, keys, p, r)?;
+    memo.class_with(alloc, p, r, shared)
 }
 
 /// What the requests of principal p for resource r share, as a survey found it, or by a scan.
 fn held_by<'a>(
     alloc: Global,
-    world: &'a World,
+    index: &'a Index<'a>,
     survey: Option<&'a Survey<'a>>,
     keys: &mut Vec<Keys>,
     p: u64,
     r: u64,
 ) -> Result<Held<'a>, OutOfMemory>
-    requires survey { IfSome survey (λ survey. survey.now ≡ world.now) }
-    requires principal { p < length world.now.principals }
-    requires resource { r < length world.now.resources }
-    requires keys { All (AreKeys world.now) keys.old.items }
-    ensures keys { All (AreKeys world.entry.now) keys.new.items }
-    ensures shared { IfOk result (IsSharedAt world.entry.now p r) }
+    requires survey { IfSome survey (λ survey. survey.now ≡ index.now) }
+    requires principal { p < length index.now.principals }
+    requires resource { r < length index.now.resources }
+    requires keys { All (AreKeys index.now) keys.old.items }
+    ensures keys { All (AreKeys index.entry.now) keys.new.items }
+    ensures shared { IfOk result (IsSharedAt index.entry.now p r) }
 {
     match lent(survey, p, r) {
         Some(shared) => Ok(Held::lent(shared)),
-        None => Ok(Held::own(shared_by(alloc, world, keys, p, r)?)),
+        None => Ok(Held::own(shared_by(alloc, index, keys, p, r)?)),
     }
 }
 
@@ -240,22 +245,22 @@ fn lent<'a>(survey: Option<&'a Survey<'a>>, p: u64, r: u64) -> Option<&'a Shared
 #[inline(always)]
 fn number_of(
     alloc: Global,
-    world: &World,
+    index: &Index<'_>,
     memo: &mut Memo<'_>,
     found: &mut Vec<Matched>,
     class: usize,
     a: u64,
 ) -> Result<usize, OutOfMemory>
-    requires action { a < length world.now.actions }
+    requires action { a < length index.now.actions }
     requires class { class < length memo.old.classes.items }
-    requires right { IsRight world.now memo.old }
-    ensures right { IsRight world.now memo.new }
+    requires right { IsRight index.now memo.old }
+    ensures right { IsRight index.now memo.new }
     ensures number { (class_is : Class) → slice_get memo.old.classes.items class ≡ Some class_is
-        → IfOk result (IsNumber world.now class_is.shared memo.new.rulings.items a) }
+        → IfOk result (IsNumber index.now class_is.shared memo.new.rulings.items a) }
 {
     match memo.number_of(class, a) {
         Some(number) => Ok(number),
-        None => find_number(alloc, world, memo, found, class, a),
+        None => find_number(alloc, index, memo, found, class, a),
     }
 }
 
@@ -263,20 +268,20 @@ fn number_of(
 #[inline(never)]
 fn find_number(
     alloc: Global,
-    world: &World,
+    index: &Index<'_>,
     memo: &mut Memo<'_>,
     found: &mut Vec<Matched>,
     class: usize,
     a: u64,
 ) -> Result<usize, OutOfMemory>
-    requires action { a < length world.now.actions }
+    requires action { a < length index.now.actions }
     requires class { class < length memo.old.classes.items }
-    requires right { IsRight world.now memo.old }
-    ensures right { IsRight world.now memo.new }
+    requires right { IsRight index.now memo.old }
+    ensures right { IsRight index.now memo.new }
     ensures number { (class_is : Class) → slice_get memo.old.classes.items class ≡ Some class_is
-        → IfOk result (IsNumber world.now class_is.shared memo.new.rulings.items a) }
+        → IfOk result (IsNumber index.now class_is.shared memo.new.rulings.items a) }
 {
-    let frame = memo.find(found, class, a, world.action_text(a))?;
+    let frame = memo.find(found, class, a, index.world().action_text(a))?;
     let number = memo.ruling(alloc, frame, found.as_slice())?;
     memo.keep_number(class, a, number);
     Ok(number)

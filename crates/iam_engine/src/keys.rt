@@ -4,6 +4,7 @@ ghost use Rattle.iam_layers.specs.Cell.{IsDerivedAt, IsSharedAt};
 ghost use Rattle.iam_world.specs.World.{WorldValue};
 ghost use Rattle.iam_engine.specs.Keys.{AreKeys};
 
+use crate::index::Index;
 use iam_context::Derived;
 use iam_layers::{Shared, World};
 use iam_text::OutOfMemory;
@@ -31,29 +32,53 @@ pub fn no_keys(alloc: Global) -> Vec<Keys>
 /// same account.
 pub fn shared_by<'a>(
     alloc: Global,
-    world: &'a World,
+    index: &'a Index<'a>,
     kept: &mut Vec<Keys>,
     p: u64,
     r: u64,
 ) -> Result<Shared<'a>, OutOfMemory>
-    requires principal { p < length world.now.principals }
-    requires resource { r < length world.now.resources }
-    requires keys { All (AreKeys world.now) kept.old.items }
-    ensures keys { All (AreKeys world.entry.now) kept.new.items }
-    ensures shared { IfOk result (IsSharedAt world.entry.now p r) }
+    requires principal { p < length index.now.principals }
+    requires resource { r < length index.now.resources }
+    requires keys { All (AreKeys index.now) kept.old.items }
+    ensures keys { All (AreKeys index.entry.now) kept.new.items }
+    ensures shared { IfOk result (IsSharedAt index.entry.now p r) }
 {
+    let world = index.world();
     if let Some(derived) = known(world, kept.as_slice(), p, r) {
-        return world.shared_with(alloc, p, r, derived);
+        return shared_with(alloc, index, p, r, derived);
     }
     let derived = world.derived(alloc, p, r)?;
-    let shared = world.shared_with(alloc, p, r, &derived)?;
-    let keys = Keys {
-        principal: p,
-        resource: r,
-        derived,
-    };
-    put(kept, keys)?;
+    let shared = shared_with(alloc, index, p, r, &derived)?;
+    put(
+        kept,
+        Keys {
+            principal: p,
+            resource: r,
+            derived,
+        },
+    );
     Ok(shared)
+}
+
+/// What the requests of principal p for resource r share, where these derived keys complete their context: found among the
+/// statements that the index lists.
+fn shared_with<'a: 'c, 'c>(
+    alloc: Global,
+    index: &'a Index<'a>,
+    p: u64,
+    r: u64,
+    derived: &'c Derived,
+) -> Result<Shared<'a>, OutOfMemory>
+    requires principal { p < length index.now.principals }
+    requires resource { r < length index.now.resources }
+    requires derived { IsDerivedAt index.now p r derived.now.items }
+    ensures { IfOk result (IsSharedAt index.entry.now p r) }
+{
+    let world = index.world();
+    let context = world.context(alloc, p, r, derived)?;
+    let access = world.access(p, r, &context);
+    let living = index.living(alloc, p, r, access)?;
+    Ok(Shared::of(world.applicable(p, r).frame(), living))
 }
 
 /// Derived keys of principal p's requests for resource r, where some are found among these.
@@ -81,10 +106,12 @@ fn staying(kept: &[Keys], p: u64) -> usize {
 }
 
 /// Puts derived keys behind those that stay. Where memory is refused, these are not kept.
-fn put(kept: &mut Vec<Keys>, keys: Keys) -> Result<(), OutOfMemory>
+fn put(kept: &mut Vec<Keys>, keys: Keys)
     ensures { (world : WorldValue) → All (AreKeys world) kept.old.items → AreKeys world keys → All (AreKeys world) kept.new.items }
 {
     kept.truncate(staying(kept.as_slice(), keys.principal));
-    kept.push(keys)?;
-    Ok(())
+    match kept.push(keys) {
+        Ok(()) => (),
+        Err(_) => (),
+    }
 }

@@ -3,6 +3,7 @@ ghost use Rattle.std.specs.Prelude.{◌≡◌, ◌<◌, IfOk, IfSome, Some, leng
 ghost use Rattle.std.specs.List.{slice_get};
 ghost use Rattle.iam_layers.specs.Cell.{IsAction, IsSharedAt};
 ghost use Rattle.iam_world.specs.World.{WorldValue};
+ghost use Rattle.iam_engine.specs.Elements.{AreElements};
 ghost use Rattle.iam_engine.specs.Memo.{HasClass, HasNumber, HasRuling, HasShared, IsRight, Finds};
 ghost use Rattle.iam_engine.specs.declared.memo.Class.{Class};
 
@@ -10,7 +11,7 @@ use crate::elements::Elements;
 use crate::held::Held;
 use crate::slots::{WIDTH, empty, empty_slots, keep, kept, slot_at, slot_of};
 use iam_decision::acting_are_found;
-use iam_layers::{Frame, Matched, Ruling, Shared, World};
+use iam_layers::{Frame, Matched, Ruling, Shared};
 use iam_text::OutOfMemory;
 use std::alloc::Global;
 
@@ -85,7 +86,7 @@ impl Answer {
 pub struct Memo<'a> {
     pub classes: Vec<Class<'a>>,
     pub rulings: Vec<Ruling>,
-    pub elements: Elements<'a>,
+    pub elements: &'a Elements<'a>,
     pub pairs: Vec<Option<Pair>>,
     pub answers: Vec<Option<Answer>>,
     // By a print the class, and the ruling, that was last found with it: a hint.
@@ -101,15 +102,16 @@ pub struct Memo<'a> {
 
 impl<'a> Memo<'a> {
     /// A memo that keeps nothing, one of so many that share the bounds, for a world of so many principals, actions and
-    /// resources.
+    /// resources, whose action elements are these.
     pub fn new(
         alloc: Global,
+        elements: &'a Elements<'a>,
         principals: u64,
         actions: u64,
         resources: u64,
         memos: u32,
     ) -> Result<Memo<'a>, OutOfMemory>
-        ensures { IfOk result (λ memo. (world : WorldValue) → IsRight world memo) }
+        ensures { (world : WorldValue) → AreElements world elements.entry.now.elements.items → IfOk result (IsRight world) }
     {
         let memos = memos.max(1);
         let all = principals.saturating_mul(resources);
@@ -124,7 +126,7 @@ impl<'a> Memo<'a> {
         Ok(Memo {
             classes: Vec::new(alloc),
             rulings: Vec::new(alloc),
-            elements: Elements::new(alloc, actions, memos)?,
+            elements,
             pairs: empty_slots(alloc, pairs)?,
             answers: empty_slots(alloc, answers.min(MOST_ANSWERS / memos as u64))?,
             class_prints: empty_slots(alloc, PRINTS)?,
@@ -156,15 +158,14 @@ impl<'a> Memo<'a> {
     pub fn class_with(
         &mut self,
         alloc: Global,
-        world: &World,
         p: u64,
         r: u64,
         shared: Held<'a>,
     ) -> Result<usize, OutOfMemory>
-        ensures right { IsRight world.now self.old → IsSharedAt world.now p r shared.entry → IsRight world.now self.new }
-        ensures class { IsSharedAt world.now p r shared.entry → IfOk result (HasClass world.now self.new.classes.items p r) }
+        ensures right { (world : WorldValue) → IsRight world self.old → IsSharedAt world p r shared.entry → IsRight world self.new }
+        ensures class { (world : WorldValue) → IsSharedAt world p r shared.entry → IfOk result (HasClass world self.new.classes.items p r) }
     {
-        let class = self.class_sharing(alloc, world, shared)?;
+        let class = self.class_sharing(alloc, shared)?;
         if let Some(pair) = Pair::of(p, r, class) {
             let slot = slot_at(p, self.resources, r, self.pairs.len());
             keep(&mut self.pairs, slot, pair);
@@ -174,13 +175,8 @@ impl<'a> Memo<'a> {
 
     /// The class of requests that share this: one that is there, or a new one. Where there is no room for a new one,
     /// everything that was kept is let go.
-    fn class_sharing(
-        &mut self,
-        alloc: Global,
-        world: &World,
-        shared: Held<'a>,
-    ) -> Result<usize, OutOfMemory>
-        ensures right { IsRight world.now self.old → IsRight world.now self.new }
+    fn class_sharing(&mut self, alloc: Global, shared: Held<'a>) -> Result<usize, OutOfMemory>
+        ensures right { (world : WorldValue) → IsRight world self.old → IsRight world self.new }
         ensures class { IfOk result (HasShared self.new.classes.items shared.entry) }
     {
         let print = shared.get().print();
@@ -189,7 +185,7 @@ impl<'a> Memo<'a> {
         }
         // A class without statements takes room too.
         self.make_room(shared.get().living().len().saturating_add(1));
-        self.add(alloc, world, print, shared)
+        self.add(alloc, print, shared)
     }
 
     /// The class that was last found with this print, if its requests share just this.
@@ -218,17 +214,11 @@ impl<'a> Memo<'a> {
     }
 
     /// Adds the class of requests that share this.
-    fn add(
-        &mut self,
-        alloc: Global,
-        world: &World,
-        print: u64,
-        shared: Held<'a>,
-    ) -> Result<usize, OutOfMemory>
-        ensures right { IsRight world.now self.old → IsRight world.now self.new }
+    fn add(&mut self, alloc: Global, print: u64, shared: Held<'a>) -> Result<usize, OutOfMemory>
+        ensures right { (world : WorldValue) → IsRight world self.old → IsRight world self.new }
         ensures class { IfOk result (HasShared self.new.classes.items shared.entry) }
     {
-        let rows = self.elements.rows(alloc, world, shared.get().living())?;
+        let rows = self.elements.rows(alloc, shared.get().living())?;
         let class = self.classes.len();
         self.classes.push(Class { shared, rows })?;
         keep(
@@ -241,13 +231,12 @@ impl<'a> Memo<'a> {
 
     /// Lets go everything that is kept.
     fn clear(&mut self)
-        ensures { (world : WorldValue) → IsRight world self.new }
+        ensures { (world : WorldValue) → IsRight world self.old → IsRight world self.new }
     {
         empty(&mut self.pairs);
         empty(&mut self.answers);
         self.classes.clear();
         self.rulings.clear();
-        self.elements.clear();
         self.room = self.most_statements;
     }
 
@@ -291,7 +280,7 @@ impl<'a> Memo<'a> {
     ) -> Result<Frame, OutOfMemory>
         requires { class < length self.now.classes.items }
         ensures { (world : WorldValue) (class_is : Class) → IsRight world self.now → slice_get self.now.classes.items class ≡ Some class_is
-            → IsAction world a text.now → IfOk result (λ frame. Finds class_is.shared text.now frame found.new.items) }
+            → IsAction world a text.now → IfOk result (λ frame. Finds world class_is.shared text.now frame found.new.items) }
     {
         let class = &self.classes[class];
         let rows = class.rows.as_slice();

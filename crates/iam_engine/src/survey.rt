@@ -6,6 +6,7 @@ ghost use Rattle.iam_world.specs.World.{WorldValue};
 ghost use Rattle.iam_engine.specs.Keys.{AreKeys};
 ghost use Rattle.iam_engine.specs.Survey.{IsSharedBy};
 
+use crate::index::Index;
 use crate::keys::{Keys, no_keys, shared_by};
 use crate::slots::{empty_slots, keep, kept, slot_of};
 use iam_layers::{Shared, World};
@@ -68,7 +69,7 @@ impl<'a> Block<'a> {
 /// Finds what the requests of pairs share, block by block. A contract sees the world.
 #[derive(Drop)]
 pub struct Surveyor<'a> {
-    world: &'a World,
+    index: &'a Index<'a>,
     // The derived keys that were made last, of one principal.
     keys: Vec<Keys>,
     // By a print the class that was last found with it: a hint.
@@ -84,20 +85,24 @@ impl<'a> Model for Surveyor<'a> {
 
     ghost Value = { WorldValue };
 
-    ghost view = { λ surveyor. surveyor.world.now };
+    ghost view = { λ surveyor. surveyor.index.now };
 
-    ghost invariant = { λ surveyor. All (AreKeys surveyor.world.now) surveyor.keys.items };
+    ghost invariant = { λ surveyor. All (AreKeys surveyor.index.now) surveyor.keys.items };
 }
 
 impl<'a> Surveyor<'a> {
     ghost use Rattle.std.specs.Prelude.{◌≡◌, IfOk};
 
-    /// A surveyor of this world, one of so many that share the bound on what is kept.
-    pub fn new(alloc: Global, world: &'a World, surveyors: u32) -> Result<Surveyor<'a>, OutOfMemory>
-        ensures { IfOk result (λ surveyor. surveyor ≡ world.entry.now) }
+    /// A surveyor of the world of an index, one of so many that share the bound on what is kept.
+    pub fn new(
+        alloc: Global,
+        index: &'a Index<'a>,
+        surveyors: u32,
+    ) -> Result<Surveyor<'a>, OutOfMemory>
+        ensures { IfOk result (λ surveyor. surveyor ≡ index.entry.now) }
     {
         Ok(Surveyor {
-            world,
+            index,
             keys: no_keys(alloc),
             prints: empty_slots(alloc, PRINTS)?,
             room: MOST_STATEMENTS / surveyors.max(1) as usize,
@@ -112,7 +117,7 @@ impl<'a> Surveyor<'a> {
     {
         block_from(
             alloc,
-            self.world,
+            self.index,
             &mut self.keys,
             &mut self.prints,
             &mut self.room,
@@ -125,16 +130,16 @@ impl<'a> Surveyor<'a> {
 /// What the requests of so many pairs from this one on share, as far as there is room.
 fn block_from<'a>(
     alloc: Global,
-    world: &'a World,
+    index: &'a Index<'a>,
     keys: &mut Vec<Keys>,
     prints: &mut Vec<Option<usize>>,
     room: &mut usize,
     from: u64,
     count: u64,
 ) -> Result<Block<'a>, OutOfMemory>
-    requires { All (AreKeys world.now) keys.old.items }
-    ensures keys { All (AreKeys world.entry.now) keys.new.items }
-    ensures block { IfOk result (λ block. block ≡ world.entry.now) }
+    requires { All (AreKeys index.now) keys.old.items }
+    ensures keys { All (AreKeys index.entry.now) keys.new.items }
+    ensures block { IfOk result (λ block. block ≡ index.entry.now) }
 {
     let mut classes = Vec::new(alloc);
     let mut numbers = Vec::new(alloc);
@@ -142,14 +147,14 @@ fn block_from<'a>(
         if *room == 0 {
             break;
         }
-        let Some(shared) = shared_at(alloc, world, keys, pair)? else {
+        let Some(shared) = shared_at(alloc, index, keys, pair)? else {
             break;
         };
         let number = class_among(&mut classes, prints, room, shared)?;
         numbers.push(number)?;
     }
     Ok(Block {
-        world,
+        world: index.world(),
         from,
         classes,
         numbers,
@@ -169,19 +174,20 @@ fn pair_of(world: &World, p: u64, r: u64) -> Option<u64>
 /// What the requests of the pair of this number share, where there is such a pair.
 fn shared_at<'a>(
     alloc: Global,
-    world: &'a World,
+    index: &'a Index<'a>,
     keys: &mut Vec<Keys>,
     pair: u64,
 ) -> Result<Option<Shared<'a>>, OutOfMemory>
-    requires { All (AreKeys world.now) keys.old.items }
-    ensures keys { All (AreKeys world.entry.now) keys.new.items }
-    ensures shared { IfOk result (λ found. IfSome found (IsSharedBy world.entry.now pair)) }
+    requires { All (AreKeys index.now) keys.old.items }
+    ensures keys { All (AreKeys index.entry.now) keys.new.items }
+    ensures shared { IfOk result (λ found. IfSome found (IsSharedBy index.entry.now pair)) }
 {
+    let world = index.world();
     let resources = world.resources();
     if resources == 0 || pair / resources >= world.principals() {
         return Ok(None);
     }
-    let shared = shared_by(alloc, world, keys, pair / resources, pair % resources)?;
+    let shared = shared_by(alloc, index, keys, pair / resources, pair % resources)?;
     Ok(Some(shared))
 }
 
@@ -226,6 +232,7 @@ fn class_at(
 /// What the requests of the pairs of a world share, as far as it was found. A contract sees the world.
 #[derive(Drop)]
 pub struct Survey<'a> {
+    index: &'a Index<'a>,
     world: &'a World,
     // How many pairs a block has.
     length: u64,
@@ -240,7 +247,9 @@ impl<'a> Model for Survey<'a> {
 
     ghost view = { λ survey. survey.world.now };
 
-    ghost invariant = { λ survey. AreOf survey.world.now survey.blocks.items };
+    ghost use Rattle.std.specs.Prelude.{◌≡◌};
+
+    ghost invariant = { λ survey. AreOf survey.world.now survey.blocks.items × (survey.index.now ≡ survey.world.now) };
 }
 
 impl<'a> Survey<'a> {
@@ -248,23 +257,25 @@ impl<'a> Survey<'a> {
     ghost use Rattle.iam_layers.specs.Cell.{IsSharedAt};
     ghost use Rattle.iam_engine.specs.Survey.{AreOf};
 
-    /// The survey that these blocks of a world make, of so many pairs each, in order; without blocks nothing was found.
-    pub fn of(world: &'a World, length: u64, blocks: Vec<Block<'a>>) -> Survey<'a>
-        requires { AreOf world.now blocks.items }
-        ensures { result ≡ world.entry.now }
+    /// The survey that these blocks of the world of an index make, of so many pairs each, in order; without blocks nothing was
+    /// found.
+    pub fn of(index: &'a Index<'a>, length: u64, blocks: Vec<Block<'a>>) -> Survey<'a>
+        requires { AreOf index.now blocks.items }
+        ensures { result ≡ index.entry.now }
     {
         Survey {
-            world,
+            index,
+            world: index.world(),
             length,
             blocks,
         }
     }
 
-    /// The world whose pairs they are.
-    pub fn world(&self) -> &'a World
+    /// The index of the world whose pairs they are.
+    pub fn index(&self) -> &'a Index<'a>
         ensures { result.now ≡ self.now }
     {
-        self.world
+        self.index
     }
 
     /// What the requests of principal p for resource r share, where it was found.

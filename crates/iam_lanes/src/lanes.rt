@@ -5,9 +5,9 @@ ghost use Rattle.iam_lanes.specs.Lanes.{LanesId, fresh, lanes_id, IsTooMany, gai
 ghost use Rattle.iam_lanes.specs.Code.Fields.{IsLaid};
 
 use crate::close::{count_ended, gather};
-use crate::fault::LaneFault;
 use crate::rule::{LanePass, LaneTable, Look, NO_CELL, Offer, Plan, Seats, Take};
 use crate::seat::LaneSeat;
+use iam_work::LaneFault;
 use std::alloc::{AllocError, Global};
 use std::marker::Model;
 

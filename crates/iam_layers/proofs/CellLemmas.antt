@@ -1,6 +1,10 @@
 -- The numbers of cells.
-use Rattle.std.proofs.Common.{◌≡◌, ℕ, suc, zero, ◌+◌, ◌*◌, ◌/◌, ◌%◌, ◌<◌, ◌≤◌, length, sym, ap, ◌∙◌, subst, arith}
+use Rattle.std.proofs.Common.{◌≡◌, List, ℕ, suc, zero, ◌+◌, ◌*◌, ◌/◌, ◌%◌, ◌<◌, ◌≤◌, length, sym, ap, ◌∙◌, subst, arith}
 use Rattle.std.proofs.Math.Nat.{div-lt_iff_lt-mul, mul-add-div_right, div-eq_of_lt, div-add-mod, mod-lt, mul_comm, mul-le-mul_left, mul-one, mul-zero}
+use Rattle.std.proofs.lemmas.Option.{get_or_from_slice_get, slice_get_within}
+use Rattle.std.specs.List.{Contains}
+use Rattle.iam_world.specs.World.{WorldValue}
+use Rattle.iam_layers.specs.Cell.{IsAction}
 use Rattle.iam_layers.specs.Laws
 
 -- the row of a place in rows of n places
@@ -62,3 +66,7 @@ one_triple world cell p a r q b s here there =
     let outer = same_place n (p * m + a) r (q * m + b) s here.resource there.resource (sym here.number ∙ there.number) in
     let inner = same_place m p a q b here.action there.action outer.0 in
     (inner.0, inner.1, outer.1)
+
+-- an action of the world is one of its actions
+pub is_asked : (world : WorldValue) (a : ℕ) (text : List ℕ) → IsAction world a text → Contains world.actions text
+is_asked world a text at = (a, slice_get_within world.actions a text at, get_or_from_slice_get world.actions a text text at)

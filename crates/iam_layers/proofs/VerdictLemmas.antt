@@ -3,11 +3,15 @@ use Rattle.std.proofs.Common.{◌≡◌, ℕ, List, Option, Some, sym, ap, ◌�
 use Rattle.std.specs.List.{slice_get}
 use Rattle.iam_context.specs.Context.{ContextValue}
 use Rattle.iam_decision.specs.Applicable.{ApplicableValue}
+use Rattle.iam_decision.specs.Code.Scan.{org_placed, requester_placed, resource_placed}
+use Rattle.iam_decision.specs.Matched.{in_layer}
+use Rattle.iam_decision.specs.declared.place.Layer.TheVariants.{Org}
 use Rattle.iam_match.specs.Requester.{RequesterValue}
 use Rattle.iam_match.specs.Statement.{AccessValue}
-use Rattle.iam_world.specs.World.{PrincipalValue, ResourceValue, WorldValue}
-use Rattle.iam_layers.specs.Applicable.{applicable_of}
-use Rattle.iam_layers.specs.Cell.{IsAccessAt, IsContextAt, IsDerivedAt, IsPrincipal, IsResource}
+use Rattle.iam_world.specs.World.{PrincipalValue, ResourceValue, WorldValue, account_with}
+use Rattle.iam_layers.specs.Applicable.{applicable_of, levels_unless, manages, org_of}
+use Rattle.iam_layers.specs.Code.Statements.{HaveSameOrg}
+use Rattle.iam_layers.specs.Cell.{IsAccessAt, IsApplicableAt, IsContextAt, IsDerivedAt, IsPrincipal, IsResource}
 use Rattle.iam_layers.specs.Derived.{context_of}
 
 pub one_some : {A : Type 0} (o : Option A) (x y : A) → o ≡ Some x → o ≡ Some y → x ≡ y
@@ -18,8 +22,7 @@ asked requester arn context = record { requester = requester; resource = arn; co
 
 pub accessed : (world : WorldValue) (p r : ℕ) (requester : RequesterValue) (arn : List ℕ) (context derived : ContextValue) (applicable : ApplicableValue)
     → IsPrincipal world p (λ principal. requester ≡ principal.requester) → IsResource world r (λ resource. arn ≡ resource.arn)
-    → IsDerivedAt world p r derived → IsContextAt world p r derived context
-    → IsPrincipal world p (λ principal. IsResource world r (λ resource. applicable ≡ applicable_of world principal resource))
+    → IsDerivedAt world p r derived → IsContextAt world p r derived context → IsApplicableAt world p r applicable
     → IsAccessAt world p r applicable (asked requester arn context)
 accessed world p r requester arn context derived applicable (p1, a1, e1) (r1, b1, e2) (p2, a2, (r2, b2, is)) (p3, a3, (r3, b3, e3)) (p4, a4, (r4, b4, e4)) =
     let p12 : p1 ≡ p2 = one_some (slice_get world.principals p) p1 p2 a1 a2 in
@@ -42,3 +45,31 @@ accessed world p r requester arn context derived applicable (p1, a1, e1) (r1, b1
       access_is =
           ap (λ x. asked x arn context) who ∙ ap (λ x. asked p2.requester x context) what ∙ ap (λ x. asked p2.requester r2.arn x) where_;
     }
+
+-- what applies to two requests of one principal, or for one resource
+pub same_principal : (world : WorldValue) (p r s : ℕ) (one other : ApplicableValue) → IsApplicableAt world p r one → IsApplicableAt world p s other
+    → (org_placed one ≡ org_placed other) × (requester_placed one ≡ requester_placed other)
+same_principal world p r s one other (p1, a1, (r1, b1, is)) (p2, a2, (r2, b2, is')) =
+    let same : p1 ≡ p2 = one_some (slice_get world.principals p) p1 p2 a1 a2 in (
+      ap org_placed is ∙ ap (λ x. org_placed (applicable_of world x r1)) same ∙ sym (ap org_placed is'),
+      ap requester_placed is ∙ ap (λ x. requester_placed (applicable_of world x r1)) same ∙ sym (ap requester_placed is'),
+    )
+
+pub same_resource : (world : WorldValue) (p q r : ℕ) (one other : ApplicableValue) → IsApplicableAt world p r one → IsApplicableAt world q r other
+    → resource_placed one ≡ resource_placed other
+same_resource world p q r one other (p1, a1, (r1, b1, is)) (p2, a2, (r2, b2, is')) =
+    let same : r1 ≡ r2 = one_some (slice_get world.resources r) r1 r2 b1 b2 in
+    ap resource_placed is ∙ ap (λ x. resource_placed (applicable_of world p1 x)) same ∙ sym (ap resource_placed is')
+
+-- principals of one account have the same organisation
+pub same_org : (world : WorldValue) (p q : ℕ) (one other : RequesterValue) → IsPrincipal world p (λ principal. one ≡ principal.requester)
+    → IsPrincipal world q (λ principal. other ≡ principal.requester) → one.account ≡ other.account → HaveSameOrg world p q
+same_org world p q one other (p1, a1, e1) (q1, c1, f1) account r s a b (p2, a2, (r2, b2, is)) (q2, c2, (s2, d2, is')) =
+    let p12 : p1 ≡ p2 = one_some (slice_get world.principals p) p1 p2 a1 a2 in
+    let q12 : q1 ≡ q2 = one_some (slice_get world.principals q) q1 q2 c1 c2 in
+    let accounts : p2.requester.account ≡ q2.requester.account =
+    sym (ap (λ (x : PrincipalValue). x.requester.account) p12) ∙ sym (ap (λ (x : RequesterValue). x.account) e1) ∙ account
+    ∙ ap (λ (x : RequesterValue). x.account) f1 ∙ ap (λ (x : PrincipalValue). x.requester.account) q12 in
+    ap org_placed is
+    ∙ ap (λ id. in_layer Org (levels_unless (manages (account_with id world)) (org_of (account_with id world)))) accounts
+    ∙ sym (ap org_placed is')

@@ -46,6 +46,15 @@ abbrev pub IsContextAt : WorldValue → ℕ → ℕ → ContextValue → Context
 IsContextAt world p r derived context =
     IsPrincipal world p (λ principal. IsResource world r (λ resource. context ≡ context_of world principal resource derived))
 
+-- this is the context where principal p asks for resource r
+abbrev pub IsRequestContext : WorldValue → ℕ → ℕ → ContextValue → Type 0
+IsRequestContext world p r context = (derived : ContextValue) × IsDerivedAt world p r derived × IsContextAt world p r derived context
+
+-- these policies apply where principal p asks for resource r
+abbrev pub IsApplicableAt : WorldValue → ℕ → ℕ → ApplicableValue → Type 0
+IsApplicableAt world p r applicable =
+    IsPrincipal world p (λ principal. IsResource world r (λ resource. applicable ≡ applicable_of world principal resource))
+
 -- the policies that apply where principal p asks for resource r, and who asks for what in which context
 pub record IsAccessAt (world : WorldValue) (p r : ℕ) (applicable : ApplicableValue) (access : AccessValue) : Type 0 where
   pub principal : PrincipalValue
@@ -63,10 +72,11 @@ pub record IsAccessAt (world : WorldValue) (p r : ℕ) (applicable : ApplicableV
         context = context_of world principal resource derived;
       }
 
--- what the requests of principal p for resource r share
+-- what the requests of principal p for resource r, for the actions of the world, share
 abbrev pub IsSharedAt : WorldValue → ℕ → ℕ → SharedValue → Type 0
 IsSharedAt world p r shared =
-    (applicable : ApplicableValue) × (access : AccessValue) × IsAccessAt world p r applicable access × IsShared applicable access shared
+    (applicable : ApplicableValue) × (access : AccessValue) × IsAccessAt world p r applicable access
+    × IsShared world.actions applicable access shared
 
 -- the request of principal p for action a on resource r, in its context, and the policies that apply to it
 abbrev pub IsRequestAt : WorldValue → ℕ → ℕ → ℕ → ApplicableValue → RequestValue → Type 0

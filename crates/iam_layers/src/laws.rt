@@ -1,4 +1,5 @@
 // What follows from which policies apply to a request, and that a request has one answer.
+ghost use Rattle.iam_layers.specs.Code.Statements.{RequestersKeepTheirs, ResourcesKeepTheirs};
 ghost use Rattle.iam_layers.specs.Laws.{ManagementIsNotBound, OneDecisionAt, OneDecisionOf, OneRequest, OneTriple, OneVerdictAt, OneVerdictOf, SomeTriple};
 
 use iam_decision::{one_decision, one_verdict};
@@ -46,3 +47,10 @@ pub fn one_decision_at()
     one_request();
     one_triple()
 }
+
+/// The statements of the organisation and of the requester are the same whatever it asks for, and those that stand with a
+/// resource are the same whoever asks.
+pub fn statements_are_kept()
+    ensures requesters { RequestersKeepTheirs }
+    ensures resources { ResourcesKeepTheirs }
+{}

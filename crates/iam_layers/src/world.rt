@@ -50,8 +50,10 @@ impl World {
     ghost use Rattle.iam_world.specs.World.{world_cells, world_statements};
     ghost use Rattle.iam_world.specs.Invariants.{HasFewPolicies};
     ghost use Rattle.iam_world.specs.declared.fault.WorldFault.TheVariants as w;
-    ghost use Rattle.iam_layers.specs.Applicable.{applicable_of};
-    ghost use Rattle.iam_layers.specs.Cell.{IsAction, IsCell, IsContextAt, IsDerivedAt, IsPrincipal, IsResource, IsSharedAt, IsVerdictAt, principal_text};
+    ghost use Rattle.iam_match.specs.Request.{access_of};
+    ghost use Rattle.iam_decision.specs.Applicable.{ApplicableValue};
+    ghost use Rattle.iam_layers.specs.Cell.{IsAccessAt, IsAction, IsApplicableAt, IsCell, IsContextAt, IsDerivedAt, IsPrincipal, IsRequestContext, IsResource, IsSharedAt, IsVerdictAt, principal_text};
+    ghost use Rattle.iam_layers.specs.Code.Statements.{HaveSameOrg};
 
     /// The world of a JSON document, or the first fault of its bytes: `TooLarge` for over 8,388,608 of them, then 1
     /// to 8 by number, each at its first place, then `TooLarge` for over 16,777,216 cells or 4,096 statements.
@@ -235,8 +237,7 @@ impl World {
     pub fn applicable(&self, p: u64, r: u64) -> Applicable<'_>
         requires principal { p < length self.now.principals }
         requires resource { r < length self.now.resources }
-        ensures value { IsPrincipal self.now p (λ principal. IsResource self.now r
-            (λ resource. value_of result ≡ applicable_of self.now principal resource)) }
+        ensures value { IsApplicableAt self.now p r (value_of result) }
         ensures numbered { IsNumbered (value_of result) }
     {
         let principal = self.principal(p);
@@ -286,12 +287,32 @@ impl World {
         ensures { IfOk result (IsSharedAt self.entry.now p r) }
     {
         let context = self.context(alloc, p, r, derived)?;
-        let access = Access {
+        let access = self.access(p, r, &context);
+        self.applicable(p, r).shared(alloc, access)
+    }
+
+    /// Who asks for what where principal p asks for resource r, in this context, which has to be that of such a request.
+    pub fn access<'a, 'c>(&'a self, p: u64, r: u64, context: &'a Context<'c>) -> Access<'a, 'c>
+        requires principal { p < length self.now.principals }
+        requires resource { r < length self.now.resources }
+        requires context { IsRequestContext self.now p r context.now }
+        ensures { (applicable : ApplicableValue) → IsApplicableAt self.entry.now p r applicable
+            → IsAccessAt self.entry.now p r applicable (access_of result) }
+    {
+        Access {
             requester: self.requester(p),
             resource: self.resource_text(r),
-            context: &context,
-        };
-        self.applicable(p, r).shared(alloc, access)
+            context,
+        }
+    }
+
+    /// `true` only where the same policies of the organisation bind both principals: where both are of one account.
+    pub fn has_same_org(&self, p: u64, other: u64) -> bool
+        requires principal { p < length self.now.principals }
+        requires other { other < length self.now.principals }
+        ensures { IsTrue result → HaveSameOrg self.now p other }
+    {
+        self.requester(p).account() == self.requester(other).account()
     }
 
     /// What the requests of principal p for resource r share, whatever their actions, each below the number of its kind:

@@ -1,5 +1,6 @@
 pub mod ColonLemmas
 pub mod CompareLemmas
+pub mod FixedLemmas
 pub mod GrantLemmas
 pub mod JoinLemmas
 pub mod PartsLemmas

@@ -1,10 +1,10 @@
 // Whether a statement matches, with its action and without.
-ghost use Rattle.std.specs.Prelude.{◌↔◌, All, Any, IsTrue, IfOk};
+ghost use Rattle.std.specs.Prelude.{◌↔◌, All, Any, IsTrue, IfOk, IfSome};
 ghost use Rattle.std.specs.Str.{chars};
 ghost use Rattle.iam_text.specs.Glob.{MatchesFold};
 ghost use Rattle.iam_match.specs.Request.{access_of, request_of};
 ghost use Rattle.iam_match.specs.Entry.{EntryHolds};
-ghost use Rattle.iam_match.specs.Statement.{ActionMatches, RestMatches, StatementMatches};
+ghost use Rattle.iam_match.specs.Statement.{ActionMatches, ResourceMatches, RestMatches, StatementMatches};
 
 use crate::entry::holds;
 use crate::principal::principal_matches;
@@ -42,13 +42,60 @@ pub fn rest_matches<'c>(
 ) -> Result<bool, OutOfMemory>
     ensures { IfOk result (λ matched. IsTrue matched ↔ RestMatches statement.now (access_of access.entry)) }
 {
+    rest_matches_with(alloc, statement, access, None)
+}
+
+/// As [`rest_matches`], where it may be known already whether the resource element matches.
+#[inline(always)]
+pub fn rest_matches_with<'c>(
+    alloc: Global,
+    statement: &'c Statement,
+    access: Access<'_, 'c>,
+    resource: Option<bool>,
+) -> Result<bool, OutOfMemory>
+    requires { IfSome resource (λ known. IsTrue known ↔ ResourceMatches statement.now.resource access.resource.now access.context.now) }
+    ensures { IfOk result (λ matched. IsTrue matched ↔ RestMatches statement.now (access_of access.entry)) }
+{
+    if resource == Some(false) {
+        return Ok(false);
+    }
+    all_match(alloc, statement, access, resource)
+}
+
+/// The same, where each element but the action element is looked at in turn.
+fn all_match<'c>(
+    alloc: Global,
+    statement: &'c Statement,
+    access: Access<'_, 'c>,
+    resource: Option<bool>,
+) -> Result<bool, OutOfMemory>
+    requires { IfSome resource (λ known. IsTrue known ↔ ResourceMatches statement.now.resource access.resource.now access.context.now) }
+    ensures { IfOk result (λ matched. IsTrue matched ↔ RestMatches statement.now (access_of access.entry)) }
+{
     if !principal_matches(statement, access.requester) {
         return Ok(false);
     }
-    if !resource_matches(alloc, statement, access.resource, access.context)? {
+    if !resource_matches_with(alloc, statement, access, resource)? {
         return Ok(false);
     }
     conditions_hold(alloc, statement.conditions(), access.context)
+}
+
+/// Whether the resource element, if there is one, matches the resource, where that may be known already.
+fn resource_matches_with<'c>(
+    alloc: Global,
+    statement: &'c Statement,
+    access: Access<'_, 'c>,
+    resource: Option<bool>,
+) -> Result<bool, OutOfMemory>
+    requires { IfSome resource (λ known. IsTrue known ↔ ResourceMatches statement.now.resource access.resource.now access.context.now) }
+    ensures { IfOk result (λ matched.
+        IsTrue matched ↔ ResourceMatches statement.now.resource access.entry.resource.now access.entry.context.now) }
+{
+    match resource {
+        Some(known) => Ok(known),
+        None => resource_matches(alloc, statement, access.resource, access.context),
+    }
 }
 
 /// Whether the action element matches the action. It takes no memory.

@@ -12,7 +12,7 @@ use crate::fault::MatrixFault;
 use crate::survey::survey_of;
 use crate::workers::is_unlawful;
 use iam_crew::{Bound, Crew, Gate, gather};
-use iam_engine::{Engine, Survey};
+use iam_engine::{Engine, Index, Survey};
 use iam_layers::{Decision, Verdict, World};
 use iam_text::OutOfMemory;
 use std::alloc::Global;
@@ -145,11 +145,29 @@ fn all_entries<R: Threads + Sync, G: Gate + Sync, E: Entry + Send + Sync>(
     if is_unlawful(workers) {
         return Err(MatrixFault::Workers);
     }
-    let survey = survey_of(rt, alloc, world, workers);
-    Ok(surveyed_entries(rt, alloc, &survey, cut, workers, gate)?)
+    let index = Index::build(alloc, world)?;
+    Ok(indexed_entries(rt, alloc, &index, cut, workers, gate)?)
 }
 
-/// The entries of all cells of a survey's world, in the order of the cells' numbers.
+/// The entries of all cells of an index's world, in the order of the cells' numbers.
+fn indexed_entries<R: Threads + Sync, G: Gate + Sync, E: Entry + Send + Sync>(
+    rt: &R,
+    alloc: Global,
+    index: &Index<'_>,
+    cut: &Cut,
+    workers: u32,
+    gate: &G,
+) -> Result<Vec<E>, OutOfMemory>
+    requires some { 1 ≤ workers }
+    requires few { workers ≤ 64 }
+    requires cut { sum cut.now ≡ world_cells index.now }
+    ensures { IfOk result (λ entries. AreEntries (E.is index.now) 0 (world_cells index.now) entries.items) }
+{
+    let survey = survey_of(rt, alloc, index, workers);
+    surveyed_entries(rt, alloc, &survey, cut, workers, gate)
+}
+
+/// The same, where a survey of that world has been made.
 fn surveyed_entries<R: Threads + Sync, G: Gate + Sync, E: Entry + Send + Sync>(
     rt: &R,
     alloc: Global,

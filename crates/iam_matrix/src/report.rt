@@ -14,7 +14,7 @@ use crate::search::first;
 use crate::survey::survey_of;
 use crate::workers::is_unlawful;
 use iam_crew::{Gate, gather};
-use iam_engine::Survey;
+use iam_engine::{Index, Survey};
 use iam_layers::{Decision, World};
 use iam_report::{MatrixText, Tile};
 use iam_row::{Format, Quoted, brief_texts, csv_row_brief, full_texts, opening};
@@ -46,18 +46,36 @@ pub fn matrix_report<R: Threads + Sync, G: Gate + Sync>(
     // A world has at most 16,777,216 cells.
     let _cells = world.cells();
     let quoted = Quoted::of(alloc, world, format)?;
-    let survey = survey_of(rt, alloc, world, workers);
+    let index = Index::build(alloc, world)?;
     let asked = Asked {
         workers,
         format,
         brief,
     };
-    let tiles = tiles_of(rt, alloc, &survey, cut, gate, asked)?;
+    let tiles = indexed_tiles(rt, alloc, &index, cut, gate, asked)?;
     Ok(MatrixText::of(quoted, brief, tiles))
 }
 
 /// The tails of the rows of all tiles, in the order of tiles.
-fn tiles_of<R: Threads + Sync, G: Gate + Sync>(
+fn indexed_tiles<R: Threads + Sync, G: Gate + Sync>(
+    rt: &R,
+    alloc: Global,
+    index: &Index<'_>,
+    cut: &Cut,
+    gate: &G,
+    asked: Asked,
+) -> Result<Vec<Tile>, OutOfMemory>
+    requires some { 1 ≤ asked.workers }
+    requires few { asked.workers ≤ 64 }
+    requires cut { sum cut.now ≡ world_cells index.now }
+    ensures { IfOk result (λ tiles. Chain (AreTailsOf asked.format asked.brief index.now) 0 cut.now tiles.items) }
+{
+    let survey = survey_of(rt, alloc, index, asked.workers);
+    surveyed_tiles(rt, alloc, &survey, cut, gate, asked)
+}
+
+/// The same, where a survey of that world has been made.
+fn surveyed_tiles<R: Threads + Sync, G: Gate + Sync>(
     rt: &R,
     alloc: Global,
     survey: &Survey<'_>,

@@ -11,7 +11,7 @@ use crate::each::{decision_at, end_of};
 use crate::fault::MatrixFault;
 use crate::workers::is_unlawful;
 use iam_crew::{Bound, Crew, Gate, gather};
-use iam_engine::Engine;
+use iam_engine::{Engine, Index};
 use iam_layers::{Decision, World};
 use iam_row::Position;
 use iam_text::OutOfMemory;
@@ -21,7 +21,7 @@ use std::thread::Threads;
 /// Those who look for the first allowed cell of a world.
 #[derive(Clone, Copy)]
 struct Search<'a> {
-    world: &'a World,
+    index: &'a Index<'a>,
     cut: &'a Cut,
     workers: u32,
 }
@@ -36,16 +36,16 @@ impl<'a> Crew for Search<'a> {
 
     type Tools = Engine<'a>;
 
-    ghost fits = { λ crew engine. engine.world ≡ crew.world.now };
+    ghost fits = { λ crew engine. engine.world ≡ crew.index.now };
 
-    ghost takes = { λ crew tile. IsTileOf crew.world.now crew.cut.now tile };
+    ghost takes = { λ crew tile. IsTileOf crew.index.now crew.cut.now tile };
 
-    ghost offers = { λ crew cell. IsAllowedCell crew.world.now cell };
+    ghost offers = { λ crew cell. IsAllowedCell crew.index.now cell };
 
-    ghost gives = { λ crew tile _ bound. AreNotAllowedBelow crew.world.now (start_of crew.cut.now tile) (slice_index crew.cut.now tile) bound };
+    ghost gives = { λ crew tile _ bound. AreNotAllowedBelow crew.index.now (start_of crew.cut.now tile) (slice_index crew.cut.now tile) bound };
 
     fn tools(&self, alloc: Global) -> Result<Engine<'a>, OutOfMemory> {
-        Engine::new(alloc, self.world, self.workers)
+        Engine::new(alloc, self.index, self.workers)
     }
 
     fn skip(&self, bound: &mut Bound<'_>, tile: u64) -> Option<()> {
@@ -125,11 +125,29 @@ pub fn first<R: Threads + Sync, G: Gate + Sync>(
     if is_unlawful(workers) {
         return Err(MatrixFault::Workers);
     }
+    let index = Index::build(alloc, world)?;
+    Ok(first_of(rt, alloc, &index, cut, workers, gate)?)
+}
+
+/// The least allowed cell of an index's world.
+fn first_of<R: Threads + Sync, G: Gate + Sync>(
+    rt: &R,
+    alloc: Global,
+    index: &Index<'_>,
+    cut: &Cut,
+    workers: u32,
+    gate: &G,
+) -> Result<Option<u64>, OutOfMemory>
+    requires some { 1 ≤ workers }
+    requires few { workers ≤ 64 }
+    requires cut { sum cut.now ≡ world_cells index.now }
+    ensures { IfOk result (IsFirstAllowed index.now) }
+{
     // A world has at most 16,777,216 cells, so each is below the bound that stands for none.
-    let _cells = world.cells();
+    let _cells = index.world().cells();
     let tiles = cut.lengths().len() as u64;
     let crew = Search {
-        world,
+        index,
         cut,
         workers,
     };

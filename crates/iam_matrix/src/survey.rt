@@ -2,8 +2,7 @@
 ghost use Rattle.std.specs.Prelude.{◌≡◌, ◌≤◌};
 
 use iam_crew::{Bound, Crew, Open, gather};
-use iam_engine::{Block, Survey, Surveyor, wants_survey};
-use iam_layers::World;
+use iam_engine::{Block, Index, Survey, Surveyor, wants_survey};
 use iam_text::OutOfMemory;
 use std::alloc::Global;
 use std::thread::Threads;
@@ -14,7 +13,7 @@ const BLOCKS: u64 = 256;
 /// Those who find what the requests of a world's pairs share, in blocks of so many.
 #[derive(Clone, Copy)]
 struct Surveyors<'a> {
-    world: &'a World,
+    index: &'a Index<'a>,
     length: u64,
     workers: u32,
 }
@@ -26,16 +25,16 @@ impl<'a> Crew for Surveyors<'a> {
 
     type Tools = Surveyor<'a>;
 
-    ghost fits = { λ crew surveyor. surveyor ≡ crew.world.now };
+    ghost fits = { λ crew surveyor. surveyor ≡ crew.index.now };
 
     ghost takes = { λ _ _. ⊤ };
 
     ghost offers = { λ _ _. ⊥ };
 
-    ghost gives = { λ crew _ block _. block ≡ crew.world.now };
+    ghost gives = { λ crew _ block _. block ≡ crew.index.now };
 
     fn tools(&self, alloc: Global) -> Result<Surveyor<'a>, OutOfMemory> {
-        Surveyor::new(alloc, self.world, self.workers)
+        Surveyor::new(alloc, self.index, self.workers)
     }
 
     fn skip(&self, _bound: &mut Bound<'_>, _tile: u64) -> Option<Block<'a>> {
@@ -60,24 +59,25 @@ impl<'a> Crew for Surveyors<'a> {
 pub fn survey_of<'a, R: Threads + Sync>(
     rt: &R,
     alloc: Global,
-    world: &'a World,
+    index: &'a Index<'a>,
     workers: u32,
 ) -> Survey<'a>
     requires some { 1 ≤ workers }
     requires few { workers ≤ 64 }
-    ensures { result ≡ world.entry.now }
+    ensures { result ≡ index.entry.now }
 {
+    let world = index.world();
     if !wants_survey(world, workers) {
-        return Survey::of(world, 1, Vec::new(alloc));
+        return Survey::of(index, 1, Vec::new(alloc));
     }
     let pairs = world.principals().saturating_mul(world.resources());
     let crew = Surveyors {
-        world,
+        index,
         length: pairs.div_ceil(BLOCKS),
         workers,
     };
     match gather(rt, alloc, &crew, BLOCKS, workers, &Open) {
-        Ok(gathered) => Survey::of(world, crew.length, gathered.outputs),
-        Err(_) => Survey::of(world, 1, Vec::new(alloc)),
+        Ok(gathered) => Survey::of(index, crew.length, gathered.outputs),
+        Err(_) => Survey::of(index, 1, Vec::new(alloc)),
     }
 }

@@ -52,13 +52,16 @@ pub enum Task {
 }
 
 /// Why a command line gives no options.
-#[derive(Debug, Drop)]
+#[derive(Debug, Drop, thiserror::Error)]
 pub enum Usage {
     /// Help or the version was asked for; this is its text.
+    #[error("{0}")]
     Help(String),
     /// The command line is refused, with this text.
+    #[error("{0}")]
     Refused(String),
     /// The allocator refused a growth.
+    #[error("out of memory")]
     OutOfMemory,
 }
 

@@ -4,8 +4,8 @@ ghost use Rattle.iam_world.specs.World.{world_cells};
 
 use crate::matrix::{HOME, is_decision, is_verdict};
 use crate::streams::many;
-use iam_engine::{Engine, Survey, Surveyor, wants_survey};
-use iam_layers::{Decision, Verdict, World};
+use iam_engine::{Engine, Index, Survey, Surveyor, wants_survey};
+use iam_layers::{Decision, Layer, Place, Verdict, World};
 use std::alloc::Global;
 use std::test::Fail;
 
@@ -25,7 +25,8 @@ fn answers(alloc: Global, engine: &mut Engine<'_>, cell: u64) -> Result<bool, Fa
 /// Whether one engine, of so many, answers each of these cells.
 fn answers_all(alloc: Global, engines: u32, cells: &[u64]) -> Result<bool, Fail> {
     let world = World::read(alloc, HOME.as_bytes())?;
-    let mut engine = Engine::new(alloc, &world, engines)?;
+    let index = Index::build(alloc, &world)?;
+    let mut engine = Engine::new(alloc, &index, engines)?;
     for &cell in cells {
         if !answers(alloc, &mut engine, cell)? {
             return Ok(false);
@@ -77,7 +78,8 @@ fn decide_brief_again(alloc: Global, engine: &mut Engine<'_>, cell: u64) -> Resu
 fn cells_asked_again(rt: HostRuntime) -> Result<(), Fail> {
     let alloc = rt.alloc();
     let world = World::read(alloc, HOME.as_bytes())?;
-    let mut engine = Engine::new(alloc, &world, 1)?;
+    let index = Index::build(alloc, &world)?;
+    let mut engine = Engine::new(alloc, &index, 1)?;
     for cell in 0..world.cells() {
         assert!(rt; cell < engine.world().cells());
         let decision = decide_brief_again(alloc, &mut engine, cell)?;
@@ -89,14 +91,14 @@ fn cells_asked_again(rt: HostRuntime) -> Result<(), Fail> {
 }
 
 /// A survey of the six pairs of a world.
-fn survey_of<'a>(alloc: Global, world: &'a World) -> Result<Survey<'a>, Fail>
-    ensures { IfOk result (λ survey. survey ≡ world.entry.now) }
+fn survey_of<'a>(alloc: Global, index: &'a Index<'a>) -> Result<Survey<'a>, Fail>
+    ensures { IfOk result (λ survey. survey ≡ index.entry.now) }
 {
-    let mut surveyor = Surveyor::new(alloc, world, 1)?;
+    let mut surveyor = Surveyor::new(alloc, index, 1)?;
     let block = surveyor.block(alloc, 0, 6)?;
     let mut blocks = Vec::new(alloc);
     blocks.push(block)?;
-    Ok(Survey::of(world, 6, blocks))
+    Ok(Survey::of(index, 6, blocks))
 }
 
 /// Whether an engine that begins with the survey answers all twelve cells.
@@ -114,7 +116,8 @@ fn answers_by(alloc: Global, survey: &Survey<'_>) -> Result<bool, Fail> {
 fn a_survey_finds_each_pair_and_an_engine_begins_with_it(rt: HostRuntime) -> Result<(), Fail> {
     let alloc = rt.alloc();
     let world = World::read(alloc, HOME.as_bytes())?;
-    let survey = survey_of(alloc, &world)?;
+    let index = Index::build(alloc, &world)?;
+    let survey = survey_of(alloc, &index)?;
     for pair in 0..8 {
         assert!(rt; pair % 2 < world.resources());
         assert!(rt; survey.shared(pair / 2, pair % 2).is_some() == (pair < 6));
@@ -131,6 +134,35 @@ fn a_survey_is_wanted_where_a_worker_would_be_waited_for(rt: HostRuntime) -> Res
         let (document, _report) = many(alloc, resources)?;
         let world = World::read(alloc, document.as_bytes())?;
         assert_eq!(rt; wants_survey(&world, workers), wanted);
+    }
+    Ok(())
+}
+
+/// One document of five statements for one action.
+const FIVE: &str =
+    r#"{"moment":0,"accounts":[{"id":"111122223333"}],"principals":[{"user":"arn:aws:iam::111122223333:user/ann",
+"identity":[{"Version":"2012-10-17","Statement":[
+{"Effect":"Allow","Action":["S3:Get*","s3:getobject"],"Resource":"*"},{"Effect":"Allow","Action":"s*:GetObject","Resource":"*"},
+{"Effect":"Allow","Action":"*","Resource":"*"},{"Effect":"Allow","NotAction":"iam:*","Resource":"*"},
+{"Effect":"Allow","Action":"ec2:*","Resource":"*"}]}]}],
+"actions":["S3:getobject"],"resources":[{"arn":"arn:aws:s3:::b/k","account":"111122223333"}]}"#;
+
+#[test]
+fn candidates_are_the_statements_that_act(rt: HostRuntime) -> Result<(), Fail> {
+    let alloc = rt.alloc();
+    let world = World::read(alloc, FIVE.as_bytes())?;
+    let index = Index::build(alloc, &world)?;
+    assert!(rt; 0 < world.cells());
+    let candidates = index.candidates(alloc, 0)?;
+    assert_eq!(rt; candidates.len(), 4);
+    for (statement, candidate) in candidates.iter().enumerate() {
+        let place = Place {
+            layer: Layer::Identity,
+            level: 0,
+            policy: 0,
+            statement: statement as u32,
+        };
+        assert!(rt; *candidate == place);
     }
     Ok(())
 }

@@ -1,5 +1,5 @@
 // Runs that are pushed, stolen and marked, in one thread.
-use iam_work::{Run, Stolen, Work, WorkFault};
+use iam_lanes::{LaneFault, Run, Stolen, Work};
 use std::test::Fail;
 
 #[test]
@@ -32,13 +32,13 @@ fn two_seats_push_pop_steal_and_mark_in_turn(rt: HostRuntime) -> Result<(), Fail
 
 #[test]
 fn work_is_refused_past_the_limits_alone(rt: HostRuntime) {
-    let refused: [(u64, u32, WorkFault); 6] = [
-        (6, 0, WorkFault::NoSeat),
-        (4097, 0, WorkFault::NoSeat),
-        (4097, 1, WorkFault::TooMany),
-        (18_446_744_073_709_551_615, 1, WorkFault::TooMany),
-        (6, 65, WorkFault::TooMany),
-        (0, 65, WorkFault::TooMany),
+    let refused: [(u64, u32, LaneFault); 6] = [
+        (6, 0, LaneFault::NoSeat),
+        (4097, 0, LaneFault::NoSeat),
+        (4097, 1, LaneFault::TooMany),
+        (18_446_744_073_709_551_615, 1, LaneFault::TooMany),
+        (6, 65, LaneFault::TooMany),
+        (0, 65, LaneFault::TooMany),
     ];
     for (grains, seats, fault) in refused {
         let opened = Work::open(rt.alloc(), grains, seats);

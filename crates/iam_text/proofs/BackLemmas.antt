@@ -15,7 +15,7 @@ none_longer f [] d w = w
 none_longer f (e ∷ text) d w = w
 
 -- a sign that stands for one character does not stand for the empty text
-last_none : (f : ℕ → ℕ) (signs : List Sign) (sign : Sign) → sign ≢ Any → ¬ Walks f (signs ++ (sign ∷ [])) []
+pub last_none : (f : ℕ → ℕ) (signs : List Sign) (sign : Sign) → sign ≢ Any → ¬ Walks f (signs ++ (sign ∷ [])) []
 last_none f [] (Given c) one w = w
 last_none f [] One one w = w
 last_none f [] Any one w = one refl
@@ -54,7 +54,7 @@ later_shorter P Q C d none go (c ∷ text) (inl h) = let both = go (c ∷ text) 
 later_shorter P Q C d none go (c ∷ text) (inr h) = let both = later_shorter P Q C d none go text h in (both.0, inr both.1)
 
 -- the last sign stands for the last character
-walks_longer : (f : ℕ → ℕ) (signs : List Sign) (sign : Sign) (text : List ℕ) (d : ℕ) → Covers f sign d → Walks f signs text
+pub walks_longer : (f : ℕ → ℕ) (signs : List Sign) (sign : Sign) (text : List ℕ) (d : ℕ) → Covers f sign d → Walks f signs text
     → Walks f (signs ++ (sign ∷ [])) (text ++ (d ∷ []))
 walks_longer f [] sign [] d covers w = covers_last f sign d covers
 walks_longer f [] sign (e ∷ text) d covers w = absurd w
@@ -65,7 +65,7 @@ walks_longer f (One ∷ signs) sign (e ∷ text) d covers w = walks_longer f sig
 walks_longer f (Any ∷ signs) sign text d covers w =
     later_longer (Walks f signs) (Walks f (signs ++ (sign ∷ []))) d (λ t h. walks_longer f signs sign t d covers h) text w
 
-walks_shorter : (f : ℕ → ℕ) (signs : List Sign) (sign : Sign) (text : List ℕ) (d : ℕ) → sign ≢ Any
+pub walks_shorter : (f : ℕ → ℕ) (signs : List Sign) (sign : Sign) (text : List ℕ) (d : ℕ) → sign ≢ Any
     → Walks f (signs ++ (sign ∷ [])) (text ++ (d ∷ [])) → Covers f sign d × Walks f signs text
 walks_shorter f [] sign [] d one w = (last_covers f sign d one w, tt)
 walks_shorter f [] sign (e ∷ text) d one w = absurd (last_longer f sign e text d one w)
@@ -95,7 +95,7 @@ back_step f P signs before sign text rest one split came same =
     (λ p. (walks_shorter f before sign rest came.0 one (both.0 p)).1, λ w. both.1 (walks_longer f before sign rest came.0 came.1 w))
 
 -- a text is empty, or has a last character
-last_or_none : (text : List ℕ) → (text ≡ []) ⊎ ((rest : List ℕ) × (d : ℕ) × (text ≡ rest ++ (d ∷ [])))
+pub last_or_none : (text : List ℕ) → (text ≡ []) ⊎ ((rest : List ℕ) × (d : ℕ) × (text ≡ rest ++ (d ∷ [])))
 last_or_none [] = inl refl
 last_or_none (c ∷ text) = more c text (last_or_none text)
   where

@@ -1,6 +1,7 @@
 pub mod ArnLemmas
 pub mod AsciiLemmas
 pub mod BackLemmas
+pub mod CompiledLemmas
 pub mod DraftLemmas
 pub mod FormLemmas
 pub mod GivenLemmas

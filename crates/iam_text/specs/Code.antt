@@ -1,3 +1,4 @@
+pub mod Compiled
 pub mod Cut
 pub mod Forms
 pub mod Globs

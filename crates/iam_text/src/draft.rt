@@ -9,6 +9,8 @@ ghost use Rattle.iam_text.specs.Variables.{is_draft, is_draft_from, is_draft_in,
 
 use crate::OutOfMemory;
 use crate::form::{cut_form, form_behind};
+use crate::items::Items;
+use crate::pieces::pieces_of;
 use crate::sign::Sign;
 use crate::stretches::Stretches;
 use crate::text::Text;
@@ -16,7 +18,7 @@ use crate::version::Version;
 use std::alloc::Global;
 use std::marker::Model;
 
-/// A piece of a text that may hold variables, as contracts speak of it: the code keeps the text.
+/// A piece of a text that may hold variables. Contracts see a text as its pieces; a [`Draft`] keeps the text.
 #[derive(Debug, Drop)]
 pub enum Piece {
     /// A character of the text, read as a sign of a pattern.
@@ -88,6 +90,15 @@ impl Draft {
             wild,
             version: Version::V2008,
         })
+    }
+
+    /// The pieces, in order. They are made anew at each call, since a draft keeps its text alone: pieces take many times
+    /// the memory of their text.
+    pub fn pieces(&self, alloc: Global) -> Result<Items<Piece>, OutOfMemory>
+        ensures { IfOk result (λ pieces. pieces ≡ self.now) }
+    {
+        let pieces = pieces_of(alloc, self.stretches())?;
+        Ok(Items::from_vec(pieces))
     }
 
     /// The text, to be walked from its front.

@@ -1,6 +1,6 @@
 // The signs of a pattern, as they are lent.
-ghost use Rattle.std.specs.Prelude.{◌≡◌, ◌<◌, ◌≤◌, ◌↔◌, ◌==◌, IsTrue, drop, length, map, slice_index_or, take};
-ghost use Rattle.std.specs.Str.{chars};
+ghost use Rattle.std.specs.Prelude.{◌≡◌, ◌<◌, ◌≤◌, ◌↔◌, ◌==◌, IfSome, IsTrue, drop, length, map, slice_index_or, take};
+ghost use Rattle.std.specs.Str.{chars, IsAscii};
 ghost use Rattle.iam_text.specs.Draft.{sign_of};
 ghost use Rattle.iam_text.specs.Glob.{Matches};
 ghost use Rattle.iam_text.specs.Signs.{signs_in};
@@ -50,6 +50,17 @@ impl<'a> Signs<'a> {
     {
         Signs {
             kind: Lent::Listed(signs),
+        }
+    }
+
+    /// The ASCII text whose signs these are, and whether `*` and `?` are wildcards there; `None` says nothing.
+    pub(crate) fn ascii(self) -> Option<(&'a [u8], bool)>
+        ensures { IfSome result (λ p. IsAscii p.0.now × (signs_in self.entry ≡ map (sign_of p.1) p.0.now)) }
+    {
+        match self.kind {
+            Lent::Wild(text) if text.is_ascii() => Some((text, true)),
+            Lent::Plain(text) if text.is_ascii() => Some((text, false)),
+            _ => None,
         }
     }
 

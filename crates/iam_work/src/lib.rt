@@ -17,7 +17,7 @@ mod stolen;
 mod view;
 mod work;
 
-pub use fault::WorkFault;
+pub use fault::LaneFault;
 pub use run::Run;
 pub use seat::WorkSeat;
 pub use stolen::Stolen;

@@ -7,14 +7,14 @@ ghost use Rattle.iam_work.specs.Code.Words.{opened};
 ghost use Rattle.iam_work.specs.Code.Fields.{pass_deque, IsUnused, IsNew, IsLaid};
 
 use crate::deque::{Clears, Owner, RunPass, Shares, Tells, Thief};
-use crate::fault::WorkFault;
+use crate::fault::LaneFault;
 use crate::marks::{MarkPass, MarkTable, Plan, Seats};
 use crate::run::Run;
 use crate::seat::WorkSeat;
 use std::alloc::{AllocError, Global};
 
-// The slots of a new deque. A worker that halves a run of 4,096 grains pushes 12 runs.
-const FIRST_SLOTS: usize = 16;
+// The slots of a new deque. It grows where a worker halves a run of many grains: of 4,096 grains it pushes 12 runs.
+const FIRST_SLOTS: usize = 4;
 
 // An empty deque for runs of so many grains. A rule is not told a number, so the deque learns it from a first run.
 fn open_deque(alloc: Global, grains: u64) -> Result<Owner, AllocError>
@@ -38,10 +38,10 @@ fn open_deque(alloc: Global, grains: u64) -> Result<Owner, AllocError>
 }
 
 // A deque for each seat.
-pub fn open_deques(alloc: Global, plan: &Plan) -> Result<Vec<Owner>, WorkFault>
+pub fn open_deques(alloc: Global, plan: &Plan) -> Result<Vec<Owner>, LaneFault>
     ensures count { IfOk result (λ v. vec_len v ≡ plan.now.seats) }
     ensures unused { IfOk result (λ v. All (IsUnused plan.now.grains) v.items) }
-    ensures memory { IfErr result (λ fault. fault ≡ WorkFault.OutOfMemory) }
+    ensures memory { IfErr result (λ fault. fault ≡ LaneFault.OutOfMemory) }
 {
     let mut owners = Vec::new(alloc);
     for _seat in 0..plan.seats {
@@ -51,9 +51,9 @@ pub fn open_deques(alloc: Global, plan: &Plan) -> Result<Vec<Owner>, WorkFault>
 }
 
 // A thief of each deque.
-pub fn thieves_of(alloc: Global, owners: &[Owner]) -> Result<Vec<Thief>, WorkFault>
+pub fn thieves_of(alloc: Global, owners: &[Owner]) -> Result<Vec<Thief>, LaneFault>
     ensures deques { IfOk result (λ v. map stealer_deque v.items ≡ map worker_deque owners.now) }
-    ensures memory { IfErr result (λ fault. fault ≡ WorkFault.OutOfMemory) }
+    ensures memory { IfErr result (λ fault. fault ≡ LaneFault.OutOfMemory) }
 {
     let mut thieves = Vec::new(alloc);
     for owner in owners {
@@ -63,13 +63,13 @@ pub fn thieves_of(alloc: Global, owners: &[Owner]) -> Result<Vec<Thief>, WorkFau
 }
 
 // A new pass of each deque.
-fn passes_of(alloc: Global, owners: &mut [Owner], grains: u64) -> Result<Vec<RunPass>, WorkFault>
+fn passes_of(alloc: Global, owners: &mut [Owner], grains: u64) -> Result<Vec<RunPass>, LaneFault>
     requires unused { All (IsUnused grains) owners.old }
     ensures unused { All (IsUnused grains) owners.new }
     ensures deques { map worker_deque owners.new ≡ map worker_deque owners.old }
     ensures passes { IfOk result (λ v. map pass_deque v.items ≡ map worker_deque owners.old) }
     ensures fresh { IfOk result (λ v. All (IsNew grains) v.items) }
-    ensures memory { IfErr result (λ fault. fault ≡ WorkFault.OutOfMemory) }
+    ensures memory { IfErr result (λ fault. fault ≡ LaneFault.OutOfMemory) }
 {
     let mut passes = Vec::new(alloc);
     for k in 0..owners.len() {
@@ -86,7 +86,7 @@ pub fn hand_out(
     plan: &Plan,
     mut pass: MarkPass,
     mut owners: Vec<Owner>,
-) -> Result<Vec<WorkSeat>, WorkFault>
+) -> Result<Vec<WorkSeat>, LaneFault>
     requires key { table.now.shared.key ≡ plan.now }
     requires laid { IsLaid table.now.shared.table_id plan.now.grains plan.now.seats }
     requires table { pass.table_id ≡ table.now.shared.table_id }
@@ -94,7 +94,7 @@ pub fn hand_out(
     requires count { vec_len owners ≡ plan.now.seats }
     requires unused { All (IsUnused plan.now.grains) owners.items }
     ensures seats { IfOk result (λ v. v.items ≡ map (fresh (work_id table.now.shared.table_id (map worker_deque owners.items) plan.now.grains plan.now.seats)) (range_with_len 0 plan.now.seats)) }
-    ensures memory { IfErr result (λ fault. fault ≡ WorkFault.OutOfMemory) }
+    ensures memory { IfErr result (λ fault. fault ≡ LaneFault.OutOfMemory) }
 {
     let mut bundles = Vec::new(alloc);
     for _seat in 0..plan.seats {

@@ -9,7 +9,7 @@ ghost use Rattle.iam_work.specs.Code.Thefts.{stolen_of};
 
 use crate::close::{count_marked, gather};
 use crate::deque::{Pushes, Takes, Thief};
-use crate::fault::WorkFault;
+use crate::fault::LaneFault;
 use crate::marks::{Mark, MarkTable, Plan};
 use crate::opening::{hand_out, open_deques, thieves_of};
 use crate::run::Run;
@@ -82,17 +82,17 @@ impl Work {
     ///
     /// There may be no grain. The answer is `NoSeat` where no seat is asked for, else `TooMany` where there are more
     /// than 64 seats or more than 4,096 grains, and `OutOfMemory` only where memory was refused.
-    pub fn open(alloc: Global, grains: u64, seats: u32) -> Result<(Work, Vec<WorkSeat>), WorkFault>
-        ensures no_seat { (result ≡ Err WorkFault.NoSeat) ↔ (seats ≡ 0) }
-        ensures too_many { (result ≡ Err WorkFault.TooMany) ↔ ((0 < seats) × IsTooMany grains seats) }
+    pub fn open(alloc: Global, grains: u64, seats: u32) -> Result<(Work, Vec<WorkSeat>), LaneFault>
+        ensures no_seat { (result ≡ Err LaneFault.NoSeat) ↔ (seats ≡ 0) }
+        ensures too_many { (result ≡ Err LaneFault.TooMany) ↔ ((0 < seats) × IsTooMany grains seats) }
         ensures work { IfOk result (λ r. (r.0.grains ≡ grains) × (r.0.seats ≡ seats)) }
         ensures seats { IfOk result (λ r. r.1.items ≡ map (fresh r.0) (range_with_len 0 seats)) }
     {
         if seats == 0 {
-            return Err(WorkFault::NoSeat);
+            return Err(LaneFault::NoSeat);
         }
         if is_too_many(grains, seats) {
-            return Err(WorkFault::TooMany);
+            return Err(LaneFault::TooMany);
         }
         let plan = Plan {
             grains,

@@ -1,7 +1,7 @@
 -- Runs of tiles: how they are dealt out, found and halved, and what a turn leaves of one.
 use Rattle.std.specs.Prelude.{◌≡◌, ℕ, ◌+◌, ◌*◌, ◌/◌, ◌%◌, ◌<◌, ◌≤◌, min, ◌⊎◌, Bool, true, false, if◌then◌else◌, [], ◌∷◌, ◌++◌, length}
-use Rattle.iam_work.specs.declared.run.Run.{Run}
-use Rattle.iam_work.specs.Work.{SeatView, gains_mark, finds_mark, gains_pushed, gains_popped, gains_stolen}
+use Rattle.iam_lanes.specs.Run.{Run}
+use Rattle.iam_lanes.specs.Work.{SeatView, gains_mark, finds_mark, gains_pushed, gains_popped, gains_stolen}
 use Rattle.iam_crew.specs.declared.worker.Worker.{Worker}
 use Rattle.iam_crew.specs.Code.Order.{made_of}
 use Rattle.iam_crew.specs.Code.Shares.{start_of}
@@ -16,10 +16,11 @@ pub record IsShare (tiles workers worker : ℕ) (run : Run) : Type 0 where
   pub least : tiles / workers ≤ run.count
   pub most : run.count ≤ tiles / workers + 1
 
--- a seat that pushed the share of its worker, once, and a seat that pushed nothing
-abbrev pub IsDealt : ℕ → ℕ → SeatView → SeatView → Type 0
-IsDealt tiles workers before after =
-    ((run : Run) × IsShare tiles workers before.number run × (after ≡ gains_pushed run before)) ⊎ (after ≡ before)
+-- a seat that has the share of its worker, and nothing else: on its deque, or, where the push was refused or it is empty, in hand
+abbrev pub IsDealt : ℕ → ℕ → SeatView → Run → Type 0
+IsDealt tiles workers seat in_hand =
+    (run : Run) × IsShare tiles workers seat.number run
+    × (((seat.pushed ≡ run ∷ []) × (in_hand.count ≡ 0)) ⊎ ((seat.pushed ≡ []) × (in_hand ≡ run)))
 
 -- a run that a seat took so many seats behind: with no step off its own deque
 pub record IsFound (seats steps : ℕ) (before : SeatView) (run : Run) (after : SeatView) : Type 0 where
@@ -47,6 +48,15 @@ IsHalved halved before run halves after kept =
 abbrev pub shown_by : SeatView → ℕ
 shown_by seat = length seat.marked + length seat.found + length seat.pushed
 
+-- the turns of a worker with a run in hand: those that its seat shows, and the one whose push was refused
+abbrev pub turns_of : SeatView → Bool → ℕ
+turns_of seat halves = shown_by seat + (if halves then 0 else 1)
+
+-- what is left to a worker that stopped: it had a run in hand in more than `2 * tiles` turns, or found none in 65,536 turns of the
+-- 1,048,576 that were left to it
+abbrev pub HasStopped : ℕ → SeatView → Bool → ℕ → Type 0
+HasStopped tiles seat halves idle = (2 * tiles < turns_of seat halves) ⊎ (idle + 65_536 ≤ 1_048_576)
+
 module _ {T O : Type 0} where
   -- a tile that now stands marked: the worker marked it and made its output, or found it marked and made nothing
   abbrev pub IsMarked : ℕ → Worker T O → Worker T O → Type 0
@@ -64,11 +74,7 @@ module _ {T O : Type 0} where
       (IsHalved before.halves before.seat run after.halves after.seat left × (before.halves ≡ true) × (after.made.items ≡ before.made.items) × (after.idle ≡ before.idle))
       ⊎ (IsMarked run.first before after × IsAsReady before after × (left.first ≡ run.first + 1) × (left.count + 1 ≡ run.count))
 
-  -- the turns of a worker with a run in hand: those that its seat shows, and the one whose push was refused
-  abbrev pub turns_of : Worker T O → ℕ
-  turns_of worker = shown_by worker.seat + (if worker.halves then 0 else 1)
-
   -- a worker that may stop: it had a run in hand in `2 * tiles + 1` turns, or found none in 65,536 turns or in all that were left to it
   abbrev pub IsOver : ℕ → Worker T O → Worker T O → Type 0
   IsOver tiles before after =
-      (turns_of after ≡ turns_of before + (2 * tiles + 1)) ⊎ ((after.idle + 65_536 ≤ before.idle) ⊎ (after.idle ≡ 0))
+      (turns_of after.seat after.halves ≡ turns_of before.seat before.halves + (2 * tiles + 1)) ⊎ ((after.idle + 65_536 ≤ before.idle) ⊎ (after.idle ≡ 0))

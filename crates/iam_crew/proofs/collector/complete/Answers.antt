@@ -1,4 +1,4 @@
-use Rattle.std.proofs.Common.{◌≡◌, ℕ, ◌+◌, ◌⊎◌, Some, List, [], ◌∷◌, ◌++◌, length, sym, ap, ◌∙◌, subst, arith}
+use Rattle.std.proofs.Common.{◌≡◌, ℕ, ◌+◌, ◌⊎◌, Option, Some, IfSome, List, [], ◌∷◌, ◌++◌, length, sym, ap, ◌∙◌, subst, arith}
 use Rattle.std.proofs.lemmas.List.{length_push}
 use Rattle.iam_crew.specs.Code.Order.{IsCompleted}
 use Rattle.iam_crew.proofs.Slots.{completed_more}
@@ -21,7 +21,7 @@ loop-slot-preserved g c =
       each = subst (λ (os : List g.row.C-Output.Denot). IsCompleted gives lower (c.loop-slot.yielded ++ slot ∷ []) os) (sym items)
           (completed_more gives c.loop-slot.bound.floor lower c.loop-slot.yielded outputs slot output
           (λ tile o h. g.met.C.Crew.lasts c.args.crew.now tile o c.loop-slot.bound.floor lower made.lower.1 h)
-          so_far.count given so_far.each);
+          so_far.count given (λ own same. subst (λ (s : Option g.row.C-Output.Denot). IfSome s (λ o. output ≡ o)) same made.kept) so_far.each);
       fits = made.fits;
       offered = made.offered;
       lower = (made.lower.0 ∙ so_far.lower.0, let l = made.lower.1 in let k = so_far.lower.1 in omega arith);

@@ -9,3 +9,9 @@ loop-one-init g c = record {
   count = ap length c.in_ok-slots.ensures ∙ length-replicate c.args.tiles None;
   placed = subst (λ (slots : List (Option g.row.O.Denot)). IsPlaced slots _) (sym c.in_ok-slots.ensures) (placed_none c.args.tiles);
 }
+
+pub loop-one-preserved : goal.loop-one-preserved
+loop-one-preserved g c = record {
+  count = c.put.ensures.count ∙ c.loop-one.invariant.count;
+  placed = c.put.ensures.placed c.loop-one.yielded c.loop-one.invariant.placed;
+}

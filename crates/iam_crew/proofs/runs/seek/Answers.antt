@@ -1,6 +1,6 @@
 use Rattle.std.proofs.Common.{◌≡◌, ℕ, ◌+◌, ◌-◌, ◌%◌, ◌∙◌, IfSome, ap, sym, subst, arith, rules}
 use Rattle.std.proofs.Math.Nat.{mod-add-mod}
-use Rattle.iam_work.specs.Work.{SeatView}
+use Rattle.iam_lanes.specs.Work.{SeatView}
 use Rattle.iam_crew.specs.Code.Runs.{IsFound}
 use Rattle.iam_crew.proofs.runs.seek.Goals as goal
 

@@ -7,6 +7,6 @@ abbrev pub invariant-loop-turn : goal.invariant-loop-turn
 invariant-loop-turn g l = record {
   worker : IsAtWork l.work l.initial.worker.bound.of (g.C.Crew.fits l.crew) (g.C.Crew.offers l.crew) (g.C.Crew.gives l.crew) l.worker;
   inside : l.run.first + l.run.count ≤ l.work.grains;
-  turns : turns_of l.worker ≡ turns_of l.initial.worker + l._turn;
+  turns : turns_of l.worker.seat l.worker.halves ≡ turns_of l.initial.worker.seat l.initial.worker.halves + l._turn;
   idle : l.worker.idle ≤ l.initial.worker.idle;
 }

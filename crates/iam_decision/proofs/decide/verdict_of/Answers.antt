@@ -1,30 +1,6 @@
-use Rattle.std.proofs.Common.{List, sym, subst}
-use Rattle.iam_policy.specs.declared.effect.Effect.{Effect}
-use Rattle.iam_decision.specs.Applicable.{frame_of}
-use Rattle.iam_decision.specs.Code.Found.{ArePlaces}
-use Rattle.iam_decision.specs.Decision.{AreDeciding, AreLacking, Allows, Denies, Grants, IsDecided}
-use Rattle.iam_decision.specs.declared.frame.Frame.{Frame}
-use Rattle.iam_decision.specs.declared.place.Layer.{Layer}
-use Rattle.iam_decision.specs.declared.place.Place.{Place}
-use Rattle.iam_decision.proofs.VerdictLemmas.{decided_same, lacking_same, deciding_same}
+use Rattle.iam_decision.specs.Matched.{placed}
+use Rattle.iam_decision.proofs.EarlyLemmas.{found_suffices}
 use Rattle.iam_decision.proofs.decide.verdict_of.Goals as goal
 
 pub returns : goal.returns
-returns c = λ a q framed scanned.
-    let f = c.args.frame in
-    let found = c.args.found.now in
-    let d = c.decision_of-decision.result in
-    let E : Effect → Type 0 = λ effect. ArePlaces effect found c.in_ok-statements.statements.items in
-    let S : List Place → Type 0 = λ places. AreDeciding a q d places in
-    let D : Frame → Type 0 = λ frame. IsDecided (Denies a q) (Allows a q) (Grants a q) frame d in
-    let F : Frame → Type 0 = λ frame. AreLacking (Allows a q) (Grants a q) frame d c.in_ok-lacks.lacks.items in
-    let L : List Layer → Type 0 = λ lacks. AreLacking (Allows a q) (Grants a q) (frame_of a) d lacks in
-    record {
-      decided = subst D framed (decided_same a q f found scanned d c.decision_of-decision.ensures);
-      deciding =
-          subst S (sym c.from_vec.ensures)
-          (deciding_same a q f found scanned d c.in_ok-statements.statements.items (subst E c.deciding_effect.ensures c.in_ok-statements.ensures));
-      lacking =
-          subst L (sym c.from_vec-2.ensures)
-          (subst F framed (lacking_same a q f found scanned d c.in_ok-lacks.lacks.items c.in_ok-lacks.ensures));
-    }
+returns c = λ a q framed are. c.early_verdict.ensures a q framed (found_suffices q (placed a) c.args.found.now are)

@@ -6,7 +6,7 @@ use Rattle.iam_engine.proofs.engine.number_of.Goals as goal
 
 pub returns-in-Some-clause-number : goal.returns-in-Some-clause-number
 returns-in-Some-clause-number c = λ class at.
-    let world = c.args.world.now in
+    let world = c.args.index.now in
     let memo = c.args.memo.now in
     let (other, there, is) = c.in-Some.ensures world c.requires.right in
     let N : Class → Type 0 = λ k. IsNumber world k.shared memo.rulings.items c.args.a c.in-Some.number in

@@ -2,6 +2,7 @@ use Rattle.std.proofs.Common.{ℕ, List, ◌≡◌, ◌∷◌, [], ◌++◌, All
 use Rattle.std.proofs.lemmas.List.Elements.{All-push, All-same, All-take}
 use Rattle.iam_engine.specs.Keys.{AreKeys}
 use Rattle.iam_engine.proofs.keys.put.Goals as goal
+use Rattle.iam_engine.proofs.keys.put.Goals.{in-Ok, in-Err}
 
 -- those that stay have the property
 stay : {X : Type 0} (P : X → Type 0) (n : ℕ) (old rest : List X) → rest ≡ take n old → All P old → All P rest
@@ -12,11 +13,7 @@ returns c = λ world kept keys.
     let P = AreKeys world in
     let rest = c.truncate.new.self.items in
     let there = stay P c.staying.result c.args.kept.now.items rest c.truncate.ensures.items kept in
-    All-same P c.push.new.self.items (rest ++ c.args.keys ∷ []) c.in_ok-push.ensures.items (All-push P rest c.args.keys there keys)
-
-pub returns-in_err-push : goal.returns-in_err-push
-returns-in_err-push c = λ world kept keys.
-    let P = AreKeys world in
-    let rest = c.truncate.new.self.items in
-    let there = stay P c.staying.result c.args.kept.now.items rest c.truncate.ensures.items kept in
-    All-same P c.push.new.self.items rest c.in_err-push.ensures.items there
+    elim c.match-push.branch [
+      | in-Ok w ↦ All-same P c.push.new.self.items (rest ++ c.args.keys ∷ []) w.in-Ok.ensures.items (All-push P rest c.args.keys there keys)
+      | in-Err w ↦ All-same P c.push.new.self.items rest w.in-Err.ensures.items there
+    ]

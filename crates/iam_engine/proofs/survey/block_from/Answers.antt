@@ -11,7 +11,7 @@ use Rattle.iam_engine.proofs.survey.block_from.Goals.{else-loop-pair-test, then-
 
 pub loop-pair-preserved : goal.loop-pair-preserved
 loop-pair-preserved c =
-    let world = c.args.world.now in
+    let world = c.args.index.now in
     let from = c.args.from in
     let numbers = c.loop-pair.numbers.items in
     let classes = c.loop-pair.classes.items in
@@ -34,7 +34,7 @@ loop-pair-preserved c =
 
 pub returns-clause-keys : goal.returns-clause-keys
 returns-clause-keys c =
-    let P : List Keys → Type 0 = All (AreKeys c.args.world.now) in
+    let P : List Keys → Type 0 = All (AreKeys c.args.index.now) in
     elim c.loop-pair-test.branch [
       | else-loop-pair-test w ↦ subst P (sym (ap (λ v. v.items) w.keys-is)) c.loop-pair.invariant.keys
       | then-loop-pair-test+then-room-eq0 w ↦ subst P (sym (ap (λ v. v.items) w.keys-is)) c.loop-pair.invariant.keys

@@ -6,7 +6,7 @@ use Rattle.iam_engine.proofs.survey.block_from.Given as goal
 -- the pairs so far
 abbrev pub invariant-loop-pair : goal.invariant-loop-pair
 invariant-loop-pair l = record {
-  keys : All (AreKeys l.world) l.keys.items;
+  keys : All (AreKeys l.index) l.keys.items;
   count : l.from + length l.numbers.items ≡ l.pair;
-  are : AreClassesOf l.world l.from l.classes.items l.numbers.items;
+  are : AreClassesOf l.index l.from l.classes.items l.numbers.items;
 }

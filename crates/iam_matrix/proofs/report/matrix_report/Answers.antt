@@ -14,7 +14,7 @@ of-requires-2 g c =
     let lengths = c.args.cut.now in
     let tiles = c.in_ok-tiles.tiles.items in
     let W : WorldValue → Type 0 = λ w. Chain (λ from n (output : List Tail). AreTailsOf c.args.format c.args.brief w from n output) 0 lengths tiles in
-    let chained = subst W c.survey_of-survey.ensures c.in_ok-tiles.ensures in
+    let chained = subst W c.in_ok-index.ensures c.in_ok-tiles.ensures in
     omega (arith, count_tails c.args.format c.args.brief c.args.world.now lengths tiles chained, c.requires, c.cells-cells.ensures.value, c.cells-cells.ensures.few)
 
 pub returns-clause-ok : goal.returns-clause-ok
@@ -25,7 +25,7 @@ returns-clause-ok g c =
     let quoted = c.in_ok-quoted.quoted in
     let tiles = c.in_ok-tiles.tiles.items in
     let W : WorldValue → Type 0 = λ w. Chain (λ from n (output : List Tail). AreTailsOf c.args.format brief w from n output) 0 lengths tiles in
-    let chained = subst W c.survey_of-survey.ensures c.in_ok-tiles.ensures in
+    let chained = subst W c.in_ok-index.ensures c.in_ok-tiles.ensures in
     let same = c.in_ok-quoted.ensures.format in
     let F : Format → Type 0 = λ f. Chain (λ from n (output : List Tail). AreTailsOf f brief world from n output) 0 lengths tiles in
     let whole = report brief world quoted lengths tiles (c.full_texts.ensures world) (c.brief_texts.ensures world) c.in_ok-quoted.ensures.texts c.requires (subst F (sym same) chained) in

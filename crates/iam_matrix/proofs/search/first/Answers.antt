@@ -1,18 +1,8 @@
-use Rattle.std.proofs.Common.{ℕ, ◌≤◌, List, length, subst, ap, ◌∙◌}
-use Rattle.iam_crew.specs.Bound.{bound_of}
-use Rattle.iam_matrix.specs.Code.Tiles.{AreNotAllowedBelow}
-use Rattle.iam_matrix.proofs.Offers.{first_allowed}
-use Rattle.iam_matrix.proofs.Tiles.{chain_all}
+use Rattle.std.proofs.Common.{Option, ℕ, subst}
+use Rattle.iam_world.specs.World.{WorldValue}
+use Rattle.iam_matrix.specs.Matrix.{IsFirstAllowed}
 use Rattle.iam_matrix.proofs.search.first.Goals as goal
 
 pub returns-clause-ok : goal.returns-clause-ok
 returns-clause-ok g c =
-    let world = c.args.world.now in
-    let lengths = c.args.cut.now in
-    let gathered = c.in_ok-gathered.ensures in
-    let low = c.in_ok-gathered.gathered.low in
-    let outputs = c.in_ok-gathered.gathered.outputs.items in
-    let chained = chain_all (λ from n output. AreNotAllowedBelow world from n (bound_of low)) lengths outputs
-    (gathered.count ∙ ap (λ (ls : List ℕ). length ls) c.lengths.ensures.value) gathered.given in
-    let few = let P : ℕ → Type 0 = λ n. n ≤ 16777216 in subst P c.cells-cells.ensures.value c.cells-cells.ensures.few in
-    first_allowed world lengths outputs low c.requires few chained gathered.low
+    let W : WorldValue → Type 0 = λ w. IsFirstAllowed w c.in_ok-first_of.field-0 in subst W c.in_ok-index.ensures c.in_ok-first_of.ensures

@@ -12,7 +12,7 @@ returns-then-some_derived-clause-fault c = λ other. record {
 
 pub returns-clause-ok : goal.returns-clause-ok
 returns-clause-ok c = (
-  c.in_ok-over.ensures ∙ joined_of (λ part. part.now.items) c.args.given.now c.in_ok-parts.parts.items c.push.new.self.items c.args.derived
+  joined_of (λ part. part.now.items) c.args.given.now c.in_ok-parts.parts.items c.push.new.self.items c.args.derived
       c.in_ok-parts.ensures.items c.in_ok-push.ensures.items,
   is_clean (all_of (map (λ part. part.now.items) c.args.given.now)) (sym c.in_ok-stand_twice.ensures ∙ c.if-branch.false) (sym c.some_derived.ensures ∙ c.if-some_derived.false),
 )

@@ -4,11 +4,12 @@ use Rattle.iam_decision.specs.Living.{AreActing, AreFound, LivingValue, SharedVa
 use Rattle.iam_decision.specs.Matched.{placed}
 use Rattle.iam_decision.specs.declared.living.Living.{Living}
 use Rattle.iam_decision.specs.declared.living.Matched.{Matched}
+use Rattle.iam_decision.proofs.EarlyLemmas.{candidates_found}
 use Rattle.iam_decision.proofs.VerdictLemmas.{acting_found}
 use Rattle.iam_decision.proofs.shared.Shared.verdict.Goals as goal
 
 pub returns : goal.returns
-returns c = λ a access shared.
+returns c = λ actions a access asked shared.
     let action = c.args.action.now in
     let q = request_for access action in
     let found = c.in_ok-found.found.items in
@@ -16,5 +17,6 @@ returns c = λ a access shared.
     let M : List LivingValue → Type 0 = λ living. AreActing action living found in
     let G : List Matched → Type 0 = λ found. AreFound q (placed a) found in
     let acting = subst M (ap (λ (s : SharedValue). s.living) c.self.view_is) (subst L c.as_slice.ensures.value c.in_ok-found.ensures) in
-    let are = acting_found access action (placed a) c.args.self.now.living found shared.living acting in
+    let among = acting_found access action shared.candidates c.args.self.now.living found shared.living acting in
+    let are = candidates_found actions q (placed a) shared.candidates found asked shared.are among in
     c.verdict_of.ensures a q (ap (λ (s : SharedValue). s.frame) c.self.view_is ∙ shared.frame) (subst G (sym c.as_slice-2.ensures.value) are)

@@ -22,4 +22,4 @@ returns c = λ world action text right has asked.
     let (other, at, same) = rw c.in_ok-number.was at has in
     let own : element ≡ other = some_same element other (sym there ∙ at) in
     let A : ActionElement → Type 0 = λ e. IsTrue act ↔ ActionMatches e text in
-    subst A (ap (λ (e : Element). e.action.now) own ∙ same) (right n element there c.args.a act text here asked)
+    subst A (ap (λ (e : Element). e.action.now) own ∙ same) ((right n element there).acts c.args.a act text here asked)

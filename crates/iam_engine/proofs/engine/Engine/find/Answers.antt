@@ -7,7 +7,7 @@ use Rattle.iam_engine.proofs.engine.Engine.find.Goals as goal
 
 pub returns-clause-number : goal.returns-clause-number
 returns-clause-number c =
-    let world = c.self.inside.world.now in
+    let world = c.self.inside.index.now in
     let a = c.args.a in
     let A : EngineValue → Type 0 = λ engine. a < length engine.world.actions in
     let action = get_or world.actions a [] in

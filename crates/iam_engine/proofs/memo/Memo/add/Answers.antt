@@ -3,45 +3,28 @@ use Rattle.std.specs.List.{slice_get}
 use Rattle.iam_decision.specs.Living.{LivingValue, SharedValue}
 use Rattle.iam_engine.specs.Elements.{AreElementNumbers}
 use Rattle.iam_engine.specs.Memo.{AreAnswers, ArePairs, HasShared, HaveRows}
-use Rattle.iam_engine.specs.declared.elements.Element.{Element}
 use Rattle.iam_engine.specs.declared.memo.Class.{Class}
 use Rattle.iam_engine.proofs.ListLemmas.{get_next}
-use Rattle.iam_engine.proofs.MemoLemmas.{answers_more, class_rows_grow, class_rows_more, pairs_more}
+use Rattle.iam_engine.proofs.MemoLemmas.{answers_more, class_rows_more, pairs_more}
 use Rattle.iam_engine.proofs.memo.Memo.add.Goals as goal
 
-pub returns-in_err-rows-clause-right : goal.returns-in_err-rows-clause-right
-returns-in_err-rows-clause-right c = λ right.
-    let memo = c.args.self.now in
-    let (more, grown) = c.in_err-rows.ensures.more in
-    let H : List Element → Type 0 = λ elements. HaveRows elements memo.classes.items in
-    record {
-      pairs = right.pairs;
-      answers = right.answers;
-      elements = c.in_err-rows.ensures.right right.elements;
-      rows = subst H (sym grown) (class_rows_grow memo.elements.elements.items more memo.classes.items right.rows);
-    }
-
 pub returns-clause-right : goal.returns-clause-right
-returns-clause-right c = λ right.
-    let world = c.args.world.now in
+returns-clause-right c = λ world right.
     let memo = c.args.self.now in
-    let elements = c.rows.new.self.elements.items in
+    let elements = memo.elements.now.elements.items in
     let class : Class = record { shared = c.args.shared; rows = c.in_ok-rows.rows } in
-    let (more, grown) = c.in_ok-rows.ensures.more in
     let P : List Class → Type 0 = λ classes. ArePairs world classes memo.pairs.items in
     let Q : List Class → Type 0 = λ classes. AreAnswers world classes memo.rulings.items memo.answers.items in
     let R : List Class → Type 0 = λ classes. HaveRows elements classes in
-    let H : List Element → Type 0 = λ e. HaveRows e memo.classes.items in
     let L : List LivingValue → Type 0 = λ living. AreElementNumbers elements living class.rows.items in
-    let before = subst H (sym grown) (class_rows_grow memo.elements.elements.items more memo.classes.items right.rows) in
-    let own = subst L (c.living.ensures ∙ ap (λ (s : SharedValue). s.living) c.get.ensures) c.in_ok-rows.ensures.rows in
+    let own = subst L (c.living.ensures ∙ ap (λ (s : SharedValue). s.living) c.get.ensures) c.in_ok-rows.ensures in
     record {
       pairs = subst P (sym c.in_ok-push.ensures.items) (pairs_more world memo.classes.items (class ∷ []) memo.pairs.items right.pairs);
       answers =
           subst Q (sym c.in_ok-push.ensures.items)
           (answers_more world memo.classes.items (class ∷ []) memo.rulings.items memo.answers.items right.answers);
-      elements = c.in_ok-rows.ensures.right right.elements;
-      rows = subst R (sym c.in_ok-push.ensures.items) (class_rows_more elements memo.classes.items class own before);
+      elements = right.elements;
+      rows = subst R (sym c.in_ok-push.ensures.items) (class_rows_more elements memo.classes.items class own right.rows);
     }
 
 pub returns-clause-class : goal.returns-clause-class
@@ -54,19 +37,14 @@ returns-clause-class c =
     subst S (sym c.in_ok-push.ensures.items) (class, subst N is (get_next classes class), refl)
 
 pub returns-in_err-push-clause-right : goal.returns-in_err-push-clause-right
-returns-in_err-push-clause-right c = λ right.
-    let world = c.args.world.now in
+returns-in_err-push-clause-right c = λ world right.
     let memo = c.args.self.now in
-    let elements = c.rows.new.self.elements.items in
-    let (more, grown) = c.in_ok-rows.ensures.more in
     let P : List Class → Type 0 = λ classes. ArePairs world classes memo.pairs.items in
     let Q : List Class → Type 0 = λ classes. AreAnswers world classes memo.rulings.items memo.answers.items in
-    let R : List Class → Type 0 = λ classes. HaveRows elements classes in
-    let H : List Element → Type 0 = λ e. HaveRows e memo.classes.items in
-    let before = subst H (sym grown) (class_rows_grow memo.elements.elements.items more memo.classes.items right.rows) in
+    let R : List Class → Type 0 = λ classes. HaveRows memo.elements.now.elements.items classes in
     record {
       pairs = subst P (sym c.in_err-push.ensures.items) right.pairs;
       answers = subst Q (sym c.in_err-push.ensures.items) right.answers;
-      elements = c.in_ok-rows.ensures.right right.elements;
-      rows = subst R (sym c.in_err-push.ensures.items) before;
+      elements = right.elements;
+      rows = subst R (sym c.in_err-push.ensures.items) right.rows;
     }

@@ -4,14 +4,14 @@ use Rattle.std.specs.List.{slice_get}
 use Rattle.iam_decision.specs.Living.{AreActing, IsShared, LivingValue, SharedValue, living_value}
 use Rattle.iam_engine.specs.Elements.{AreElementNumbers}
 use Rattle.iam_engine.specs.declared.memo.Class.{Class}
-use Rattle.iam_engine.proofs.ListLemmas.{some_same}
+use Rattle.iam_engine.proofs.ListLemmas.{is_asked, some_same}
 use Rattle.iam_engine.proofs.memo.Memo.find.Goals as goal
 
 pub returns : goal.returns
 returns c = λ world class_is right at asked applicable access shared.
     let memo = c.args.self.now in
     let classes = memo.classes.items in
-    let elements = memo.elements.elements.items in
+    let elements = memo.elements.now.elements.items in
     let class = c.index-class.result.now in
     let text = c.args.text.now in
     let found = c.put_acting.new.found.items in
@@ -25,7 +25,7 @@ returns c = λ world class_is right at asked applicable access shared.
     let rows = subst R (sym c.as_slice-rows.ensures.value) (subst L (sym own_living) (right.rows c.args.class class there)) in
     let A : List LivingValue → Type 0 = λ l. AreActing text l found in
     let acting = subst A own_living (c.in_ok-put_acting.ensures world right.elements rows asked) in
-    let S : Class → Type 0 = λ k. IsShared applicable access k.shared in (
+    let S : Class → Type 0 = λ k. IsShared world.actions applicable access k.shared in (
       c.frame.ensures ∙ ap (λ (s : SharedValue). s.frame) c.get-shared.ensures ∙ ap (λ (k : Class). k.shared.frame) own,
-      c.acting_are_found.ensures.found applicable access text class.shared found (subst S (sym own) shared) acting,
+      c.acting_are_found.ensures.found world.actions applicable access text class.shared found (is_asked world c.args.a text asked) (subst S (sym own) shared) acting,
     )

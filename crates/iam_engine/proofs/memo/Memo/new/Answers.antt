@@ -6,7 +6,7 @@ use Rattle.iam_engine.proofs.SlotLemmas.{all_empty}
 use Rattle.iam_engine.proofs.memo.Memo.new.Goals as goal
 
 pub returns : goal.returns
-returns c = λ world.
+returns c = λ world elements.
     let classes = c.new.result.items in
     let rulings = c.new-2.result.items in
     record {
@@ -14,6 +14,6 @@ returns c = λ world.
       answers =
           all_empty (λ (a : Answer). HasNumber world classes rulings a.class a.action a.number) c.in_ok-empty_slots-2.field-0.items
           c.in_ok-empty_slots-2.ensures;
-      elements = c.in_ok-new.ensures world;
-      rows = no_rows c.in_ok-new.field-0.elements.items classes c.new.ensures.items;
+      elements = elements;
+      rows = no_rows c.args.elements.now.elements.items classes c.new.ensures.items;
     }

@@ -17,7 +17,7 @@ returns c =
     let (_, first, _, (inside, _), _) = c.in_ok-block.ensures.lookup in
     let B : List WorldValue → Type 0 = λ bs. slice_get bs place ≡ Some block in
     let there = subst B c.deref.ensures.value (slice_get-get_or c.deref.result.now place block inside ∙ ap Some (sym first)) in
-    let same : block ≡ world = c.self.invariant place block there in
+    let same : block ≡ world = c.self.invariant.0 place block there in
     if_some (λ s. IsSharedBy block pair s.now) (λ s. IsSharedAt c.args.self.now c.args.p c.args.r s.now) c.shared.result
     (λ s is.
     let W : WorldValue → Type 0 = λ w. IsSharedBy w pair s.now in

@@ -4,8 +4,8 @@ use Rattle.iam_matrix.proofs.search.SearchCrew.skip.Goals as goal
 
 pub returns-then-is_behind-clause-offered : goal.returns-then-is_behind-clause-offered
 returns-then-is_behind-clause-offered c =
-    let P : List ℕ → Type 0 = λ os. All (IsAllowedCell c.args.self.now.world.now) os in subst P (sym c.look.ensures.offers) c.requires.offered
+    let P : List ℕ → Type 0 = λ os. All (IsAllowedCell c.args.self.now.index.now) os in subst P (sym c.look.ensures.offers) c.requires.offered
 
 pub returns-else-is_behind-clause-offered : goal.returns-else-is_behind-clause-offered
 returns-else-is_behind-clause-offered c =
-    let P : List ℕ → Type 0 = λ os. All (IsAllowedCell c.args.self.now.world.now) os in subst P (sym c.look.ensures.offers) c.requires.offered
+    let P : List ℕ → Type 0 = λ os. All (IsAllowedCell c.args.self.now.index.now) os in subst P (sym c.look.ensures.offers) c.requires.offered

@@ -6,7 +6,7 @@ use Rattle.iam_matrix.proofs.search.SearchCrew.work.Goals as goal
 
 pub returns-clause-offered : goal.returns-clause-offered
 returns-clause-offered c =
-    let world = c.args.self.now.world.now in
+    let world = c.args.self.now.index.now in
     let Q : Option _ → Type 0 = λ found. IsFirstIn c.args.engine.now.world c.cells.result.from c.cells.result.count found in
     let R : WorldValue → Type 0 = λ w. IsAllowedCell w c.in-Some.cell in
     offered_more world c.args.bound.now.offers c.offer.new.self.offers c.in-Some.cell c.offer.ensures.offers c.requires.offered

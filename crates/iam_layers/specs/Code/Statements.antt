@@ -1,0 +1,24 @@
+-- Whose statements apply to a request: those of the organisation and of the requester are the same whatever it asks for, those
+-- that stand with the resource whoever asks.
+use Rattle.std.specs.Prelude.{◌≡◌, ℕ}
+use Rattle.iam_decision.specs.Applicable.{ApplicableValue}
+use Rattle.iam_decision.specs.Code.Scan.{org_placed, requester_placed, resource_placed}
+use Rattle.iam_decision.specs.Matched.{placed}
+use Rattle.iam_world.specs.World.{WorldValue}
+use Rattle.iam_layers.specs.Cell.{IsApplicableAt}
+
+abbrev pub RequestersKeepTheirs : Type 0
+RequestersKeepTheirs =
+    (world : WorldValue) (p r s : ℕ) (one other : ApplicableValue) → IsApplicableAt world p r one → IsApplicableAt world p s other
+    → (org_placed one ≡ org_placed other) × (requester_placed one ≡ requester_placed other)
+
+abbrev pub ResourcesKeepTheirs : Type 0
+ResourcesKeepTheirs =
+    (world : WorldValue) (p q r : ℕ) (one other : ApplicableValue) → IsApplicableAt world p r one → IsApplicableAt world q r other
+    → resource_placed one ≡ resource_placed other
+
+-- these two principals are bound by the same statements of the organisation
+abbrev pub HaveSameOrg : WorldValue → ℕ → ℕ → Type 0
+HaveSameOrg world p q =
+    (r s : ℕ) (one other : ApplicableValue) → IsApplicableAt world p r one → IsApplicableAt world q s other
+    → org_placed one ≡ org_placed other

@@ -1,0 +1,11 @@
+use Rattle.std.proofs.Common.{ℕ, List, length, ap, ◌∙◌}
+use Rattle.iam_matrix.specs.Code.Tiles.{AreTailsOf}
+use Rattle.iam_matrix.proofs.Tiles.{chain_all}
+use Rattle.iam_matrix.proofs.report.surveyed_tiles.Goals as goal
+
+pub returns : goal.returns
+returns g c =
+    let asked = c.args.asked in
+    let gathered = c.in_ok-gathered.ensures in
+    chain_all (λ from n output. AreTailsOf asked.format asked.brief c.args.survey.now from n output) c.args.cut.now c.in_ok-gathered.gathered.outputs.items
+    (gathered.count ∙ ap (λ (ls : List ℕ). length ls) c.lengths.ensures.value) gathered.given
