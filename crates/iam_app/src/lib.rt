@@ -9,6 +9,8 @@ mod output;
 mod program;
 
 pub use fault::{RunFault, fault_line, status};
+pub use iam_layers::WorldFault;
+pub use iam_matrix::{CutFault, MatrixFault};
 pub use iam_options::{Options, Task, Usage, options_of};
 pub use iam_text::OutOfMemory;
 pub use laws::one_output;

@@ -14,6 +14,8 @@ mod values;
 pub use apart::Apart;
 pub use entry::Entry;
 pub use form::{has_bad_text, has_many_values, has_unknown_operator, is_bad_form};
+pub use iam_text::{Items, OutOfMemory, Template, Version};
+pub use iam_value::Range;
 pub use laws::one_condition;
 pub use names::operator_of;
 pub use operand::Operand;

@@ -14,7 +14,7 @@ mod sought;
 
 pub use context::Context;
 pub use fault::ContextFault;
-pub use iam_text::OutOfMemory;
+pub use iam_text::{Draft, Glob, OutOfMemory, Text};
 pub use keys::Keys;
 pub use part::{Derived, Part, part_fault};
 pub use pattern::resolve;

@@ -19,3 +19,4 @@ mod worker;
 pub use bound::Bound;
 pub use collector::{Gathered, gather};
 pub use crew::{Crew, Gate, Open};
+pub use iam_text::OutOfMemory;

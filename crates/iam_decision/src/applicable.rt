@@ -35,7 +35,7 @@ impl<'a> Applicable<'a> {
     ghost use Rattle.iam_decision.specs.Applicable.{IsNumbered, frame_of, value_of};
     ghost use Rattle.iam_decision.specs.Living.{IsShared};
 
-    /// What requests for this access share, whatever their actions: found by a scan of all statements of these policies.
+    /// What requests for this access share, for each list of actions: found among all statements of these policies.
     ///
     /// The lists of levels and each list of policies have to have fewer than 2^32 members.
     ///

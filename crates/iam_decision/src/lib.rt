@@ -19,6 +19,9 @@ pub use early::{
     Findings, candidates_suffice, deny_decides, is_open, suffices_one_by_one, tells_one_by_one,
 };
 pub use frame::Frame;
+pub use iam_match::{Access, Grant};
+pub use iam_policy::{Actions, Effect, Policy};
+pub use iam_text::{Items, OutOfMemory};
 pub use laws::{
     acting_are_found, allowed_is_granted, both_accounts_allow, boundary_and_session_bind,
     deny_wins, direct_grant_names_itself, each_level_allows, further_allow_takes_nothing,

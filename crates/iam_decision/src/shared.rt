@@ -7,8 +7,8 @@ use iam_match::OutOfMemory;
 use std::alloc::Global;
 use std::marker::Model;
 
-/// What the requests of one requester for one resource in one context share, whatever their actions: what a decision asks
-/// beside the statements, and the statements that match once their action elements do.
+/// What the requests of one requester for one resource in one context share, for some actions: what a decision asks beside the
+/// statements, and the statements that match once their action elements do, with all that can act on one of the actions.
 #[derive(Drop)]
 pub struct Shared<'a> {
     frame: Frame,

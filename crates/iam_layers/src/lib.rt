@@ -9,9 +9,12 @@ mod derived;
 mod laws;
 mod world;
 
+pub use iam_context::{Context, Derived};
 pub use iam_decision::{
     Applicable, Decision, Frame, Layer, Living, Matched, Place, Ruling, Shared, Standing, Verdict,
 };
+pub use iam_match::Requester;
+pub use iam_text::OutOfMemory;
 pub use iam_world::WorldFault;
 pub use laws::{
     management_is_not_bound, one_decision_at, one_request, one_triple, one_verdict_at,

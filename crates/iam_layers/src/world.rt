@@ -3,7 +3,7 @@ ghost use Rattle.std.specs.Prelude.{◌≡◌, ◌+◌, ◌*◌, ◌≤◌, ◌<
 
 use crate::applicable::{control_of, org_of};
 use crate::derived::{keys_with, stamp_of};
-use iam_context::{Context, Derived};
+use iam_context::{Context, Derived, Sought};
 use iam_decision::{Applicable, Shared, Verdict};
 use iam_match::{Access, OutOfMemory, Requester};
 use iam_world::{Principal, Resource, WorldFault, WorldParts};
@@ -345,5 +345,53 @@ impl World {
     {
         let shared = self.shared(alloc, p, r)?;
         shared.verdict(alloc, self.action_text(a))
+    }
+}
+
+/// The keys of requests, in parts that are made once and lent to the contexts of many.
+impl World {
+    ghost use Rattle.std.specs.Prelude.{◌≡◌, ◌<◌, IfOk, length};
+    ghost use Rattle.iam_layers.specs.Cell.{IsContextAt, IsPrincipal, IsResource};
+
+    /// The keys that the world gives to each request, to be lent to contexts.
+    pub fn world_keys(&self, alloc: Global) -> Result<Sought<'_>, OutOfMemory>
+        ensures { IfOk result (λ keys. keys ≡ self.entry.now.context) }
+    {
+        Sought::of(alloc, self.parts.context())
+    }
+
+    /// The keys that principal p gives to its requests, to be lent to contexts; p has to be below `principals()`.
+    pub fn principal_keys(&self, alloc: Global, p: u64) -> Result<Sought<'_>, OutOfMemory>
+        requires { p < length self.now.principals }
+        ensures { IfOk result (λ keys. IsPrincipal self.entry.now p (λ principal. keys ≡ principal.context)) }
+    {
+        Sought::of(alloc, self.principal(p).context())
+    }
+
+    /// The keys that resource r gives to requests for it, to be lent to contexts; r has to be below `resources()`.
+    pub fn resource_keys(&self, alloc: Global, r: u64) -> Result<Sought<'_>, OutOfMemory>
+        requires { r < length self.now.resources }
+        ensures { IfOk result (λ keys. IsResource self.entry.now r (λ resource. keys ≡ resource.context)) }
+    {
+        Sought::of(alloc, self.resource(r).context())
+    }
+
+    /// The context that [`World::context`] makes, over keys that are lent: those of the world, of principal p and of resource
+    /// r, and the derived ones, which have to be those of p and r. It takes no memory.
+    pub fn context_with<'c>(
+        &self,
+        p: u64,
+        r: u64,
+        world_keys: &'c Sought<'_>,
+        principal_keys: &'c Sought<'_>,
+        resource_keys: &'c Sought<'_>,
+        derived: &'c Derived,
+    ) -> Context<'c>
+        requires world_keys { world_keys.now ≡ self.now.context }
+        requires principal_keys { IsPrincipal self.now p (λ principal. principal_keys.now ≡ principal.context) }
+        requires resource_keys { IsResource self.now r (λ resource. resource_keys.now ≡ resource.context) }
+        ensures { IsContextAt self.now p r derived.entry.now.items result }
+    {
+        Context::sought(world_keys, principal_keys, resource_keys, derived)
     }
 }

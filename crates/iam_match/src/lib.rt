@@ -16,6 +16,9 @@ mod statement;
 
 pub use entry::holds;
 pub use fixed::Fixed;
+pub use iam_condition::Entry;
+pub use iam_context::Context;
+pub use iam_policy::{Actions, Statement};
 pub use iam_text::OutOfMemory;
 pub use laws::one_requester;
 pub use principal::{Grant, grant_kind};

@@ -1,10 +1,10 @@
 -- Items that are kept once, and lists of their numbers.
-use Rattle.std.proofs.Common.{◌≡◌, ℕ, ◌<◌, List, [], ◌∷◌, ◌++◌, All, Some, get_or, length, map, option_map, refl, ap, subst, ◌∙◌, arith}
-use Rattle.std.proofs.lemmas.List.{get_or-map, get_or_append_left, length-append, map-append}
+use Rattle.std.proofs.Common.{◌≡◌, ℕ, ◌<◌, ◌≤◌, List, [], ◌∷◌, ◌++◌, All, Some, get_or, length, map, option_map, refl, ap, sym, subst, ◌∙◌, arith}
+use Rattle.std.proofs.lemmas.List.{get_or-map, get_or_append_left, length-append, length-map, map-append}
 use Rattle.std.proofs.lemmas.List.Elements.{All-get_or, All-head, All-push, All-tail, All-weaker}
 use Rattle.std.proofs.lemmas.Option.{get_or_from_slice_get, slice_get-map, slice_get_within}
 use Rattle.std.specs.List.{slice_get}
-use Rattle.iam_report.specs.Code.Numbered.{picked}
+use Rattle.iam_report.specs.Code.Numbered.{picked, IsPut}
 
 -- numbers that have an item
 abbrev pub Within : {A : Type 0} → List A → List ℕ → Type 0
@@ -52,3 +52,25 @@ pub within_at : {A : Type 0} (items : List A) (numbers : List ℕ) (i n : ℕ) �
 within_at items numbers i n at w =
     subst (λ k. k < length items) (get_or_from_slice_get numbers i n n at)
     (All-get_or (λ k. k < length items) numbers i n (slice_get_within numbers i n at) w)
+
+-- one more item was put behind others
+pub picked_put : {A : Type 0} (none item : A) (number : ℕ) (items : List A) (numbers : List ℕ) (more_items : List A) (more_numbers : List ℕ)
+    → IsPut item number items numbers more_items more_numbers → Within items numbers
+    → picked none more_items more_numbers ≡ picked none items numbers ++ item ∷ []
+picked_put none item number items numbers more_items more_numbers put w =
+    ap (λ (ns : List ℕ). picked none more_items ns) put.behind
+    ∙ picked_next none items put.kept.0 more_items numbers number item put.kept.2 w put.found
+
+pub within_put : {A : Type 0} (item : A) (number : ℕ) (items : List A) (numbers : List ℕ) (more_items : List A) (more_numbers : List ℕ)
+    → IsPut item number items numbers more_items more_numbers → Within items numbers → length items ≤ length numbers
+    → Within more_items more_numbers × (length more_items ≤ length more_numbers)
+within_put item number items numbers more_items more_numbers put w few = (
+  subst (λ (ns : List ℕ). Within more_items ns) (sym put.behind) (within_next items put.kept.0 more_items numbers number item put.kept.2 w put.found),
+  omega (arith, few, put.kept.1, ap length put.kept.2, length-append items put.kept.0, ap length put.behind, length-append numbers (number ∷ [])),
+)
+
+-- fewer items than numbers are fewer than so many
+pub few_items : {A : Type 0} (none : A) (items : List A) (numbers : List ℕ) (whole : List A) (most : ℕ)
+    → length items ≤ length numbers → picked none items numbers ≡ whole → length whole < most → length items < most
+few_items none items numbers whole most few same below =
+    omega (arith, few, ap length same, length-map numbers (λ n. get_or items n none), below)

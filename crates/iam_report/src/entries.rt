@@ -1,7 +1,7 @@
 // Verdicts one behind the other, of which equal ones are kept once.
-ghost use Rattle.std.specs.Prelude.{◌≡◌, ◌++◌, ◌∷◌, [], IfOk, IfSome, IsTrue, List, OnOk, Some, map, slice_get};
+ghost use Rattle.std.specs.Prelude.{◌≡◌, ◌<◌, ◌^◌, ◌++◌, ◌∷◌, [], IfOk, IfSome, IsTrue, OnErr, OnOk, Some, length, map, slice_get};
 ghost use Rattle.iam_row.specs.Piece.{bare, tail_of};
-ghost use Rattle.iam_decision.specs.declared.verdict.Verdict.{Verdict};
+ghost use Rattle.iam_report.specs.Code.Numbered.{IsPut};
 
 use crate::guess::{Guesses, Hints, STEPS, hash_of};
 use crate::numbers::Numbers;
@@ -24,7 +24,7 @@ pub struct Entries {
 }
 
 impl Model for Entries {
-    ghost use Rattle.std.specs.Prelude.{◌<◌, All, List, length};
+    ghost use Rattle.std.specs.Prelude.{◌<◌, ◌≤◌, All, List, length};
     ghost use Rattle.iam_decision.specs.declared.verdict.Verdict.{Verdict};
     ghost use Rattle.iam_report.specs.Code.Numbered.{no_verdict, picked};
 
@@ -32,7 +32,7 @@ impl Model for Entries {
 
     ghost view = { λ entries. picked no_verdict entries.distinct.items entries.numbers };
 
-    ghost invariant = { λ entries. All (λ n. n < length entries.distinct.items) entries.numbers };
+    ghost invariant = { λ entries. All (λ n. n < length entries.distinct.items) entries.numbers × (length entries.distinct.items ≤ length entries.numbers) };
 }
 
 impl Entries {
@@ -44,17 +44,24 @@ impl Entries {
             distinct: Vec::new(alloc),
             numbers: Numbers::new(alloc, room)?,
             guesses: Guesses::new(alloc),
-            hints: Hints::new(alloc)?,
+            hints: Hints::new(alloc),
         })
     }
 
-    /// Puts a verdict behind the others. It is copied where no equal one is found.
+    /// Puts a verdict behind the others, fewer than 2 ^ 32. It is copied where no equal one is found.
     pub fn push(&mut self, alloc: Global, verdict: &Verdict) -> Result<(), OutOfMemory>
+        requires { length self.old < 2 ^ 32 }
         ensures { OnOk result (self.new ≡ self.old ++ verdict.now ∷ []) }
     {
         let last = self.numbers.last();
-        let number = number_of(alloc, &mut self.distinct, &mut self.guesses, last, verdict)?;
-        self.numbers.push(number)?;
+        put(
+            alloc,
+            &mut self.distinct,
+            &mut self.numbers,
+            &mut self.guesses,
+            last,
+            verdict,
+        )?;
         Ok(())
     }
 
@@ -66,23 +73,37 @@ impl Entries {
         hint: usize,
         verdict: &Verdict,
     ) -> Result<(), OutOfMemory>
+        requires { length self.old < 2 ^ 32 }
         ensures { OnOk result (self.new ≡ self.old ++ verdict.now ∷ []) }
     {
         let last = self.hints.at(hint);
-        let number = number_of(alloc, &mut self.distinct, &mut self.guesses, last, verdict)?;
+        let number = put(
+            alloc,
+            &mut self.distinct,
+            &mut self.numbers,
+            &mut self.guesses,
+            last,
+            verdict,
+        )?;
         self.hints.set(hint, number);
-        self.numbers.push(number)?;
         Ok(())
     }
 
-    /// Puts a decision behind the others, as a verdict without places and layers.
+    /// Puts a decision behind the others, fewer than 2 ^ 32, as a verdict without places and layers.
     pub fn push_decision(&mut self, alloc: Global, decision: Decision) -> Result<(), OutOfMemory>
+        requires { length self.old < 2 ^ 32 }
         ensures { OnOk result (self.new ≡ self.old ++ bare decision ∷ []) }
     {
         let last = self.hints.at(decision as usize);
-        let number = bare_number(alloc, &mut self.distinct, &mut self.guesses, last, decision)?;
+        let number = put_bare(
+            alloc,
+            &mut self.distinct,
+            &mut self.numbers,
+            &mut self.guesses,
+            last,
+            decision,
+        )?;
         self.hints.set(decision as usize, number);
-        self.numbers.push(number)?;
         Ok(())
     }
 
@@ -117,47 +138,66 @@ fn tails_of(
     Ok(tails)
 }
 
-/// The number of a decision as a verdict without places and layers, which is put behind the others where none of them is
-/// found to be equal.
-fn bare_number(
+/// Puts a decision behind the others, as a verdict without places and layers; its number.
+fn put_bare(
     alloc: Global,
     distinct: &mut Vec<Verdict>,
+    numbers: &mut Numbers,
     guesses: &mut Guesses,
     last: Option<u32>,
     decision: Decision,
 ) -> Result<u32, OutOfMemory>
-    ensures kept { (more : List Verdict) × (distinct.new.items ≡ distinct.old.items ++ more) }
-    ensures found { IfOk result (λ number. slice_get distinct.new.items number ≡ Some (bare decision)) }
+    requires { length distinct.old.items < 2 ^ 32 }
+    ensures put { IfOk result (λ number. IsPut (bare decision) number distinct.old.items numbers.old distinct.new.items numbers.new) }
+    ensures refused { OnErr result ((distinct.new.items ≡ distinct.old.items) × (numbers.new ≡ numbers.old)) }
 {
     if let Some(number) = last {
         if is_bare_at(distinct.as_slice(), number, decision) {
+            numbers.push(number)?;
             return Ok(number);
         }
     }
-    number_of(alloc, distinct, guesses, None, &bare(alloc, decision))
+    let verdict = bare(alloc, decision);
+    put(alloc, distinct, numbers, guesses, None, &verdict)
 }
 
-/// The number of a verdict, which is put behind the others where none of them is found to be equal.
-fn number_of(
+/// Puts a verdict behind the others; its number. It is copied where none of them is found to be equal.
+fn put(
     alloc: Global,
     distinct: &mut Vec<Verdict>,
+    numbers: &mut Numbers,
     guesses: &mut Guesses,
     last: Option<u32>,
     verdict: &Verdict,
 ) -> Result<u32, OutOfMemory>
-    ensures kept { (more : List Verdict) × (distinct.new.items ≡ distinct.old.items ++ more) }
-    ensures found { IfOk result (λ number. slice_get distinct.new.items number ≡ Some verdict.now) }
+    requires { length distinct.old.items < 2 ^ 32 }
+    ensures put { IfOk result (λ number. IsPut verdict.now number distinct.old.items numbers.old distinct.new.items numbers.new) }
+    ensures refused { OnErr result ((distinct.new.items ≡ distinct.old.items) × (numbers.new ≡ numbers.old)) }
 {
-    if let Some(number) = last {
-        if is_at(distinct.as_slice(), number, verdict) {
-            return Ok(number);
+    match find(distinct.as_slice(), guesses, last, verdict) {
+        Some(number) => {
+            numbers.push(number)?;
+            Ok(number)
+        }
+        None => add(alloc, distinct, numbers, guesses, verdict),
+    }
+}
+
+/// The number of an equal verdict, where one is found; the one of the number `last` is looked at first.
+fn find(
+    distinct: &[Verdict],
+    guesses: &Guesses,
+    last: Option<u32>,
+    verdict: &Verdict,
+) -> Option<u32>
+    ensures { IfSome result (λ number. slice_get distinct.now number ≡ Some verdict.now) }
+{
+    if let Some(hinted) = last {
+        if is_at(distinct, hinted, verdict) {
+            return Some(hinted);
         }
     }
-    let hash = hash_of(verdict);
-    if let Some(number) = seek(guesses, distinct.as_slice(), hash, verdict) {
-        return Ok(number);
-    }
-    add(alloc, distinct, guesses, hash, verdict)
+    seek(guesses, distinct, hash_of(verdict), verdict)
 }
 
 /// The number of an equal verdict, where one is found.
@@ -177,18 +217,23 @@ fn seek(guesses: &Guesses, distinct: &[Verdict], hash: u64, verdict: &Verdict) -
 fn add(
     alloc: Global,
     distinct: &mut Vec<Verdict>,
+    numbers: &mut Numbers,
     guesses: &mut Guesses,
-    hash: u64,
     verdict: &Verdict,
 ) -> Result<u32, OutOfMemory>
-    ensures kept { (more : List Verdict) × (distinct.new.items ≡ distinct.old.items ++ more) }
-    ensures found { IfOk result (λ number. slice_get distinct.new.items number ≡ Some verdict.now) }
+    requires { length distinct.old.items < 2 ^ 32 }
+    ensures put { IfOk result (λ number. IsPut verdict.now number distinct.old.items numbers.old distinct.new.items numbers.new) }
+    ensures refused { OnErr result ((distinct.new.items ≡ distinct.old.items) × (numbers.new ≡ numbers.old)) }
 {
-    let Ok(number) = u32::try_from(distinct.len()) else {
-        return Err(OutOfMemory);
-    };
-    distinct.push(verdict.copy(alloc)?)?;
-    guesses.keep(alloc, distinct.as_slice(), hash, number)?;
+    let number = distinct.len() as u32;
+    let copy = verdict.copy(alloc)?;
+    distinct.reserve(1)?;
+    numbers.push(number)?;
+    match distinct.push(copy) {
+        Ok(()) => {}
+        Err(_) => unreachable!(),
+    }
+    guesses.keep(alloc, distinct.as_slice(), hash_of(verdict), number);
     Ok(number)
 }
 

@@ -58,24 +58,22 @@ impl Guesses {
         slot.checked_sub(1)
     }
 
-    /// Keeps the number of a verdict that was put behind these, and has room for as many again.
-    pub fn keep(
-        &mut self,
-        alloc: Global,
-        verdicts: &[Verdict],
-        hash: u64,
-        number: u32,
-    ) -> Result<(), OutOfMemory> {
+    /// Keeps the number of a verdict that was put behind these, and has room for as many again. Where there is no memory for
+    /// that, numbers that were kept may be forgotten.
+    pub fn keep(&mut self, alloc: Global, verdicts: &[Verdict], hash: u64, number: u32) {
         if verdicts.len() <= self.slots.len() / 2 {
             self.set(hash, number);
-            return Ok(());
+            return;
         }
         let slots = self.slots.len().saturating_mul(2).max(LEAST_SLOTS);
-        self.slots = zeros(alloc, slots)?;
+        let Ok(slots) = zeros(alloc, slots) else {
+            self.set(hash, number);
+            return;
+        };
+        self.slots = slots;
         for (i, verdict) in (0..u32::MAX).zip(verdicts) {
             self.set(hash_of(verdict), i);
         }
-        Ok(())
     }
 
     /// Keeps a number in the first free slot of the steps, or else in the first.
@@ -103,10 +101,13 @@ pub struct Hints {
 }
 
 impl Hints {
-    pub fn new(alloc: Global) -> Result<Hints, OutOfMemory> {
-        Ok(Hints {
-            slots: zeros(alloc, HINTS)?,
-        })
+    /// No number yet. Where there is no memory none is ever kept.
+    pub fn new(alloc: Global) -> Hints {
+        let slots = match zeros(alloc, HINTS) {
+            Ok(slots) => slots,
+            Err(_) => Vec::new(alloc),
+        };
+        Hints { slots }
     }
 
     /// The number that a hint led to last, or another with which it shares its slot.

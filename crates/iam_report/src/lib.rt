@@ -16,6 +16,9 @@ mod text;
 mod tile;
 
 pub use entries::Entries;
+pub use iam_layers::{Decision, Verdict, World};
+pub use iam_row::{Format, Quoted};
+pub use iam_text::OutOfMemory;
 pub use matrix::MatrixText;
 pub use output::{OutputFault, buffer, write_text};
 pub use text::{csv_brief, csv_text, json_brief, json_text};

@@ -8,9 +8,11 @@ ghost use Rattle.iam_report.specs.Streams.{AppendsBeginning};
 use iam_text::OutOfMemory;
 use std::alloc::Global;
 use std::io::Write;
+use thiserror::Error;
 
 /// A write or the flush failed, or a write took no bytes.
-#[derive(Clone, Copy, Debug, PartialEq, Eq)]
+#[derive(Clone, Copy, Debug, PartialEq, Eq, Error)]
+#[error("the report can't be written")]
 pub struct OutputFault;
 
 /// How many bytes a buffer has room for.

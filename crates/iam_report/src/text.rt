@@ -1,5 +1,5 @@
 // Whole reports.
-ghost use Rattle.std.specs.Prelude.{◌≡◌, ◌<◌, IfOk, false, length, map, true};
+ghost use Rattle.std.specs.Prelude.{◌≡◌, ◌<◌, ◌^◌, IfOk, false, length, map, true};
 ghost use Rattle.iam_world.specs.World.{world_cells};
 ghost use Rattle.iam_row.specs.Piece.{IsBriefReport, IsReport, IsTextOf, bare, text_of};
 ghost use Rattle.iam_row.specs.Report.{IsBriefCsvReport, IsBriefJsonReport, IsCsvReport, IsJsonReport};
@@ -25,6 +25,7 @@ fn written(alloc: Global, matrix: &MatrixText) -> Result<Vec<u8>, OutOfMemory>
 }
 
 fn full_entries(alloc: Global, verdicts: &[Verdict]) -> Result<Entries, OutOfMemory>
+    requires { length verdicts.now < 2 ^ 32 }
     ensures { IfOk result (λ entries. entries ≡ verdicts.now) }
 {
     let mut entries = Entries::new(alloc, verdicts.len())?;
@@ -35,6 +36,7 @@ fn full_entries(alloc: Global, verdicts: &[Verdict]) -> Result<Entries, OutOfMem
 }
 
 fn brief_entries(alloc: Global, decisions: &[Decision]) -> Result<Entries, OutOfMemory>
+    requires { length decisions.now < 2 ^ 32 }
     ensures { IfOk result (λ entries. entries ≡ map bare decisions.now) }
 {
     let mut entries = Entries::new(alloc, decisions.len())?;
@@ -72,6 +74,7 @@ fn full_report(
     ensures { IfOk result (λ text. IsReport format world.now verdicts.now text.items) }
 {
     full_texts();
+    let _cells = world.cells();
     let entries = full_entries(alloc, verdicts)?;
     report(alloc, world, format, false, entries)
 }
@@ -86,6 +89,7 @@ fn brief_report(
     ensures { IfOk result (λ text. IsBriefReport format world.now decisions.now text.items) }
 {
     brief_texts();
+    let _cells = world.cells();
     let entries = brief_entries(alloc, decisions)?;
     report(alloc, world, format, true, entries)
 }

@@ -14,6 +14,8 @@ mod tail;
 mod words;
 
 pub use cell::{csv_row, csv_row_brief};
+pub use iam_layers::{Decision, Verdict, World};
+pub use iam_text::{Items, OutOfMemory, Text};
 pub use laws::{brief_texts, full_texts, one_row, one_text};
 pub use piece::{closing, comma_before, opening};
 pub use position::Position;

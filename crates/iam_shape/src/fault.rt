@@ -2,14 +2,17 @@
 use crate::path::Path;
 use iam_text::OutOfMemory;
 use std::alloc::AllocFailed;
+use thiserror::Error;
 
 /// Why the walk of a document stops.
-#[derive(Clone, Copy, Debug, PartialEq, Eq)]
+#[derive(Clone, Copy, Debug, PartialEq, Eq, Error)]
 pub enum ShapeFault {
     /// At this path stands a value of the wrong form, a required member is absent, or the object has an unknown
     /// member. It is the first such place.
+    #[error("{0} has not the form of a world")]
     At(Path),
     /// The allocator refused a growth.
+    #[error("out of memory")]
     OutOfMemory,
 }
 

@@ -21,6 +21,7 @@ mod shape;
 mod view;
 
 pub use fault::ShapeFault;
+pub use iam_text::OutOfMemory;
 pub use laws::{few_documents, one_view};
 pub use levels::{Levels, policies_in};
 pub use path::{Name, Path};

@@ -15,6 +15,11 @@ mod parts;
 mod world;
 
 pub use fault::WorldFault;
+pub use iam_context::{ContextFault, Part};
+pub use iam_match::Requester;
+pub use iam_policy::{Policy, Refused};
+pub use iam_shape::Path;
+pub use iam_text::OutOfMemory;
 pub use laws::{no_world_and_fault, one_first_fault, one_world};
 pub use parts::{Account, Principal, Resource};
 pub use world::WorldParts;

@@ -3,14 +3,17 @@ use iam_context::ContextFault;
 use iam_shape::Path;
 use iam_text::OutOfMemory;
 use std::alloc::AllocFailed;
+use thiserror::Error;
 
 /// Why the contexts of a document are not read.
-#[derive(Clone, Copy, Debug, PartialEq, Eq)]
+#[derive(Clone, Copy, Debug, PartialEq, Eq, Error)]
 pub enum PartFault {
     /// The context at this path gives a key twice, or one that is derived. It is the first such context, and this is
     /// its first fault.
+    #[error("{0}: {1}")]
     At(Path, ContextFault),
     /// The allocator refused a growth.
+    #[error("out of memory")]
     OutOfMemory,
 }
 

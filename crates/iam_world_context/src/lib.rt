@@ -10,3 +10,6 @@ mod fault;
 
 pub use contexts::{Contexts, read_contexts};
 pub use fault::PartFault;
+pub use iam_context::{ContextFault, Part};
+pub use iam_shape::{Path, WorldView};
+pub use iam_text::OutOfMemory;

@@ -1,14 +1,17 @@
-use Rattle.std.proofs.Common.{◌++◌, ◌∷◌, [], ◌∙◌, List, ℕ, ap}
+use Rattle.std.proofs.Common.{◌++◌, ◌∷◌, [], ◌^◌, ◌∙◌, List, ap}
 use Rattle.iam_decision.specs.declared.verdict.Verdict.{Verdict}
-use Rattle.iam_report.specs.Code.Numbered.{no_verdict, picked}
-use Rattle.iam_report.proofs.Picks.{picked_next}
+use Rattle.iam_report.specs.Code.Numbered.{no_verdict}
+use Rattle.iam_report.proofs.Picks.{few_items, picked_put}
 use Rattle.iam_report.proofs.entries.Entries.push_hinted.Goals as goal
+
+pub put-requires : goal.put-requires
+put-requires c =
+    let own = c.self.inside in
+    few_items no_verdict own.distinct.items own.numbers c.args.self.now (2 ^ 32) c.self.invariant.1 c.self.view_is c.requires
 
 pub returns : goal.returns
 returns c =
-    let kept = c.in_ok-number.ensures.kept in
-    let distinct = c.number_of.new.distinct.items in
+    let own = c.self.inside in
     let verdict = c.args.verdict.now in
-    ap (λ (numbers : List ℕ). picked no_verdict distinct numbers) c.in_ok-push.ensures.ok
-    ∙ picked_next no_verdict c.self.inside.distinct.items kept.0 distinct c.self.inside.numbers c.in_ok-number.number verdict kept.1 c.self.invariant c.in_ok-number.ensures.found
+    picked_put no_verdict verdict c.in_ok-number.number own.distinct.items own.numbers c.put.new.distinct.items c.put.new.numbers c.in_ok-number.ensures.put c.self.invariant.0
     ∙ ap (λ (xs : List Verdict). xs ++ verdict ∷ []) c.self.view_is

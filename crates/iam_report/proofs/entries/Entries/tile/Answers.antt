@@ -11,5 +11,5 @@ returns c =
     let entries = c.self.inside in
     let f : Verdict → Tail = tail_of c.args.format c.args.brief in
     ap (λ (tails : List Tail). picked no_tail tails entries.numbers) (c.in_ok-tails.ensures ∙ ap (map f) c.as_slice.ensures.value)
-    ∙ picked_images f no_verdict no_tail entries.distinct.items entries.numbers c.self.invariant
+    ∙ picked_images f no_verdict no_tail entries.distinct.items entries.numbers c.self.invariant.0
     ∙ ap (map f) c.self.view_is
