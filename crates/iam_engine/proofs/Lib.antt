@@ -1,7 +1,4 @@
-mod ListLemmas
-mod SlotLemmas
-mod ElementLemmas
-mod MemoLemmas
-mod SurveyLemmas
-mod IndexLemmas
-mod ListedLemmas
+mod CacheLemmas
+mod EngineLemmas
+mod KnownLemmas
+mod WalkLemmas

@@ -1,16 +1,16 @@
--- An engine, as its callers see it. LOGIC 1.1.
-use Rattle.std.specs.Prelude.{◌≡◌, ℕ, List, Some}
-use Rattle.std.specs.List.{slice_get}
-use Rattle.iam_decision.specs.Ruling.{RulingValue}
-use Rattle.iam_layers.specs.Cell.{IsVerdictAt}
+-- What a verdict follows from. LOGIC 11.2.
+use Rattle.std.specs.Prelude.{◌≡◌, ℕ, List}
+use Rattle.iam_match.specs.Statement.{RequestValue}
+use Rattle.iam_decision.specs.Applicable.{ApplicableValue, frame_of}
+use Rattle.iam_decision.specs.Early.{Suffices}
+use Rattle.iam_decision.specs.Matched.{placed}
+use Rattle.iam_decision.specs.declared.frame.Frame.{Frame}
+use Rattle.iam_decision.specs.declared.living.Matched.{Matched}
+use Rattle.iam_layers.specs.Cell.{IsRequestAt}
 use Rattle.iam_world.specs.World.{WorldValue}
 
--- the world whose cells it decides, and the verdicts that it keeps with what they follow from, by number
-pub record EngineValue : Type 0 where
-  pub world : WorldValue
-  pub rulings : List RulingValue
-
--- the verdict of this number is the one on principal p's request for action a on resource r
-abbrev pub IsNumberAt : EngineValue → ℕ → ℕ → ℕ → ℕ → Type 0
-IsNumberAt engine p a r number =
-    (ruling : RulingValue) × (slice_get engine.rulings number ≡ Some ruling) × IsVerdictAt engine.world p a r ruling.verdict
+-- the frame of principal p's request for action a on resource r, and enough found for the verdict on it
+abbrev pub IsEnoughAt : WorldValue → ℕ → ℕ → ℕ → Frame → List Matched → Type 0
+IsEnoughAt world p a r frame found =
+    (applicable : ApplicableValue) × (request : RequestValue) × IsRequestAt world p a r applicable request
+    × (frame ≡ frame_of applicable) × Suffices request (placed applicable) found

@@ -1,8 +1,4 @@
-pub mod Code
+pub mod Cache
 pub mod Engine
-pub mod Elements
-pub mod Index
-pub mod Keys
-pub mod Memo
-pub mod Slots
-pub mod Survey
+pub mod Known
+pub mod Walk

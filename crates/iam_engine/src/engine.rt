@@ -1,288 +1,167 @@
 // The engine as its callers see it.
-ghost use Rattle.std.specs.Prelude.{◌≡◌, ◌<◌, All, IfOk, IfSome, Some, length};
-ghost use Rattle.std.specs.List.{slice_get};
-ghost use Rattle.iam_layers.specs.Cell.{IsSharedAt};
-ghost use Rattle.iam_world.specs.World.{WorldValue};
-ghost use Rattle.iam_engine.specs.Keys.{AreKeys};
-ghost use Rattle.iam_engine.specs.Memo.{HasClass, IsNumber, IsRight};
-ghost use Rattle.iam_engine.specs.declared.memo.Class.{Class};
+ghost use Rattle.std.specs.Prelude.{◌≡◌, ◌<◌, IfOk, length};
+ghost use Rattle.iam_layers.specs.Cell.{IsDecisionAt};
+ghost use Rattle.iam_engine.specs.Engine.{IsEnoughAt};
 
-use crate::held::Held;
-use crate::index::Index;
-use crate::keys::{Keys, no_keys, shared_by};
-use crate::memo::Memo;
-use crate::survey::Survey;
-use iam_layers::{Decision, Matched, Shared, Verdict, World};
+use crate::cache::MatchCache;
+use crate::walk::{find_all, is_denied};
+use iam_decision::{Findings, candidates_suffice, deny_decides, early_decision, early_verdict};
+use iam_index::Index;
+use iam_layers::{Decision, Frame, Verdict, World};
 use iam_text::OutOfMemory;
 use std::alloc::Global;
 use std::marker::Model;
 
-/// Decides the cells of a world, one after the other and in any order. What the requests of a principal for a resource share
-/// is kept, within bounds, for the next such request, and so are verdicts on requests that share the same.
+/// Decides the cells of a world one at a time, in any order: of each it looks at its candidates alone, and leaves untested what no
+/// longer matters. Which texts match which resources is remembered in one bounded cache. A contract sees the world.
 #[derive(Drop)]
 pub struct Engine<'a> {
     index: &'a Index<'a>,
-    // What was found before.
-    survey: Option<&'a Survey<'a>>,
-    memo: Memo<'a>,
-    // The derived keys that were made last, of one principal.
-    keys: Vec<Keys>,
+    cache: MatchCache<'a>,
     // Room for the statements that match a request.
-    found: Vec<Matched>,
+    findings: Findings,
 }
 
 impl<'a> Model for Engine<'a> {
-    ghost use Rattle.std.specs.Prelude.{◌≡◌, All, IfSome};
-    ghost use Rattle.iam_engine.specs.Engine.{EngineValue};
-    ghost use Rattle.iam_engine.specs.Keys.{AreKeys};
-    ghost use Rattle.iam_engine.specs.Memo.{IsRight};
+    ghost use Rattle.std.specs.Prelude.{◌≡◌};
+    ghost use Rattle.iam_world.specs.World.{WorldValue};
 
-    ghost Value = { EngineValue };
+    ghost Value = { WorldValue };
 
-    ghost view = { λ engine. record { world = engine.index.now; rulings = engine.memo.rulings.items } };
+    ghost view = { λ engine. engine.index.now };
 
-    ghost invariant = { λ engine. IfSome engine.survey (λ survey. survey.now ≡ engine.index.now) × IsRight engine.index.now engine.memo
-        × All (AreKeys engine.index.now) engine.keys.items };
+    ghost invariant = { λ engine. engine.cache ≡ engine.index.now };
 }
 
 impl<'a> Engine<'a> {
-    ghost use Rattle.std.specs.Prelude.{◌≡◌, ◌<◌, ℕ, IfOk, IfSome, length};
+    ghost use Rattle.std.specs.Prelude.{◌≡◌, ◌<◌, ◌≤◌, IfOk};
     ghost use Rattle.iam_world.specs.World.{world_cells};
-    ghost use Rattle.iam_layers.specs.Cell.{IsDecisionOf, IsVerdictAt, IsVerdictOf};
-    ghost use Rattle.iam_engine.specs.Engine.{IsNumberAt};
+    ghost use Rattle.iam_layers.specs.Cell.{IsDecisionOf, IsVerdictOf};
 
-    /// An engine of the world of an index, one of so many that share the bounds on what is kept.
-    pub fn new(alloc: Global, index: &'a Index<'a>, engines: u32) -> Result<Engine<'a>, OutOfMemory>
-        ensures { IfOk result (λ engine. engine.world ≡ index.entry.now) }
-    {
-        Engine::with(alloc, index, None, engines)
-    }
-
-    /// An engine of the world of a survey, which begins with what was found there; one of so many that share the bounds.
-    pub fn surveyed(
+    /// An engine of a world, by an index of it, whose cache holds so many entries: 1 to 65,536.
+    pub fn new(
         alloc: Global,
-        survey: &'a Survey<'a>,
-        engines: u32,
-    ) -> Result<Engine<'a>, OutOfMemory>
-        ensures { IfOk result (λ engine. engine.world ≡ survey.entry.now) }
-    {
-        Engine::with(alloc, survey.index(), Some(survey), engines)
-    }
-
-    fn with(
-        alloc: Global,
+        world: &'a World,
         index: &'a Index<'a>,
-        survey: Option<&'a Survey<'a>>,
-        engines: u32,
+        capacity: usize,
     ) -> Result<Engine<'a>, OutOfMemory>
-        requires { IfSome survey (λ survey. survey.now ≡ index.now) }
-        ensures { IfOk result (λ engine. engine.world ≡ index.entry.now) }
+        requires same { index.now ≡ world.now }
+        requires some { 1 ≤ capacity }
+        requires few { capacity ≤ 65536 }
+        ensures { IfOk result (λ engine. engine ≡ world.entry.now) }
     {
-        let world = index.world();
-        let memo = Memo::new(
-            alloc,
-            index.elements(),
-            world.principals(),
-            world.actions(),
-            world.resources(),
-            engines,
-        )?;
+        let cache = MatchCache::new(alloc, world, index.texts(), capacity)?;
         Ok(Engine {
             index,
-            survey,
-            memo,
-            keys: no_keys(alloc),
-            found: Vec::new(alloc),
+            cache,
+            findings: Findings::new(alloc),
         })
     }
 
     /// The world whose cells it decides.
     pub fn world(&self) -> &'a World
-        ensures { result.now ≡ self.now.world }
+        ensures { result.now ≡ self.now }
     {
         self.index.world()
     }
 
-    /// The verdict on the request of a cell, which has to be below `cells()` of the world, whatever was asked before. After a
-    /// refusal the engine is as usable as before.
+    /// The verdict on the request of a cell, which has to be below `cells()` of the world, whatever was asked before. All denies
+    /// are tested, and allows until one matches. After a refusal the engine is as usable as before.
+    ///
+    /// AWS IAM User Guide, "Policy evaluation logic".
     pub fn decide(&mut self, alloc: Global, cell: u64) -> Result<Verdict, OutOfMemory>
-        requires { cell < world_cells self.old.world }
-        ensures verdict { IfOk result (IsVerdictOf self.old.world cell) }
-        ensures same { self.new.world ≡ self.old.world }
+        requires { cell < world_cells self.old }
+        ensures verdict { IfOk result (IsVerdictOf self.old cell) }
+        ensures same { self.new ≡ self.old }
     {
-        let world = self.world();
-        let (p, a, r) = world.triple(cell);
-        let number = self.find(alloc, p, a, r)?;
-        let verdict = self.verdict(number).copy(alloc)?;
-        Ok(verdict)
-    }
-
-    /// The decision on the request of a cell, as [`Engine::decide`] gives it.
-    pub fn decide_brief(&mut self, alloc: Global, cell: u64) -> Result<Decision, OutOfMemory>
-        requires { cell < world_cells self.old.world }
-        ensures decision { IfOk result (IsDecisionOf self.old.world cell) }
-        ensures same { self.new.world ≡ self.old.world }
-    {
-        let world = self.world();
-        let (p, a, r) = world.triple(cell);
-        let number = self.find(alloc, p, a, r)?;
-        Ok(self.verdict(number).decision)
-    }
-
-    /// The number of the verdict on principal p's request for action a on resource r, each below the number of its kind. It
-    /// is that of the verdict until the next call.
-    #[inline(always)]
-    pub fn find(&mut self, alloc: Global, p: u64, a: u64, r: u64) -> Result<usize, OutOfMemory>
-        requires principal { p < length self.old.world.principals }
-        requires action { a < length self.old.world.actions }
-        requires resource { r < length self.old.world.resources }
-        ensures number { IfOk result (IsNumberAt self.new p a r) }
-        ensures same { self.new.world ≡ self.old.world }
-    {
-        let class = class_of(
+        let (p, a, r) = self.world().triple(cell);
+        let frame = find(
             alloc,
             self.index,
-            self.survey,
-            &mut self.memo,
-            &mut self.keys,
+            &mut self.cache,
+            &mut self.findings,
             p,
+            a,
             r,
         )?;
-        number_of(alloc, self.index, &mut self.memo, &mut self.found, class, a)
+        early_verdict(alloc, frame, self.findings.as_slice())
     }
 
-    /// The verdict of a number that [`Engine::find`] gave, on the request that it was given for.
-    #[inline(always)]
-    pub fn verdict(&self, number: usize) -> &Verdict
-        requires { number < length self.now.rulings }
-        ensures { (p a r : ℕ) → IsNumberAt self.now p a r number → IsVerdictAt self.now.world p a r result.now }
+    /// The decision on the request of a cell, as [`Engine::decide`] gives it, and sooner: it stops at the first deny that matches,
+    /// and tests an allow only while its check is open.
+    pub fn decide_brief(&mut self, alloc: Global, cell: u64) -> Result<Decision, OutOfMemory>
+        requires { cell < world_cells self.old }
+        ensures decision { IfOk result (IsDecisionOf self.old cell) }
+        ensures same { self.new ≡ self.old }
     {
-        self.memo.rulings[number].verdict()
+        let (p, a, r) = self.world().triple(cell);
+        decide_at(
+            alloc,
+            self.index,
+            &mut self.cache,
+            &mut self.findings,
+            p,
+            a,
+            r,
+        )
     }
 }
 
-/// The class of principal p and resource r.
-#[inline(always)]
-fn class_of<'a>(
+/// Finds what the verdict on principal p's request for action a on resource r asks for.
+fn find<'a>(
     alloc: Global,
-    index: &'a Index<'a>,
-    survey: Option<&'a Survey<'a>>,
-    memo: &mut Memo<'a>,
-    keys: &mut Vec<Keys>,
+    index: &Index<'a>,
+    cache: &mut MatchCache<'a>,
+    findings: &mut Findings,
     p: u64,
-    r: u64,
-) -> Result<usize, OutOfMemory>
-    requires survey { IfSome survey (λ survey. survey.now ≡ index.now) }
-    requires principal { p < length index.now.principals }
-    requires resource { r < length index.now.resources }
-    requires right { IsRight index.now memo.old }
-    requires keys { All (AreKeys index.now) keys.old.items }
-    ensures right { IsRight index.entry.now memo.new }
-    ensures keys { All (AreKeys index.entry.now) keys.new.items }
-    ensures class { IfOk result (HasClass index.entry.now memo.new.classes.items p r) }
-{
-    match memo.class_of(p, r) {
-        Some(class) => Ok(class),
-        None => find_class(alloc, index, survey, memo, keys, p, r),
-    }
-}
-
-/// The class of principal p and resource r, by what a survey found, or else by a scan of all statements that apply.
-#[inline(never)]
-fn find_class<'a>(
-    alloc: Global,
-    index: &'a Index<'a>,
-    survey: Option<&'a Survey<'a>>,
-    memo: &mut Memo<'a>,
-    keys: &mut Vec<Keys>,
-    p: u64,
-    r: u64,
-) -> Result<usize, OutOfMemory>
-    requires survey { IfSome survey (λ survey. survey.now ≡ index.now) }
-    requires principal { p < length index.now.principals }
-    requires resource { r < length index.now.resources }
-    requires right { IsRight index.now memo.old }
-    requires keys { All (AreKeys index.now) keys.old.items }
-    ensures right { IsRight index.entry.now memo.new }
-    ensures keys { All (AreKeys index.entry.now) keys.new.items }
-    ensures class { IfOk result (HasClass index.entry.now memo.new.classes.items p r) }
-{
-    let shared = held_by(alloc, index, survey, keys, p, r)?;
-    memo.class_with(alloc, p, r, shared)
-}
-
-/// What the requests of principal p for resource r share, as a survey found it, or by a scan.
-fn held_by<'a>(
-    alloc: Global,
-    index: &'a Index<'a>,
-    survey: Option<&'a Survey<'a>>,
-    keys: &mut Vec<Keys>,
-    p: u64,
-    r: u64,
-) -> Result<Held<'a>, OutOfMemory>
-    requires survey { IfSome survey (λ survey. survey.now ≡ index.now) }
-    requires principal { p < length index.now.principals }
-    requires resource { r < length index.now.resources }
-    requires keys { All (AreKeys index.now) keys.old.items }
-    ensures keys { All (AreKeys index.entry.now) keys.new.items }
-    ensures shared { IfOk result (IsSharedAt index.entry.now p r) }
-{
-    match lent(survey, p, r) {
-        Some(shared) => Ok(Held::lent(shared)),
-        None => Ok(Held::own(shared_by(alloc, index, keys, p, r)?)),
-    }
-}
-
-/// What the requests of principal p for resource r share, where a survey found it.
-fn lent<'a>(survey: Option<&'a Survey<'a>>, p: u64, r: u64) -> Option<&'a Shared<'a>>
-    requires { IfSome survey (λ survey. r < length survey.now.resources) }
-    ensures { (world : WorldValue) → IfSome survey.entry (λ survey. survey.now ≡ world) → IfSome result (λ shared. IsSharedAt world p r shared.now) }
-{
-    survey?.shared(p, r)
-}
-
-/// The number of the verdict on requests of a class for action a.
-#[inline(always)]
-fn number_of(
-    alloc: Global,
-    index: &Index<'_>,
-    memo: &mut Memo<'_>,
-    found: &mut Vec<Matched>,
-    class: usize,
     a: u64,
-) -> Result<usize, OutOfMemory>
+    r: u64,
+) -> Result<Frame, OutOfMemory>
+    requires same { cache.old ≡ index.now }
+    requires principal { p < length index.now.principals }
     requires action { a < length index.now.actions }
-    requires class { class < length memo.old.classes.items }
-    requires right { IsRight index.now memo.old }
-    ensures right { IsRight index.now memo.new }
-    ensures number { (class_is : Class) → slice_get memo.old.classes.items class ≡ Some class_is
-        → IfOk result (IsNumber index.now class_is.shared memo.new.rulings.items a) }
+    requires resource { r < length index.now.resources }
+    ensures enough { IfOk result (λ frame. IsEnoughAt index.now p a r frame findings.new) }
+    ensures same { cache.new ≡ cache.old }
 {
-    match memo.number_of(class, a) {
-        Some(number) => Ok(number),
-        None => find_number(alloc, index, memo, found, class, a),
-    }
+    candidates_suffice();
+    let world = index.world();
+    let frame = world.applicable(p, r).frame();
+    let candidates = index.candidates_at(alloc, p, a, r)?;
+    let derived = world.derived(alloc, p, r)?;
+    let context = index.parts().context(p, r, &derived);
+    let access = world.access(p, r, &context);
+    find_all(alloc, cache, findings, candidates.as_slice(), access, r)?;
+    Ok(frame)
 }
 
-/// The number of the verdict on requests of a class for action a, from the statements of the class that act on it.
-#[inline(never)]
-fn find_number(
+/// The decision on principal p's request for action a on resource r.
+fn decide_at<'a>(
     alloc: Global,
-    index: &Index<'_>,
-    memo: &mut Memo<'_>,
-    found: &mut Vec<Matched>,
-    class: usize,
+    index: &Index<'a>,
+    cache: &mut MatchCache<'a>,
+    findings: &mut Findings,
+    p: u64,
     a: u64,
-) -> Result<usize, OutOfMemory>
+    r: u64,
+) -> Result<Decision, OutOfMemory>
+    requires same { cache.old ≡ index.now }
+    requires principal { p < length index.now.principals }
     requires action { a < length index.now.actions }
-    requires class { class < length memo.old.classes.items }
-    requires right { IsRight index.now memo.old }
-    ensures right { IsRight index.now memo.new }
-    ensures number { (class_is : Class) → slice_get memo.old.classes.items class ≡ Some class_is
-        → IfOk result (IsNumber index.now class_is.shared memo.new.rulings.items a) }
+    requires resource { r < length index.now.resources }
+    ensures decision { IfOk result (IsDecisionAt index.now p a r) }
+    ensures same { cache.new ≡ cache.old }
 {
-    let frame = memo.find(found, class, a, index.world().action_text(a))?;
-    let number = memo.ruling(alloc, frame, found.as_slice())?;
-    memo.keep_number(class, a, number);
-    Ok(number)
+    candidates_suffice();
+    deny_decides();
+    let world = index.world();
+    let frame = world.applicable(p, r).frame();
+    let candidates = index.candidates_at(alloc, p, a, r)?;
+    let derived = world.derived(alloc, p, r)?;
+    let context = index.parts().context(p, r, &derived);
+    let access = world.access(p, r, &context);
+    if is_denied(alloc, cache, findings, candidates.as_slice(), access, r)? {
+        return Ok(Decision::ExplicitDeny);
+    }
+    Ok(early_decision(frame, findings.as_slice()))
 }

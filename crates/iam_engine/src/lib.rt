@@ -1,16 +1,13 @@
-//! An engine that decides the cells of a world one after the other, and keeps what they share.
+//! An engine that decides the cells of a world one at a time, in any order: it looks at the candidates of each alone, remembers within
+//! bounds which texts match which resources, and stops as soon as the answer is settled.
 #![tactic(auto)]
 
-mod elements;
+mod cache;
 mod engine;
-mod held;
-mod index;
-mod keys;
-mod lists;
-mod memo;
-mod slots;
-mod survey;
+mod known;
+mod walk;
 
 pub use engine::Engine;
-pub use index::Index;
-pub use survey::{Block, Survey, Surveyor, wants_survey};
+pub use iam_index::Index;
+pub use iam_layers::{Decision, Verdict, World};
+pub use iam_text::OutOfMemory;

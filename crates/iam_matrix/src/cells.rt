@@ -11,8 +11,8 @@ use crate::each::end_of;
 use crate::fault::MatrixFault;
 use crate::survey::survey_of;
 use crate::workers::is_unlawful;
+use iam_classes::{ClassEngine, Index, Survey};
 use iam_crew::{Bound, Crew, Gate, gather};
-use iam_engine::{Engine, Index, Survey};
 use iam_layers::{Decision, Verdict, World};
 use iam_text::OutOfMemory;
 use std::alloc::Global;
@@ -27,7 +27,7 @@ trait Entry: Drop {
     // It is what has to be said of this cell.
     ghost is: { WorldValue → ℕ → Self → Type 0 };
 
-    fn at(alloc: Global, engine: &mut Engine<'_>, cell: u64) -> Result<Self, OutOfMemory>
+    fn at(alloc: Global, engine: &mut ClassEngine<'_>, cell: u64) -> Result<Self, OutOfMemory>
         requires { cell < world_cells engine.old.world }
         ensures is { IfOk result (is engine.old.world cell) }
         ensures same { engine.new.world ≡ engine.old.world };
@@ -38,7 +38,7 @@ impl Entry for Verdict {
 
     ghost is = { λ world cell verdict. IsVerdictOf world cell verdict };
 
-    fn at(alloc: Global, engine: &mut Engine<'_>, cell: u64) -> Result<Verdict, OutOfMemory> {
+    fn at(alloc: Global, engine: &mut ClassEngine<'_>, cell: u64) -> Result<Verdict, OutOfMemory> {
         engine.decide(alloc, cell)
     }
 }
@@ -48,7 +48,7 @@ impl Entry for Decision {
 
     ghost is = { λ world cell decision. IsDecisionOf world cell decision };
 
-    fn at(alloc: Global, engine: &mut Engine<'_>, cell: u64) -> Result<Decision, OutOfMemory> {
+    fn at(alloc: Global, engine: &mut ClassEngine<'_>, cell: u64) -> Result<Decision, OutOfMemory> {
         engine.decide_brief(alloc, cell)
     }
 }
@@ -69,7 +69,7 @@ impl<'a, E: Entry + Send + Sync> Crew for Entries<'a, E> {
 
     type Output = Vec<E>;
 
-    type Tools = Engine<'a>;
+    type Tools = ClassEngine<'a>;
 
     ghost fits = { λ crew engine. engine.world ≡ crew.survey.now };
 
@@ -79,8 +79,8 @@ impl<'a, E: Entry + Send + Sync> Crew for Entries<'a, E> {
 
     ghost gives = { λ crew tile output _. AreEntries (E.is crew.survey.now) (start_of crew.cut.now tile) (slice_index crew.cut.now tile) output.items };
 
-    fn tools(&self, alloc: Global) -> Result<Engine<'a>, OutOfMemory> {
-        Engine::surveyed(alloc, self.survey, self.workers)
+    fn tools(&self, alloc: Global) -> Result<ClassEngine<'a>, OutOfMemory> {
+        ClassEngine::surveyed(alloc, self.survey, self.workers)
     }
 
     fn skip(&self, _bound: &mut Bound<'_>, _tile: u64) -> Option<Vec<E>> {
@@ -90,7 +90,7 @@ impl<'a, E: Entry + Send + Sync> Crew for Entries<'a, E> {
     fn work(
         &self,
         alloc: Global,
-        engine: &mut Engine<'a>,
+        engine: &mut ClassEngine<'a>,
         _bound: &mut Bound<'_>,
         tile: u64,
     ) -> Result<Vec<E>, OutOfMemory> {
@@ -103,7 +103,7 @@ impl<'a, E: Entry + Send + Sync> Crew for Entries<'a, E> {
 /// The entries of the cells of a tile.
 fn entries_of<E: Entry>(
     alloc: Global,
-    engine: &mut Engine<'_>,
+    engine: &mut ClassEngine<'_>,
     tile: Cells,
 ) -> Result<Vec<E>, OutOfMemory>
     requires { tile.from + tile.count ≤ world_cells engine.old.world }

@@ -3,7 +3,7 @@ ghost use Rattle.std.specs.Prelude.{◌≡◌, ◌+◌, ◌≤◌, IfOk};
 ghost use Rattle.iam_layers.specs.Cell.{IsCell, IsDecisionOf};
 ghost use Rattle.iam_world.specs.World.{world_cells};
 
-use iam_engine::Engine;
+use iam_classes::ClassEngine;
 use iam_layers::{Decision, World};
 use iam_row::Position;
 use iam_text::OutOfMemory;
@@ -23,7 +23,7 @@ pub fn end_of(world: &World, from: u64, count: u64) -> u64
 #[inline(always)]
 pub fn decision_at(
     alloc: Global,
-    engine: &mut Engine<'_>,
+    engine: &mut ClassEngine<'_>,
     at: Position,
 ) -> Result<Decision, OutOfMemory>
     requires { IsCell engine.old.world at.cell at.principal at.action at.resource }

@@ -7,8 +7,8 @@ ghost use Rattle.iam_matrix.specs.Code.Tiles.{AreDecisions, AreEntriesOf, AreTai
 
 use crate::cut::{Cells, Cut};
 use crate::each::{decision_at, end_of};
+use iam_classes::{ClassEngine, Survey};
 use iam_crew::{Bound, Crew};
-use iam_engine::{Engine, Survey};
 use iam_report::{Entries, Tile};
 use iam_row::{Format, Position};
 use iam_text::OutOfMemory;
@@ -37,7 +37,7 @@ impl<'a> Crew for Rows<'a> {
 
     type Output = Tile;
 
-    type Tools = Engine<'a>;
+    type Tools = ClassEngine<'a>;
 
     ghost fits = { λ crew engine. engine.world ≡ crew.survey.now };
 
@@ -47,8 +47,8 @@ impl<'a> Crew for Rows<'a> {
 
     ghost gives = { λ crew tile output _. AreTailsOf crew.asked.format crew.asked.brief crew.survey.now (start_of crew.cut.now tile) (slice_index crew.cut.now tile) output };
 
-    fn tools(&self, alloc: Global) -> Result<Engine<'a>, OutOfMemory> {
-        Engine::surveyed(alloc, self.survey, self.asked.workers)
+    fn tools(&self, alloc: Global) -> Result<ClassEngine<'a>, OutOfMemory> {
+        ClassEngine::surveyed(alloc, self.survey, self.asked.workers)
     }
 
     fn skip(&self, _bound: &mut Bound<'_>, _tile: u64) -> Option<Tile> {
@@ -58,7 +58,7 @@ impl<'a> Crew for Rows<'a> {
     fn work(
         &self,
         alloc: Global,
-        engine: &mut Engine<'a>,
+        engine: &mut ClassEngine<'a>,
         _bound: &mut Bound<'_>,
         tile: u64,
     ) -> Result<Tile, OutOfMemory> {
@@ -72,7 +72,7 @@ impl<'a> Crew for Rows<'a> {
 /// The tails of the cells of a tile.
 fn tile_of(
     alloc: Global,
-    engine: &mut Engine<'_>,
+    engine: &mut ClassEngine<'_>,
     format: Format,
     brief: bool,
     tile: Cells,
@@ -88,7 +88,7 @@ fn tile_of(
 /// The verdicts of the cells of a tile, or in brief their decisions.
 fn entries_of(
     alloc: Global,
-    engine: &mut Engine<'_>,
+    engine: &mut ClassEngine<'_>,
     brief: bool,
     tile: Cells,
 ) -> Result<Entries, OutOfMemory>
@@ -104,7 +104,11 @@ fn entries_of(
 }
 
 /// The verdicts of the cells of a tile.
-fn full_entries(alloc: Global, engine: &mut Engine<'_>, tile: Cells) -> Result<Entries, OutOfMemory>
+fn full_entries(
+    alloc: Global,
+    engine: &mut ClassEngine<'_>,
+    tile: Cells,
+) -> Result<Entries, OutOfMemory>
     requires { tile.from + tile.count ≤ world_cells engine.old.world }
     ensures entries { IfOk result (λ entries. AreVerdicts engine.old.world tile.from tile.count entries) }
     ensures same { engine.new.world ≡ engine.old.world }
@@ -124,7 +128,7 @@ fn full_entries(alloc: Global, engine: &mut Engine<'_>, tile: Cells) -> Result<E
 /// The decisions of the cells of a tile.
 fn brief_entries(
     alloc: Global,
-    engine: &mut Engine<'_>,
+    engine: &mut ClassEngine<'_>,
     tile: Cells,
 ) -> Result<Entries, OutOfMemory>
     requires { tile.from + tile.count ≤ world_cells engine.old.world }

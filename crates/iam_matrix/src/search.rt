@@ -10,8 +10,8 @@ use crate::cut::{Cells, Cut};
 use crate::each::{decision_at, end_of};
 use crate::fault::MatrixFault;
 use crate::workers::is_unlawful;
+use iam_classes::{ClassEngine, Index};
 use iam_crew::{Bound, Crew, Gate, gather};
-use iam_engine::{Engine, Index};
 use iam_layers::{Decision, World};
 use iam_row::Position;
 use iam_text::OutOfMemory;
@@ -34,7 +34,7 @@ impl<'a> Crew for Search<'a> {
 
     type Output = ();
 
-    type Tools = Engine<'a>;
+    type Tools = ClassEngine<'a>;
 
     ghost fits = { λ crew engine. engine.world ≡ crew.index.now };
 
@@ -44,8 +44,8 @@ impl<'a> Crew for Search<'a> {
 
     ghost gives = { λ crew tile _ bound. AreNotAllowedBelow crew.index.now (start_of crew.cut.now tile) (slice_index crew.cut.now tile) bound };
 
-    fn tools(&self, alloc: Global) -> Result<Engine<'a>, OutOfMemory> {
-        Engine::new(alloc, self.index, self.workers)
+    fn tools(&self, alloc: Global) -> Result<ClassEngine<'a>, OutOfMemory> {
+        ClassEngine::new(alloc, self.index, self.workers)
     }
 
     fn skip(&self, bound: &mut Bound<'_>, tile: u64) -> Option<()> {
@@ -59,7 +59,7 @@ impl<'a> Crew for Search<'a> {
     fn work(
         &self,
         alloc: Global,
-        engine: &mut Engine<'a>,
+        engine: &mut ClassEngine<'a>,
         bound: &mut Bound<'_>,
         tile: u64,
     ) -> Result<(), OutOfMemory> {
@@ -90,7 +90,11 @@ fn is_allowed(decision: Decision) -> bool
 }
 
 /// The first allowed cell of a tile.
-fn first_in(alloc: Global, engine: &mut Engine<'_>, tile: Cells) -> Result<Option<u64>, OutOfMemory>
+fn first_in(
+    alloc: Global,
+    engine: &mut ClassEngine<'_>,
+    tile: Cells,
+) -> Result<Option<u64>, OutOfMemory>
     requires { tile.from + tile.count ≤ world_cells engine.old.world }
     ensures first { IfOk result (IsFirstIn engine.old.world tile.from tile.count) }
     ensures same { engine.new.world ≡ engine.old.world }
@@ -125,7 +129,7 @@ pub fn first<R: Threads + Sync, G: Gate + Sync>(
     if is_unlawful(workers) {
         return Err(MatrixFault::Workers);
     }
-    let index = Index::build(alloc, world)?;
+    let index = Index::sparse(alloc, world)?;
     Ok(first_of(rt, alloc, &index, cut, workers, gate)?)
 }
 

@@ -1,8 +1,8 @@
 // What the requests of a world's pairs share, found by all workers before its tiles.
-ghost use Rattle.std.specs.Prelude.{◌≡◌, ◌≤◌};
+ghost use Rattle.std.specs.Prelude.{◌≡◌, ◌*◌, ◌≤◌};
 
+use iam_classes::{Block, Index, Survey, Surveyor, wants_survey};
 use iam_crew::{Bound, Crew, Open, gather};
-use iam_engine::{Block, Index, Survey, Surveyor, wants_survey};
 use iam_text::OutOfMemory;
 use std::alloc::Global;
 use std::thread::Threads;
@@ -54,6 +54,13 @@ impl<'a> Crew for Surveyors<'a> {
     ghost lasts = { λ _ _ _ _ _ _ given. given };
 }
 
+/// How many pairs stand in a block, where so many are cut into blocks of which none leaves any out.
+fn block_length(pairs: u64) -> u64
+    ensures { pairs ≤ result * 256 }
+{
+    pairs.div_ceil(BLOCKS)
+}
+
 /// What the requests of a world's pairs share, found by so many workers where they had else to wait for one of them. Where they had
 /// not, or memory is refused, it has nothing, and each worker finds what it needs.
 pub fn survey_of<'a, R: Threads + Sync>(
@@ -67,13 +74,13 @@ pub fn survey_of<'a, R: Threads + Sync>(
     ensures { result ≡ index.entry.now }
 {
     let world = index.world();
-    if !wants_survey(world, workers) {
+    if !wants_survey(index, workers) {
         return Survey::of(index, 1, Vec::new(alloc));
     }
     let pairs = world.principals().saturating_mul(world.resources());
     let crew = Surveyors {
         index,
-        length: pairs.div_ceil(BLOCKS),
+        length: block_length(pairs),
         workers,
     };
     match gather(rt, alloc, &crew, BLOCKS, workers, &Open) {

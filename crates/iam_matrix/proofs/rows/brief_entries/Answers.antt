@@ -1,5 +1,5 @@
-use Rattle.std.proofs.Common.{◌≡◌, ℕ, subst, ◌+◌, ◌-◌, ◌≤◌, [], ◌++◌, ◌∷◌, sym, ap, ◌∙◌, arith}
-use Rattle.std.proofs.lemmas.List.{map_push}
+use Rattle.std.proofs.Common.{◌≡◌, ℕ, subst, ◌+◌, ◌-◌, ◌≤◌, [], ◌++◌, ◌∷◌, length, sym, ap, ◌∙◌, arith}
+use Rattle.std.proofs.lemmas.List.{map_push, length-map}
 use Rattle.iam_layers.specs.Cell.{IsCell, IsDecisionOf}
 use Rattle.iam_row.specs.Piece.{bare}
 use Rattle.iam_world.specs.World.{WorldValue, world_cells}
@@ -29,6 +29,11 @@ decision_at-requires c =
     let few = subst F (sym c.world-world.ensures) c.requires in
     let P : WorldValue → Type 0 = λ w. IsCell w at.cell at.principal at.action at.resource in
     subst P (sym so_far.same) (so_far.there (omega (arith, c.loop-at-test.true, c.end_of-end.ensures.value, few)))
+
+pub push_decision-requires : goal.push_decision-requires
+push_decision-requires c =
+    let (decisions, made, same) = c.loop-at.invariant.so_far in
+    omega (arith, ap length same, length-map decisions bare, made.count_is, c.loop-at-test.true, c.end_of-end.ensures.few)
 
 pub loop-at-preserved : goal.loop-at-preserved
 loop-at-preserved c =

@@ -27,6 +27,9 @@ verdict-requires c =
     let (verdict, there, is) = c.in_ok-number.ensures.number in
     slice_get_within c.find.new.self.rulings c.in_ok-number.number verdict there
 
+pub push_hinted-requires : goal.push_hinted-requires
+push_hinted-requires c = omega (arith, c.loop-at.invariant.so_far.count_is, c.loop-at-test.true, c.end_of-end.ensures.few)
+
 pub loop-at-preserved : goal.loop-at-preserved
 loop-at-preserved c =
     let world = c.world-world.result.now in

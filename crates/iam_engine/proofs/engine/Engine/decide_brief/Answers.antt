@@ -1,5 +1,6 @@
 use Rattle.std.proofs.Common.{subst}
-use Rattle.iam_layers.specs.Cell.{IsCell, IsVerdictAt}
+use Rattle.std.proofs.lemmas.Result.{IfOk-weaker}
+use Rattle.iam_layers.specs.Cell.{IsCell, IsDecisionAt}
 use Rattle.iam_world.specs.World.{WorldValue}
 use Rattle.iam_engine.proofs.engine.Engine.decide_brief.Goals as goal
 
@@ -7,6 +8,8 @@ pub returns-clause-decision : goal.returns-clause-decision
 returns-clause-decision c =
     let (p, a, r) = c.triple-p.result in
     let E : WorldValue → Type 0 = λ w. IsCell w c.args.cell p a r in
-    let W : WorldValue → Type 0 = λ world. IsVerdictAt world p a r c.verdict.result.now in
-    let (applicable, request, asked, holds) = subst W c.in_ok-number.ensures.same (c.verdict.ensures p a r c.in_ok-number.ensures.number) in
-    (p, a, r, subst E c.world-world.ensures c.triple-p.ensures.is, (applicable, request, asked, holds.decided))
+    IfOk-weaker c.decide_at.result _ _
+    (λ decision is.
+    let D : WorldValue → Type 0 = λ w. IsDecisionAt w p a r decision in
+    (p, a, r, subst E c.world.ensures c.triple-p.ensures.is, subst D c.self.view_is is))
+    c.decide_at.ensures.decision

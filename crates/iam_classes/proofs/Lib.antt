@@ -1,0 +1,2 @@
+mod MemoLemmas
+mod SurveyLemmas

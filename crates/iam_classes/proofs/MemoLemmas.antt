@@ -1,0 +1,48 @@
+-- What is kept stays right where classes and verdicts are added.
+use Rattle.std.proofs.Common.{◌≡◌, inl, inr, List, [], ◌∷◌, ◌++◌, Option, Some, sym, subst, arith}
+use Rattle.std.proofs.lemmas.Option.{slice_get_within}
+use Rattle.std.specs.List.{slice_get}
+use Rattle.iam_decision.specs.Ruling.{RulingValue}
+use Rattle.iam_world.specs.World.{WorldValue}
+use Rattle.iam_index.specs.Elements.{AreElementNumbers}
+use Rattle.iam_classes.specs.Memo.{AreAnswers, ArePairs, HasClass, HasNumber, HaveRows}
+use Rattle.iam_index.specs.declared.elements.Element.{Element}
+use Rattle.iam_classes.specs.declared.memo.Answer.{Answer}
+use Rattle.iam_classes.specs.declared.memo.Class.{Class}
+use Rattle.iam_classes.specs.declared.memo.Pair.{Pair}
+use Rattle.iam_index.proofs.ListLemmas.{get_back, get_more}
+use Rattle.iam_index.proofs.SlotLemmas.{all_weaker}
+
+pub pairs_more : (world : WorldValue) (classes more : List Class) (pairs : List (Option Pair)) → ArePairs world classes pairs
+    → ArePairs world (classes ++ more) pairs
+pairs_more world classes more pairs all =
+    all_weaker (λ (p : Pair). HasClass world classes p.principal p.resource p.class) (λ (p : Pair). HasClass world (classes ++ more) p.principal p.resource p.class)
+    pairs (λ p (class, at, is). (class, get_more classes more p.class class at, is)) all
+
+pub answers_more : (world : WorldValue) (classes more : List Class) (rulings : List RulingValue) (answers : List (Option Answer))
+    → AreAnswers world classes rulings answers → AreAnswers world (classes ++ more) rulings answers
+answers_more world classes more rulings answers all =
+    all_weaker (λ (a : Answer). HasNumber world classes rulings a.class a.action a.number)
+    (λ (a : Answer). HasNumber world (classes ++ more) rulings a.class a.action a.number) answers
+    (λ a (class, at, is). (class, get_more classes more a.class class at, is)) all
+
+pub answers_behind : (world : WorldValue) (classes : List Class) (rulings more : List RulingValue) (answers : List (Option Answer))
+    → AreAnswers world classes rulings answers → AreAnswers world classes (rulings ++ more) answers
+answers_behind world classes rulings more answers all =
+    all_weaker (λ (a : Answer). HasNumber world classes rulings a.class a.action a.number)
+    (λ (a : Answer). HasNumber world classes (rulings ++ more) a.class a.action a.number) answers
+    (λ a (class, at, (ruling, here, is)). (class, at, (ruling, get_more rulings more a.number ruling here, is))) all
+
+pub class_rows_more : (elements : List Element) (classes : List Class) (class : Class) → AreElementNumbers elements class.shared.living class.rows.items
+    → HaveRows elements classes → HaveRows elements (classes ++ class ∷ [])
+class_rows_more elements classes class is all n other at =
+    elim (get_back classes class n other at) [
+      | inl before ↦ all n other before
+      | inr (last, same) ↦ let R : Class → Type 0 = λ c. AreElementNumbers elements c.shared.living c.rows.items in subst R (sym same) is
+    ]
+
+pub no_rows : (elements : List Element) (classes : List Class) → classes ≡ [] → HaveRows elements classes
+no_rows elements classes none n class at =
+    let H : List Class → Type 0 = λ cs. slice_get cs n ≡ Some class in
+    let within = slice_get_within [] n class (subst H none at) in
+    absurd (omega (arith, within))

@@ -1,0 +1,77 @@
+-- What an engine keeps: classes of requests that share the same, and verdicts on them. It may keep anything that is right,
+-- and let go of it at any time. LOGIC 1.1.
+use Rattle.std.specs.Prelude.{◌≡◌, ℕ, List, Option, Some}
+use Rattle.std.specs.List.{slice_get}
+use Rattle.iam_match.specs.Statement.{AccessValue, request_for}
+use Rattle.iam_decision.specs.Applicable.{ApplicableValue}
+use Rattle.iam_decision.specs.Decision.{IsVerdict}
+use Rattle.iam_decision.specs.Living.{AreFound, IsShared, SharedValue}
+use Rattle.iam_decision.specs.Matched.{placed}
+use Rattle.iam_decision.specs.Ruling.{IsRuling, RulingValue}
+use Rattle.iam_decision.specs.declared.frame.Frame.{Frame}
+use Rattle.iam_decision.specs.declared.living.Matched.{Matched}
+use Rattle.iam_decision.specs.declared.verdict.Verdict.{Verdict}
+use Rattle.iam_layers.specs.Cell.{IsAction, IsSharedAt}
+use Rattle.iam_world.specs.World.{WorldValue}
+use Rattle.iam_index.specs.Elements.{AreElements, AreElementNumbers}
+use Rattle.iam_index.specs.Slots.{AllAre}
+use Rattle.iam_index.specs.declared.elements.Element.{Element}
+use Rattle.iam_classes.specs.declared.memo.Answer.{Answer}
+use Rattle.iam_classes.specs.declared.memo.Class.{Class}
+use Rattle.iam_classes.specs.declared.memo.Memo.{Memo}
+use Rattle.iam_classes.specs.declared.memo.Pair.{Pair}
+
+-- requests of the class share this
+abbrev pub HasShared : List Class → SharedValue → ℕ → Type 0
+HasShared classes shared n = (class : Class) × (slice_get classes n ≡ Some class) × (class.shared ≡ shared)
+
+-- requests of principal p for resource r share what requests of the class share
+abbrev pub HasClass : WorldValue → List Class → ℕ → ℕ → ℕ → Type 0
+HasClass world classes p r n = (class : Class) × (slice_get classes n ≡ Some class) × IsSharedAt world p r class.shared
+
+-- this is the verdict on every request for action a that shares this
+abbrev pub IsSharedVerdict : WorldValue → SharedValue → ℕ → Verdict → Type 0
+IsSharedVerdict world shared a verdict =
+    (action : List ℕ) (applicable : ApplicableValue) (access : AccessValue) → IsAction world a action
+    → IsShared world.actions applicable access shared → IsVerdict applicable (request_for access action) verdict
+
+-- the verdict of this number is the one on requests for action a that share this
+abbrev pub IsNumber : WorldValue → SharedValue → List RulingValue → ℕ → ℕ → Type 0
+IsNumber world shared rulings a number =
+    (ruling : RulingValue) × (slice_get rulings number ≡ Some ruling) × IsSharedVerdict world shared a ruling.verdict
+
+-- the same of requests of the class
+abbrev pub HasNumber : WorldValue → List Class → List RulingValue → ℕ → ℕ → ℕ → Type 0
+HasNumber world classes rulings n a number =
+    (class : Class) × (slice_get classes n ≡ Some class) × IsNumber world class.shared rulings a number
+
+-- the verdict of this number follows from this
+abbrev pub HasRuling : List RulingValue → Frame → List Matched → ℕ → Type 0
+HasRuling rulings frame found number = (ruling : RulingValue) × (slice_get rulings number ≡ Some ruling) × IsRuling frame found ruling
+
+-- what is asked of requests that share this, and which statements match those of them that are for the action
+abbrev pub Finds : WorldValue → SharedValue → List ℕ → Frame → List Matched → Type 0
+Finds world shared action frame found =
+    (applicable : ApplicableValue) (access : AccessValue) → IsShared world.actions applicable access shared
+    → (frame ≡ shared.frame) × AreFound (request_for access action) (placed applicable) found
+
+-- each pair is of its class
+abbrev pub ArePairs : WorldValue → List Class → List (Option Pair) → Type 0
+ArePairs world classes pairs = AllAre (λ pair. HasClass world classes pair.principal pair.resource pair.class) pairs
+
+-- each answer is the one on the requests of its class for its action
+abbrev pub AreAnswers : WorldValue → List Class → List RulingValue → List (Option Answer) → Type 0
+AreAnswers world classes rulings answers =
+    AllAre (λ answer. HasNumber world classes rulings answer.class answer.action answer.number) answers
+
+-- the kept elements of each class are those of its statements
+abbrev pub HaveRows : List Element → List Class → Type 0
+HaveRows elements classes =
+    (n : ℕ) (class : Class) → slice_get classes n ≡ Some class → AreElementNumbers elements class.shared.living class.rows.items
+
+-- everything that is kept is right
+pub record IsRight (world : WorldValue) (memo : Memo) : Type 0 where
+  pub pairs : ArePairs world memo.classes.items memo.pairs.items
+  pub answers : AreAnswers world memo.classes.items memo.rulings.items memo.answers.items
+  pub elements : AreElements world memo.elements.now.elements.items
+  pub rows : HaveRows memo.elements.now.elements.items memo.classes.items

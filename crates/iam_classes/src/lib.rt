@@ -1,0 +1,15 @@
+//! An engine for whole matrices: what the requests of a principal for a resource share is found once, and pairs that share the
+//! same are of one class.
+#![tactic(auto)]
+
+mod engine;
+mod held;
+mod keys;
+mod memo;
+mod survey;
+
+pub use engine::ClassEngine;
+pub use iam_index::Index;
+pub use iam_layers::{Decision, Shared, Verdict, World};
+pub use iam_text::OutOfMemory;
+pub use survey::{Block, Survey, Surveyor, wants_survey};

@@ -1,5 +1,0 @@
-use Rattle.iam_engine.proofs.ElementLemmas.{MatchesNoneBelow}
-use Rattle.iam_engine.proofs.elements.some_matches.Given as goal
-
-abbrev pub invariant-loop-a : goal.invariant-loop-a
-invariant-loop-a l = MatchesNoneBelow l.world l.action l.a

@@ -1,9 +1,0 @@
-use Rattle.std.proofs.Common.{map, take}
-use Rattle.iam_decision.specs.Code.Scan.{placed_value}
-use Rattle.iam_engine.specs.Elements.{AreElements}
-use Rattle.iam_engine.specs.Index.{AreListed}
-use Rattle.iam_engine.proofs.lists.concerned.Given as goal
-
-abbrev pub invariant-loop-standing : goal.invariant-loop-standing
-invariant-loop-standing l =
-    AreElements l.world l.elements.elements.items × AreListed l.world (map placed_value (take l.standing-index l.statements)) l.listed.items

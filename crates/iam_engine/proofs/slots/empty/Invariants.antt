@@ -1,5 +1,0 @@
-use Rattle.iam_engine.proofs.SlotLemmas.{EmptyBelow}
-use Rattle.iam_engine.proofs.slots.empty.Given as goal
-
-abbrev pub invariant-loop-slot : goal.invariant-loop-slot
-invariant-loop-slot g l = EmptyBelow l.slot l.slots

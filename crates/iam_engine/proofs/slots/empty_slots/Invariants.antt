@@ -1,5 +1,0 @@
-use Rattle.iam_engine.specs.Slots.{AreEmpty}
-use Rattle.iam_engine.proofs.slots.empty_slots.Given as goal
-
-abbrev pub invariant-slots : goal.invariant-slots
-invariant-slots g l = AreEmpty l.slots.items

@@ -1,0 +1,77 @@
+-- What is kept of action elements stays right where more is kept.
+use Rattle.std.proofs.Common.{◌≡◌, ◌↔◌, ◌⊎◌, ◌+◌, ◌<◌, inl, inr, ℕ, zero, suc, Bool, IsTrue, get_or, refl, arith, List, [], ◌∷◌, ◌++◌, length, Option, Some, IfSome, sym, ap, subst, ◌∙◌}
+use Rattle.std.proofs.lemmas.Option.{slice_get-get_or}
+use Rattle.std.specs.List.{slice_get}
+use Rattle.iam_element.specs.Reading.{ActionElement}
+use Rattle.iam_match.specs.Statement.{ActionMatches}
+use Rattle.iam_decision.specs.Living.{LivingValue}
+use Rattle.iam_layers.specs.Cell.{IsAction}
+use Rattle.iam_world.specs.World.{WorldValue}
+use Rattle.iam_index.specs.Elements.{AreElements, AreElementNumbers, HasElement, IsElement, MatchesNone, TellActs}
+use Rattle.iam_index.specs.declared.elements.Element.{Element}
+use Rattle.iam_index.proofs.ListLemmas.{get_back, get_more, some_same}
+
+-- one more action of the world
+pub tell_more : (world : WorldValue) (action : ActionElement) (acts : List Bool) (act : Bool) (text : List ℕ) → IsAction world (length acts) text
+    → (IsTrue act ↔ ActionMatches action text) → TellActs world action acts → TellActs world action (acts ++ act ∷ [])
+tell_more world action acts act text at is all a other named here asked =
+    elim (get_back acts act a other here) [
+      | inl before ↦ all a other named before asked
+      | inr (last, same) ↦
+          let own : text ≡ named = some_same text named (sym at ∙ ap (slice_get world.actions) (sym last) ∙ asked) in
+          let A : List ℕ → Type 0 = λ t. IsTrue act ↔ ActionMatches action t in
+          let B : Bool → Type 0 = λ b. IsTrue b ↔ ActionMatches action named in
+          subst B (sym same) (subst A own is)
+    ]
+
+-- none of the first actions of the world is matched
+abbrev pub MatchesNoneBelow : WorldValue → ActionElement → ℕ → Type 0
+MatchesNoneBelow world element n = (a : ℕ) (text : List ℕ) → a < n → IsAction world a text → ¬ ActionMatches element text
+
+pub none_more : (world : WorldValue) (element : ActionElement) (n : ℕ) (text : List ℕ) → IsAction world n text → ¬ ActionMatches element text
+    → MatchesNoneBelow world element n → MatchesNoneBelow world element (n + 1)
+none_more world element n text at idle none a other below there matched =
+    elim (lt_or_eq a n below) [
+      | inl before ↦ none a other before there matched
+      | inr same ↦
+          let A : ℕ → Type 0 = λ k. IsAction world k other in
+          let M : List ℕ → Type 0 = ActionMatches element in
+          idle (subst M (some_same other text (sym (subst A same there) ∙ at)) matched)
+    ]
+  where
+    lt_or_eq : (a n : ℕ) → a < n + 1 → (a < n) ⊎ (a ≡ n)
+    lt_or_eq zero zero below = inr refl
+    lt_or_eq zero (suc n) below = inl (omega arith)
+    lt_or_eq (suc a) zero below = absurd (omega (arith, below))
+    lt_or_eq (suc a) (suc n) below =
+        let less : a < n + 1 = omega (arith, below) in
+        elim (lt_or_eq a n less) [ inl before ↦ inl (omega (arith, before)) | inr same ↦ inr (ap suc same) ]
+
+pub none_of_all : (world : WorldValue) (element : ActionElement) (n : ℕ) → length world.actions ≡ n → MatchesNoneBelow world element n
+    → MatchesNone world element
+none_of_all world element n long none k d below =
+    let within : k < n = omega (arith, long, below) in
+    none k (get_or world.actions k d) within (slice_get-get_or world.actions k d below)
+
+-- one more element
+pub elements_more : (world : WorldValue) (elements : List Element) (element : Element) → IsElement world element → AreElements world elements
+    → AreElements world (elements ++ element ∷ [])
+elements_more world elements element is all n other at =
+    elim (get_back elements element n other at) [
+      | inl before ↦ all n other before
+      | inr (last, same) ↦ let E : Element → Type 0 = IsElement world in subst E (sym same) is
+    ]
+
+-- one more statement
+pub rows_more : (elements : List Element) (living : List LivingValue) (rows : List (Option ℕ)) (x : LivingValue) (row : Option ℕ)
+    → slice_get living (length rows) ≡ Some x → IfSome row (λ n. HasElement elements n x.action) → AreElementNumbers elements living rows
+    → AreElementNumbers elements living (rows ++ row ∷ [])
+rows_more elements living rows x row at is all i n statement kept there =
+    elim (get_back rows row i (Some n) kept) [
+      | inl before ↦ all i n statement before there
+      | inr (last, same) ↦
+          let own : x ≡ statement = some_same x statement (sym at ∙ ap (slice_get living) (sym last) ∙ there) in
+          let A : LivingValue → Type 0 = λ l. HasElement elements n l.action in
+          let R : Option ℕ → Type 0 = λ r. IfSome r (λ m. HasElement elements m x.action) in
+          subst A own (subst R (sym same) is)
+    ]

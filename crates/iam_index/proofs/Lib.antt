@@ -1,0 +1,6 @@
+pub mod ListLemmas
+pub mod SlotLemmas
+mod ElementLemmas
+mod IndexLemmas
+mod ListedLemmas
+mod RowLemmas

@@ -1,0 +1,69 @@
+-- Lists of statements, one more at a time.
+use Rattle.std.proofs.Common.{◌≡◌, ◌<◌, inl, inr, ℕ, List, [], ◌∷◌, ◌++◌, length, Some, refl, sym, ap, subst, ◌∙◌, arith}
+use Rattle.std.proofs.lemmas.Option.{slice_get_within}
+use Rattle.std.specs.List.{slice_get}
+use Rattle.iam_decision.specs.Applicable.{ApplicableValue}
+use Rattle.iam_decision.specs.Matched.{Placed}
+use Rattle.iam_decision.specs.declared.scan.Standing.{Standing}
+use Rattle.iam_world.specs.World.{ResourceValue, WorldValue}
+use Rattle.iam_layers.specs.Applicable.{applicable_of}
+use Rattle.iam_layers.specs.Code.Statements.{HaveSameOrg}
+use Rattle.iam_index.specs.Index.{AreListed, AreLists, AreOrgs, HasOrg, HaveOrgs, ListsOrg, ListsRequester, ListsResource}
+use Rattle.iam_index.specs.declared.lists.Listed.{Listed}
+use Rattle.iam_index.specs.declared.lists.Org.{Org}
+use Rattle.iam_index.proofs.ListLemmas.{get_back, get_more, get_within}
+
+pub lists_more : (P : ℕ → List Standing → Type 0) (lists : List Listed) (listed : Listed) → P (length lists) listed.statements.items → AreLists P lists
+    → AreLists P (lists ++ listed ∷ [])
+lists_more P lists listed is all i other at =
+    elim (get_back lists listed i other at) [
+      | inl before ↦ all i other before
+      | inr (last, same) ↦
+          let Q : ℕ → Type 0 = λ k. P k listed.statements.items in
+          let R : Listed → Type 0 = λ l. P i l.statements.items in
+          subst R (sym same) (subst Q (sym last) is)
+    ]
+
+pub orgs_more : (world : WorldValue) (orgs : List Org) (org : Org) → ListsOrg world org.principal org.statements.items → AreOrgs world orgs
+    → AreOrgs world (orgs ++ org ∷ [])
+orgs_more world orgs org is all n other at =
+    elim (get_back orgs org n other at) [
+      | inl before ↦ all n other before
+      | inr (last, same) ↦ let R : Org → Type 0 = λ o. ListsOrg world o.principal o.statements.items in subst R (sym same) is
+    ]
+
+has_org_grows : (world : WorldValue) (orgs more : List Org) (p n : ℕ) → HasOrg world orgs p n → HasOrg world (orgs ++ more) p n
+has_org_grows world orgs more p n (org, at, lists) = (org, get_more orgs more n org at, lists)
+
+pub have_orgs_more : (world : WorldValue) (orgs more : List Org) (numbers : List ℕ) (number : ℕ)
+    → HasOrg world (orgs ++ more) (length numbers) number → HaveOrgs world orgs numbers → HaveOrgs world (orgs ++ more) (numbers ++ number ∷ [])
+have_orgs_more world orgs more numbers number has all p other at =
+    elim (get_back numbers number p other at) [
+      | inl before ↦ has_org_grows world orgs more p other (all p other before)
+      | inr (last, same) ↦
+          let Q : ℕ → Type 0 = λ k. HasOrg world (orgs ++ more) k number in
+          let R : ℕ → Type 0 = λ o. HasOrg world (orgs ++ more) p o in
+          subst R (sym same) (subst Q (sym last) has)
+    ]
+
+-- what is listed of the organisation of a principal is that of another whom the same one binds
+pub same_org_lists : (world : WorldValue) (p q : ℕ) (listed : List Standing) → q < length world.principals → HaveSameOrg world p q
+    → ListsOrg world q listed → ListsOrg world p listed
+same_org_lists world p q listed below same lists r a (principal, p_at, (resource, r_at, is)) =
+    let (other, q_at) = get_within world.principals q below in
+    let b = applicable_of world other resource in
+    let P : List Placed → Type 0 = λ z. AreListed world z listed in
+    subst P (sym (same r r a b (principal, p_at, (resource, r_at, is)) (other, q_at, (resource, r_at, refl)))) (lists r b (other, q_at, (resource, r_at, refl)))
+
+no_place : {X : Type 0} (xs : List X) (i : ℕ) (x : X) → length xs ≡ 0 → slice_get xs i ≡ Some x → ⊥
+no_place xs i x none at = let within = slice_get_within xs i x at in omega (arith, within, none)
+
+-- where there are no resources, or no principals, anything will do
+pub no_resources_org : (world : WorldValue) (p : ℕ) (listed : List Standing) → length world.resources ≡ 0 → ListsOrg world p listed
+no_resources_org world p listed none r a (principal, p_at, (resource, r_at, is)) = absurd (no_place world.resources r resource none r_at)
+
+pub no_resources_own : (world : WorldValue) (p : ℕ) (listed : List Standing) → length world.resources ≡ 0 → ListsRequester world p listed
+no_resources_own world p listed none r a (principal, p_at, (resource, r_at, is)) = absurd (no_place world.resources r resource none r_at)
+
+pub no_principals : (world : WorldValue) (r : ℕ) (listed : List Standing) → length world.principals ≡ 0 → ListsResource world r listed
+no_principals world r listed none p a (principal, p_at, (resource, r_at, is)) = absurd (no_place world.principals p principal none p_at)

@@ -1,0 +1,5 @@
+use Rattle.iam_index.proofs.SlotLemmas.{EmptyBelow}
+use Rattle.iam_index.proofs.slots.empty.Given as goal
+
+abbrev pub invariant-loop-slot : goal.invariant-loop-slot
+invariant-loop-slot g l = EmptyBelow l.slot l.slots

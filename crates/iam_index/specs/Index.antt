@@ -1,0 +1,85 @@
+-- An index of a world: of the statements that apply to requests those that may match one for some action of the world. LOGIC 1.1.
+use Rattle.std.specs.Prelude.{◌≡◌, ℕ, All, List, [], ◌∷◌, ◌++◌, Some, length, map}
+use Rattle.std.specs.List.{slice_get}
+use Rattle.iam_match.specs.Statement.{AccessValue, ActionMatches, RequestValue}
+use Rattle.iam_decision.specs.Applicable.{ApplicableValue}
+use Rattle.iam_decision.specs.Code.Scan.{org_placed, placed_value, requester_placed, resource_placed}
+use Rattle.iam_decision.specs.Living.{AreCandidates, AreLiving, LivingValue}
+use Rattle.iam_decision.specs.Matched.{Placed, placed}
+use Rattle.iam_decision.specs.declared.place.Place.{Place}
+use Rattle.iam_decision.specs.declared.scan.Standing.{Standing}
+use Rattle.iam_layers.specs.Cell.{IsApplicableAt, IsCell, IsRequestAt}
+use Rattle.iam_world.specs.World.{WorldValue}
+use Rattle.iam_index.specs.Elements.{AreElements}
+use Rattle.iam_index.specs.Rows.{AreListRows, AreRows}
+use Rattle.iam_index.specs.declared.elements.Element.{Element}
+use Rattle.iam_index.specs.declared.list_rows.ListRows.{ListRows}
+use Rattle.iam_index.specs.declared.lists.Listed.{Listed}
+use Rattle.iam_index.specs.declared.lists.Org.{Org}
+use Rattle.iam_index.specs.declared.rows.Row.{Row}
+
+-- of these statements those are listed that may match a request for some action of the world
+abbrev pub AreListed : WorldValue → List Placed → List Standing → Type 0
+AreListed world statements listed = AreCandidates world.actions statements (map placed_value listed)
+
+-- so listed are the statements of the organisation that binds principal p, whatever it asks for; its own statements; and those
+-- that stand with resource r, whoever asks
+abbrev pub ListsOrg : WorldValue → ℕ → List Standing → Type 0
+ListsOrg world p listed = (r : ℕ) (a : ApplicableValue) → IsApplicableAt world p r a → AreListed world (org_placed a) listed
+
+abbrev pub ListsRequester : WorldValue → ℕ → List Standing → Type 0
+ListsRequester world p listed = (r : ℕ) (a : ApplicableValue) → IsApplicableAt world p r a → AreListed world (requester_placed a) listed
+
+abbrev pub ListsResource : WorldValue → ℕ → List Standing → Type 0
+ListsResource world r listed = (p : ℕ) (a : ApplicableValue) → IsApplicableAt world p r a → AreListed world (resource_placed a) listed
+
+-- each list has the property, by its number
+abbrev pub AreLists : (ℕ → List Standing → Type 0) → List Listed → Type 0
+AreLists P lists = (i : ℕ) (listed : Listed) → slice_get lists i ≡ Some listed → P i listed.statements.items
+
+-- the organisation of this number binds principal p
+abbrev pub HasOrg : WorldValue → List Org → ℕ → ℕ → Type 0
+HasOrg world orgs p n = (org : Org) × (slice_get orgs n ≡ Some org) × ListsOrg world p org.statements.items
+
+-- these are the numbers of the organisations of principals
+abbrev pub HaveOrgs : WorldValue → List Org → List ℕ → Type 0
+HaveOrgs world orgs numbers = (p n : ℕ) → slice_get numbers p ≡ Some n → HasOrg world orgs p n
+
+-- each organisation is that of its principal
+abbrev pub AreOrgs : WorldValue → List Org → Type 0
+AreOrgs world orgs = (n : ℕ) (org : Org) → slice_get orgs n ≡ Some org → ListsOrg world org.principal org.statements.items
+
+-- everything that an index has is right
+pub record IsIndex (world parts : WorldValue) (elements : List Element) (orgs : List Org) (numbers : List ℕ) (requesters resources : List Listed)
+    (rows : List Row) (org_rows requester_rows : List ListRows) : Type 0 where
+  pub parts_are : parts ≡ world
+  pub elements_are : AreElements world elements
+  pub orgs_are : HaveOrgs world orgs numbers
+  pub orgs_count : length numbers ≡ length world.principals
+  pub requesters_are : AreLists (ListsRequester world) requesters
+  pub requesters_count : length requesters ≡ length world.principals
+  pub resources_are : AreLists (ListsResource world) resources
+  pub resources_count : length resources ≡ length world.resources
+  pub rows_are : AreRows world rows
+  pub org_rows_are : AreListRows (λ org. org.statements.items) rows orgs org_rows
+  pub requester_rows_are : AreListRows (λ listed. listed.statements.items) rows requesters requester_rows
+
+-- the candidates of a request: some of the statements that apply, in place order, and among them each whose action element matches
+-- its action
+abbrev pub AreCandidatesOf : WorldValue → ℕ → List Place → Type 0
+AreCandidatesOf world cell places =
+    (p a r : ℕ) (applicable : ApplicableValue) (q : RequestValue) → IsCell world cell p a r → IsRequestAt world p a r applicable q
+    → (candidates : List Placed) × AreCandidates (q.action ∷ []) (placed applicable) candidates × (places ≡ map (λ s. s.place) candidates)
+
+-- the action element of each of these matches the action
+abbrev pub AllAct : List ℕ → List Standing → Type 0
+AllAct action statements = All (λ s. ActionMatches s.statement.now.action action) statements
+
+-- these are the living ones of the candidates of requests for this access, for actions of the world
+abbrev pub AreLivingAt : WorldValue → ApplicableValue → AccessValue → List LivingValue → Type 0
+AreLivingAt world a access living =
+    (candidates : List Placed) × AreCandidates world.actions (placed a) candidates × AreLiving access candidates living
+
+-- behind the living ones of any statements stand now those of these statements too
+abbrev pub AddsLiving : AccessValue → List Placed → List LivingValue → List LivingValue → Type 0
+AddsLiving access statements old new = (before : List Placed) → AreLiving access before old → AreLiving access (before ++ statements) new

@@ -1,0 +1,5 @@
+pub mod Elements
+pub mod Index
+pub mod Parts
+pub mod Rows
+pub mod Slots

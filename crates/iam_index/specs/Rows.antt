@@ -1,0 +1,43 @@
+-- Resource elements without variables of which it is kept which resources they match. LOGIC 2.4.
+use Rattle.std.specs.Prelude.{◌≡◌, ◌↔◌, ℕ, Bool, IsTrue, List, Option, Some}
+use Rattle.std.specs.List.{slice_get}
+use Rattle.iam_context.specs.Context.{ContextValue}
+use Rattle.iam_decision.specs.declared.scan.Standing.{Standing}
+use Rattle.iam_element.specs.Reading.{ResourceElement}
+use Rattle.iam_match.specs.Statement.{ResourceMatches}
+use Rattle.iam_world.specs.World.{ResourceValue, WorldValue}
+use Rattle.iam_index.specs.Slots.{Keeps}
+use Rattle.iam_index.specs.declared.list_rows.ListRows.{ListRows}
+use Rattle.iam_index.specs.declared.rows.Row.{Row}
+
+-- this says whether the element matches resource r of the world, in whatever context
+abbrev pub TellsMatch : WorldValue → Option ResourceElement → ℕ → Bool → Type 0
+TellsMatch world element r matched =
+    (resource : ResourceValue) (context : ContextValue) → slice_get world.resources r ≡ Some resource
+    → IsTrue matched ↔ ResourceMatches element resource.arn context
+
+-- each of these says so of the resource at its place
+abbrev pub TellMatches : WorldValue → Option ResourceElement → List Bool → Type 0
+TellMatches world element matches = (r : ℕ) (matched : Bool) → slice_get matches r ≡ Some matched → TellsMatch world element r matched
+
+abbrev pub IsRow : WorldValue → Row → Type 0
+IsRow world row = TellMatches world (Some row.element.now) row.matches.items
+
+abbrev pub AreRows : WorldValue → List Row → Type 0
+AreRows world rows = (n : ℕ) (row : Row) → slice_get rows n ≡ Some row → IsRow world row
+
+-- this is the row of the element
+abbrev pub HasRow : List Row → ℕ → Option ResourceElement → Type 0
+HasRow rows n element = (row : Row) × (slice_get rows n ≡ Some row) × (Some row.element.now ≡ element)
+
+-- the rows of the resource elements of statements, of those that have one
+abbrev pub AreStatementRows : List Row → List Standing → List (Option ℕ) → Type 0
+AreStatementRows rows statements numbers =
+    (i n : ℕ) (standing : Standing) → Keeps numbers i n → slice_get statements i ≡ Some standing
+    → HasRow rows n standing.statement.now.resource
+
+-- the same of lists that have statements
+abbrev pub AreListRows : {L : Type 0} → (L → List Standing) → List Row → List L → List ListRows → Type 0
+AreListRows {L} statements rows lists known =
+    (i : ℕ) (list : L) (numbers : ListRows) → slice_get lists i ≡ Some list → slice_get known i ≡ Some numbers
+    → AreStatementRows rows (statements list) numbers.rows.items

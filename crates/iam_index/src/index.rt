@@ -1,0 +1,374 @@
+// The statements of a world that may match requests for its actions, found once for all engines of a run.
+ghost use Rattle.std.specs.Prelude.{[], ◌∷◌, ◌≡◌, ◌++◌, IfOk, IfSome, List, OnOk, map};
+ghost use Rattle.iam_match.specs.Request.{access_of};
+ghost use Rattle.iam_decision.specs.Code.Scan.{placed_value};
+ghost use Rattle.iam_decision.specs.Living.{AreCandidates, AreLiving, living_value};
+ghost use Rattle.iam_decision.specs.Matched.{Placed};
+ghost use Rattle.iam_layers.specs.Cell.{IsResource};
+ghost use Rattle.iam_index.specs.Index.{AddsLiving, AllAct};
+ghost use Rattle.iam_index.specs.Rows.{AreRows, AreStatementRows};
+
+use crate::elements::Elements;
+use crate::list_rows::{ListRows, list_at, org_rows, requester_rows, row_at};
+use crate::lists::{Listed, Org, Orgs, org_lists, requester_lists, resource_lists};
+use crate::parts::Parts;
+use crate::rows::Rows;
+use crate::texts::Texts;
+use iam_decision::add_living;
+use iam_layers::{Living, Place, Standing, World};
+use iam_match::{Access, action_matches};
+use iam_text::OutOfMemory;
+use std::alloc::Global;
+use std::marker::Model;
+
+/// The statements of a world that may match a request for some action of the world, by whom their policies are had, and what the
+/// action elements of its statements match. It is built once, and lent to all engines of a run; a contract sees the world.
+#[derive(Drop)]
+pub struct Index<'a> {
+    world: &'a World,
+    parts: Parts<'a>,
+    elements: Elements<'a>,
+    texts: Texts<'a>,
+    orgs: Orgs<'a>,
+    // Those of each principal, and those that stand with each resource.
+    requesters: Vec<Listed<'a>>,
+    resources: Vec<Listed<'a>>,
+    // Which resources the resource elements match, and the rows of those of the listed statements.
+    rows: Rows<'a>,
+    org_rows: Vec<ListRows>,
+    requester_rows: Vec<ListRows>,
+}
+
+impl<'a> Model for Index<'a> {
+    ghost use Rattle.iam_world.specs.World.{WorldValue};
+    ghost use Rattle.iam_index.specs.Index.{IsIndex};
+
+    ghost Value = { WorldValue };
+
+    ghost view = { λ index. index.world.now };
+
+    ghost invariant = { λ index. IsIndex index.world.now index.parts index.elements.elements.items index.orgs.orgs.items index.orgs.numbers.items
+        index.requesters.items index.resources.items index.rows.rows.items index.org_rows.items index.requester_rows.items };
+}
+
+impl<'a> Index<'a> {
+    ghost use Rattle.std.specs.Prelude.{[], ◌∷◌, ◌≡◌, ◌<◌, ℕ, IfOk, List, OnOk, length, map};
+    ghost use Rattle.iam_match.specs.Request.{access_of};
+    ghost use Rattle.iam_decision.specs.Applicable.{ApplicableValue};
+    ghost use Rattle.iam_decision.specs.Code.Scan.{placed_value};
+    ghost use Rattle.iam_decision.specs.Living.{AreCandidates, living_value};
+    ghost use Rattle.iam_decision.specs.Matched.{placed};
+    ghost use Rattle.iam_world.specs.World.{world_cells};
+    ghost use Rattle.iam_layers.specs.Cell.{IsAction, IsApplicableAt, IsResource};
+    ghost use Rattle.iam_index.specs.Elements.{AreElements};
+    ghost use Rattle.iam_decision.specs.declared.scan.Standing.{Standing};
+    ghost use Rattle.iam_index.specs.Index.{AddsLiving, AllAct, AreCandidatesOf, AreLivingAt, ListsOrg, ListsRequester, ListsResource};
+
+    /// The index of a world.
+    pub fn build(alloc: Global, world: &'a World) -> Result<Index<'a>, OutOfMemory>
+        ensures { IfOk result (λ index. index ≡ world.entry.now) }
+    {
+        let mut index = Index::sparse(alloc, world)?;
+        index.fill(alloc);
+        Ok(index)
+    }
+
+    /// The index of a world of which few requests may be asked: resource elements are looked at where they are asked for.
+    pub fn sparse(alloc: Global, world: &'a World) -> Result<Index<'a>, OutOfMemory>
+        ensures { IfOk result (λ index. index ≡ world.entry.now) }
+    {
+        let parts = Parts::of(alloc, world)?;
+        let mut elements = Elements::new(alloc, world.actions())?;
+        let orgs = org_lists(alloc, world, &mut elements)?;
+        let requesters = requester_lists(alloc, world, &mut elements)?;
+        let resources = resource_lists(alloc, world, &mut elements)?;
+        let texts = Texts::of(alloc, &orgs, requesters.as_slice(), resources.as_slice());
+        Ok(Index {
+            world,
+            parts,
+            elements,
+            texts,
+            orgs,
+            requesters,
+            resources,
+            rows: Rows::new(alloc, world.resources()),
+            org_rows: Vec::new(alloc),
+            requester_rows: Vec::new(alloc),
+        })
+    }
+
+    /// Finds which resources the resource elements match. Where memory is refused, fewer are known.
+    fn fill(&mut self, alloc: Global)
+        ensures { self.new ≡ self.old }
+    {
+        let world = self.world;
+        let mut rows = Rows::new(alloc, world.resources());
+        let orgs = org_rows(alloc, world, &mut rows, self.orgs.orgs.as_slice());
+        let requesters = requester_rows(alloc, world, &mut rows, self.requesters.as_slice());
+        self.rows = rows;
+        self.org_rows = orgs;
+        self.requester_rows = requesters;
+    }
+
+    /// The world that it is of.
+    pub fn world(&self) -> &'a World
+        ensures { result.now ≡ self.now }
+    {
+        self.world
+    }
+
+    /// The places of the candidates of a cell, which has to be below `cells()` of the world, in place order: of the statements that
+    /// apply to its request, those whose action element matches its action.
+    pub fn candidates(&self, alloc: Global, cell: u64) -> Result<Vec<Place>, OutOfMemory>
+        requires { cell < world_cells self.now }
+        ensures { IfOk result (λ places. AreCandidatesOf self.now cell places.items) }
+    {
+        let (p, a, r) = self.world.triple(cell);
+        let candidates = self.candidates_at(alloc, p, a, r)?;
+        places_of(alloc, candidates.as_slice())
+    }
+
+    /// The candidates of principal p's request for action a on resource r: of the statements that apply those whose action element
+    /// matches the action.
+    pub fn candidates_at(
+        &self,
+        alloc: Global,
+        p: u64,
+        a: u64,
+        r: u64,
+    ) -> Result<Vec<Standing<'a>>, OutOfMemory>
+        requires principal { p < length self.now.principals }
+        requires action { a < length self.now.actions }
+        requires resource { r < length self.now.resources }
+        ensures are { (action : List ℕ) (applicable : ApplicableValue) → IsAction self.now a action → IsApplicableAt self.now p r applicable
+            → IfOk result (λ candidates. AreCandidates (action ∷ []) (placed applicable) (map placed_value candidates.items)) }
+        ensures act { (action : List ℕ) → IsAction self.now a action → IfOk result (λ candidates. AllAct action candidates.items) }
+    {
+        let action = self.world.action_text(a);
+        let mut candidates = Vec::new(alloc);
+        add_candidates(&mut candidates, self.org(p), action)?;
+        add_candidates(&mut candidates, self.resource(r), action)?;
+        add_candidates(&mut candidates, self.requester(p), action)?;
+        Ok(candidates)
+    }
+
+    /// Those of the candidates of requests of principal p for resource r, for actions of the world, that live, in place order.
+    pub fn living<'c>(
+        &self,
+        alloc: Global,
+        p: u64,
+        r: u64,
+        access: Access<'_, 'c>,
+    ) -> Result<Vec<Living<'a>>, OutOfMemory>
+    where
+        'a: 'c,
+        requires principal { p < length self.now.principals }
+        requires resource { IsResource self.now r (λ resource. access.resource.now ≡ resource.arn) }
+        ensures { (applicable : ApplicableValue) → IsApplicableAt self.now p r applicable
+            → IfOk result (λ living. AreLivingAt self.now applicable (access_of access.entry) (map living_value living.items)) }
+    {
+        let mut living = Vec::new(alloc);
+        self.add_org(alloc, &mut living, p, r, access)?;
+        add_all(alloc, &mut living, self.resource(r), access)?;
+        self.add_requester(alloc, &mut living, p, r, access)?;
+        Ok(living)
+    }
+
+    /// Adds the living ones of the statements of the organisation that binds principal p.
+    fn add_org<'c>(
+        &self,
+        alloc: Global,
+        living: &mut Vec<Living<'a>>,
+        p: u64,
+        r: u64,
+        access: Access<'_, 'c>,
+    ) -> Result<(), OutOfMemory>
+    where
+        'a: 'c,
+        requires principal { p < length self.now.principals }
+        requires resource { IsResource self.now r (λ resource. access.resource.now ≡ resource.arn) }
+        ensures { OnOk result ((listed : List Standing) × ListsOrg self.now p listed
+            × AddsLiving (access_of access.entry) (map placed_value listed) (map living_value living.old.items) (map living_value living.new.items)) }
+    {
+        let number = self.orgs.numbers[p as usize];
+        let org = &self.orgs.orgs[number];
+        add_known(
+            alloc,
+            living,
+            self.world,
+            &self.rows,
+            org.statements.as_slice(),
+            list_at(self.org_rows.as_slice(), number),
+            r,
+            access,
+        )?;
+        Ok(())
+    }
+
+    /// Adds the living ones of the statements of principal p.
+    fn add_requester<'c>(
+        &self,
+        alloc: Global,
+        living: &mut Vec<Living<'a>>,
+        p: u64,
+        r: u64,
+        access: Access<'_, 'c>,
+    ) -> Result<(), OutOfMemory>
+    where
+        'a: 'c,
+        requires principal { p < length self.now.principals }
+        requires resource { IsResource self.now r (λ resource. access.resource.now ≡ resource.arn) }
+        ensures { OnOk result ((listed : List Standing) × ListsRequester self.now p listed
+            × AddsLiving (access_of access.entry) (map placed_value listed) (map living_value living.old.items) (map living_value living.new.items)) }
+    {
+        let listed = &self.requesters[p as usize];
+        add_known(
+            alloc,
+            living,
+            self.world,
+            &self.rows,
+            listed.statements.as_slice(),
+            list_at(self.requester_rows.as_slice(), p as usize),
+            r,
+            access,
+        )?;
+        Ok(())
+    }
+
+    /// The keys that its world gives to requests.
+    pub fn parts(&self) -> &Parts<'a>
+        ensures { result.now ≡ self.now }
+    {
+        &self.parts
+    }
+
+    /// What the action elements of the world's statements match.
+    pub fn elements(&self) -> &Elements<'a>
+        ensures { AreElements self.now result.now.elements.items }
+    {
+        &self.elements
+    }
+
+    /// The resource texts of its statements that are worth remembering.
+    pub fn texts(&self) -> &Texts<'a> {
+        &self.texts
+    }
+
+    /// The statements of the organisation that binds principal p.
+    fn org(&self, p: u64) -> &[Standing<'a>]
+        requires { p < length self.now.principals }
+        ensures { ListsOrg self.now p result.now }
+    {
+        let number = self.orgs.numbers[p as usize];
+        self.orgs.orgs[number].statements.as_slice()
+    }
+
+    /// How many statements of principal p it lists.
+    pub fn own_statements(&self, p: u64) -> usize {
+        match self.requesters.get(p as usize) {
+            Some(listed) => listed.statements.len(),
+            None => 0,
+        }
+    }
+
+    /// The statements of principal p.
+    fn requester(&self, p: u64) -> &[Standing<'a>]
+        requires { p < length self.now.principals }
+        ensures { ListsRequester self.now p result.now }
+    {
+        self.requesters[p as usize].statements.as_slice()
+    }
+
+    /// The statements that stand with resource r.
+    fn resource(&self, r: u64) -> &[Standing<'a>]
+        requires { r < length self.now.resources }
+        ensures { ListsResource self.now r result.now }
+    {
+        self.resources[r as usize].statements.as_slice()
+    }
+}
+
+/// Adds those of the statements that live to the living ones of those before them.
+fn add_all<'a: 'c, 'c>(
+    alloc: Global,
+    living: &mut Vec<Living<'a>>,
+    statements: &[Standing<'a>],
+    access: Access<'_, 'c>,
+) -> Result<(), OutOfMemory>
+    ensures { OnOk result (AddsLiving (access_of access.entry) (map placed_value statements.now) (map living_value living.old.items)
+        (map living_value living.new.items)) }
+{
+    for &standing in statements {
+        add_living(alloc, living, standing, access, None)?;
+    }
+    Ok(())
+}
+
+/// The same of a request for resource r of the world, where the rows tell of some of the statements whether their resource
+/// elements match.
+fn add_known<'a: 'c, 'c>(
+    alloc: Global,
+    living: &mut Vec<Living<'a>>,
+    world: &World,
+    rows: &Rows<'_>,
+    statements: &[Standing<'a>],
+    list: Option<&ListRows>,
+    r: u64,
+    access: Access<'_, 'c>,
+) -> Result<(), OutOfMemory>
+    requires rows { AreRows world.now rows.now.rows.items }
+    requires list { IfSome list (λ list. AreStatementRows rows.now.rows.items statements.now list.now.rows.items) }
+    requires resource { IsResource world.now r (λ resource. access.resource.now ≡ resource.arn) }
+    ensures { OnOk result (AddsLiving (access_of access.entry) (map placed_value statements.now) (map living_value living.old.items)
+        (map living_value living.new.items)) }
+{
+    for i in 0..statements.len() {
+        let matched = rows.matches(row_at(list, i), r);
+        add_living(alloc, living, statements[i], access, matched)?;
+    }
+    Ok(())
+}
+
+/// Adds the statement to those chosen before it, if its action element matches the action.
+fn add_candidate<'a>(
+    candidates: &mut Vec<Standing<'a>>,
+    standing: Standing<'a>,
+    action: &str,
+) -> Result<(), OutOfMemory>
+    ensures are { OnOk result ((before : List Placed) → AreCandidates (action.now ∷ []) before (map placed_value candidates.old.items)
+        → AreCandidates (action.now ∷ []) (before ++ placed_value standing.entry ∷ []) (map placed_value candidates.new.items)) }
+    ensures act { OnOk result (AllAct action.now candidates.old.items → AllAct action.now candidates.new.items) }
+{
+    if !action_matches(standing.statement.action(), action) {
+        return Ok(());
+    }
+    candidates.push(standing)?;
+    Ok(())
+}
+
+/// Adds those of the statements whose action element matches the action.
+fn add_candidates<'a>(
+    candidates: &mut Vec<Standing<'a>>,
+    statements: &[Standing<'a>],
+    action: &str,
+) -> Result<(), OutOfMemory>
+    ensures are { OnOk result ((before : List Placed) → AreCandidates (action.now ∷ []) before (map placed_value candidates.old.items)
+        → AreCandidates (action.now ∷ []) (before ++ map placed_value statements.now) (map placed_value candidates.new.items)) }
+    ensures act { OnOk result (AllAct action.now candidates.old.items → AllAct action.now candidates.new.items) }
+{
+    for &standing in statements {
+        add_candidate(candidates, standing, action)?;
+    }
+    Ok(())
+}
+
+/// The places of these statements.
+fn places_of(alloc: Global, statements: &[Standing<'_>]) -> Result<Vec<Place>, OutOfMemory>
+    ensures { IfOk result (λ places. places.items ≡ map (λ s. s.place) statements.now) }
+{
+    let mut places = Vec::with_capacity(alloc, statements.len())?;
+    for standing in statements {
+        places.push(standing.place)?;
+    }
+    Ok(places)
+}

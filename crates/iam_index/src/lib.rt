@@ -1,0 +1,19 @@
+//! An index of a world: its statements that may match requests for the actions of the world, by whom their policies are had.
+#![tactic(auto)]
+
+mod elements;
+mod index;
+mod list_rows;
+mod lists;
+mod parts;
+mod rows;
+mod slots;
+mod texts;
+
+pub use elements::{Element, Elements};
+pub use iam_layers::{Living, Place, Standing, World};
+pub use iam_text::OutOfMemory;
+pub use index::Index;
+pub use parts::Parts;
+pub use slots::{WIDTH, empty, empty_slots, keep, kept, slot_at, slot_of};
+pub use texts::Texts;

@@ -1,0 +1,258 @@
+// Which statements of a world an index lists, by whom their policies are had.
+ghost use Rattle.std.specs.Prelude.{[], ◌∷◌, ◌≡◌, ◌++◌, ◌<◌, IfOk, IfSome, List, OnOk, length, map};
+ghost use Rattle.iam_decision.specs.Code.Scan.{placed_value};
+ghost use Rattle.iam_decision.specs.Matched.{Placed};
+ghost use Rattle.iam_layers.specs.Code.Statements.{HaveSameOrg};
+ghost use Rattle.iam_index.specs.Elements.{AreElements};
+ghost use Rattle.iam_index.specs.Index.{AreListed, AreLists, AreOrgs, HasOrg, HaveOrgs, ListsOrg, ListsRequester, ListsResource};
+ghost use Rattle.iam_index.specs.declared.lists.Org.{Org};
+
+use crate::elements::Elements;
+use iam_layers::{Standing, World, statements_are_kept};
+use iam_text::OutOfMemory;
+use std::alloc::Global;
+use std::collections::BTreeMap;
+
+/// Statements that may match a request for some action of the world.
+#[derive(Drop)]
+pub struct Listed<'a> {
+    pub statements: Vec<Standing<'a>>,
+}
+
+/// Such statements of the organisation of a principal, which binds all principals of its account.
+#[derive(Drop)]
+pub struct Org<'a> {
+    pub principal: u64,
+    pub statements: Vec<Standing<'a>>,
+}
+
+/// The organisations of a world's principals, each listed once.
+#[derive(Drop)]
+pub struct Orgs<'a> {
+    pub orgs: Vec<Org<'a>>,
+    /// The number of that of each principal.
+    pub numbers: Vec<usize>,
+}
+
+/// Adds the statement to those listed before it, if its action element matches some action of the world.
+fn add_concerned<'a>(
+    alloc: Global,
+    world: &World,
+    elements: &mut Elements<'a>,
+    listed: &mut Vec<Standing<'a>>,
+    standing: Standing<'a>,
+) -> Result<(), OutOfMemory>
+    requires { AreElements world.now elements.old.elements.items }
+    ensures right { AreElements world.now elements.new.elements.items }
+    ensures listed { OnOk result ((before : List Placed) → AreListed world.now before listed.old.items
+        → AreListed world.now (before ++ placed_value standing.entry ∷ []) listed.new.items) }
+{
+    if !elements.concerns(alloc, world, standing.statement.action()) {
+        return Ok(());
+    }
+    listed.push(standing)?;
+    Ok(())
+}
+
+/// Those of the statements whose action element matches some action of the world.
+fn concerned<'a>(
+    alloc: Global,
+    world: &World,
+    elements: &mut Elements<'a>,
+    statements: &[Standing<'a>],
+) -> Result<Vec<Standing<'a>>, OutOfMemory>
+    requires { AreElements world.now elements.old.elements.items }
+    ensures right { AreElements world.now elements.new.elements.items }
+    ensures listed { IfOk result (λ listed. AreListed world.now (map placed_value statements.now) listed.items) }
+{
+    let mut listed = Vec::new(alloc);
+    for &standing in statements {
+        add_concerned(alloc, world, elements, &mut listed, standing)?;
+    }
+    Ok(listed)
+}
+
+/// The statements of the organisation of principal p.
+fn org_list<'a>(
+    alloc: Global,
+    world: &'a World,
+    elements: &mut Elements<'a>,
+    p: u64,
+) -> Result<Vec<Standing<'a>>, OutOfMemory>
+    requires principal { p < length world.now.principals }
+    requires right { AreElements world.now elements.old.elements.items }
+    ensures right { AreElements world.entry.now elements.new.elements.items }
+    ensures listed { IfOk result (λ listed. ListsOrg world.entry.now p listed.items) }
+{
+    let mut statements = Vec::new(alloc);
+    if world.resources() == 0 {
+        return Ok(statements);
+    }
+    statements_are_kept();
+    world.applicable(p, 0).add_org(&mut statements)?;
+    concerned(alloc, world, elements, statements.as_slice())
+}
+
+/// The statements of principal p.
+fn requester_list<'a>(
+    alloc: Global,
+    world: &'a World,
+    elements: &mut Elements<'a>,
+    p: u64,
+) -> Result<Vec<Standing<'a>>, OutOfMemory>
+    requires principal { p < length world.now.principals }
+    requires right { AreElements world.now elements.old.elements.items }
+    ensures right { AreElements world.entry.now elements.new.elements.items }
+    ensures listed { IfOk result (λ listed. ListsRequester world.entry.now p listed.items) }
+{
+    let mut statements = Vec::new(alloc);
+    if world.resources() == 0 {
+        return Ok(statements);
+    }
+    statements_are_kept();
+    world.applicable(p, 0).add_requester(&mut statements)?;
+    concerned(alloc, world, elements, statements.as_slice())
+}
+
+/// The statements that stand with resource r.
+fn resource_list<'a>(
+    alloc: Global,
+    world: &'a World,
+    elements: &mut Elements<'a>,
+    r: u64,
+) -> Result<Vec<Standing<'a>>, OutOfMemory>
+    requires resource { r < length world.now.resources }
+    requires right { AreElements world.now elements.old.elements.items }
+    ensures right { AreElements world.entry.now elements.new.elements.items }
+    ensures listed { IfOk result (λ listed. ListsResource world.entry.now r listed.items) }
+{
+    let mut statements = Vec::new(alloc);
+    if world.principals() == 0 {
+        return Ok(statements);
+    }
+    statements_are_kept();
+    world.applicable(0, r).add_resource(&mut statements)?;
+    concerned(alloc, world, elements, statements.as_slice())
+}
+
+/// The lists of all principals.
+pub fn requester_lists<'a>(
+    alloc: Global,
+    world: &'a World,
+    elements: &mut Elements<'a>,
+) -> Result<Vec<Listed<'a>>, OutOfMemory>
+    requires { AreElements world.now elements.old.elements.items }
+    ensures right { AreElements world.entry.now elements.new.elements.items }
+    ensures count { IfOk result (λ lists. length lists.items ≡ length world.entry.now.principals) }
+    ensures lists { IfOk result (λ lists. AreLists (ListsRequester world.entry.now) lists.items) }
+{
+    let mut lists = Vec::with_capacity(alloc, world.principals() as usize)?;
+    for p in 0..world.principals() {
+        let statements = requester_list(alloc, world, elements, p)?;
+        lists.push(Listed { statements })?;
+    }
+    Ok(lists)
+}
+
+/// The lists of all resources.
+pub fn resource_lists<'a>(
+    alloc: Global,
+    world: &'a World,
+    elements: &mut Elements<'a>,
+) -> Result<Vec<Listed<'a>>, OutOfMemory>
+    requires { AreElements world.now elements.old.elements.items }
+    ensures right { AreElements world.entry.now elements.new.elements.items }
+    ensures count { IfOk result (λ lists. length lists.items ≡ length world.entry.now.resources) }
+    ensures lists { IfOk result (λ lists. AreLists (ListsResource world.entry.now) lists.items) }
+{
+    let mut lists = Vec::with_capacity(alloc, world.resources() as usize)?;
+    for r in 0..world.resources() {
+        let statements = resource_list(alloc, world, elements, r)?;
+        lists.push(Listed { statements })?;
+    }
+    Ok(lists)
+}
+
+/// A number that tells most accounts of principals apart.
+fn account_print(world: &World, p: u64) -> u64
+    requires { p < length world.now.principals }
+{
+    let mut print: u64 = 0;
+    for byte in world.requester(p).account().as_bytes() {
+        print = print.wrapping_mul(31).wrapping_add(u64::from(*byte));
+    }
+    print
+}
+
+/// The number of the organisation of principal p among these, where it is that of the principal that its account has there.
+fn known_org(
+    world: &World,
+    orgs: &[Org<'_>],
+    accounts: &BTreeMap<u64, usize>,
+    p: u64,
+) -> Option<usize>
+    requires principal { p < length world.now.principals }
+    requires orgs { AreOrgs world.now orgs.now }
+    ensures { IfSome result (HasOrg world.now orgs.now p) }
+{
+    let number = *accounts.get(&account_print(world, p))?;
+    if number < orgs.len() {
+        let other = orgs[number].principal;
+        if other < world.principals() && world.has_same_org(p, other) {
+            return Some(number);
+        }
+    }
+    None
+}
+
+/// The number of the organisation of principal p, which is put behind these where it is not found.
+fn org_number<'a>(
+    alloc: Global,
+    world: &'a World,
+    elements: &mut Elements<'a>,
+    orgs: &mut Vec<Org<'a>>,
+    accounts: &mut BTreeMap<u64, usize>,
+    p: u64,
+) -> Result<usize, OutOfMemory>
+    requires principal { p < length world.now.principals }
+    requires right { AreElements world.now elements.old.elements.items }
+    requires orgs { AreOrgs world.now orgs.old.items }
+    ensures right { AreElements world.entry.now elements.new.elements.items }
+    ensures orgs { IfOk result (λ _. AreOrgs world.entry.now orgs.new.items) }
+    ensures more { IfOk result (λ _. (more : List Org) × (orgs.new.items ≡ orgs.old.items ++ more)) }
+    ensures number { IfOk result (HasOrg world.entry.now orgs.new.items p) }
+{
+    if let Some(number) = known_org(world, orgs.as_slice(), accounts, p) {
+        return Ok(number);
+    }
+    let statements = org_list(alloc, world, elements, p)?;
+    let number = orgs.len();
+    orgs.push(Org {
+        principal: p,
+        statements,
+    })?;
+    accounts.insert(account_print(world, p), number)?;
+    Ok(number)
+}
+
+/// The organisations of all principals.
+pub fn org_lists<'a>(
+    alloc: Global,
+    world: &'a World,
+    elements: &mut Elements<'a>,
+) -> Result<Orgs<'a>, OutOfMemory>
+    requires { AreElements world.now elements.old.elements.items }
+    ensures right { AreElements world.entry.now elements.new.elements.items }
+    ensures count { IfOk result (λ found. length found.numbers.items ≡ length world.entry.now.principals) }
+    ensures orgs { IfOk result (λ found. HaveOrgs world.entry.now found.orgs.items found.numbers.items) }
+{
+    let mut orgs = Vec::new(alloc);
+    // By the print of an account the number of its organisation.
+    let mut accounts = BTreeMap::new(alloc);
+    let mut numbers = Vec::with_capacity(alloc, world.principals() as usize)?;
+    for p in 0..world.principals() {
+        let number = org_number(alloc, world, elements, &mut orgs, &mut accounts, p)?;
+        numbers.push(number)?;
+    }
+    Ok(Orgs { orgs, numbers })
+}
