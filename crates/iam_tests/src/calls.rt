@@ -1,7 +1,7 @@
 // Calls that take memory and that the program does not make, each of which has to succeed; and the letters of base64, which no
 // command tells from other letters.
-use iam_context::{Context, Derived, Part};
-use iam_text::{Draft, Glob, Items, Sign, Text};
+use iam_context::{Context, Derived, Part, Sought};
+use iam_text::{Compiled, Draft, Glob, Items, Piece, Sign, Text};
 use iam_value::bytes;
 use std::test::Fail;
 
@@ -14,6 +14,43 @@ fn the_signs_of_a_pattern_are_a_pattern(rt: HostRuntime) -> Result<(), Fail> {
     assert_eq!(rt; signs.at(1), Sign::One);
     assert_eq!(rt; signs.at(2), Sign::Any);
     assert!(rt; glob.matches("*a") && glob.matches("*abc") && !glob.matches("*"));
+    Ok(())
+}
+
+/// Patterns, texts, and whether they match with regard to case and without.
+const COMPILED: [(&str, &str, bool, bool); 10] = [
+    ("s3:GetObject", "s3:GetObject", true, true),
+    ("s3:GetObject", "S3:getobject", false, true),
+    ("s3:Get*", "S3:GETOBJECT", false, true),
+    ("s3:Get*", "s3:Ge", false, false),
+    ("*", "", true, true),
+    ("a*b", "ab", true, true),
+    ("ab*ab", "abab", true, true),
+    ("ab*ab", "aba", false, false),
+    ("*a?c*", "xxabcx", true, true),
+    ("????", "\u{e9}\u{e9}\u{e9}\u{e9}", true, true),
+];
+
+#[test]
+fn compiled_patterns_match(rt: HostRuntime) -> Result<(), Fail> {
+    for (pattern, text, matched, folded) in COMPILED {
+        let glob = Glob::read(rt.alloc(), pattern)?;
+        let compiled = Compiled::of(rt.alloc(), &glob)?;
+        assert_eq!(rt; compiled.matches(text), matched, "{pattern} on {text}");
+        assert_eq!(rt; compiled.matches_fold(text), folded, "{pattern} on {text}");
+    }
+    Ok(())
+}
+
+#[test]
+fn a_draft_has_its_pieces(rt: HostRuntime) -> Result<(), Fail> {
+    let alloc = rt.alloc();
+    let draft = Draft::read(alloc, "a${k}${*}?", true)?.ok_or("no draft")?;
+    let found = draft.pieces(alloc)?;
+    let pieces = found.as_slice();
+    assert_eq!(rt; pieces.len(), 4);
+    assert!(rt; matches!(pieces[1], Piece::Variable(_, None)));
+    assert!(rt; matches!(pieces[2], Piece::Escaped('*')));
     Ok(())
 }
 
@@ -42,6 +79,30 @@ fn a_part_is_joined(rt: HostRuntime) -> Result<(), Fail> {
     let derived: Derived = Vec::new(alloc);
     let context = Context::join(alloc, &[&given], &derived)?;
     assert_eq!(rt; context.values("dEPT").len(), 1);
+    Ok(())
+}
+
+/// More keys than are sought one by one.
+const KEYS: [&str; 17] = [
+    "k0", "k1", "k2", "k3", "k4", "k5", "k6", "k7", "k8", "k9", "k10", "k11", "k12", "k13", "k14",
+    "k15", "k16",
+];
+
+#[test]
+fn many_keys_are_sought(rt: HostRuntime) -> Result<(), Fail> {
+    let alloc = rt.alloc();
+    let mut part: Part = Vec::new(alloc);
+    for key in KEYS {
+        part.push((Text::read(alloc, key)?, Items::from_vec(Vec::new(alloc))))?;
+    }
+    let mut values = Vec::new(alloc);
+    values.push(Text::read(alloc, "v")?)?;
+    part.push((Text::read(alloc, "last")?, Items::from_vec(values)))?;
+    let (one, other) = (Sought::of(alloc, &part)?, Sought::plain(&part));
+    let derived: Derived = Vec::new(alloc);
+    let context = Context::sought(&one, &other, &other, &derived);
+    assert_eq!(rt; context.values("LAST").len(), 1);
+    assert_eq!(rt; context.values("k16").len(), 0);
     Ok(())
 }
 

@@ -1,16 +1,16 @@
-// An engine that is asked for the same cells again and again, in any order, and one that was refused memory.
-ghost use Rattle.std.specs.Prelude.{◌≡◌, ◌<◌, IfOk};
+// An engine of matrices that is asked for the same cells again and again, in any order, and one that was refused memory.
+ghost use Rattle.std.specs.Prelude.{◌≡◌, ◌<◌, IfOk, length};
 ghost use Rattle.iam_world.specs.World.{world_cells};
 
 use crate::matrix::{HOME, is_decision, is_verdict};
 use crate::streams::many;
-use iam_engine::{Engine, Index, Survey, Surveyor, wants_survey};
+use iam_classes::{ClassEngine, Index, Survey, Surveyor, wants_survey};
 use iam_layers::{Decision, Layer, Place, Verdict, World};
 use std::alloc::Global;
 use std::test::Fail;
 
 /// Whether the engine answers a cell as the policies say, in full and in brief.
-fn answers(alloc: Global, engine: &mut Engine<'_>, cell: u64) -> Result<bool, Fail> {
+fn answers(alloc: Global, engine: &mut ClassEngine<'_>, cell: u64) -> Result<bool, Fail> {
     if cell >= engine.world().cells() {
         return Ok(false);
     }
@@ -26,7 +26,16 @@ fn answers(alloc: Global, engine: &mut Engine<'_>, cell: u64) -> Result<bool, Fa
 fn answers_all(alloc: Global, engines: u32, cells: &[u64]) -> Result<bool, Fail> {
     let world = World::read(alloc, HOME.as_bytes())?;
     let index = Index::build(alloc, &world)?;
-    let mut engine = Engine::new(alloc, &index, engines)?;
+    answers_all_by(alloc, &index, engines, cells)
+}
+
+fn answers_all_by(
+    alloc: Global,
+    index: &Index<'_>,
+    engines: u32,
+    cells: &[u64],
+) -> Result<bool, Fail> {
+    let mut engine = ClassEngine::new(alloc, index, engines)?;
     for &cell in cells {
         if !answers(alloc, &mut engine, cell)? {
             return Ok(false);
@@ -52,7 +61,7 @@ fn cells_in_any_order_by_one_engine(rt: HostRuntime) -> Result<(), Fail> {
 }
 
 /// The verdict on a cell, asked for once more where memory was refused.
-fn decide_again(alloc: Global, engine: &mut Engine<'_>, cell: u64) -> Result<Verdict, Fail>
+fn decide_again(alloc: Global, engine: &mut ClassEngine<'_>, cell: u64) -> Result<Verdict, Fail>
     requires { cell < world_cells engine.old.world }
     ensures { engine.new.world ≡ engine.old.world }
 {
@@ -63,7 +72,11 @@ fn decide_again(alloc: Global, engine: &mut Engine<'_>, cell: u64) -> Result<Ver
 }
 
 /// The decision on a cell, asked for once more where memory was refused.
-fn decide_brief_again(alloc: Global, engine: &mut Engine<'_>, cell: u64) -> Result<Decision, Fail>
+fn decide_brief_again(
+    alloc: Global,
+    engine: &mut ClassEngine<'_>,
+    cell: u64,
+) -> Result<Decision, Fail>
     requires { cell < world_cells engine.old.world }
     ensures { engine.new.world ≡ engine.old.world }
 {
@@ -79,15 +92,28 @@ fn cells_asked_again(rt: HostRuntime) -> Result<(), Fail> {
     let alloc = rt.alloc();
     let world = World::read(alloc, HOME.as_bytes())?;
     let index = Index::build(alloc, &world)?;
-    let mut engine = Engine::new(alloc, &index, 1)?;
-    for cell in 0..world.cells() {
-        assert!(rt; cell < engine.world().cells());
-        let decision = decide_brief_again(alloc, &mut engine, cell)?;
-        let verdict = decide_again(alloc, &mut engine, cell)?;
-        assert!(rt; is_decision(cell as usize, decision));
-        assert!(rt; is_verdict(cell as usize, &verdict));
-    }
+    assert!(rt; answers_again(alloc, &index)?);
     Ok(())
+}
+
+/// Whether an engine that is asked once more where it was refused answers all twelve cells.
+fn answers_again(alloc: Global, index: &Index<'_>) -> Result<bool, Fail> {
+    let mut engine = ClassEngine::new(alloc, index, 1)?;
+    for cell in 0..12 {
+        if !is_answered_again(alloc, &mut engine, cell)? {
+            return Ok(false);
+        }
+    }
+    Ok(true)
+}
+
+fn is_answered_again(alloc: Global, engine: &mut ClassEngine<'_>, cell: u64) -> Result<bool, Fail> {
+    if cell >= engine.world().cells() {
+        return Ok(false);
+    }
+    let decision = decide_brief_again(alloc, engine, cell)?;
+    let verdict = decide_again(alloc, engine, cell)?;
+    Ok(is_decision(cell as usize, decision) && is_verdict(cell as usize, &verdict))
 }
 
 /// A survey of the six pairs of a world.
@@ -101,9 +127,29 @@ fn survey_of<'a>(alloc: Global, index: &'a Index<'a>) -> Result<Survey<'a>, Fail
     Ok(Survey::of(index, 6, blocks))
 }
 
+/// Whether a survey finds each of the six pairs and no other, and an engine that begins with it answers all twelve cells.
+fn is_surveyed(alloc: Global, index: &Index<'_>) -> Result<bool, Fail> {
+    let survey = survey_of(alloc, index)?;
+    for pair in 0..8 {
+        if pair % 2 >= resources_of(&survey) {
+            return Ok(false);
+        }
+        if survey.shared(pair / 2, pair % 2).is_some() != (pair < 6) {
+            return Ok(false);
+        }
+    }
+    answers_by(alloc, &survey)
+}
+
+fn resources_of(survey: &Survey<'_>) -> u64
+    ensures { result ≡ length survey.now.resources }
+{
+    survey.index().world().resources()
+}
+
 /// Whether an engine that begins with the survey answers all twelve cells.
 fn answers_by(alloc: Global, survey: &Survey<'_>) -> Result<bool, Fail> {
-    let mut engine = Engine::surveyed(alloc, survey, 1)?;
+    let mut engine = ClassEngine::surveyed(alloc, survey, 1)?;
     for cell in 0..12 {
         if !answers(alloc, &mut engine, cell)? {
             return Ok(false);
@@ -117,12 +163,7 @@ fn a_survey_finds_each_pair_and_an_engine_begins_with_it(rt: HostRuntime) -> Res
     let alloc = rt.alloc();
     let world = World::read(alloc, HOME.as_bytes())?;
     let index = Index::build(alloc, &world)?;
-    let survey = survey_of(alloc, &index)?;
-    for pair in 0..8 {
-        assert!(rt; pair % 2 < world.resources());
-        assert!(rt; survey.shared(pair / 2, pair % 2).is_some() == (pair < 6));
-    }
-    assert!(rt; answers_by(alloc, &survey)?);
+    assert!(rt; is_surveyed(alloc, &index)?);
     Ok(())
 }
 
@@ -133,13 +174,14 @@ fn a_survey_is_wanted_where_a_worker_would_be_waited_for(rt: HostRuntime) -> Res
     for (resources, workers, wanted) in [(181, 2, false), (182, 1, false), (182, 2, true)] {
         let (document, _report) = many(alloc, resources)?;
         let world = World::read(alloc, document.as_bytes())?;
-        assert_eq!(rt; wants_survey(&world, workers), wanted);
+        let index = Index::build(alloc, &world)?;
+        assert_eq!(rt; wants_survey(&index, workers), wanted);
     }
     Ok(())
 }
 
 /// One document of five statements for one action.
-const FIVE: &str =
+pub const FIVE: &str =
     r#"{"moment":0,"accounts":[{"id":"111122223333"}],"principals":[{"user":"arn:aws:iam::111122223333:user/ann",
 "identity":[{"Version":"2012-10-17","Statement":[
 {"Effect":"Allow","Action":["S3:Get*","s3:getobject"],"Resource":"*"},{"Effect":"Allow","Action":"s*:GetObject","Resource":"*"},
@@ -152,7 +194,7 @@ fn candidates_are_the_statements_that_act(rt: HostRuntime) -> Result<(), Fail> {
     let alloc = rt.alloc();
     let world = World::read(alloc, FIVE.as_bytes())?;
     let index = Index::build(alloc, &world)?;
-    assert!(rt; 0 < world.cells());
+    assert!(rt; 0 < index.world().cells());
     let candidates = index.candidates(alloc, 0)?;
     assert_eq!(rt; candidates.len(), 4);
     for (statement, candidate) in candidates.iter().enumerate() {

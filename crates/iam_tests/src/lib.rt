@@ -1,24 +1,17 @@
-//! Tests of what no command of the program shows: lanes, work, engines, cuts, gates, options, streams that fail, and calls that
-//! none makes.
+//! Tests of what no command of the program shows: engines, cuts, gates, options, streams that fail, and calls that none makes.
 #![tactic(auto)]
 
 #[cfg(test)]
 mod calls;
 #[cfg(test)]
-mod crew;
+mod cells;
 #[cfg(test)]
 mod engine;
 #[cfg(test)]
 mod gates;
 #[cfg(test)]
-mod lanes;
-#[cfg(test)]
 mod matrix;
 #[cfg(test)]
 mod options;
 #[cfg(test)]
-mod sharing;
-#[cfg(test)]
 mod streams;
-#[cfg(test)]
-mod work;
