@@ -1,0 +1,44 @@
+"""The parts of ARNs, and the texts of principals."""
+
+from typing import Any, Dict, List
+
+
+def resource_part(arn: str) -> str:
+    """What stands behind the fifth colon; the whole text where there are fewer."""
+    return arn.split(":", 5)[-1]
+
+
+def account_of(arn: str) -> str:
+    return (arn.split(":", 5) + [""] * 5)[4]
+
+
+def service_of(arn: str) -> str:
+    return (arn.split(":", 5) + [""] * 5)[2]
+
+
+def session_arn(role: str, session: str) -> str:
+    head, _, path = role.partition(":role/")
+    return f"{head.replace(':iam:', ':sts:', 1)}:assumed-role/{path.split('/')[-1]}/{session}"
+
+
+def principal_text(principal: Dict[str, Any]) -> str:
+    """The principal's text in reports."""
+    if "user" in principal:
+        return str(principal["user"])
+    return session_arn(str(principal.get("role", "")), str(principal.get("session", "")))
+
+
+def principal_arn(principal: Dict[str, Any]) -> str:
+    """The ARN of the user or role."""
+    return str(principal["user"] if "user" in principal else principal.get("role", ""))
+
+
+def names_of_principal(principal: Dict[str, Any]) -> List[str]:
+    """The texts that a pattern of principals is compared with."""
+    arn = principal_arn(principal)
+    part = resource_part(arn)
+    return [principal_text(principal), arn, part, part.split("/")[-1]]
+
+
+def names_of_resource(arn: str) -> List[str]:
+    return [arn, resource_part(arn), resource_part(arn).split("/")[-1]]

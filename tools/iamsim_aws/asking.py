@@ -1,0 +1,62 @@
+"""Answers to all requests of worlds, which may be past the limits of one."""
+
+import array
+from typing import List
+
+from . import decimals
+from .checking import lines, refused_documents
+from .documents import World
+from .faults import Fault
+from .program import Refused, side_by_side, world_bytes
+from .reports import Answers, read_report
+from .splitting import parts
+
+
+def whole(world: World) -> World:
+    """The world without decimals, where that can be."""
+    try:
+        return decimals.whole(world)
+    except Fault:
+        return world
+
+
+def put(all_of: Answers, principal: int, resource: int, part: Answers) -> None:
+    """Puts the answers of a part in their place."""
+    _, actions, resources = all_of.shape
+    count, _, width = part.shape
+    new = [all_of.number(it, lambda it=it: it) for it in part.table]
+    numbers = array.array("I", map(new.__getitem__, part.numbers))
+    for p in range(count):
+        for a in range(actions):
+            first, of = ((principal + p) * actions + a) * resources + resource, (p * actions + a) * width
+            all_of.numbers[first : first + width] = numbers[of : of + width]
+
+
+def explained(world: World, refused: Refused) -> Fault:
+    """The fault of a world, by its policy's name."""
+    told = lines(world, refused_documents(world))
+    if not told:
+        return refused
+    more = f", and {len(told) - 1} more: iamsim-aws check tells all" if len(told) > 1 else ""
+    return Fault(f"iamsim refuses a policy: {told[0]}{more}")
+
+
+def ask_all(worlds: List[World], brief: bool = False) -> List[Answers]:
+    """The answers to all requests of each world."""
+    several = [(n, part) for n, world in enumerate(worlds) for part in parts(whole(world))]
+    found = []
+    for world in worlds:
+        found.append(Answers(world, len(world["principals"]) * len(world["actions"]) * len(world["resources"])))
+    command = ["matrix", "--format", "json", *(["--brief"] if brief else [])]
+    texts = side_by_side(command, (world_bytes(part.world) for _, part in several), len(several))
+    for n, part in several:
+        try:
+            text = next(texts).decode()
+        except Refused as refused:
+            raise explained(worlds[n], refused) from None
+        put(found[n], part.principal, part.resource, read_report(part.world, text))
+    return found
+
+
+def ask(world: World, brief: bool = False) -> Answers:
+    return ask_all([world], brief)[0]

@@ -1,0 +1,183 @@
+"""What changes between two sources: requests that are lost, and those that are gained."""
+
+from typing import Any, Dict, List, NamedTuple, Tuple
+
+from . import hanging, kinds
+from .arns import principal_text
+from .asking import ask_all
+from .checking import NOTHING
+from .documents import World, bare, mapped, places
+from .faults import tell
+from .files import compact
+from .keys import given_keys
+from .patterns import common, is_pattern, matcher
+from .reports import Answers, keys_of
+from .sources import ASSUME, Source
+
+
+class Changes(NamedTuple):
+    """The answers before and after, the cells of `before` that are allowed no longer, and those of `after` that were not;
+    and the key that was given besides, in words."""
+
+    before: Answers
+    after: Answers
+    lost: List[int]
+    gained: List[int]
+    given: str
+
+
+def holders(world: World) -> Dict[Tuple[str, str], List[str]]:
+    """The documents of each account, principal and resource."""
+    found: Dict[Tuple[str, str], List[str]] = {}
+    for it in places(world):
+        axis, n = it.path.split("/")[:2]
+        found.setdefault((axis, name_of(axis, world[axis][int(n)])), []).append(compact(it.policy.document))
+    return found
+
+
+def name_of(axis: str, it: Dict[str, Any]) -> str:
+    return principal_text(it) if axis == "principals" else str(it["id"] if axis == "accounts" else it["arn"])
+
+
+def differing(before: World, after: World) -> Tuple[World, World]:
+    """The two worlds with those documents alone that their holders do not have in both."""
+    of_before, of_after = holders(before), holders(after)
+
+    def left(world: World, own: Any, other: Any) -> World:
+        def keep(_kind: str, path: str, policy: Any) -> Any:
+            axis, n = path.split("/")[:2]
+            key = axis, name_of(axis, world[axis][int(n)])
+            return NOTHING if compact(policy.document) in other.get(key, []) else policy
+
+        return mapped(world, keep)
+
+    return left(before, of_before, of_after), left(after, of_after, of_before)
+
+
+def rest_of(world: World) -> Dict[str, Any]:
+    """What worlds have besides documents, by who has it."""
+    plain = bare(mapped(world, lambda *_: NOTHING))
+    found = {
+        f"{axis} {name_of(axis, it)}": it for axis in ("accounts", "principals", "resources") for it in plain[axis]
+    }
+    kept = {
+        key: {name: it[name] for name in ("context", "sealed", "management", "account") if name in it}
+        for key, it in found.items()
+    }
+    return {**kept, "": plain.get("context", {})}
+
+
+def spoken_of(before: World, after: World) -> List[str]:
+    """The action patterns of the changed documents; of all documents where anything else changes, as a tag."""
+    worlds = (before, after) if rest_of(before) != rest_of(after) else differing(before, after)
+    return [text for it in worlds for text in kinds.patterns_of_actions(it)]
+
+
+def actions_of(before: Source, after: Source, patterns: List[str]) -> List[str]:
+    """The given actions of a choice; where none are given, those of which the changed documents speak."""
+    if before.actions:
+        every = {it.lower(): it for it in [*before.actions, *after.actions]}
+        return [it for it in every.values() if any(matcher(asked, True)(it) for asked in patterns)]
+    worlds = before.world([ASSUME]), after.world([ASSUME])
+    spoken, known = spoken_of(*worlds), before.references.actions()
+    named = [text for it in worlds for text in kinds.patterns_of_actions(it) if not is_pattern(text)]
+    found: Dict[str, str] = {}
+    for asked in patterns:
+        if not is_pattern(asked):
+            found[asked.lower()] = asked
+            continue
+        for action in known or named:
+            if matcher(asked, True)(action) and any(matcher(it, True)(action) for it in spoken):
+                found.setdefault(action.lower(), action)
+        for pattern in () if known else spoken:
+            text = common(pattern, asked, True)
+            if text and not any(matcher(pattern, True)(it) for it in found):
+                found[kinds.action_text(text).lower()] = kinds.action_text(text)
+    return list(found.values())
+
+
+def compared(first: Answers, second: Answers, given: str = "") -> Changes:
+    """The answers before and after, request by request."""
+
+    def only(one: Answers, other: Answers) -> List[int]:
+        numbers = [{key: n for n, key in enumerate(axis)} for axis in keys_of(other.world)]
+        axes = keys_of(one.world)
+        found = []
+        for cell in one.allowed():
+            p, a, r = (numbers[axis].get(axes[axis][n]) for axis, n in enumerate(one.place(cell)))
+            there = None not in (p, a, r)
+            if not there or other.at((p * other.shape[1] + a) * other.shape[2] + r).decision != "allowed":
+                found.append(cell)
+        return found
+
+    return Changes(first, second, only(first, second), only(second, first), given)
+
+
+def same_cell(changes: Changes, cell: int, is_before: bool) -> Any:
+    """The cell of the other world for the same request; None where it has none."""
+    one, other = (changes.before, changes.after) if is_before else (changes.after, changes.before)
+    axes, others = keys_of(one.world), keys_of(other.world)
+    try:
+        p, a, r = (others[axis].index(axes[axis][n]) for axis, n in enumerate(one.place(cell)))
+    except ValueError:
+        return None
+    return (p * other.shape[1] + a) * other.shape[2] + r
+
+
+def with_witnesses(before: World, after: World, pattern: str, has_witnesses: bool) -> Tuple[World, World]:
+    """The resources of both worlds that a pattern chooses, with a text for each pattern of the changed documents."""
+    found: Dict[Tuple[str, str], Dict[str, Any]] = {}
+    for changed, world in zip(differing(before, after), (before, after)):
+        for it in (
+            kinds.resources(changed, pattern, world["actions"])[0] if has_witnesses and is_pattern(pattern) else ()
+        ):
+            found.setdefault((it.resource["arn"], it.resource["account"]), it.resource)
+
+    def joined(world: World) -> World:
+        known = {it["arn"] for it in world["resources"]}
+        ids = {it["id"] for it in world["accounts"]}
+        more = [kinds.beside(world, arn, account) for arn, account in found if arn not in known and account in ids]
+        chosen = [it for it in [*world["resources"], *more] if matcher(pattern)(it["arn"])]
+        return {**world, "resources": chosen}
+
+    return joined(before), joined(after)
+
+
+def with_keys(before: World, after: World) -> List[Tuple[str, World, World]]:
+    """The worlds with each key that nothing gives and the changed documents ask for, one at a time, with that in words."""
+    asked: Dict[str, List[str]] = {}
+    for it in differing(before, after):
+        for key, texts in hanging.wanted(it).items():
+            asked.setdefault(key, []).extend(text for text in texts if text not in asked.get(key, []))
+    given = {**given_keys(before), **given_keys(after)}
+
+    def with_key(world: World, key: str, text: str) -> World:
+        return {**world, "context": {**world.get("context", {}), key: text}}
+
+    pairs = [(key, text) for key, texts in asked.items() if key.lower() not in given for text in texts]
+    cells = hanging.cells_of(before) + hanging.cells_of(after)
+    if len(pairs) * cells > hanging.MOST:
+        tell(f"what changes with these keys alone was not asked, since it is too much: {', '.join(asked)}")
+        return []
+    return [(f"`{key}` is `{text}`", with_key(before, key, text), with_key(after, key, text)) for key, text in pairs]
+
+
+def changes_of(before: Source, after: Source, patterns: List[str], resource: str) -> List[Changes]:
+    """What changes, by worlds of actions: as it is, and what changes with a key alone that nothing gives."""
+    actions, found = actions_of(before, after, patterns), []
+    for worlds in zip(before.worlds(actions), after.worlds(actions)):
+        pair = with_witnesses(*worlds, resource, before.estate is not None)
+        keyed = with_keys(*pair)
+        answers = ask_all([*pair, *(it for _, *two in keyed for it in two)])
+        first = compared(*answers[:2])
+        lost, gained = set(first.lost), set(first.gained)
+        found.append(first)
+        for n, (words, _, _) in enumerate(keyed, 1):
+            more = compared(*answers[2 * n : 2 * n + 2], words)
+            new = more._replace(
+                lost=[it for it in more.lost if it not in lost], gained=[it for it in more.gained if it not in gained]
+            )
+            lost.update(new.lost)
+            gained.update(new.gained)
+            found += [new] if new.lost or new.gained else []
+    return found

@@ -1,0 +1,65 @@
+"""The command line."""
+
+import argparse
+import gc
+import os
+import sys
+from typing import List, Optional
+
+from .commands import changes, page, questions, reports, rules, worlds
+from .faults import Fault, tell
+
+DESCRIPTION = """Questions to iamsim about what AWS gives: who can, what changes, and the rules that a team keeps.
+It calls no service; iamsim decides. docs/AWS.md explains it."""
+
+STATUSES = """statuses: 0 done; 1 a fault, told in one line; 2 the command line is refused; 3 'can': not all is allowed,
+'rules': a rule is broken; 4 'rules': a rule meets no request"""
+
+
+def parser() -> argparse.ArgumentParser:
+    made = argparse.ArgumentParser(
+        prog="iamsim-aws",
+        description=DESCRIPTION,
+        epilog=STATUSES,
+        formatter_class=argparse.RawDescriptionHelpFormatter,
+    )
+    commands = made.add_subparsers(title="commands", metavar="COMMAND", required=True)
+    for group in (questions, changes, rules, page, worlds, reports):
+        group.add_all(commands)
+    return made
+
+
+def parsed(words: Optional[List[str]]) -> argparse.Namespace:
+    """The options of a line; exports may stand before options and behind them."""
+    made = parser()
+    options, rest = made.parse_known_args(words)
+    if rest and (not hasattr(options, "exports") or any(it.startswith("-") and it != "-" for it in rest)):
+        made.error(f"unrecognized arguments: {' '.join(rest)}")
+    if rest:
+        options.exports = [*options.exports, *rest]
+    return options
+
+
+def main(words: Optional[List[str]] = None) -> int:
+    """Runs the command of these words; every fault is told in one line."""
+    options = parsed(words)
+    # What a command reads it keeps to its end: looking for garbage among it would take a third of the time.
+    gc.disable()
+    try:
+        status = options.run(options)
+        sys.stdout.flush()
+        return int(status)
+    except Fault as fault:
+        tell(fault)
+    except BrokenPipeError:
+        # A reader that has seen enough, as `head`, ends it without a word.
+        os.dup2(os.open(os.devnull, os.O_WRONLY), 1)
+    except KeyboardInterrupt:
+        tell("stopped")
+    except (OSError, MemoryError) as error:
+        tell(f"{type(error).__name__}: {error}")
+    except Exception as error:  # noqa: a fault of its own is told in one line too
+        tell(
+            f"it could not go on, most likely for an input of another form than docs/AWS.md shows ({type(error).__name__}: {error})"
+        )
+    return 1

@@ -1,0 +1,196 @@
+"""can and who-can."""
+
+import argparse
+from typing import Any, Dict, List, NamedTuple, Set
+
+from .. import chains, files, hanging
+from ..asking import ask
+from ..covering import tell_strangers
+from ..documents import Policy
+from ..exports import policy
+from ..faults import Fault, line_of, tell
+from ..hanging import Turn
+from ..questions import Asked, Question, Scope, missing, worlds
+from ..reports import Answers, csv_text
+from ..sources import add_source, source_of
+from ..telling import HEADER, as_fields, as_json, told
+from .parsers import add, whole
+
+
+class Found(NamedTuple):
+    """The answers of one world, and what they hang on."""
+
+    asked: Asked
+    answers: Answers
+    turns: Dict[int, List[Turn]]
+
+
+def add_all(commands: Any) -> None:
+    example = "iamsim-aws can alice s3:GetObject arn:aws:s3:::homes/alice/x export.json"
+    parser = add(commands, "can", "answer whether a principal may do this, and why", example, can)
+    parser.add_argument("principal", metavar="PRINCIPAL", help="a name, an ARN, or a pattern of these")
+    add_question(parser)
+
+    example = "iamsim-aws who-can s3:GetObject arn:aws:s3:::homes/alice/x export.json"
+    parser = add(
+        commands, "who-can", "list the principals that may do this, and who lacks a key alone", example, who_can
+    )
+    add_question(parser)
+    parser.add_argument("--chains", action="store_true", help="also who may come to it by assuming roles")
+    parser.add_argument(
+        "--depth", type=whole, default=3, metavar="N", help="at most so many roles one after the other (default: 3)"
+    )
+
+
+def add_question(parser: argparse.ArgumentParser) -> None:
+    parser.add_argument("action", metavar="ACTION", help="as s3:GetObject, or a pattern")
+    parser.add_argument("resource", metavar="RESOURCE", help="an ARN, a name, or a pattern of what the world has")
+    add_source(parser)
+    parser.add_argument(
+        "--kinds", action="store_true", help="also ask for a text that stands for each pattern of the policies"
+    )
+    parser.add_argument("--policy", metavar="FILE", help="the policy of the resource, as a bucket's")
+    parser.add_argument(
+        "--sealed", action="store_true", help="that policy must grant in the same account too, as a KMS key's"
+    )
+    parser.add_argument("--account", metavar="ID", help="the account of a resource whose ARN names none")
+    parser.add_argument("--format", choices=["text", "json", "csv"], default="text")
+
+
+def scope_of(options: argparse.Namespace) -> Scope:
+    own = None
+    if options.policy:
+        own = Policy(
+            files.name_of(options.policy),
+            policy(files.name_of(options.policy), files.read_json(options.policy)).document,
+        )
+    return Scope(source_of(options), options.kinds, own, options.account, options.sealed)
+
+
+def answered(scope: Scope, question: Question) -> List[Found]:
+    asked = worlds(scope, question)
+    if not asked:
+        raise Fault(missing(scope, question))
+    found = []
+    for it in asked:
+        answers = ask(it.world)
+        found.append(Found(it, answers, hanging.turns(it.world, answers)))
+    return found
+
+
+def notes(found: List[Found]) -> List[str]:
+    """What the answers cover, and which keys could turn them."""
+    lines = []
+    for asked, answers, turns in found:
+        lines += [f"{arn} is not in the world: it is asked for {policy_words(asked, arn)}" for arn in asked.added]
+        lines += stand_lines(asked, answers, turns)
+        if asked.without:
+            lines.append(
+                f"no text stands for these patterns, whose account or variables nothing gives: {', '.join(asked.without)}"
+            )
+        lines += key_notes(asked, turns)
+    if any(it.asked.witnesses for it in found):
+        lines.append(
+            "the answer covers these texts and the resources of the world; a text has no policy of its own but its bucket's"
+        )
+    return [line_of(it) for it in lines]
+
+
+def stand_lines(asked: Asked, answers: Answers, turns: Dict[int, List[Turn]]) -> List[str]:
+    """What the texts stand for by which something is allowed, or would be; the others are counted."""
+    rows = [answers.row(cell) for cell in {*answers.allowed(), *turns}]
+    told_of = {text for row in rows for text in (row.action, row.resource)}
+    stand = {text: pattern for text, pattern in asked.witnesses.items() if text != pattern}
+    lines = [
+        f"{text} stands for {f'{pattern} of a policy' if pattern else 'what else is asked for'}"
+        for text, pattern in stand.items()
+        if text in told_of
+    ]
+    rest = len(stand) - len(lines)
+    return (
+        [*lines, f"{rest} further texts stand for patterns, and by none of them anything is allowed"] if rest else lines
+    )
+
+
+def key_notes(asked: Asked, turns: Dict[int, List[Turn]]) -> List[str]:
+    """The keys that nothing gives, and with which no answer turned."""
+    turned = {it.key for of in turns.values() for it in of}
+    silent = [it for it in hanging.wanted(asked.world) if it not in turned]
+    if not silent:
+        return []
+    if hanging.is_too_much(asked.world):
+        return [
+            f"what the answers hang on was not asked, since they are too many; policies ask for {', '.join(silent)}"
+        ]
+    what = "no single value of these keys, which policies ask for and nothing gives, turns an answer"
+    return [f"{what}: {', '.join(silent)}"]
+
+
+def policy_words(asked: Asked, arn: str) -> str:
+    own = [it["policy"].name for it in asked.world["resources"] if it["arn"] == arn and "policy" in it]
+    return f"with the policy {own[0]}" if own else "without a policy of its own"
+
+
+def write(options: argparse.Namespace, found: List[Found], text: List[str]) -> None:
+    if options.format == "text":
+        files.write("".join(f"{line}\n" for line in [*text, *notes(found)]))
+        return
+    for line in notes(found):
+        tell(line)
+    cells = [(it, cell) for it in found for cell in range(len(it.answers.numbers))]
+    if options.format == "json":
+        rows = [as_json(it.answers, cell, it.turns.get(cell, [])) for it, cell in cells]
+        files.write(files.compact(rows) + "\n")
+    else:
+        files.write(csv_text(HEADER, [as_fields(it.answers, cell, it.turns.get(cell, [])) for it, cell in cells]))
+
+
+def can(options: argparse.Namespace) -> int:
+    found = answered(scope_of(options), Question(options.principal, options.action, options.resource))
+    lines = []
+    for it in found:
+        for cell in range(len(it.answers.numbers)):
+            lines += told(it.answers, cell, it.turns.get(cell, []), True)
+    write(options, found, lines)
+    return 0 if all(it.decision == "allowed" for of in found for it in of.answers.table) else 3
+
+
+def who_can(options: argparse.Namespace) -> int:
+    scope = scope_of(options)
+    found = answered(scope, Question("*", options.action, options.resource))
+    lines: List[str] = []
+    for it in found:
+        lines += who_lines(it)
+    if options.chains:
+        lines += chain_lines(scope, found, options.depth)
+    write(options, found, lines)
+    tell_strangers(scope.source, [it.asked.world for it in found])
+    return 0
+
+
+def who_lines(found: Found) -> List[str]:
+    """Who is allowed, and who would be with one key more."""
+    _, answers, turns = found
+    allowed = answers.allowed()
+    some = set(allowed)
+    hanging_cells = [cell for cell in sorted(turns) if cell not in some]
+    people, cells = len({answers.place(it)[0] for it in allowed}), len(answers.numbers)
+    lines = [f"{people} of {answers.shape[0]} principals are allowed, by {len(allowed)} of {cells} requests"]
+    for cell in allowed:
+        lines += told(answers, cell, turns.get(cell, []), False)
+    if hanging_cells:
+        lines.append(f"{len(hanging_cells)} more would be, with a key that nothing gives:")
+    for cell in hanging_cells:
+        lines += told(answers, cell, turns[cell], False)
+    return lines
+
+
+def chain_lines(scope: Scope, found: List[Found], depth: int) -> List[str]:
+    allowed: Set[str] = {it.answers.row(cell).principal for it in found for cell in it.answers.allowed()}
+    ways = chains.ways(scope.source, allowed, depth)
+    lines = [
+        f"{len(ways)} more may come to it by assuming at most {depth} roles one after the other:"
+        if ways
+        else "nobody else may come to it by assuming roles"
+    ]
+    return [line_of(it) for it in [*lines, *(f"  {' -> '.join(way)}" for way in ways.values())]]

@@ -1,0 +1,150 @@
+"""rules."""
+
+import argparse
+import time
+from typing import Any, Dict, List
+from urllib.parse import quote
+from xml.sax.saxutils import escape, quoteattr
+
+from .. import drafts, files
+from ..covering import tell_actions, tell_strangers
+from ..faults import line_of, tell
+from ..questions import Scope
+from ..ruling import Break, Outcome, check, read_rules
+from ..sources import add_source, source_of
+from ..telling import BY, LACKS, causes
+from .parsers import add, whole
+
+STATUSES = {"kept": 0, "broken": 3, "empty": 4}
+
+
+def add_all(commands: Any) -> None:
+    example = "iamsim-aws rules rules.txt export.json --junit rules.xml\n\na rule a line:\n  never  *             iam:*         *                             except *:role/admin/*\n  always *:role/deploy s3:PutObject  arn:aws:s3:::releases/app.zip"
+    parser = add(commands, "rules", "check the rules that a team keeps", example, run)
+    parser.add_argument("rules", metavar="RULES", help="a file of rules, one a line")
+    add_source(parser)
+    drafts.add_options(parser)
+    parser.add_argument("--allow-empty", action="store_true", help="let a rule pass that meets no request")
+    help_of_given = "take keys that nothing gives as absent; without it 'never' means with any one of them too"
+    parser.add_argument("--as-given", action="store_true", help=help_of_given)
+    parser.add_argument(
+        "--most", type=whole, default=20, metavar="N", help="tell so many requests of a broken rule (default: 20)"
+    )
+    parser.add_argument("--junit", metavar="FILE", help="writes a report for a pipeline")
+    parser.add_argument("--sarif", metavar="FILE", help="writes a report for code scanning")
+
+
+def run(options: argparse.Namespace) -> int:
+    if options.moment is None:
+        options.moment = int(time.time())
+    rules = read_rules(options.rules)
+    source = source_of(options)
+    if drafts.is_changed(options):
+        source = drafts.before_and_after(source, options)[1]
+    scope = Scope(source, account=options.account)
+    outcomes = check(scope, rules, options.as_given)
+    notes(scope, outcomes)
+    files.write("".join(f"{line_of(line)}\n" for it in outcomes for line in lines_of(it, options.most)))
+    counts = {state: sum(it.state == state for it in outcomes) for state in STATUSES}
+    files.write(f"{len(outcomes)} rules: " + ", ".join(f"{n} {state}" for state, n in counts.items()) + "\n")
+    fails = {"broken"} if options.allow_empty else {"broken", "empty"}
+    if options.junit:
+        files.write_file(options.junit, junit(outcomes, options.most, fails))
+    if options.sarif:
+        files.write_file(options.sarif, sarif(outcomes, options.most, fails))
+    found = [STATUSES[state] for state in ("broken", "empty") if counts[state] and state in fails]
+    return found[0] if found else 0
+
+
+def notes(scope: Scope, outcomes: List[Outcome]) -> None:
+    """What the outcomes cover."""
+    tell_actions(scope.source, [it.rule.question.action for it in outcomes])
+    tell_strangers(scope.source, [asked.world for it in outcomes for asked in it.asked])
+    added = {arn for it in outcomes for asked in it.asked for arn in asked.added}
+    for arn in sorted(added):
+        tell(f"{arn} is not in the world: it is asked for without a policy of its own, but its bucket's")
+    without = {pattern for it in outcomes for asked in it.asked for pattern in asked.without}
+    if without:
+        tell(
+            f"no text stands for these patterns, whose account or variables nothing gives: {', '.join(sorted(without))}"
+        )
+
+
+def message(broken: Break) -> str:
+    """Why a request is decided as it is."""
+    answers, cell, turn = broken
+    row = answers.row(cell)
+    request = f"{row.action} {row.resource}"
+    if turn is not None:
+        return (
+            f"{row.principal} may {request} if `{turn.key}` is `{turn.value}`, which nothing gives (--context gives it)"
+        )
+    why = [f"{BY[row.answer.decision]} {it.words()}" for it in causes(answers, cell)]
+    why += [f"lacks {it}: {LACKS[it]}" for it in row.answer.lacks]
+    may = "may" if row.answer.decision == "allowed" else "may not"
+    return f"{row.principal} {may} {request}: {'; '.join(why) or 'no statement speaks of it'}"
+
+
+def lines_of(outcome: Outcome, most: int) -> List[str]:
+    rule = outcome.rule
+    if outcome.state == "empty":
+        return [f"empty: {rule.name}: {rule.text}: {outcome.empty}"]
+    lines = [f"{outcome.state}: {rule.name}: {rule.text} ({outcome.requests} requests)"]
+    lines += [f"  {message(it)}" for it in outcome.broken[:most]]
+    more = len(outcome.broken) - most
+    return [*lines, f"  and {more} more"] if more > 0 else lines
+
+
+def clean(text: str) -> str:
+    """A text of XML in one line; what XML cannot hold is told by its escape."""
+    return line_of(text)
+
+
+def junit(outcomes: List[Outcome], most: int, fails: Any) -> str:
+    failures = sum(it.state in fails for it in outcomes)
+    lines = [
+        '<?xml version="1.0" encoding="UTF-8"?>',
+        f'<testsuite name="iamsim-aws rules" tests="{len(outcomes)}" failures="{failures}">',
+    ]
+    for it in outcomes:
+        head = f"<testcase classname={quoteattr(clean(it.rule.file))} name={quoteattr(clean(f'{it.rule.name}: {it.rule.text}'))}"
+        if it.state not in fails:
+            lines.append(f"  {head}/>")
+            continue
+        text = "\n".join(escape(clean(line)) for line in lines_of(it, most))
+        lines += [
+            f"  {head}>",
+            f'    <failure type="{it.state}" message={quoteattr(clean(lines_of(it, most)[-1].strip()))}>{text}</failure>',
+            "  </testcase>",
+        ]
+    return "\n".join([*lines, "</testsuite>"]) + "\n"
+
+
+def result(outcome: Outcome, text: str) -> Dict[str, Any]:
+    place = {
+        "artifactLocation": {"uri": quote(outcome.rule.file.replace("\\", "/"))},
+        "region": {"startLine": outcome.rule.line},
+    }
+    return {
+        "ruleId": outcome.state,
+        "level": "error",
+        "message": {"text": f"{outcome.rule.text}: {text}"},
+        "locations": [{"physicalLocation": place}],
+    }
+
+
+def sarif(outcomes: List[Outcome], most: int, fails: Any) -> str:
+    results = []
+    for it in outcomes:
+        if it.state in fails:
+            texts = [message(one) for one in it.broken[:most]] or [it.empty]
+            results += [result(it, text) for text in texts]
+    described = {"broken": "A rule of access is broken", "empty": "A rule of access meets no request"}
+    rules = [{"id": name, "shortDescription": {"text": text}} for name, text in described.items()]
+    driver = {"name": "iamsim-aws", "rules": rules}
+    value = {
+        "$schema": "https://json.schemastore.org/sarif-2.1.0.json",
+        "version": "2.1.0",
+        "runs": [{"tool": {"driver": driver}, "results": results}],
+    }
+    return files.compact(value) + "\n"

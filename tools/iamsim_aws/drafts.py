@@ -1,0 +1,68 @@
+"""The source after a change: drafts of policies, a plan of Terraform, or other exports."""
+
+import argparse
+from typing import List, Optional, Tuple
+
+from . import files, putting, terraform
+from .documents import World
+from .faults import Fault
+from .sources import ASSUME, Source, source_of
+
+
+def add_options(parser: argparse.ArgumentParser) -> None:
+    add = parser.add_argument
+    add("--put", action="append", default=[], metavar="NAME=FILE", help="a draft for the policy of that name or ARN")
+    add("--terraform", metavar="PLAN", help="a plan, by 'terraform show -json'")
+    add("--allow-unknown", action="store_true", help="leave out what the plan tells only after the apply")
+    add("--account", metavar="ID", help="the account of the plan, or of a resource whose ARN names none")
+
+
+def before_and_after(source: Source, options: argparse.Namespace) -> Tuple[Source, Source]:
+    """The source without and with the drafts and the plan of the options."""
+    first = estate = source.estate
+    if options.terraform:
+        if estate is None:
+            raise Fault("--terraform: a plan is put into effect on exports, and not on a world")
+        first, estate = terraform.applied(estate, options.terraform, options.account, options.allow_unknown)
+    drafts = [putting.read_draft(it) for it in options.put]
+    aliases = estate.organization.names() if estate else {}
+
+    def change(world: World) -> World:
+        return putting.put(world, drafts, aliases)
+
+    plain = source.like(estate, lambda world: world)
+    putting.refuse_strangers(plain.world([ASSUME]), drafts, aliases)
+    return source.like(first, lambda world: world), source.like(estate, change)
+
+
+def is_changed(options: argparse.Namespace) -> bool:
+    return bool(options.put or options.terraform)
+
+
+def is_world(path: str) -> bool:
+    given = files.read_json(path)
+    return isinstance(given, dict) and "principals" in given
+
+
+def side(options: argparse.Namespace, paths: List[str]) -> Source:
+    """The source of exports, or of one world."""
+    worlds = [it for it in paths if is_world(it)]
+    if worlds and len(paths) > 1:
+        raise Fault("one world is compared with one world, and exports with exports")
+    given = {"world": worlds[0], "exports": []} if worlds else {"world": None, "exports": paths}
+    return source_of(argparse.Namespace(**{**vars(options), **given}))
+
+
+def both(options: argparse.Namespace) -> Tuple[Source, Source]:
+    """The sources before and after; both have the same moment."""
+    before: Optional[List[str]] = options.before
+    after: Optional[List[str]] = options.after
+    if bool(before) != bool(after):
+        raise Fault("--before and --after belong together")
+    if before and after:
+        if is_changed(options) or options.exports or options.world:
+            raise Fault("compare --before with --after, or exports with --put and --terraform, and not both")
+        return side(options, before), side(options, after)
+    if not is_changed(options):
+        raise Fault("say what changes: --put NAME=FILE, --terraform PLAN, or --before and --after")
+    return before_and_after(source_of(options), options)

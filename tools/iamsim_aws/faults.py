@@ -1,0 +1,19 @@
+"""What ends the command, and lines beside the answer."""
+
+import sys
+
+
+class Fault(Exception):
+    """Ends the command with status 1 and this line."""
+
+
+def line_of(text: object) -> str:
+    """A text in one line, whatever it holds."""
+    return "".join(
+        it if it.isprintable() else it.encode("unicode_escape", "surrogatepass").decode() for it in str(text)
+    )
+
+
+def tell(text: object) -> None:
+    """A line on standard error."""
+    print(f"iamsim-aws: {line_of(text)}", file=sys.stderr)

@@ -1,0 +1,171 @@
+"""Witnesses: texts that stand for the actions and resources that policies speak of by patterns."""
+
+import functools
+from typing import Any, Dict, Iterable, Iterator, List, NamedTuple, Optional, Tuple
+
+from .arns import account_of, principal_arn, resource_part, service_of
+from .documents import World, each, places, statements_of
+from .patterns import common, is_pattern, matcher, resolved
+
+REGION = "us-east-1"
+# What stands for the parts of an ARN that a pattern leaves open.
+OPEN = ["arn", "aws", "x", REGION, "", "x"]
+
+Resource = Dict[str, Any]
+
+
+class Witness(NamedTuple):
+    """A resource, and the pattern of a policy that it stands for; none where it stands for what is asked alone."""
+
+    resource: Resource
+    pattern: str
+
+
+def texts_of(statement: Any, *elements: str) -> List[str]:
+    if not isinstance(statement, dict):
+        return []
+    return [it for name in elements for it in each(statement.get(name, [])) if isinstance(it, str)]
+
+
+@functools.lru_cache(maxsize=None)
+def meets(patterns: Tuple[str, ...], actions: Tuple[str, ...]) -> bool:
+    return any(matcher(pattern, True)(action) for pattern in patterns for action in actions)
+
+
+def speaks_of(statement: Any, actions: Tuple[str, ...]) -> bool:
+    """Whether a statement may speak of one of the actions."""
+    is_open = isinstance(statement, dict) and "NotAction" in statement
+    return is_open or meets(tuple(texts_of(statement, "Action")), actions)
+
+
+def statements(world: World, actions: List[str]) -> Iterator[Tuple[str, Any, bool]]:
+    """(path of the document, statement, whether it has variables) of those that may speak of the actions."""
+    wanted = tuple(actions)
+    for it in places(world):
+        document = it.policy.document
+        for statement in statements_of(document):
+            if speaks_of(statement, wanted):
+                yield it.path, statement, isinstance(document, dict) and document.get("Version") == "2012-10-17"
+
+
+def first_text(value: Any) -> Optional[str]:
+    """The value of a key that has one."""
+    if isinstance(value, list):
+        return first_text(value[0]) if len(value) == 1 else None
+    if isinstance(value, bool):
+        return str(value).lower()
+    return str(value) if isinstance(value, (str, int)) else None
+
+
+def values_of(world: World, path: str) -> Tuple[Dict[str, str], str]:
+    """The variables' values for the holder of a document, and the account that its open ARNs are in."""
+    axis, n = path.split("/")[:2]
+    it = world[axis][int(n)]
+    context = {**world.get("context", {}), **it.get("context", {})}
+    values = {key.lower(): first_text(value) for key, value in context.items()}
+    found = {key: value for key, value in values.items() if value is not None}
+    if axis != "principals":
+        return found, it["id"] if axis == "accounts" else it["account"]
+    arn = principal_arn(it)
+    found.update({"aws:principalarn": arn, "aws:principalaccount": account_of(arn)})
+    if "user" in it:
+        found["aws:username"] = arn.split("/")[-1]
+    return found, account_of(arn)
+
+
+def filled(pattern: str, account: str) -> Optional[str]:
+    """An ARN that matches the pattern, of that account where it leaves it open."""
+    if pattern == "*":
+        return "*"
+    parts = pattern.split(":", 5)
+    template = [*OPEN[:4], account, OPEN[5]]
+    made = []
+    for n, part in enumerate(parts):
+        open_part = is_pattern(part) and n in (3, 4) and matcher(part)(template[n])
+        made.append(template[n] if open_part else common(part) or "")
+    text = ":".join([*made, *template[len(made) :]])
+    if matcher(pattern)(text):
+        return text
+    return common(pattern, f"arn:*:*:*:{account}:*")
+
+
+def bucket_of(arn: str) -> str:
+    return resource_part(arn).split("/")[0] if service_of(arn) == "s3" else ""
+
+
+def beside(world: World, arn: str, account: str) -> Resource:
+    """A resource that the world does not name; a bucket's policy is that of each of its objects."""
+    bucket = bucket_of(arn)
+    of_bucket = [it for it in world["resources"] if bucket and bucket_of(it["arn"]) == bucket]
+    for it in sorted(of_bucket, key=lambda it: "policy" not in it)[:1]:
+        return {"arn": arn, **{name: it[name] for name in ("account", "policy", "control") if name in it}}
+    return {"arn": arn, "account": account}
+
+
+def resources(world: World, asked: str, actions: List[str]) -> Tuple[List[Witness], List[str]]:
+    """A witness for the asked pattern and for each pattern of a policy that meets it, in the account of who has the policy
+    where it leaves that open; and the patterns without one. Named resources stand for themselves alone: a deny on one of
+    them says nothing of the others."""
+    asked = asked if asked.startswith(("arn:", "*")) else f"arn:*:*:*:*:{asked}"
+    named = {it["arn"] for it in world["resources"]}
+    ids = {it["id"] for it in world["accounts"]}
+    patterns: Dict[Tuple[str, str], None] = {}
+    for path, statement, is_new in statements(world, actions):
+        values, account = values_of(world, path)
+        for text in texts_of(statement, "Resource", "NotResource"):
+            pattern = resolved(text, values) if is_new else text
+            if pattern is not None and pattern not in named:
+                patterns[pattern, account] = None
+    found: Dict[Tuple[str, str], Witness] = {}
+    without = []
+    for pattern, account in [*patterns, *((asked, account) for account in ids if (asked, account) not in patterns)]:
+        arn = witness(pattern, asked, account)
+        owner = (account_of(arn) or account) if arn else ""
+        if arn and owner in ids:
+            if arn not in named:
+                own = pattern if (pattern, account) in patterns else ""
+                found.setdefault((arn, owner), Witness(beside(world, arn, owner), own))
+        elif pattern != asked and common(pattern, asked):
+            without.append(pattern)
+    return list(found.values()), list(dict.fromkeys(without))
+
+
+def witness(pattern: str, asked: str, account: str) -> Optional[str]:
+    """A resource that matches both patterns."""
+    for text in (filled(pattern, account), filled(asked, account), common(pattern, asked)):
+        if (
+            text
+            and (text == "*" or text.startswith("arn:") and text.count(":") >= 5)
+            and matcher(asked)(text)
+            and matcher(pattern)(text)
+        ):
+            return text
+    return None
+
+
+def patterns_of_actions(world: World) -> List[str]:
+    """The actions and action patterns that policies name, each once."""
+    every = (statement for it in places(world) for statement in statements_of(it.policy.document))
+    return list(dict.fromkeys(text for statement in every for text in texts_of(statement, "Action", "NotAction")))
+
+
+def action_text(text: str) -> str:
+    """An action; of a pattern without a colon only the name is known."""
+    return text if ":" in text else f"any:{text}"
+
+
+def actions(world: World, asked: str, known: Iterable[str], has_witnesses: bool) -> Dict[str, str]:
+    """The actions that a pattern asks for: known ones, those that policies name and, with witnesses, a text for the pattern
+    and for each pattern of a policy that meets it. Each with the pattern of a policy that it stands for, or itself; with none
+    where it stands for what is asked alone."""
+    found = {it.lower(): (it, it) for it in known if matcher(asked, True)(it)}
+    patterns = patterns_of_actions(world)
+    for pattern in patterns:
+        if not is_pattern(pattern) and matcher(asked, True)(pattern):
+            found.setdefault(pattern.lower(), (pattern, pattern))
+    for pattern in [*patterns, asked] if has_witnesses else ():
+        text = common(pattern, asked, True) if is_pattern(pattern) else None
+        if text:
+            own = pattern if pattern in patterns else ""
+            found.setdefault(action_text(text).lower(), (action_text(text), own))
+    return dict(found.values())

@@ -1,0 +1,164 @@
+"""One HTML page of a matrix, or of what changes, with nothing from outside."""
+
+import array
+import base64
+import hashlib
+import json
+import os
+import sys
+from typing import Any, Dict, List, Optional, Tuple
+
+from .arns import account_of, principal_arn, principal_text
+from .documents import Policy, World, statements_of
+from .files import compact
+from .hanging import Turn
+from .reports import DECISIONS, Answer, Answers, keys_of
+
+PARTS = os.path.join(os.path.dirname(os.path.realpath(__file__)), "parts")
+ABSENT = Answer("absent", (), ())
+
+
+class Table:
+    """Numbers for values, in the order in which they come."""
+
+    def __init__(self) -> None:
+        self.numbers: Dict[Any, int] = {}
+
+    def number(self, value: Any) -> int:
+        return self.numbers.setdefault(value, len(self.numbers))
+
+    def values(self) -> List[Any]:
+        return list(self.numbers)
+
+
+class Layers:
+    """Of each principal and each resource the policies that apply to it, by layer, level and number; a policy is the
+    number of its name and those of its statements."""
+
+    def __init__(self, statements: Table, names: Table):
+        self.statements, self.names = statements, names
+        self.known: Dict[int, Tuple[Any, Any]] = {}
+        self.seen: Dict[str, int] = {}
+
+    def policy(self, policy: Policy) -> Any:
+        key = id(policy.document)
+        if key not in self.known or self.known[key][0] is not policy.document:
+            self.known[key] = policy.document, [self.statement(it) for it in statements_of(policy.document)]
+        return [self.names.number(policy.name), self.known[key][1]]
+
+    def statement(self, it: Any) -> int:
+        text = compact(it)
+        if text not in self.seen:
+            sid = it.get("Sid", "") if isinstance(it, dict) else ""
+            self.seen[text] = self.statements.number((str(sid), json.dumps(it, indent=2, ensure_ascii=False)))
+        return self.seen[text]
+
+    def policies(self, some: List[Policy]) -> List[Any]:
+        return [self.policy(it) for it in some]
+
+    def principal(self, it: Dict[str, Any]) -> Dict[str, Any]:
+        boundary = [[self.policy(it["boundary"])]] if "boundary" in it else []
+        identity, session = ([self.policies(it.get(name, []))] for name in ("identity", "sessionPolicies"))
+        account = account_of(principal_arn(it))
+        return {"account": account, "identity": identity, "boundary": boundary, "session": session}
+
+    def resource(self, it: Dict[str, Any]) -> Dict[str, Any]:
+        control = [self.policies(level) for level in it.get("control", [])]
+        return {"control": control, "resource": [[self.policy(it["policy"])]] if "policy" in it else []}
+
+    def all_of(self, world: World, principals: List[Any], resources: List[Any]) -> Dict[str, Any]:
+        """The layers of a world, in the order of these principals and resources; null for those that it has not."""
+        levels = {
+            it["id"]: [] if it.get("management") else [self.policies(level) for level in it.get("org", [])]
+            for it in world["accounts"]
+        }
+        people = {principal_text(it): it for it in world["principals"]}
+        things = {(it["arn"], it["account"]): it for it in world["resources"]}
+        return {
+            "org": levels,
+            "principals": [self.principal(people[it]) if it in people else None for it in principals],
+            "resources": [self.resource(things[it]) if it in things else None for it in resources],
+        }
+
+
+def packed(numbers: Any, count: int) -> Tuple[int, str]:
+    """The numbers in as many bytes each as `count` of them need, lowest byte first, in base64."""
+    width = 1 if count <= 1 << 8 else 2 if count <= 1 << 16 else 4
+    few = array.array({1: "B", 2: "H", 4: "I"}[width], numbers)
+    if sys.byteorder == "big":
+        few.byteswap()
+    return width, base64.b64encode(few.tobytes()).decode()
+
+
+def spread(answers: Answers, axes: List[List[Any]], table: Table) -> Any:
+    """The numbers of a world's answers on wider axes."""
+    own = keys_of(answers.world)
+    new = [table.number(it) for it in answers.table]
+    if own == axes:
+        return array.array("I", map(new.__getitem__, answers.numbers))
+    absent = table.number(ABSENT)
+    numbers = [{key: n for n, key in enumerate(axis)} for axis in own]
+    places = [[numbers[axis].get(key) for key in axes[axis]] for axis in range(3)]
+    _, actions, resources = answers.shape
+    made = array.array("I")
+    for p in places[0]:
+        for a in places[1]:
+            for r in places[2]:
+                there = p is not None and a is not None and r is not None
+                made.append(new[answers.numbers[(p * actions + a) * resources + r]] if there else absent)
+    return made
+
+
+def side(answers: Answers, axes: List[List[Any]], table: Table, layers: Layers) -> Tuple[Any, Any]:
+    return spread(answers, axes, table), layers.all_of(answers.world, axes[0], axes[2])
+
+
+def data(
+    answers: Answers, is_brief: bool, turns: Optional[Dict[int, List[Turn]]] = None, before: Optional[Answers] = None
+) -> Dict[str, Any]:
+    """What the page shows."""
+    axes = [list(axis) for axis in keys_of(answers.world)]
+    for axis, more in enumerate(keys_of(before.world)) if before else ():
+        there = set(axes[axis])
+        axes[axis] += [it for it in more if it not in there]
+    statements, names, table = Table(), Table(), Table()
+    layers = Layers(statements, names)
+    numbers, own = side(answers, axes, table, layers)
+    old = side(before, axes, table, layers) if before else None
+    every = table.values()
+    width, cells = packed(numbers, len(every))
+    words = [*DECISIONS, "absent"]
+    return {
+        "moment": answers.world["moment"],
+        "axes": [axes[0], axes[1], [arn for arn, _ in axes[2]]],
+        "answers": [[words.index(it.decision), " ".join(it.statements), " ".join(it.lacks)] for it in every],
+        "isBrief": is_brief,
+        "layers": own,
+        "before": old and {"cells": packed(old[0], len(every))[1], "layers": old[1]},
+        "turns": {str(cell): [list(it) for it in of] for cell, of in (turns or {}).items()},
+        "statements": statements.values(),
+        "names": names.values(),
+        "width": width,
+        "cells": cells,
+    }
+
+
+def escaped(value: Any) -> str:
+    """JSON that stays data inside a script element, whatever its texts hold."""
+    text = json.dumps(value, ensure_ascii=True, separators=(",", ":"))
+    return text.replace("<", "\\u003c").replace(">", "\\u003e").replace("&", "\\u0026")
+
+
+def part(name: str) -> str:
+    with open(os.path.join(PARTS, name), encoding="utf-8") as it:
+        return it.read()
+
+
+def page(value: Dict[str, Any]) -> str:
+    script, style = part("page.js"), part("page.css")
+    hashes = [base64.b64encode(hashlib.sha256(it.encode()).digest()).decode() for it in (script, style)]
+    pieces = {"SCRIPT-HASH": hashes[0], "STYLE-HASH": hashes[1], "STYLE": style, "SCRIPT": script}
+    text = part("page.html")
+    for name, piece in pieces.items():
+        text = text.replace(f"<!--{name}-->", piece)
+    return text.replace("<!--DATA-->", escaped(value))

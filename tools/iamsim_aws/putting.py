@@ -1,0 +1,87 @@
+"""Drafts of policies in place of those of a world."""
+
+from typing import Any, Dict, List, NamedTuple, Set, Tuple
+
+from . import files
+from .arns import resource_part, service_of
+from .documents import Policy, World, mapped, places
+from .exports import document
+from .faults import Fault
+from .kinds import bucket_of
+
+
+class Draft(NamedTuple):
+    """A policy's document, for the policy that is so called."""
+
+    name: str
+    document: Any
+
+
+def read_draft(text: str) -> Draft:
+    """A draft of an argument NAME=FILE."""
+    name, equals, path = text.rpartition("=")
+    if not equals or not name or not path:
+        raise Fault(f"--put {text}: it takes POLICY-NAME=FILE")
+    return Draft(name, document(files.read_json(path), files.name_of(path)))
+
+
+def called(name: str) -> Set[str]:
+    """What a policy of that name may be called."""
+    for middle in (" inline ", " trust policy"):
+        holder, found, own = name.partition(middle)
+        if found:
+            short = resource_part(holder)
+            last = short.split("/")[-1]
+            if own:
+                return {name, own, f"{short} inline {own}", f"{last} inline {own}"}
+            return {name, holder, short, last, f"{short} trust policy", f"{last} trust policy"}
+    return {name, resource_part(name), resource_part(name).split("/")[-1]}
+
+
+def is_resource(it: Dict[str, Any], name: str) -> bool:
+    """Whether the resource's policy is called so: by its ARN, its bucket or its last part. A role's policy is a trust
+    policy, where it has one."""
+    arn = it["arn"]
+    if service_of(arn) == "iam" and "policy" not in it:
+        return False
+    names = (
+        {arn, f"{arn} policy", resource_part(arn), resource_part(arn).split("/")[-1]} if not bucket_of(arn) else {arn}
+    )
+    bucket = bucket_of(arn)
+    return name in names or (bucket != "" and name in (bucket, f"{arn.split(':::')[0]}:::{bucket}"))
+
+
+def put_one(world: World, draft: Draft, aliases: Dict[str, str]) -> Tuple[World, bool]:
+    """The world with one draft, and whether it has such a policy."""
+    if any(is_resource(it, draft.name) for it in world["resources"]):
+        resources = [
+            {**it, "policy": Policy(policy_name(it, draft), draft.document)} if is_resource(it, draft.name) else it
+            for it in world["resources"]
+        ]
+        return {**world, "resources": resources}, True
+    names = {it.policy.name for it in places(world)}
+    meant = {it for it in names if draft.name in called(it) or aliases.get(it) == draft.name}
+    if draft.name in meant:
+        meant = {draft.name}
+    if len(meant) > 1:
+        raise Fault(f"--put {draft.name}: several policies are called so: {', '.join(sorted(meant))}")
+    made = mapped(world, lambda _kind, _path, it: Policy(it.name, draft.document) if it.name in meant else it)
+    return made, bool(meant)
+
+
+def policy_name(resource: Dict[str, Any], draft: Draft) -> str:
+    return resource["policy"].name if "policy" in resource else f"{draft.name} policy"
+
+
+def put(world: World, drafts: List[Draft], aliases: Dict[str, str]) -> World:
+    """The world with the drafts of policies that it has."""
+    for draft in drafts:
+        world, _ = put_one(world, draft, aliases)
+    return world
+
+
+def refuse_strangers(world: World, drafts: List[Draft], aliases: Dict[str, str]) -> None:
+    """Each draft has to be of a policy that is there."""
+    for draft in drafts:
+        if not put_one(world, draft, aliases)[1]:
+            raise Fault(f"--put {draft.name}: no policy and no resource is called so")

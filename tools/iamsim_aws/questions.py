@@ -1,0 +1,142 @@
+"""The requests that a question asks for, as worlds, and which resources there stand for what."""
+
+import re
+from typing import Any, Dict, List, NamedTuple, Optional
+
+from . import kinds
+from .arns import account_of, names_of_principal, names_of_resource, service_of
+from .documents import Policy, World
+from .faults import Fault
+from .patterns import any_matches, is_pattern, matcher
+from .sources import ASSUME, Source
+
+ACTION = re.compile(r"[A-Za-z0-9-]+:[A-Za-z0-9_.-]+")
+ARN = re.compile(r"arn:[^:]*:[^:]+:[^:]*:[^:]*:.+", re.DOTALL)
+
+
+class Scope(NamedTuple):
+    """Where questions are asked, and what is added to what stands there."""
+
+    source: Source
+    kinds: bool = False
+    policy: Optional[Policy] = None
+    account: Optional[str] = None
+    sealed: bool = False
+
+
+class Question(NamedTuple):
+    """A pattern each; principals that match an exception are not meant."""
+
+    principal: str
+    action: str
+    resource: str
+    exceptions: List[str] = []
+
+
+class Asked(NamedTuple):
+    """A world of a question's requests, the patterns that its witnesses stand for, patterns without a witness, and the
+    resources that the world did not name."""
+
+    world: World
+    witnesses: Dict[str, str]
+    without: List[str]
+    added: List[str]
+
+
+def principals(world: World, question: Question) -> List[Dict[str, Any]]:
+    found = []
+    for it in world["principals"]:
+        names = names_of_principal(it)
+        if any_matches([question.principal], names) and not any_matches(question.exceptions, names):
+            found.append(it)
+    return found
+
+
+def actions(scope: Scope, pattern: str) -> Dict[str, str]:
+    """The actions that a pattern asks for, each with the pattern of a policy that it stands for, or itself."""
+    if not is_pattern(pattern):
+        if not ACTION.fullmatch(pattern):
+            raise Fault(f"{pattern}: an action is written 'service:Name', and '*' and '?' are wild")
+        return {pattern: pattern}
+    source = scope.source
+    references = source.references
+    found = kinds.actions(source.world([ASSUME]), pattern, source.actions, scope.kinds)
+    # Of a service that has a file all actions are known.
+    rest = {it: of for it, of in found.items() if it in source.actions or not references.has_file(it)}
+    return {**{it: it for it in references.actions() if matcher(pattern, True)(it)}, **rest}
+
+
+def account_for(scope: Scope, world: World, arn: str) -> str:
+    """The account of a resource that the world does not have."""
+    found = account_of(arn) or scope.account
+    ids = [it["id"] for it in world["accounts"]]
+    if found is None and len(ids) == 1:
+        return str(ids[0])
+    if found is None or not re.fullmatch(r"\d{12}", found):
+        raise Fault(f"{arn}: which account is it of? Say it by --account, or name the resource in --resources")
+    return found
+
+
+def dressed(scope: Scope, resource: Dict[str, Any]) -> Dict[str, Any]:
+    """The resource with the policy that is given beside the question."""
+    if scope.policy is None:
+        return resource
+    return {**resource, "policy": scope.policy, **({"sealed": True} if scope.sealed else {})}
+
+
+def with_account(scope: Scope, world: World, resources: List[Dict[str, Any]]) -> List[Dict[str, Any]]:
+    """The world's accounts, and those of resources that it did not have."""
+    known = {it["id"] for it in world["accounts"]}
+    new = sorted({it["account"] for it in resources} - known)
+    estate = scope.source.estate
+    return world["accounts"] + [estate.organization.account(it) if estate else {"id": it} for it in new]
+
+
+def asked_in(scope: Scope, world: World, question: Question) -> Asked:
+    """The part of a world that a question asks for."""
+    pattern = question.resource
+    found = [it for it in world["resources"] if any_matches([pattern], names_of_resource(it["arn"]))]
+    added = []
+    if not found and ARN.fullmatch(pattern) and not is_pattern(pattern):
+        found, added = [kinds.beside(world, pattern, account_for(scope, world, pattern))], [pattern]
+    witnesses, without = (
+        kinds.resources(world, pattern, world["actions"]) if scope.kinds and is_pattern(pattern) else ([], [])
+    )
+    found += [it.resource for it in witnesses]
+    resources = [with_control(scope, dressed(scope, it)) for it in found]
+    narrow = {**world, "principals": principals(world, question), "resources": resources}
+    narrow["accounts"] = with_account(scope, world, resources)
+    return Asked(narrow, {it.resource["arn"]: it.pattern for it in witnesses}, without, added)
+
+
+def with_control(scope: Scope, resource: Dict[str, Any]) -> Dict[str, Any]:
+    """A resource with the resource control policies of its account."""
+    estate = scope.source.estate
+    if estate is None or "control" in resource:
+        return resource
+    keys = estate.organization.keys(resource["account"], "Resource")
+    context = {**keys, **resource.get("context", {})}
+    taken = {it.lower() for it in estate.context or {}}
+    context = {key: value for key, value in context.items() if key.lower() not in taken}
+    control = estate.organization.control(resource["account"], service_of(resource["arn"]))
+    return {**resource, **control, **({"context": context} if context else {})}
+
+
+def worlds(scope: Scope, question: Question) -> List[Asked]:
+    """The worlds of a question's requests; none of them where it asks for none."""
+    chosen = actions(scope, question.action)
+    found = [asked_in(scope, world, question) for world in scope.source.worlds(list(chosen))]
+    stand = {action: pattern for action, pattern in chosen.items() if action != pattern}
+    found = [it._replace(witnesses={**stand, **it.witnesses}) for it in found]
+    return [it for it in found if it.world["principals"] and it.world["resources"]]
+
+
+def missing(scope: Scope, question: Question) -> str:
+    """Why a question asks for no request."""
+    chosen = actions(scope, question.action)
+    if not chosen:
+        return f"no action matches {question.action}: name actions by --actions, or their services by --services"
+    found = scope.source.worlds(list(chosen))
+    if not any(principals(it, question) for it in found):
+        return f"no principal matches {question.principal}"
+    return f"no resource matches {question.resource}: name its ARN, resources by --resources, or ask with --kinds"

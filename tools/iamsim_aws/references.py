@@ -1,0 +1,101 @@
+"""Files of AWS's service reference, one JSON a service: its actions, and which resources they are for."""
+
+import functools
+import os
+import re
+from typing import Any, Dict, Iterable, List, Set, Tuple
+
+from . import files
+from .faults import Fault, tell
+
+FORM = re.compile(r"\$\{[^}]*\}")
+
+
+def in_part(part: str, free: str) -> str:
+    return free.join(map(re.escape, FORM.split(part)))
+
+
+def expression(form: str) -> Tuple[Any, int]:
+    """An ARN format as a regular expression, and how many of its characters are given."""
+    *head, last = form.split(":", 5)
+    written = ":".join([*(in_part(it, "[^:]*") for it in head), in_part(last, ".*")])
+    return re.compile(written, re.DOTALL), sum(map(len, FORM.split(form)))
+
+
+class Service:
+    def __init__(self, reference: Dict[str, Any]):
+        self.name = reference["Name"]
+        self.names = [it["Name"] for it in reference["Actions"]]
+        self.types = {
+            it["Name"]: [expression(form) for form in it.get("ARNFormats", [])] for it in reference.get("Resources", [])
+        }
+        self.actions = {
+            it["Name"].lower(): {of["Name"] for of in it.get("Resources", [])} for it in reference["Actions"]
+        }
+        self.known: Dict[str, Set[str]] = {}
+
+    def types_of(self, resource: str) -> Set[str]:
+        """The types whose format fits the resource with the most given characters."""
+        if resource not in self.known:
+            fits = [
+                (given, name) for name, forms in self.types.items() for form, given in forms if form.fullmatch(resource)
+            ]
+            most = max((given for given, _ in fits), default=0)
+            self.known[resource] = {name for given, name in fits if given == most}
+        return self.known[resource]
+
+    def has(self, action: str, resource: str) -> bool:
+        if action not in self.actions:
+            return False
+        wanted = self.actions[action]
+        return not wanted or resource == "*" or bool(wanted & self.types_of(resource))
+
+
+class References:
+    """The services of some files; a folder stands for the files in it."""
+
+    def __init__(self, paths: Iterable[str]):
+        self.services: Dict[str, Service] = {}
+        self.unknown: Set[str] = set()
+        for path in [file for it in paths for file in files_in(it)]:
+            service = read_service(path)
+            self.services[service.name.lower()] = service
+        self.keeps = functools.lru_cache(maxsize=None)(self.keeps)  # type: ignore[method-assign]
+
+    def actions(self) -> List[str]:
+        return [f"{it.name}:{name}" for it in self.services.values() for name in it.names]
+
+    def has_file(self, action: str) -> bool:
+        return action.lower().partition(":")[0] in self.services
+
+    def knows(self, action: str) -> bool:
+        """Whether an action is known, or its service has no file here."""
+        service, _, name = action.lower().partition(":")
+        return service not in self.services or name in self.services[service].actions
+
+    def keeps(self, action: str, resource: str) -> bool:
+        """Whether the service has such a request; where it has no file here, yes."""
+        service, _, name = action.lower().partition(":")
+        if service in self.services:
+            return self.services[service].has(name, resource)
+        if service not in self.unknown:
+            self.unknown.add(service)
+            tell(f"no file of the service {service}: its rows stay")
+        return True
+
+
+def files_in(path: str) -> List[str]:
+    if not os.path.isdir(path):
+        return [path]
+    found = sorted(it for it in os.listdir(path) if it.endswith((".json", ".json.gz")))
+    if not found:
+        raise Fault(f"{path}: the folder has no file of the service reference (*.json)")
+    return [os.path.join(path, it) for it in found]
+
+
+def read_service(path: str) -> Service:
+    given = files.read_json(path)
+    try:
+        return Service(given)
+    except (KeyError, TypeError, AttributeError):
+        raise Fault(f"{files.name_of(path)}: it is no file of AWS's service reference") from None

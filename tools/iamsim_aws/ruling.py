@@ -1,0 +1,163 @@
+"""Rules that a team keeps: which requests are never allowed, and which always."""
+
+import re
+from typing import Dict, List, NamedTuple, Optional
+
+from . import files
+from .arns import names_of_principal, principal_text
+from .asking import ask_all
+from .faults import Fault, tell
+from .hanging import Turn, is_too_much, turns
+from .patterns import any_matches, is_pattern
+from .questions import Asked, Question, Scope, missing, worlds
+from .reports import Answers
+from .sources import ASSUME
+
+WORD = re.compile(r"(?:\\.|[^\s\\])+")
+KINDS = ("never", "always")
+NOTHING_SPEAKS = "nothing that is named, and no pattern of a policy, is meant by it"
+
+
+class Rule(NamedTuple):
+    """A line of a file of rules."""
+
+    file: str
+    line: int
+    text: str
+    kind: str
+    question: Question
+
+    @property
+    def name(self) -> str:
+        return f"{self.file}:{self.line}"
+
+
+class Break(NamedTuple):
+    """A request that breaks a rule: as it is, or with a key that nothing gives."""
+
+    answers: Answers
+    cell: int
+    turn: Optional[Turn]
+
+
+class Outcome(NamedTuple):
+    """How a rule fares: the requests that it meets, those that break it, and why it meets none."""
+
+    rule: Rule
+    requests: int
+    broken: List[Break]
+    asked: List[Asked]
+    empty: str
+
+    @property
+    def state(self) -> str:
+        return "broken" if self.broken else "kept" if self.requests else "empty"
+
+
+def words_of(line: str) -> List[str]:
+    """The words of a line; '#' begins a comment, and a backslash keeps a sign as it is."""
+    found = []
+    for it in WORD.findall(line):
+        if it.startswith("#"):
+            break
+        found.append(re.sub(r"\\(.)", r"\1", it))
+    return found
+
+
+def read_rules(path: str) -> List[Rule]:
+    what, rules = files.name_of(path), []
+    for n, line in enumerate(files.read_text(path).splitlines(), 1):
+        words = words_of(line)
+        if words:
+            rules.append(Rule(what, n, line.strip(), words[0], question_of(words, f"{what}:{n}")))
+    if not rules:
+        raise Fault(f"{what}: it has no rules")
+    return rules
+
+
+def question_of(words: List[str], where: str) -> Question:
+    if words[0] not in KINDS:
+        raise Fault(f"{where}: a rule begins with 'never' or 'always', and not with {words[0]}")
+    if len(words) < 4:
+        raise Fault(f"{where}: a rule is '{words[0]} PRINCIPAL ACTION RESOURCE', and may end with 'except PRINCIPAL..'")
+    if len(words) > 4 and (words[4] != "except" or len(words) == 5):
+        raise Fault(
+            f"{where}: behind the resource stands nothing, or 'except' and principals, and not {' '.join(words[4:])}"
+        )
+    return Question(words[1], words[2], words[3], words[5:])
+
+
+def exceptions(scope: Scope, rule: Rule) -> Dict[str, List[str]]:
+    """The principals that each exception of a rule means. A name alone has to mean one, so that none is excepted unseen."""
+    people = scope.source.world([ASSUME])["principals"]
+    found = {}
+    for it in rule.question.exceptions:
+        found[it] = [principal_text(one) for one in people if any_matches([it], names_of_principal(one))]
+        if len(found[it]) > 1 and ":" not in it and not is_pattern(it):
+            raise Fault(f"{rule.name}: several principals are called {it}, name one by its ARN: {', '.join(found[it])}")
+    return found
+
+
+def asked_by(scope: Scope, rule: Rule) -> List[Asked]:
+    """The worlds of a rule's requests; what must never be is asked of texts for the policies' patterns too."""
+    for it, people in exceptions(scope, rule).items():
+        if not people:
+            tell(f"{rule.name}: the exception {it} matches no principal")
+    question = rule.question
+    has_kinds = rule.kind == "never" and (is_pattern(question.resource) or is_pattern(question.action))
+    try:
+        return worlds(scope._replace(kinds=scope.kinds or has_kinds), question)
+    except Fault as fault:
+        raise Fault(f"{rule.name}: {fault}") from None
+
+
+def check(scope: Scope, rules: List[Rule], as_given: bool = False) -> List[Outcome]:
+    """The outcome of each rule, all asked side by side."""
+    asked = [asked_by(scope, rule) for rule in rules]
+    flat = [it for of in asked for it in of]
+    answers: Dict[int, Answers] = {id(it): found for it, found in zip(flat, ask_all([it.world for it in flat]))}
+    outcomes = []
+    for rule, of in zip(rules, asked):
+        kept = [(answers[id(it)], cells_of(scope, answers[id(it)])) for it in of]
+        broken = [it for found, cells in kept for it in breaks(rule, found, cells, as_given)]
+        requests = sum(met(it, *found) for it, found in zip(of, kept)) or len(broken)
+        why = "" if requests else missing(scope, rule.question) if not of else NOTHING_SPEAKS
+        outcomes.append(Outcome(rule, requests, broken, of, why))
+    return outcomes
+
+
+def met(asked: Asked, answers: Answers, cells: List[int]) -> int:
+    """How many requests are of what is named, or of what a policy speaks of; others stand for a pattern of the rule that
+    may have a slip."""
+    own = {text for text, pattern in asked.witnesses.items() if not pattern}
+    rows = (
+        (answers.world["actions"][a], answers.world["resources"][r]["arn"]) for _, a, r in map(answers.place, cells)
+    )
+    return sum(action not in own and resource not in own for action, resource in rows)
+
+
+def breaks(rule: Rule, answers: Answers, cells: List[int], as_given: bool) -> List[Break]:
+    """The requests that break a rule. What is never allowed is not with a key that nothing gives either."""
+    found = [Break(answers, cell, None) for cell in cells if is_broken(rule, answers, cell)]
+    if rule.kind == "always" or as_given or not cells:
+        return found
+    if is_too_much(answers.world):
+        tell(f"{rule.name}: what its answers hang on was not asked, since they are too many")
+        return found
+    turned = turns(answers.world, answers)
+    opened = [(cell, it) for cell in cells for it in turned.get(cell, []) if it.decision == "allowed"]
+    return found + [Break(answers, cell, turn) for cell, turn in opened]
+
+
+def cells_of(scope: Scope, answers: Answers) -> List[int]:
+    """The requests that some service has, as far as the service reference is given."""
+    every, references = range(len(answers.numbers)), scope.source.references
+    if not references.services:
+        return list(every)
+    world, count = answers.world, answers.shape[2]
+    kept = [references.keeps(action, it["arn"]) for action in world["actions"] for it in world["resources"]]
+    return [cell for cell in every if kept[cell % (answers.shape[1] * count)]]
+
+
+def is_broken(rule: Rule, answers: Answers, cell: int) -> bool:
+    return (answers.at(cell).decision == "allowed") == (rule.kind == "never")

@@ -1,0 +1,161 @@
+"""Where a command's worlds come from: exports with further files, or a world that was made before."""
+
+import argparse
+import time
+from typing import Any, Callable, Dict, List, Optional, Tuple
+
+from . import files
+from .documents import World, dressed
+from .exports import read_exports
+from .faults import Fault, tell
+from .making import Estate, has_service, outside, read_resources, warnings, world_of
+from .organizations import read_organization
+from .references import References
+
+ASSUME = "sts:AssumeRole"
+
+
+def add_options(parser: argparse.ArgumentParser) -> None:
+    """What exports are joined with."""
+    add = parser.add_argument
+    add("--resources", metavar="FILE", help="further resources, a JSON list of {arn, account, policy, sealed, context}")
+    add("--organization", metavar="FILE", help="the organisation's policies, as iamsim-aws organization collects them")
+    add("--context", metavar="FILE", help="the condition keys of all requests, a JSON object")
+    add("--session", default="session", metavar="NAME", help="the name of each role's session (default: session)")
+    add(
+        "--moment",
+        type=moment,
+        metavar="SECONDS",
+        help="the moment of the requests, in seconds since 1970 (default: now)",
+    )
+    add(
+        "--services",
+        action="append",
+        default=[],
+        metavar="FOLDER",
+        help="files of AWS's service reference, or a folder",
+    )
+
+
+def add_source(parser: argparse.ArgumentParser) -> None:
+    parser.add_argument("exports", nargs="*", metavar="EXPORT", help="of 'aws iam get-account-authorization-details'")
+    parser.add_argument("--world", metavar="FILE", help="a world in place of exports")
+    parser.add_argument("--names", metavar="FILE", help="the policies' names of that world, by 'world --names FILE'")
+    parser.add_argument("--actions", metavar="FILE", help="actions, one a line; '#' begins a comment")
+    add_options(parser)
+
+
+def moment(text: str) -> int:
+    if not text.isascii() or not text.isdigit():
+        raise argparse.ArgumentTypeError("it takes a whole number of seconds")
+    return int(text)
+
+
+def read_actions(path: Optional[str]) -> List[str]:
+    """The actions of a file, one a line."""
+    if path is None:
+        return []
+    lines = files.read_text(path).splitlines()
+    found = ["".join(line.split("#")[0].split()) for line in lines]
+    return list(dict.fromkeys(it for it in found if it))
+
+
+def read_object(path: Optional[str]) -> Optional[Dict[str, Any]]:
+    if path is None:
+        return None
+    given = files.read_json(path)
+    if not isinstance(given, dict):
+        raise Fault(f"{files.name_of(path)}: it is no object")
+    return given
+
+
+def estate_of(options: argparse.Namespace, exports: List[str]) -> Estate:
+    estate = Estate(
+        read_exports(exports),
+        read_resources(options.resources),
+        read_organization(options.organization),
+        read_object(options.context),
+        options.session,
+        int(time.time()) if options.moment is None else options.moment,
+    )
+    for line in [*warnings(estate.further), *outside(estate)]:
+        tell(line)
+    return estate
+
+
+def read_world(path: str, names: Optional[str] = None) -> World:
+    """A world that was made before, with its policies' names."""
+    what, given = files.name_of(path), files.read_json(path)
+    refuse_shape(given, what)
+    return dressed(given, read_object(names) or {})
+
+
+def refuse_shape(given: Any, what: str) -> None:
+    """A world whose axes are none has no requests to tell of."""
+    texts = {"accounts": ["id"], "resources": ["arn", "account"]}
+    for axis in ("accounts", "principals", "actions", "resources"):
+        list_of = given.get(axis) if isinstance(given, dict) else None
+        if not isinstance(list_of, list):
+            raise Fault(f"{what}: it is no world: {axis} is no list")
+        for n, it in enumerate(list_of):
+            wanted = texts.get(axis) or (["user"] if isinstance(it, dict) and "user" in it else ["role", "session"])
+            is_right = (
+                isinstance(it, str)
+                if axis == "actions"
+                else isinstance(it, dict) and all(isinstance(it.get(name), str) for name in wanted)
+            )
+            if not is_right:
+                raise Fault(f"{what}: it is no world: {axis}/{n} is not of the form of a world")
+
+
+class Source:
+    """Makes worlds of actions: of exports, or of one world; `change` makes another world of each."""
+
+    def __init__(self, estate: Optional[Estate], given: Optional[World], actions: List[str], references: References):
+        self.estate = estate
+        self.given = given
+        self.actions = actions
+        self.references = references
+        self.change: Callable[[World], World] = lambda world: world
+        self.made: Dict[Tuple[bool, bool], World] = {}
+
+    def like(self, estate: Optional[Estate], change: Callable[[World], World]) -> "Source":
+        """A source of the same form, of another estate or of changed worlds."""
+        made = Source(estate, self.given, self.actions, self.references)
+        made.change = change
+        return made
+
+    def world(self, actions: List[str]) -> World:
+        kind = has_service(actions, "sts"), has_service(actions, "iam")
+        if kind not in self.made:
+            found = self.given if self.estate is None else world_of(self.estate, actions)
+            assert found is not None
+            self.made[kind] = self.change(found)
+        return {**self.made[kind], "actions": actions}
+
+    def worlds(self, actions: List[str]) -> List[World]:
+        """Worlds that together have these actions. A role's trust policy decides on sts: and on no iam: action, so
+        exports never give one world for both."""
+        of_iam = [it for it in actions if self.estate is not None and has_service([it], "iam")]
+        groups = [[it for it in actions if it not in of_iam], of_iam]
+        return [self.world(it) for it in groups if it]
+
+
+def source_of(options: argparse.Namespace) -> Source:
+    references = References(options.services)
+    actions = read_actions(options.actions)
+    refuse_unknown(references, actions)
+    if options.world is None and not options.exports:
+        raise Fault("name an export, or a world by --world")
+    if options.world is not None:
+        if options.exports:
+            raise Fault("name exports or a world, and not both")
+        given = read_world(options.world, options.names)
+        return Source(None, given, actions or given["actions"], references)
+    return Source(estate_of(options, options.exports), None, actions, references)
+
+
+def refuse_unknown(references: References, actions: List[str]) -> None:
+    for it in actions:
+        if not references.knows(it):
+            tell(f"{it}: the service reference does not know this action")
