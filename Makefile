@@ -1,4 +1,4 @@
-.PHONY: try rows check run build install test stress attacks fmt
+.PHONY: try rows check run build install install-aws test stress attacks fmt
 
 PREFIX ?= /usr/local
 
@@ -23,18 +23,32 @@ run: build
 build:
 	@tools/build
 
-# The program, copied to PREFIX/bin.
-install: build
+# The program and iamsim-aws, copied to PREFIX/bin, and the package of the latter to PREFIX/lib/iamsim-aws.
+install: build install-aws
 	install -D iamsim $(DESTDIR)$(PREFIX)/bin/iamsim
+
+# iamsim-aws alone.
+install-aws:
+	install -D tools/iamsim-aws $(DESTDIR)$(PREFIX)/bin/iamsim-aws
+	cd tools && find iamsim_aws -name '*.py' -o -path 'iamsim_aws/parts/*' | \
+		xargs -I FILE install -D -m 644 FILE $(DESTDIR)$(PREFIX)/lib/iamsim-aws/FILE
 
 # The gate: every proof from nothing, the must-fail edits, the tests, the rows and the stored run of the program (rt ci);
 # then the tests of the tools.
 test:
 	tools/gate
 
-# Many workers on many tiles, again and again; not part of the gate.
+# The program beside an ordinary one for the same job (bench/README.md); not part of the gate.
+.PHONY: bench
+bench:
+	@python3 bench/programs.py
+	@$(MAKE) -s build
+	bench/run
+
+# Many workers on many tiles, again and again, and random worlds that the ordinary program answers too; not part of the gate.
 stress: build
 	tools/stress
+	bench/differential
 
 # The further edits that the prover has to refuse, of all crates or of CRATE=name; not part of the gate.
 attacks:

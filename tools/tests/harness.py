@@ -6,12 +6,14 @@ import json
 import multiprocessing
 import os
 import subprocess
+import tempfile
 
 TOOLS = os.path.dirname(os.path.dirname(os.path.abspath(__file__)))
 EXAMPLES = os.path.join(os.path.dirname(TOOLS), "examples")
 DATA = os.path.join(TOOLS, "tests", "data")
 ROWS = os.path.join(os.path.dirname(TOOLS), "crates", "iam_rows", "data")
 IAMSIM = os.path.abspath(os.environ["IAMSIM"])
+AWS = os.path.join(TOOLS, "iamsim-aws")
 
 
 class Skipped(Exception):
@@ -22,22 +24,44 @@ def data(name):
     return os.path.join(DATA, name)
 
 
+def file(value, suffix=""):
+    """A file with a JSON value, a text or bytes; the run of the tests removes its folder."""
+    number, path = tempfile.mkstemp(dir=os.environ["TOOLS_TEST_ROOM"], suffix=suffix)
+    with os.fdopen(number, "wb") as it:
+        it.write(value if isinstance(value, bytes) else (value if isinstance(value, str) else json.dumps(value)).encode())
+    return path
+
+
+def load(path):
+    with open(path, encoding="utf-8") as it:
+        return json.load(it)
+
+
 def run(words, given="", status=0, seconds=120):
     """What a command writes on both streams; its status has to be `status`."""
     ran = subprocess.run(words, input=given, capture_output=True, encoding="utf-8", timeout=seconds, cwd=TOOLS)
-    assert ran.returncode == status, f"{words[0]}: status {ran.returncode}, not {status}: {ran.stderr[:2000]}"
+    assert ran.returncode == status, f"{words[0]}: status {ran.returncode}, not {status}: {ran.stdout[-1000:]}{ran.stderr[:2000]}"
     return ran.stdout, ran.stderr
 
 
-def jq(program, value, *words, status=0):
-    """The values that a jq program of tools/ makes of one value, or its error's text."""
-    out, said = run(["jq", "-c", *words, "-f", os.path.join(TOOLS, program)], json.dumps(value), status)
+def aws(*words, given="", status=0):
+    """What iamsim-aws writes on both streams; a fault is one line."""
+    out, said = run([AWS, *words], given, status)
+    assert "Traceback" not in said, said
+    if status == 1:
+        assert said.count("\n") == 1 or words[0] == "check", said
+    return out, said
+
+
+def filtered(name, value, *words, status=0):
+    """The values, a line each, that a subcommand makes of a world, or its error's text."""
+    out, said = aws(name, *words, given=json.dumps(value), status=status)
     return [json.loads(line) for line in out.splitlines()] if status == 0 else said
 
 
 def world(*words, status=0):
-    """The world of tools/aws/world with these arguments, or what it said."""
-    out, said = run([os.path.join(TOOLS, "aws/world"), "--moment", "0", "--session", "s1", *words], status=status)
+    """The world of 'iamsim-aws world' with these arguments, or what it said."""
+    out, said = run([AWS, "world", "--moment", "0", "--session", "s1", *words], status=status)
     return json.loads(out) if status == 0 else said
 
 
@@ -82,5 +106,4 @@ def on_all_processors(work, jobs):
 
 def row_world(name):
     """The text of a world that rows of the program name."""
-    with open(os.path.join(ROWS, "worlds.json")) as it:
-        return json.dumps(json.load(it)[name], separators=(",", ":")).encode()
+    return json.dumps(load(os.path.join(ROWS, "worlds.json"))[name], separators=(",", ":")).encode()

@@ -1,17 +1,15 @@
-"""The example worlds whose stories README tells, as worked out there by hand."""
+"""The example worlds whose stories docs/guide.md tells, as worked out there by hand."""
 
-import json
 import os
 
-from harness import EXAMPLES, TOOLS, matrix, run, same
+from harness import EXAMPLES, aws, load, matrix, same
 
 ANN, BOB = "arn:aws:iam::111122223333:user/ann", "arn:aws:iam::111122223333:user/bob"
 BUILD = "arn:aws:sts::111122223333:assumed-role/build/run-1"
 
 
 def example(name):
-    with open(os.path.join(EXAMPLES, name)) as it:
-        return json.load(it)
+    return load(os.path.join(EXAMPLES, name))
 
 
 def test_who_may_assume_which_role_across_two_accounts():
@@ -32,7 +30,7 @@ def test_who_may_assume_which_role_across_two_accounts():
 
 
 def test_the_key_that_the_vault_asks_for():
-    out, _ = run(["jq", "-r", "-f", os.path.join(TOOLS, "keys.jq"), os.path.join(EXAMPLES, "roles.json")])
+    out, _ = aws("keys", os.path.join(EXAMPLES, "roles.json"))
     same(out, "sts:ExternalId\tresources/3/policy statement 0\n")
 
 

@@ -8,21 +8,20 @@ import sys
 import time
 
 from browser import Browser
-from harness import EXAMPLES, IAMSIM, TOOLS, document, matrix, run, same, small_world, statement
+from harness import AWS, EXAMPLES, IAMSIM, aws, document, file, load, matrix, run, same, small_world, statement
 
-PAGE = os.path.join(TOOLS, "page")
 ROOM = os.environ["TOOLS_TEST_ROOM"]
 CHROMIUM = os.environ.get("CHROMIUM") or shutil.which("chromium")
 
 
 def page_of(value, name, *words):
-    """The path of the page of a world, made as README says."""
+    """The path of the page of a world, made as docs/AWS.md says."""
     world, page = os.path.join(ROOM, f"{name}.json"), os.path.join(ROOM, f"{name}.html")
     with open(world, "w") as it:
         json.dump(value, it)
     report, _ = run([IAMSIM, "matrix", "--workers", "1", "--format", "json", *words], json.dumps(value))
     with open(page, "w") as it:
-        it.write(run([PAGE, world], report)[0])
+        it.write(aws("page", "--world", world, "--report", "-", given=report)[0])
     return page
 
 
@@ -42,8 +41,7 @@ class Opened:
 
 
 def company():
-    with open(os.path.join(EXAMPLES, "company.json")) as it:
-        return json.load(it)
+    return load(os.path.join(EXAMPLES, "company.json"))
 
 
 def words(browser):
@@ -80,7 +78,7 @@ def test_each_cell_is_that_of_the_report():
             cells = {n: it for (of, _), shown in seen.items() if of == view for n, it in shown.items()}
             same(cells, {n: (word, KINDS[word]) for n, word in wanted.items()}, f"view {view}")
         same(browser.faults(), [])
-        # By hand, as README has them: ann 3 of 3 on the object, bob 1 and 1 denied, the session 2.
+        # By hand, as docs/guide.md has them: ann 3 of 3 on the object, bob 1 and 1 denied, the session 2.
         browser.evaluate("setView(0); setFixed(0)")
         same(browser.evaluate("[...document.querySelectorAll('.row .counts')].map((it) => it.innerText.split(/\\s+/).join(' '))"), ["3 0 0", "1 1 1", "2 0 1"])
         same(browser.evaluate("[...document.querySelectorAll('.column .counts')].map((it) => it.innerText.split(/\\s+/).join(' '))"), ["3 0 0", "1 1 1", "2 0 1"])
@@ -111,9 +109,128 @@ def test_filters():
         same(sorted(words(browser)), [3, 12])
         browser.evaluate("at('show-allowed').click()")
         same(sorted(words(browser)), [12])
+        # Where the chosen resource has no shown cell, the first that has one is chosen: nobody may put on the key.
         browser.evaluate("at('show-explicitDeny').click()")
+        same(sorted(words(browser)), [4, 13])
+        same(browser.evaluate("at('fixed').value"), "1")
+        browser.evaluate("at('show-implicitDeny').click()")
         same(words(browser), {})
         same(browser.evaluate("at('nothing').hidden"), False)
+        same(browser.faults(), [])
+
+
+def test_with_allowed_alone_something_is_shown():
+    # Nobody may anything on the first resource.
+    value = small_world(document(statement(resource="arn:aws:s3:::b/2")), actions=("s3:GetObject", "s3:PutObject"),
+                        resources=[{"arn": f"arn:aws:s3:::b/{n}", "account": "111122223333"} for n in range(3)])
+    value["principals"].append({"user": "arn:aws:iam::111122223333:user/bob"})
+    with Opened(page_of(value, "allowed")) as browser:
+        browser.evaluate("at('show-explicitDeny').click(); at('show-implicitDeny').click()")
+        # Cell (p * 2 + a) * 3 + r: ann reads and writes object 2.
+        same(sorted(words(browser)), [2, 5])
+        same(browser.evaluate("at('nothing').hidden"), True)
+
+
+def lines(browser):
+    return browser.evaluate("[...document.querySelectorAll('.line')].map((it) => it.dataset.cell)")
+
+
+def test_a_list_of_requests():
+    value = company()
+    allowed = [n for n, it in enumerate(matrix(value).values()) if it[0] == "allowed"]
+    with Opened(page_of(value, "list")) as browser:
+        browser.evaluate("at('show-explicitDeny').click(); at('show-implicitDeny').click(); setView(LIST)")
+        same(sorted(map(int, lines(browser))), allowed)
+        # By resource, then the other way round; of equal ones the lower cell stays first.
+        by_resource = lambda sign: [str(n) for n in sorted(allowed, key=lambda n: (sign * sorted(it["arn"] for it in value["resources"]).index(value["resources"][n % 3]["arn"]), n))]
+        browser.evaluate("document.querySelectorAll('#titles button')[2].click()")
+        same(lines(browser), by_resource(1))
+        browser.evaluate("document.querySelectorAll('#titles button')[2].click()")
+        same(lines(browser), by_resource(-1))
+        browser.evaluate("at('row-filter').value = 'USER/BOB'; at('row-filter').oninput()")
+        same(sorted(map(int, lines(browser))), [n for n in allowed if n // 9 == 1])
+        browser.evaluate("at('lines').focus()")
+        browser.key("End")
+        browser.key("Enter")
+        same(browser.evaluate("document.activeElement.id"), "detail")
+        assert "bob" in detail(browser)
+        browser.key("Escape")
+        same(browser.evaluate("document.activeElement.id"), "lines")
+        screenshot(browser, "list.png")
+        same(browser.faults(), [])
+
+
+def test_the_list_as_csv():
+    hostile = 'arn:aws:s3:::b/a,"b"\nc'
+    value = small_world(document(statement()), resources=[{"arn": hostile, "account": "111122223333"}])
+    with Opened(page_of(value, "csv")) as browser:
+        browser.evaluate("setView(LIST)")
+        same(browser.evaluate("listCsv()"), "principal,action,resource,decision\n"
+             'arn:aws:iam::111122223333:user/ann,s3:GetObject,"arn:aws:s3:::b/a,""b""\nc",allowed\n')
+
+
+def test_names_of_policies_and_what_an_answer_hangs_on():
+    value = small_world(document(statement(Condition={"Bool": {"aws:MultiFactorAuthPresent": "true"}})))
+    names = file({"principals/0/identity/0": "OnlyWith<MFA>"})
+    path = os.path.join(ROOM, "names.html")
+    with open(path, "w") as it:
+        it.write(aws("page", "--world", file(value), "--names", names, "--hanging")[0])
+    with Opened(path) as browser:
+        text = detail(browser)
+        for wanted in ("implicitDeny", "What it hangs on", "allowed if aws:MultiFactorAuthPresent is true"):
+            assert wanted in text, f"{wanted} is not in {text}"
+    value["context"] = {"aws:MultiFactorAuthPresent": True}
+    with open(path, "w") as it:
+        it.write(aws("page", "--world", file(value), "--names", names)[0])
+    with Opened(path) as browser:
+        same(browser.evaluate("document.querySelector('.policy').innerText"), "OnlyWith<MFA>")
+
+
+def test_what_changes_on_a_page():
+    before = small_world(document(statement(action="s3:GetObject")), actions=("s3:GetObject", "s3:PutObject"))
+    after = small_world(document(statement(action="s3:PutObject", Sid="New")), actions=("s3:GetObject", "s3:PutObject"))
+    after["principals"].append({"user": "arn:aws:iam::111122223333:user/bob", "identity": [document(statement(action="s3:GetObject"))]})
+    path = os.path.join(ROOM, "changes.html")
+    with open(path, "w") as it:
+        it.write(aws("changes", "--before", file(before), "--after", file(after), "--format", "page")[0])
+    with Opened(path) as browser:
+        assert "2 gained, 1 lost" in browser.evaluate("at('summary').innerText")
+        browser.evaluate("at('only-changes').click()")
+        signs = browser.evaluate("[...document.querySelectorAll('.cell')].map((it) => [it.getAttribute('aria-label').split(': ').pop(), it.innerText])")
+        same(sorted(signs), [["gained, allowed", "+"], ["gained, allowed", "+"], ["implicitDeny", ""], ["lost, implicitDeny", "−"]])
+        browser.evaluate("setView(LIST)")
+        same(len(lines(browser)), 3)
+        browser.evaluate("chooseLine(state.found.findIndex((n) => changeOf(n) === 2))")
+        text = detail(browser)
+        for wanted in ("lost: implicitDeny", "before: allowed", '"Action": "s3:GetObject"'):
+            assert wanted in text, f"{wanted} is not in {text}"
+        browser.evaluate("chooseLine(state.found.findIndex((n) => textsOf(n)[0].endsWith('bob')))")
+        assert "before: absent" in detail(browser)
+        screenshot(browser, "changes.png")
+        same(browser.faults(), [])
+
+
+def sessions_alike():
+    """Sessions of roles whose names differ at the end alone."""
+    value = small_world(document(statement()), actions=[f"s3:Action{n}" for n in range(12)],
+                        resources=[{"arn": f"arn:aws:s3:::bucket-of-the-team-of-data-{n}/a/long/way/to/an/object-{n}", "account": "111122223333"} for n in range(3)])
+    value["principals"] = [{"role": f"arn:aws:iam::111122223333:role/data-platform-production-ingestion-{it}", "session": f"session-{it}"} for it in ("reader", "writer")]
+    return value
+
+
+def test_headings_on_small_screens():
+    with Opened(page_of(sessions_alike(), "small")) as browser:
+        for width, height, scheme in ((1400, 800, "light"), (1400, 800, "dark"), (800, 600, "light"), (390, 800, "light"), (390, 800, "dark")):
+            browser.call("Emulation.setDeviceMetricsOverride", width=width, height=height, deviceScaleFactor=1, mobile=False)
+            browser.call("Emulation.setEmulatedMedia", features=[{"name": "prefers-color-scheme", "value": scheme}])
+            browser.evaluate("window.onresize()")
+            names = browser.evaluate("[...document.querySelectorAll('.row .name')].map((it) => it.innerText)")
+            same(len(set(names)), 2, f"{width} x {height}: {names}")
+            clipped = "[...document.querySelectorAll('.row .name, .row .counts, .column .counts')].filter((it) => it.scrollWidth > it.clientWidth + 1).length"
+            same(browser.evaluate(clipped), 0, f"{width} x {height}: clipped")
+            same(browser.evaluate("at('controls').scrollWidth <= at('controls').clientWidth"), True, f"{width}: controls")
+            same(browser.evaluate("document.documentElement.scrollWidth <= window.innerWidth"), True, f"{width}: wider than the screen")
+            screenshot(browser, f"small-{width}-{scheme}.png")
         same(browser.faults(), [])
 
 
@@ -155,15 +272,14 @@ def test_texts_of_a_world_stay_texts():
 
 
 def test_control_policies_in_words():
-    with open(os.path.join(EXAMPLES, "shared.json")) as it:
-        value = json.load(it)
+    value = load(os.path.join(EXAMPLES, "shared.json"))
     # A report of the form that docs/LOGIC.md states, by hand.
     rows = [{"action": action, "cell": 2 * p + a, "decision": "explicitDeny", "lacks": [], "principal": principal["user"],
              "resource": "arn:aws:s3:::shared/data.csv", "statements": ["control/1/1/0"]}
             for p, principal in enumerate(value["principals"]) for a, action in enumerate(value["actions"])]
     path = os.path.join(ROOM, "shared.html")
     with open(path, "w") as it:
-        it.write(run([PAGE, os.path.join(EXAMPLES, "shared.json")], json.dumps(rows))[0])
+        it.write(aws("page", "--world", os.path.join(EXAMPLES, "shared.json"), "--report", "-", given=json.dumps(rows))[0])
     with Opened(path) as browser:
         text = detail(browser)
         for wanted in ("OurOrganisation", "resource control policy 1 of level 1, statement 0 (control/1/1/0)", '"StringNotEquals"'):
@@ -187,10 +303,10 @@ def test_a_report_of_another_world_is_refused():
         path = os.path.join(ROOM, "other.json")
         with open(path, "w") as it:
             json.dump(other, it)
-        _, said = run([PAGE, path], report, status=1)
+        _, said = aws("page", "--world", path, "--report", "-", given=report, status=1)
         assert "make both of the same world" in said, said
-    for cut, why in (("", "no report"), (report[:-5], "cut off"), (report[:200], "cut off"), ("[]\n", "fewer cells")):
-        _, said = run([PAGE, os.path.join(EXAMPLES, "company.json")], cut, status=1)
+    for cut, why in (("", "the report is none of"), (report[:-5], "cut off"), (report[:200], "cut off"), ("[]\n", "fewer cells")):
+        _, said = aws("page", "--world", os.path.join(EXAMPLES, "company.json"), "--report", "-", given=cut, status=1)
         assert why in said, said
 
 
@@ -220,7 +336,7 @@ def test_a_million_cells():
         json.dump(world, it)
     started = time.monotonic()
     with open(f"{path}.html", "wb") as it:
-        subprocess.run([sys.executable, PAGE, f"{path}.json"], input=report.encode(), stdout=it, check=True, timeout=120)
+        subprocess.run([sys.executable, AWS, "page", "--world", f"{path}.json", "--report", "-"], input=report.encode(), stdout=it, check=True, timeout=120)
     made, size = time.monotonic() - started, os.path.getsize(f"{path}.html")
     browser = Browser(CHROMIUM)
     try:

@@ -128,6 +128,29 @@ def test_a_survey_that_is_refused():
     tell("a survey that was refused", *refused(IAMSIM, jobs, step=11))
 
 
+def met(words, world, **setting):
+    """How many calls were refused under the settings, and what the program answered."""
+    read, write = os.pipe()
+    found = answer(words, world, env={"LD_PRELOAD": shim(), "REFUSE_TOLD": str(write), **setting}, pass_fds=[write])
+    os.close(write)
+    with os.fdopen(read, "rb") as told:
+        return len(told.read()), found
+
+
+def test_what_only_saves_work_refuses_no_answer():
+    # What an action element matches takes as many bytes as there are actions, what a resource element matches as there are
+    # resources; no other block of the program has such a size. Refused all of them, it answers as it does with them.
+    allowed = document(statement(action=["s3:Get*", "ec2:*"]), statement(action="s3:*1?"), statement(resource="arn:aws:s3:::b/*"))
+    actions = small_world(allowed, actions=[f"s3:Get{n}" for n in range(1013)])
+    resources = small_world(allowed, resources=[{"arn": f"arn:aws:s3:::b/{n}", "account": "111122223333"} for n in range(977)])
+    for world, size, least in [(actions, 1013, 3), (resources, 977, 2)]:
+        text = json.dumps(world).encode()
+        for words in (["matrix", "--workers", "1"], ["matrix", "--workers", "4", "--brief"], ["matrix", "--format", "json"]):
+            count, found = met(words, text, REFUSE_SIZE=str(size))
+            same(found, answer(words, text))
+            assert count >= least, f"{words}: {count} blocks of {size} bytes refused"
+
+
 def test_an_engine_that_was_refused():
     # One engine decides the cells of a world, and is asked once more where it was refused: no refused call spoils a verdict.
     program = os.path.join(os.path.dirname(TOOLS), "crates", "iam_tests", "out", "iam_tests_tests")

@@ -82,8 +82,8 @@ def test_each_row_names_a_section_and_each_section_has_a_row():
     assert tried == set(sections()) - WITHOUT_ROWS, set(sections()) ^ tried
 
 
-def test_readme_has_the_number_of_trusted_definitions():
+def test_proofs_has_the_number_of_trusted_definitions():
     counted, _ = run([os.path.join(TOOLS, "trusted")])
     definitions, lines, types = (int(it) for it in re.findall(r"\d+", counted))
-    readme = " ".join(read(os.path.join(TOP, "README.md")).split())
-    assert f"{definitions} definitions of {lines:,} lines there, {types} types of the code" in readme, counted
+    proofs = " ".join(read(os.path.join(TOP, "docs/proofs.md")).split())
+    assert f"{definitions} definitions of {lines:,} lines, {types} types of the code" in proofs, counted

@@ -4,7 +4,7 @@ import json
 import os
 import tempfile
 
-from harness import IAMSIM, TOOLS, data, document, matrix, run, same, statement, world
+from harness import IAMSIM, AWS, aws, data, document, file, load, matrix, run, same, statement, world
 
 ACCOUNT = "arn:aws:iam::111122223333:"
 SESSION = "arn:aws:sts::111122223333:assumed-role/"
@@ -33,14 +33,6 @@ LACKS = {"r": "resource", "i": "identity", "b": "boundary"}
 
 def answer(word):
     return ("allowed", "") if word == "+" else ("implicitDeny", " ".join(LACKS[it] for it in word))
-
-
-def file(value):
-    """A file with a JSON value, or with a text; the run of the tests removes its folder."""
-    number, path = tempfile.mkstemp(dir=os.environ["TOOLS_TEST_ROOM"])
-    with os.fdopen(number, "w") as it:
-        it.write(value if isinstance(value, str) else json.dumps(value))
-    return path
 
 
 def cells(value):
@@ -133,20 +125,21 @@ def test_keys_of_the_organisation():
 
 def test_a_management_account_is_marked():
     export = {"UserDetailList": [{"UserName": "root", "UserId": "AIDA0", "Arn": "arn:aws:iam::999900001111:user/boss"}]}
-    made = world("--organization", data("organization.json"), file(export))
+    object_of_it = ["--resources", file([{"arn": "arn:aws:s3:::b/k", "account": "999900001111"}])]
+    made = world("--organization", data("organization.json"), *object_of_it, file(export))
     same(made["accounts"], [{"id": "999900001111", "management": True}])
     same(made["principals"][0]["context"]["aws:PrincipalOrgPaths"], ["o-example0001/r-ab12/"])
     with open(data("organization.json")) as it:
         organization = json.load(it)
     del organization["parents"]["999900001111"]
-    said = world("--organization", file(organization), file(export), status=1)
+    said = world("--organization", file(organization), *object_of_it, file(export), status=1)
     assert "organization: no parent of 999900001111" in said, said
 
 
 def test_an_account_outside_the_organisation_is_told():
     export = {"UserDetailList": [{"UserName": "x", "UserId": "AIDA0", "Arn": "arn:aws:iam::123456789012:user/x"}]}
-    words = [os.path.join(TOOLS, "aws/world"), "--organization", data("organization.json"), file(export)]
-    _, said = run(words)
+    resources = file([{"arn": "arn:aws:s3:::b/k", "account": "123456789012"}])
+    _, said = aws("world", "--organization", data("organization.json"), "--resources", resources, file(export))
     assert "account 123456789012 is not in the organization" in said, said
 
 
@@ -161,10 +154,16 @@ def test_actions_of_iam_take_no_trust_policy():
 
 
 def test_principals_and_resources_by_pattern():
-    made = world("--principal", "*:user/*", "--principal", "*/chain", "--resource", "*:role/app/????it", data("account.json"))
+    made = world("--principal", "*:user/*", "--principal", "*/chain", "--resource", "*:role/app/?udit", data("account.json"))
     same([it.get("user") or it["role"] for it in made["principals"]],
          [f"{ACCOUNT}user/alice", f"{ACCOUNT}user/ops/bob", f"{ACCOUNT}role/app/chain"])
-    same([it["arn"] for it in made["resources"]], [])
+    same([it["arn"] for it in made["resources"]], [f"{ACCOUNT}role/app/audit"])
+    said = world("--resource", "*:role/app/????it", data("account.json"), status=1)
+    assert "the world has no resources" in said, said
+    said = world("--principal", "*/nobody", data("account.json"), status=1)
+    assert "the world has no principals" in said, said
+    _, said = aws("world", "--principal", "*/chain", "--principal", "*/nobody", data("account.json"))
+    assert "the pattern */nobody matches no principal\n" in said, said
     made = world("--resource", "*:role/app/???it", "--resource", "*.peo?le", data("account.json"))
     same([it["arn"] for it in made["resources"]], [f"{ACCOUNT}role/app/audit"])
 
@@ -177,8 +176,7 @@ def test_a_policy_that_is_not_there_is_named():
     assert ": the export does not hold the policy arn:aws:iam::aws:policy/ReadObjects" in said, said
     # Who is not chosen needs no policy.
     same(len(world("--principal", "*/bob", file(export))["principals"]), 1)
-    export["GroupDetailList"] = []
-    said = world(file(export), status=1)
+    said = world(file({**load(data("account.json")), "GroupDetailList": []}), status=1)
     assert "user/alice: the export does not hold the group " in said, said
     assert "comes twice" in world(data("partner.json"), data("partner.json"), status=1)
 
@@ -203,8 +201,7 @@ def test_a_policy_as_aws_answers_it():
 
 
 def test_a_world_without_resources_is_told():
-    words = [os.path.join(TOOLS, "aws/world"), "--actions", file("s3:GetObject\n"), data("account.json")]
-    _, said = run(words)
+    _, said = aws("world", "--actions", file("s3:GetObject\n"), data("account.json"), status=1)
     assert "the world has no resources" in said, said
 
 
@@ -246,23 +243,23 @@ def test_documents_that_are_refused():
     export["Policies"][2]["PolicyVersionList"][0]["Document"] = bad
     names = file("")
     made = world("--actions", file("s3:GetObject"), "--resources", file(resources), "--names", names, file(export))
-    _, said = run([os.path.join(TOOLS, "aws/check"), "--names", names], json.dumps(made), status=1)
-    lines = sorted(said.splitlines())
+    _, said = aws("check", "--names", names, given=json.dumps(made), status=1)
+    lines = sorted(line[len("iamsim-aws: "):] for line in said.splitlines())
     same(len(lines), 2, said)
     assert lines[0].startswith("arn:aws:iam::aws:policy/ReadObjects: statement 1: a value of a condition"), lines[0]
     assert lines[0].endswith("(fault 20 BadValue); of arn:aws:iam::111122223333:user/alice, arn:aws:sts::111122223333:assumed-role/deploy/s1"), lines[0]
     assert lines[1].startswith("arn:aws:s3:::c/k policy: statement 0: a resource's policy has to name a Principal (fault 12"), lines[1]
-    out, said = run([os.path.join(TOOLS, "aws/check"), "--leave-out"], json.dumps(made))
+    out, said = aws("check", "--leave-out", given=json.dumps(made))
     rest = json.loads(out)
     same([it.get("user") or it["role"].split("/")[-1] for it in rest["principals"]],
          [f"{ACCOUNT}user/ops/bob", "audit", "partner", "worker", "people", "chain"])
     same([it["arn"] for it in rest["resources"]], ["arn:aws:s3:::b/k"])
-    same(sum(line.startswith("left out: ") for line in said.splitlines()), 3, said)
+    same(sum(line.startswith("iamsim-aws: left out: ") for line in said.splitlines()), 3, said)
     run([IAMSIM, "check"], out)
 
 
 def test_a_world_without_refused_documents():
-    same(run([os.path.join(TOOLS, "aws/check")], json.dumps(world(data("account.json")))), ("", ""))
+    same(aws("check", given=json.dumps(world(data("account.json")))), ("", ""))
 
 
 def test_the_organisation_is_collected():
@@ -270,20 +267,27 @@ def test_the_organisation_is_collected():
     with open(data("organization.json")) as it:
         wanted = json.load(it)
     room = tempfile.mkdtemp(dir=os.environ["TOOLS_TEST_ROOM"])
-    aws = os.path.join(room, "aws")
-    with open(aws, "w") as it:
-        it.write(f"""#!/usr/bin/env bash
-case $2 in
-describe-organization) jq '{{Organization: {{Id: .id, MasterAccountId: .management}}}}' {data('organization.json')} ;;
-list-parents) jq --arg id "$4" '{{Parents: .parents[$id]}}' {data('organization.json')} ;;
-list-policies-for-target) jq --arg id "$4" --arg type "$6" '{{Policies: (.targets[$id] | map(select(.Type == $type)))}}' {data('organization.json')} ;;
-describe-policy) jq --arg id "$4" '{{Policy: (.policies[] | select(.PolicySummary.Id == $id))}}' {data('organization.json')} ;;
-*) exit 9 ;;
-esac
+    stand_in = os.path.join(room, "aws")
+    with open(stand_in, "w") as it:
+        it.write(f"""#!/usr/bin/env python3
+import json, sys
+with open({data('organization.json')!r}) as it:
+    given = json.load(it)
+name, words = sys.argv[2], dict(zip(sys.argv[3::2], sys.argv[4::2]))
+if name == "describe-organization":
+    found = {{"Organization": {{"Id": given["id"], "MasterAccountId": given["management"]}}}}
+elif name == "list-parents":
+    found = {{"Parents": given["parents"][words["--child-id"]]}}
+elif name == "list-policies-for-target":
+    found = {{"Policies": [it for it in given["targets"][words["--target-id"]] if it["Type"] == words["--filter"]]}}
+else:
+    [policy] = [it for it in given["policies"] if it["PolicySummary"]["Id"] == words["--policy-id"]]
+    found = {{"Policy": policy}}
+print(json.dumps(found))
 """)
-    os.chmod(aws, 0o755)
+    os.chmod(stand_in, 0o755)
     path = f"{room}:{os.environ['PATH']}"
-    out, _ = run(["env", f"PATH={path}", os.path.join(TOOLS, "aws/organization"), "111122223333", "444455556666", "999900001111"])
+    out, _ = run(["env", f"PATH={path}", AWS, "organization", "111122223333", "444455556666", "999900001111"])
     found = json.loads(out)
     by_id = lambda list_of: sorted(list_of, key=lambda it: it["PolicySummary"]["Id"])
     same(by_id(found.pop("policies")), by_id(wanted.pop("policies")))

@@ -1,0 +1,38 @@
+"""The makers of worlds that are measured, and of random ones."""
+
+import json
+import os
+import sys
+
+from harness import TOOLS, answer, same
+
+sys.path.insert(0, os.path.join(os.path.dirname(TOOLS), "bench"))
+from random_worlds import Maker
+from worlds import made
+
+
+def statements_in(value):
+    """How many statements the documents within a value have."""
+    if isinstance(value, dict):
+        own = value.get("Statement", [])
+        return len(own if isinstance(own, list) else [own]) + sum(statements_in(it) for it in value.values())
+    return sum(statements_in(it) for it in value) if isinstance(value, list) else 0
+
+
+def test_worlds_to_measure_are_accepted():
+    for name in ("company", "many-rules", "wildcards", "tags", "assume"):
+        world = json.loads(made(name))
+        p, a, r = (len(world[it]) for it in ("principals", "actions", "resources"))
+        wanted = f"ok principals {p} actions {a} resources {r} cells {p * a * r} statements {statements_in(world)}\n"
+        same(answer(["check"], made(name)), (0, wanted.encode(), b""), name)
+
+
+def test_a_random_world_is_the_same_each_time():
+    some = [Maker(seed).world() for seed in range(100)]
+    same(some, [Maker(seed).world() for seed in range(100)])
+    same(len(set(some)), 100)
+
+
+def test_random_worlds_are_accepted_and_refused():
+    status = [answer(["check"], Maker(seed).world())[0] for seed in range(60)]
+    assert 20 < status.count(0) < 60 and set(status) == {0, 1}, status

@@ -1,0 +1,335 @@
+"""changes and rules. What is lost, gained, kept and broken is worked out by hand from the exports in data/."""
+
+import csv
+import io
+import xml.etree.ElementTree
+
+from harness import AWS, aws, data, document, file, load, run, same, small_world, statement
+
+ACCOUNT = "arn:aws:iam::111122223333:"
+SESSION = "arn:aws:sts::111122223333:assumed-role/"
+EXPORT = data("account.json")
+ALICE, BOB = f"{ACCOUNT}user/alice", f"{ACCOUNT}user/ops/bob"
+
+
+def changes(*words):
+    """{(change, principal, action, resource): (before, after)} of an answer in CSV."""
+    out, _ = aws("changes", *words, "--format", "csv", "--session", "s1")
+    return {tuple(row[:4]): tuple(row[4:6]) for row in list(csv.reader(io.StringIO(out)))[1:]}
+
+
+def test_a_draft_of_a_managed_policy():
+    draft = file(document(statement(action="s3:GetObject", resource="arn:aws:s3:::homes/*")))
+    further = file([{"arn": f"arn:aws:s3:::{it}/x", "account": "111122223333"} for it in ("homes", "teams")])
+    for name in ("ReadObjects", "arn:aws:iam::aws:policy/ReadObjects", "policy/ReadObjects"):
+        found = changes(EXPORT, "--resources", further, "--put", f"{name}={draft}", "--action", "s3:GetObject", "--resource", "arn:aws:s3:::*/x")
+        # alice and deploy read everything today; with the draft the homes alone: teams/x is lost, and whatever x/x stands for.
+        # bob and worker read by policies of their own.
+        same(found, {("lost", it, "s3:GetObject", f"arn:aws:s3:::{of}/x"): ("allowed", "implicitDeny")
+                     for it in (ALICE, f"{SESSION}deploy/s1") for of in ("teams", "x")}, name)
+
+
+def test_actions_follow_from_what_changes():
+    """Without --action: the actions of which the changed policies speak, and a text for each of their patterns."""
+    draft = file(document(statement(action=["s3:Get*", "s3:List*"]), statement("Allow", "dynamodb:Query")))
+    found = changes(EXPORT, "--put", f"ReadObjects={draft}")
+    # Both speak of s3:Get* and s3:List*, which changes nothing; the draft adds dynamodb:Query.
+    same(set(found), {("gained", it, "dynamodb:Query", "*") for it in (ALICE, f"{SESSION}deploy/s1")})
+    draft = file(document(statement(action="s3:Get*")))
+    same({it[2] for it in changes(EXPORT, "--put", f"ReadObjects={draft}")}, {"s3:Listx"})
+
+
+def test_drafts_of_each_kind():
+    nothing = file(document())
+    role = f"{ACCOUNT}role/app/audit"
+    trust = file(document({"Effect": "Allow", "Principal": {"AWS": "111122223333"}, "Action": "sts:AssumeRole"}))
+    # The role trusts the account now: alice may still (a policy of hers allows), bob's boundary has deploy alone.
+    for name in (role, "audit", "role/app/audit", f"{role} trust policy", "audit trust policy"):
+        same(changes(EXPORT, "--put", f"{name}={trust}"), {}, name)
+    same(changes(EXPORT, "--put", f"audit={nothing}"), {("lost", ALICE, "sts:AssumeRole", role): ("allowed", "implicitDeny")})
+    # An inline policy of a group, and a boundary that knows all roles under app/: those that are there do not trust bob, another
+    # one, for which role/app/x stands, may.
+    same(set(changes(EXPORT, "--put", f"Homes={nothing}")), {
+        ("lost", ALICE, "s3:PutObject", "arn:aws:s3:::homes/alice/x"), ("lost", ALICE, "s3:PutObject", "arn:aws:s3:::teams/red/x")})
+    boundary = file(document(statement(action="sts:AssumeRole", resource=f"{ACCOUNT}role/app/*")))
+    found = changes(EXPORT, "--put", f"AtMost={boundary}", "--action", "sts:AssumeRole")
+    same(set(found), {("gained", BOB, "sts:AssumeRole", f"{ACCOUNT}role/app/x")})
+    same(set(changes(EXPORT, "--put", f"AtMost={nothing}", "--action", "sts:AssumeRole")), {("lost", BOB, "sts:AssumeRole", f"{ACCOUNT}role/app/deploy")})
+
+
+def test_drafts_of_buckets_and_organisations():
+    objects = [{"arn": f"arn:aws:s3:::homes/{it}", "account": "111122223333"} for it in ("a", "b")]
+    denying = file(document({"Effect": "Deny", "Principal": {"AWS": ALICE}, "Action": "s3:GetObject", "Resource": "*"}))
+    for name in ("homes", "arn:aws:s3:::homes"):
+        found = changes(EXPORT, "--resources", file(objects), "--put", f"{name}={denying}")
+        same(set(found), {("lost", ALICE, "s3:GetObject", it["arn"]) for it in objects}, name)
+    # A service control policy, by its name, its id and its ARN: without NoAudit alice may assume audit.
+    content = file(document(statement("Deny", "s3:DeleteBucket")))
+    arn = "arn:aws:organizations::999900001111:policy/o-example0001/service_control_policy/p-00000001"
+    for name in ("NoAudit", "p-00000001", arn):
+        found = changes(EXPORT, "--organization", data("organization.json"), "--put", f"{name}={content}", "--action", "sts:*")
+        same(found, {("gained", ALICE, "sts:AssumeRole", f"{ACCOUNT}role/app/audit"): ("explicitDeny", "allowed")}, name)
+
+
+def test_drafts_that_are_of_nothing():
+    draft = file(document())
+    _, said = aws("changes", EXPORT, "--put", f"NoSuch={draft}", status=1)
+    assert "--put NoSuch: no policy and no resource is called so" in said, said
+    _, said = aws("changes", EXPORT, "--put", "NoSuch", status=1)
+    assert "it takes POLICY-NAME=FILE" in said, said
+    export = load(EXPORT)
+    export["RoleDetailList"][0]["RolePolicyList"] = [{"PolicyName": "Inside", "PolicyDocument": document()}]
+    _, said = aws("changes", file(export), "--put", f"Inside={draft}", status=1)
+    assert "several policies are called so" in said, said
+    same(changes(file(export), "--put", f"worker inline Inside={draft}", "--action", "s3:GetObject", "--resource", "*homes*"),
+         {("lost", f"{SESSION}worker/s1", "s3:GetObject", "arn:aws:s3:::homes/alice/x"): ("allowed", "implicitDeny")})
+
+
+def test_exports_before_and_after():
+    after = load(EXPORT)
+    # bob goes, and zoe comes, who may read; alice leaves the developers, by whom she writes and assumes.
+    del after["UserDetailList"][1]
+    after["UserDetailList"][0]["GroupList"] = ["Readers"]
+    after["UserDetailList"].append({"UserName": "zoe", "UserId": "AIDA0", "Arn": f"{ACCOUNT}user/zoe", "GroupList": ["Readers"]})
+    found = changes("--before", EXPORT, "--after", file(after), "--action", "s3:GetObject", "--action", "sts:AssumeRole")
+    kept = {(it[0], it[1], it[2]) for it in found}
+    same(kept, {("lost", BOB, "s3:GetObject"), ("lost", BOB, "sts:AssumeRole"), ("lost", ALICE, "sts:AssumeRole"),
+                ("gained", f"{ACCOUNT}user/zoe", "s3:GetObject")})
+    same(found["lost", ALICE, "sts:AssumeRole", f"{ACCOUNT}role/app/deploy"], ("allowed", "implicitDeny"))
+    same({found[it] for it in found if it[1] == BOB}, {("allowed", "absent")})
+    # audit trusts alice herself, so her own policies do not matter there.
+    assert ("lost", ALICE, "sts:AssumeRole", f"{ACCOUNT}role/app/audit") not in found
+
+
+def test_a_tag_changes_access_too():
+    after = load(EXPORT)
+    after["UserDetailList"][0]["Tags"] = [{"Key": "team", "Value": "blue"}]
+    found = changes("--before", EXPORT, "--after", file(after), "--resource", "arn:aws:s3:::teams/*", "--action", "s3:PutObject",
+                    "--resources", file([{"arn": f"arn:aws:s3:::teams/{it}/x", "account": "111122223333"} for it in ("red", "blue")]))
+    same(found, {("lost", ALICE, "s3:PutObject", "arn:aws:s3:::teams/red/x"): ("allowed", "implicitDeny"),
+                 ("gained", ALICE, "s3:PutObject", "arn:aws:s3:::teams/blue/x"): ("implicitDeny", "allowed")})
+
+
+def test_worlds_before_and_after():
+    before = small_world(document(statement(action="s3:GetObject")), actions=("s3:GetObject", "s3:PutObject"))
+    after = small_world(document(statement(action="s3:PutObject")), actions=("s3:GetObject", "s3:PutObject"))
+    ann, key = "arn:aws:iam::111122223333:user/ann", "arn:aws:s3:::b/k"
+    same(changes("--before", file(before), "--after", file(after)), {
+        ("lost", ann, "s3:GetObject", key): ("allowed", "implicitDeny"), ("gained", ann, "s3:PutObject", key): ("implicitDeny", "allowed")})
+    out, _ = aws("changes", "--before", file(before), "--after", file(before))
+    same(out, "0 lost and 0 gained, of 2 requests\n")
+    run([AWS, "changes", "--before", file(before), "--after", file(after), "--exit-status"], status=3)
+    _, said = aws("changes", "--before", file(before), status=1)
+    assert "--before and --after belong together" in said, said
+    _, said = aws("changes", EXPORT, status=1)
+    assert "say what changes" in said, said
+
+
+def test_changes_in_words_and_for_a_review():
+    before = small_world(document(statement(Sid="Old|`", action="s3:GetObject")))
+    after = small_world(document(statement("Deny", Sid="<b>No", action="s3:GetObject")))
+    out, _ = aws("changes", "--before", file(before), "--after", file(after))
+    same(out.splitlines(), ["1 lost and 0 gained, of 1 requests", "lost:", "- arn:aws:iam::111122223333:user/ann s3:GetObject arn:aws:s3:::b/k",
+                            "    denied by principals/0/identity/0, statement 0 <b>No (identity policy)",
+                            "    was allowed by principals/0/identity/0, statement 0 Old|` (identity policy)"])
+    out, _ = aws("changes", "--before", file(before), "--after", file(after), "--format", "markdown")
+    lines = out.splitlines()
+    same(lines[:6], ["**1 lost and 0 gained, of 1 requests**", "", "### Lost", "", "| Principal | Action | Resource | Before | After | Why |", "|---|---|---|---|---|---|"])
+    same(lines[6].count("|"), 7)
+    assert "&#60;b&#62;No" in lines[6] and "Old&#124;&#96;" in lines[6], lines[6]
+
+
+def test_who_is_not_asked_of_what_changes():
+    """A draft that trusts an account without an export changes nothing that is asked, which is said; what stays as it is, is not."""
+    role = f"{ACCOUNT}role/app/audit"
+    trust = lambda who: file(document({"Effect": "Allow", "Principal": who, "Action": "sts:AssumeRole"}))
+    told = lambda said: [it for it in said.splitlines() if f"the policy of {ACCOUNT}" in it]
+    _, said = aws("changes", EXPORT, "--put", f"audit={trust({'AWS': ['999988887777', ALICE]})}")
+    same(told(said), [f"iamsim-aws: the policy of {role} names 999988887777, of which there is no export: nobody there is asked"])
+    _, said = aws("changes", EXPORT, "--put", f"audit={trust('*')}")
+    same(told(said), [f"iamsim-aws: the policy of {role} names everybody (*): only principals of the exports are asked"])
+    _, said = aws("changes", EXPORT, "--put", f"audit={trust({'AWS': BOB})}")
+    same(told(said), [])
+
+
+def test_actions_without_the_service_reference():
+    line = "without --services an action pattern is taken over the actions of the world and of its policies"
+    draft = f"Homes={file(document())}"
+    for words, is_said in (([], True), (["--action", "s3:*"], True), (["--action", "s3:PutObject"], False), (["--services", data("s3.json")], False)):
+        _, said = aws("changes", EXPORT, "--put", draft, *words)
+        same(line in said, is_said, words)
+
+
+# --- rules -----------------------------------------------------------------------------------------------------------
+
+FURTHER = [{"arn": "arn:aws:s3:::releases/app.zip", "account": "111122223333"}]
+
+
+def rules(text, *words, status=0):
+    return aws("rules", file(text), EXPORT, "--resources", file(FURTHER), *words, status=status)
+
+
+def states(out):
+    return [line.split(":")[0] for line in out.splitlines() if line.split(":")[0] in ("kept", "broken", "empty")]
+
+
+def test_rules_that_are_kept():
+    # deploy reads everything; nobody but bob may have anything of iam, and his boundary forbids him.
+    text = "# what we keep\nalways *:role/app/deploy s3:GetObject arn:aws:s3:::releases/app.zip\n\nnever * iam:* *   # not at all\n"
+    out, said = rules(text)
+    same(states(out), ["kept", "kept"])
+    same(out.splitlines()[-1], "2 rules: 2 kept, 0 broken, 0 empty")
+    assert "without --services an action pattern is taken over the actions of the world and of its policies" in said, said
+
+
+def test_rules_that_are_broken():
+    out, _ = rules("never * s3:GetObject arn:aws:s3:::releases/*\nalways alice s3:PutObject arn:aws:s3:::releases/app.zip\n", status=3)
+    same(states(out), ["broken", "broken"])
+    lines = [line for line in out.splitlines() if line.startswith("  ")]
+    # Each of the three may on app.zip, and on x, which stands for whatever else is there.
+    people = [ALICE, BOB, f"{SESSION}deploy/session"]
+    same([line.split(": ")[0].strip() for line in lines[:6]],
+         [f"{who} may s3:GetObject arn:aws:s3:::releases/{it}" for who in people for it in ("app.zip", "x")])
+    same(lines[0], f"  {ALICE} may s3:GetObject arn:aws:s3:::releases/app.zip: allowed by arn:aws:iam::aws:policy/ReadObjects, statement 0 (identity policy)")
+    same(lines[6], f"  {ALICE} may not s3:PutObject arn:aws:s3:::releases/app.zip: lacks identity: no identity policy of the principal allows this")
+    same(len(lines), 7)
+
+
+def test_exceptions():
+    out, _ = rules("never * s3:GetObject arn:aws:s3:::releases/app.zip except alice *:user/ops/* *:role/app/deploy\n")
+    same(states(out), ["kept"])
+    assert "(5 requests)" in out, out
+    out, _ = rules("never * s3:GetObject arn:aws:s3:::releases/app.zip except alice *:user/ops/*\n", status=3)
+    assert "deploy" in out and "ops/bob may" not in out, out
+
+
+def test_exceptions_by_name_mean_one():
+    made = small_world(document(statement()))
+    made["principals"].append({"user": "arn:aws:iam::111122223333:user/ops/ann", "identity": [document(statement())]})
+    rule = "never * s3:GetObject arn:aws:s3:::b/k except"
+    _, said = aws("rules", file(f"{rule} ann\n"), "--world", file(made), status=1)
+    assert "several principals are called ann, name one by its ARN: arn:aws:iam::111122223333:user/ann, arn" in said, said
+    out, _ = aws("rules", file(f"{rule} *:user/ann\n"), "--world", file(made), status=3)
+    assert "user/ops/ann may" in out and "user/ann may" not in out, out
+    _, said = aws("rules", file(f"{rule} *ann none\n"), "--world", file(made), status=4)
+    assert "the exception none matches no principal" in said, said
+
+
+def test_names_in_rules_cover_what_is_not_named():
+    # No object of the bucket is named; its name alone is a pattern of resources too.
+    out, _ = aws("rules", file("never * s3:PutObject releases/*\n"), EXPORT, status=3)
+    assert f"{BOB} may s3:PutObject arn:" in out and ":releases/x: " in out, out
+
+
+def test_a_never_covers_the_patterns_of_policies():
+    """alice may put into her home, which no resource of the world is."""
+    out, _ = rules("never * s3:PutObject * except bob\n", status=3)
+    assert f"{ALICE} may s3:PutObject arn:aws:s3:::homes/alice/x" in out, out
+    # bob may everything of s3, an action that nobody names too.
+    out, _ = rules("never * s3:Put* arn:aws:s3:::releases/app.zip\n", status=3)
+    assert f"{BOB} may s3:PutObject arn:aws:s3:::releases/app.zip" in out, out
+    out, _ = rules("never * s3:Delete* arn:aws:s3:::releases/app.zip\n", status=3)
+    assert f"{BOB} may s3:Deletex arn:aws:s3:::releases/app.zip" in out, out
+
+
+def test_what_is_named_does_not_hide_the_rest():
+    """A deny on one object, or what NotAction and NotResource name, says nothing of the others."""
+    for statements in ([statement("Deny", "s3:*", "arn:aws:s3:::b/k"), statement(action="s3:*")],
+                       [statement(action="s3:*", resource=None, NotResource="arn:aws:s3:::b/k")],
+                       [{"Effect": "Allow", "NotAction": "s3:GetObject", "Resource": "*"}]):
+        given = document(*[{key: it for key, it in one.items() if it is not None} for one in statements])
+        made = file(small_world(given))
+        out, _ = aws("rules", file("never * s3:* arn:aws:s3:::b/*\n"), "--world", made, status=3)
+        assert "ann may s3:" in out, out
+        aws("rules", file("never * s3:GetObject arn:aws:s3:::b/k\n"), "--world", made)
+
+
+def test_never_holds_with_a_key_too():
+    with_code = small_world(document(statement(Condition={"Bool": {"aws:MultiFactorAuthPresent": "true"}})))
+    rule = file("never * s3:GetObject arn:aws:s3:::b/k\n")
+    out, _ = aws("rules", rule, "--world", file(with_code), status=3)
+    assert "ann may s3:GetObject arn:aws:s3:::b/k if `aws:MultiFactorAuthPresent` is `true`, which nothing gives" in out, out
+    aws("rules", rule, "--world", file(with_code), "--as-given")
+    aws("rules", rule, "--world", file({**with_code, "context": {"aws:MultiFactorAuthPresent": False}}))
+    # What is always allowed is asked for as it is given.
+    unless = small_world(document(statement(), statement("Deny", Condition={"Bool": {"aws:SecureTransport": "false"}})))
+    aws("rules", file("always ann s3:GetObject arn:aws:s3:::b/k\n"), "--world", file(unless))
+
+
+def test_changes_with_a_key_alone():
+    before, after = small_world(document()), small_world(document(statement(Condition={"Bool": {"aws:MultiFactorAuthPresent": "true"}})))
+    out, _ = aws("changes", "--before", file(before), "--after", file(after))
+    same(out.splitlines()[:3], ["0 lost and 1 gained, of 1 requests", "gained:",
+                                "+ arn:aws:iam::111122223333:user/ann s3:GetObject arn:aws:s3:::b/k, if `aws:MultiFactorAuthPresent` is `true`"])
+
+
+def test_rules_that_meet_nothing():
+    text = "never *:role/none s3:GetObject *\nalways alice s3:GetObject *.none\n"
+    out, _ = rules(text, status=4)
+    same(states(out), ["empty", "empty"])
+    assert "no principal matches *:role/none" in out and "no resource matches *.none" in out, out
+    rules(text, "--allow-empty")
+    # A slip in a pattern: nothing is named so, and no policy speaks of it. Where a policy would allow it all the same, it is broken.
+    slip = small_world(document(statement(action="s3:GetObject", resource="arn:aws:s3:::b/*")))
+    out, _ = aws("rules", file("never * s3:GetObject arn:aws:s3:::bb/*\nnever * s4:* arn:aws:s3:::b/k\n"), "--world", file(slip), status=4)
+    same(states(out), ["empty", "empty"])
+    wide = small_world(document({"Effect": "Allow", "NotAction": "iam:*", "NotResource": "arn:aws:s3:::b/*"}))
+    aws("rules", file("never * s3:GetObject arn:aws:s3:::bb/*\n"), "--world", file(wide), status=3)
+    # A broken one says more than an empty one.
+    rules(text + "always alice s3:PutObject arn:aws:s3:::releases/app.zip\n", status=3)
+    rules(text + "always alice s3:PutObject arn:aws:s3:::releases/app.zip\n", "--allow-empty", status=3)
+
+
+def test_faults_of_rules_are_no_answers():
+    for text, why in [("sometimes * s3:GetObject *\n", ":1: a rule begins with 'never' or 'always'"), ("\nnever * s3:GetObject\n", ":2: a rule is 'never PRINCIPAL"),
+                      ("never * s3:GetObject * but bob\n", ":1: behind the resource stands"), ("never * s3:GetObject * except\n", ":1: behind the resource"),
+                      ("never * GetObject *\n", ":1: GetObject: an action is written"), ("# none\n", "it has no rules")]:
+        _, said = rules(text, status=1)
+        assert why in said, said
+    _, said = aws("rules", "no-such-file", EXPORT, status=1)
+    assert "no-such-file: No such file" in said, said
+    run([AWS, "rules"], status=2)
+    broken = load(EXPORT)
+    broken["Policies"][2]["PolicyVersionList"][0]["Document"] = {}
+    _, said = aws("rules", file("never nobody s3:GetObject *\nnever alice s3:GetObject arn:aws:s3:::b/k\n"), file(broken), status=1)
+    assert "iamsim refuses a policy: arn:aws:iam::aws:policy/ReadObjects" in said, said
+
+
+def test_rules_over_a_service_reference():
+    """With --services an action pattern takes the service's actions, and no request that no service has."""
+    services = ["--services", data("s3.json")]
+    out, _ = rules("never alice s3:ListB* arn:aws:s3:::releases/app.zip\n", *services, status=4)
+    assert "nothing that is named, and no pattern of a policy, is meant by it" in out, out
+    out, _ = rules("always *:role/app/deploy s3:Get* *\n", *services)
+    assert "(1 requests)" in out, out
+    out, _ = rules("never alice s3:Delete* *\n", *services, status=4)
+    assert "no action matches s3:Delete*" in out, out
+
+
+def test_rules_over_what_changes():
+    draft = file(document(statement(action="s3:*", resource="*")))
+    text = "never * s3:PutObject arn:aws:s3:::releases/app.zip except bob\n"
+    rules(text)
+    out, _ = rules(text, "--put", f"ReadObjects={draft}", status=3)
+    assert f"{ALICE} may s3:PutObject" in out, out
+
+
+def test_spaces_and_signs_in_rules():
+    made = small_world(document(statement()), resources=[{"arn": "arn:aws:s3:::b/a b#c", "account": "111122223333"}])
+    out, _ = aws("rules", file("always ann s3:GetObject arn:aws:s3:::b/a\\ b#c\nnever \\#x* s3:GetObject * # none\n"), "--world", file(made), status=4)
+    same(states(out), ["kept", "empty"])
+
+
+def test_reports_for_pipelines():
+    junit, sarif = file(""), file("")
+    text = "always *:role/app/deploy s3:GetObject arn:aws:s3:::releases/app.zip\nnever alice s3:GetObject arn:aws:s3:::releases/app.zip\nnever nobody s3:GetObject *\n"
+    rules(text, "--junit", junit, "--sarif", sarif, status=3)
+    suite = xml.etree.ElementTree.parse(junit).getroot()
+    same((suite.get("tests"), suite.get("failures")), ("3", "2"))
+    same([[it.get("type") for it in case] for case in suite], [[], ["broken"], ["empty"]])
+    assert "alice may s3:GetObject" in suite[1][0].text
+    results = load(sarif)["runs"][0]["results"]
+    same([(it["ruleId"], it["locations"][0]["physicalLocation"]["region"]["startLine"]) for it in results], [("broken", 2), ("empty", 3)])
+    assert "ReadObjects" in results[0]["message"]["text"]
+    rules(text, "--junit", junit, "--sarif", sarif, "--allow-empty", status=3)
+    same(xml.etree.ElementTree.parse(junit).getroot().get("failures"), "1")

@@ -1,0 +1,279 @@
+"""can and who-can on exports of two accounts. What each answer must be is worked out by hand from the exports in data/."""
+
+import csv
+import io
+import json
+
+from harness import aws, data, document, file, load, same, small_world, statement
+
+ACCOUNT = "arn:aws:iam::111122223333:"
+SESSION = "arn:aws:sts::111122223333:assumed-role/"
+EXPORT = data("account.json")
+BOTH = [EXPORT, data("partner.json"), "--organization", data("organization.json")]
+
+
+def rows(*words, status=0):
+    """The rows of an answer in JSON."""
+    out, _ = aws(*words, "--format", "json", "--moment", "0", "--session", "s1", status=status)
+    return json.loads(out)
+
+
+def decided(found):
+    return {(it["principal"], it["action"], it["resource"]): it["decision"] for it in found}
+
+
+def test_one_request_in_words():
+    out, _ = aws("can", "alice", "s3:PutObject", "arn:aws:s3:::homes/alice/x", EXPORT)
+    same(out.splitlines(), [
+        "allowed: arn:aws:iam::111122223333:user/alice s3:PutObject arn:aws:s3:::homes/alice/x",
+        "  allowed by arn:aws:iam::111122223333:group/Developers inline Homes, statement 0 OwnHome (identity policy)",
+        "    {",
+        '      "Sid": "OwnHome",',
+        '      "Effect": "Allow",',
+        '      "Action": "s3:PutObject",',
+        '      "Resource": "arn:aws:s3:::homes/${aws:username}/*"',
+        "    }",
+        "arn:aws:s3:::homes/alice/x is not in the world: it is asked for without a policy of its own"])
+    out, _ = aws("can", "alice", "s3:PutObject", "arn:aws:s3:::homes/bob/x", EXPORT, status=3)
+    same(out.splitlines()[:2], [
+        "implicitDeny: arn:aws:iam::111122223333:user/alice s3:PutObject arn:aws:s3:::homes/bob/x",
+        "  lacks identity: no identity policy of the principal allows this"])
+
+
+def test_names_arns_and_patterns():
+    role = f"{SESSION}deploy/s1"
+    for who in ("deploy", "role/app/deploy", "*:role/app/deploy", f"{ACCOUNT}role/app/deploy", role, "*:role/*/deploy", "*assumed-role/deploy/*"):
+        found = rows("can", who, "s3:GetObject", "arn:aws:s3:::homes/alice/x", EXPORT)
+        same(decided(found), {(role, "s3:GetObject", "arn:aws:s3:::homes/alice/x"): "allowed"}, who)
+    # A resource by its name, of what the world has.
+    for what in ("audit", "role/app/audit", "*/audit", f"{ACCOUNT}role/app/audit"):
+        found = rows("can", "alice", "sts:AssumeRole", what, EXPORT)
+        same(decided(found), {(f"{ACCOUNT}user/alice", "sts:AssumeRole", f"{ACCOUNT}role/app/audit"): "allowed"}, what)
+
+
+def test_who_can_read_an_object():
+    found = rows("who-can", "s3:GetObject", "arn:aws:s3:::homes/alice/x", EXPORT)
+    # alice and deploy by ReadObjects, bob by his own policy and boundary, worker by its inline policy.
+    names = ["user/alice", "user/ops/bob"]
+    allowed = [*(ACCOUNT + it for it in names), f"{SESSION}deploy/s1", f"{SESSION}worker/s1"]
+    same(len(found), 8)
+    same([it["principal"] for it in found if it["decision"] == "allowed"], allowed)
+    bob = found[1]["statements"]
+    same([(it["policy"], it["sid"]) for it in bob], [
+        (f"{ACCOUNT}user/ops/bob inline Anything", "Anything"), (f"{ACCOUNT}policy/limits/AtMost", "Storage")])
+    out, _ = aws("who-can", "s3:GetObject", "arn:aws:s3:::homes/alice/x", EXPORT)
+    same(out.splitlines()[0], "4 of 8 principals are allowed, by 4 of 8 requests")
+
+
+def test_a_policy_beside_the_question():
+    denying = file(document({"Effect": "Deny", "Principal": "*", "Action": "s3:*", "Resource": "*", "Sid": "Nobody"}))
+    found = rows("who-can", "s3:GetObject", "arn:aws:s3:::homes/alice/x", EXPORT, "--policy", denying)
+    same({it["decision"] for it in found}, {"explicitDeny"})
+    same(found[0]["statements"][0]["policy"], denying)
+    # A KMS key's policy must grant: it grants to alice alone, and bob's own policy allows everything, his boundary nothing of kms.
+    key = "arn:aws:kms:eu-west-1:111122223333:key/7c1d"
+    granting = file(document({"Effect": "Allow", "Principal": {"AWS": f"{ACCOUNT}user/alice"}, "Action": "kms:Decrypt", "Resource": "*"}))
+    found = rows("who-can", "kms:Decrypt", key, EXPORT, "--policy", granting, "--sealed")
+    same([it["principal"] for it in found if it["decision"] == "allowed"], [f"{ACCOUNT}user/alice"])
+
+
+def test_a_bucket_has_one_policy():
+    """An object that the world does not name has the policy of one that it names."""
+    denying = document({"Effect": "Deny", "Principal": {"AWS": f"{ACCOUNT}user/alice"}, "Action": "s3:*", "Resource": "*"})
+    further = file([{"arn": "arn:aws:s3:::homes/alice/x", "account": "111122223333", "policy": denying}])
+    found = rows("can", "alice", "s3:GetObject", "arn:aws:s3:::homes/other", EXPORT, "--resources", further, status=3)
+    same(found[0]["decision"], "explicitDeny")
+    same(rows("can", "alice", "s3:GetObject", "arn:aws:s3:::another/other", EXPORT, "--resources", further)[0]["decision"], "allowed")
+
+
+def test_what_an_answer_hangs_on():
+    found = rows("who-can", "sts:AssumeRole", "role/app/partner", *BOTH)
+    carol = [it for it in found if it["principal"] == "arn:aws:iam::444455556666:user/carol"][0]
+    same((carol["decision"], carol["lacks"]), ("implicitDeny", ["resource"]))
+    same(carol["hangsOn"], [{"key": "sts:ExternalId", "value": "e-1", "decision": "allowed"}])
+    same([it["principal"] for it in found if it["hangsOn"]], [carol["principal"]])
+
+
+CASES = [
+    # A statement's condition, and the key and value with which the answer turns; None where no value does.
+    ({"Bool": {"aws:MultiFactorAuthPresent": "true"}}, "aws:MultiFactorAuthPresent", "true"),
+    ({"StringLike": {"aws:SourceVpc": "vpc-*"}}, "aws:SourceVpc", "vpc-x"),
+    ({"IpAddress": {"aws:SourceIp": "203.0.113.0/24"}}, "aws:SourceIp", "203.0.113.0"),
+    ({"NumericLessThan": {"s3:max-keys": "10"}}, "s3:max-keys", "9"),
+    ({"NumericGreaterThan": {"s3:TlsVersion": "1.2"}}, None, None),
+    ({"DateGreaterThan": {"aws:TokenIssueTime": "2026-01-01T00:00:00Z"}}, "aws:TokenIssueTime", "9999-12-31T23:59:59Z"),
+    ({"Null": {"aws:TokenIssueTime": "false"}}, "aws:TokenIssueTime", "x"),
+    ({"StringEquals": {"aws:RequestTag/owner": "${aws:username}"}}, "aws:RequestTag/owner", "ann"),
+    ({"ForAnyValue:StringEquals": {"aws:TagKeys": ["team", "unit"]}}, "aws:TagKeys", "team"),
+    # Two keys at once: no single one turns it.
+    ({"Bool": {"aws:MultiFactorAuthPresent": "true", "aws:SecureTransport": "true"}}, None, None),
+]
+
+
+def test_each_kind_of_condition_turns():
+    for condition, key, value in CASES:
+        made = file(small_world(document(statement(Condition=condition))))
+        [found] = rows("can", "ann", "s3:GetObject", "*", "--world", made, status=3)
+        wanted = [{"key": key, "value": value, "decision": "allowed"}] if key else []
+        same(found["hangsOn"], wanted, str(condition))
+    two = file(small_world(document(statement(Condition=CASES[-1][0]))))
+    out, _ = aws("can", "ann", "s3:GetObject", "*", "--world", two, status=3)
+    assert "turns an answer: aws:MultiFactorAuthPresent, aws:SecureTransport" in out, out
+
+
+def test_an_allow_may_hang_on_a_key_too():
+    made = file(small_world(document(statement(), statement("Deny", Condition={"Bool": {"aws:SecureTransport": "false"}}))))
+    out, _ = aws("can", "ann", "s3:GetObject", "*", "--world", made)
+    assert "  denied if `aws:SecureTransport` is `false`\n" in out, out
+    # What a context gives, nothing hangs on.
+    given = file(small_world(document(statement(Condition={"Bool": {"k": "true"}})), context={"K": "false"}))
+    same(rows("can", "ann", "s3:GetObject", "*", "--world", given, status=3)[0]["hangsOn"], [])
+
+
+def test_texts_that_stand_for_patterns():
+    key = "arn:aws:kms:eu-west-1:111122223333:key/7c1d"
+    made = small_world(document(statement(action="kms:*", resource=[key, "arn:aws:kms:*:111122223333:key/a*", "arn:aws:kms:*:*:key/${aws:username}"]),
+                                statement(action="s3:*")),
+                       actions=("kms:Decrypt",), resources=[{"arn": key, "account": "111122223333"}])
+    found = rows("who-can", "kms:Decrypt", "*", "--world", file(made), "--kinds")
+    # The key that is named is the first pattern; a text stands for each of the two others, and `*` for what is asked, which none
+    # of them meets. Of s3 nothing is asked.
+    wanted = [key, "arn:aws:kms:us-east-1:111122223333:key/ax", "arn:aws:kms:us-east-1:111122223333:key/ann"]
+    same([(it["resource"], it["decision"]) for it in found if it["resource"] != "*"], [(it, "allowed") for it in wanted])
+    same([it["decision"] for it in found if it["resource"] == "*"], ["implicitDeny"])
+    out, _ = aws("who-can", "kms:Decrypt", "*", "--world", file(made), "--kinds")
+    assert f"{wanted[1]} stands for arn:aws:kms:*:111122223333:key/a* of a policy\n" in out, out
+    assert "the answer covers these texts" in out, out
+    # Without --kinds the resources of the world alone are asked for.
+    same(len(rows("who-can", "kms:Decrypt", "*", "--world", file(made))), 1)
+    # An action pattern takes the actions that policies name, and with --kinds a text for each pattern.
+    same({it["action"] for it in rows("who-can", "kms:*", key, "--world", file(made), "--kinds")}, {"kms:Decrypt", "kms:x"})
+    same({it["action"] for it in rows("who-can", "kms:*", key, "--world", file(made))}, {"kms:Decrypt"})
+
+
+def chained():
+    """ann may assume the role a, whose session may assume b, and so c and d; d alone reads."""
+    names = "abcd"
+    role = lambda it: f"arn:aws:iam::111122223333:role/{it}"
+    trust = lambda it: document({"Effect": "Allow", "Principal": {"AWS": it}, "Action": "sts:AssumeRole"})
+    before = ["arn:aws:iam::111122223333:user/ann", role("a"), role("b"), role("c")]
+    assume = lambda it: document(statement(action="sts:AssumeRole", resource=role(it)))
+    users = [{"user": before[0], "identity": [assume("a")]}, {"user": "arn:aws:iam::111122223333:user/bob"}]
+    roles = [{"role": role(it), "session": "s", "identity": [assume(names[n + 1])] if n < 3 else [document(statement(action="s3:*"))]}
+             for n, it in enumerate(names)]
+    resources = [{"arn": role(it), "account": "111122223333", "sealed": True, "policy": trust(before[n])} for n, it in enumerate(names)]
+    return {"moment": 0, "accounts": [{"id": "111122223333"}], "principals": [*users, *roles], "actions": ["s3:GetObject"],
+            "resources": [*resources, {"arn": "arn:aws:s3:::b/k", "account": "111122223333"}]}
+
+
+def test_who_may_come_to_it_by_roles():
+    made = file(chained())
+    ann, a, b, c, d = "arn:aws:iam::111122223333:user/ann", *(f"arn:aws:sts::111122223333:assumed-role/{it}/s" for it in "abcd")
+    out, _ = aws("who-can", "s3:GetObject", "b/k", "--world", made, "--chains")
+    lines = out.splitlines()
+    same(lines[0], "1 of 6 principals are allowed, by 1 of 6 requests")
+    same(lines[3:], ["3 more may come to it by assuming at most 3 roles one after the other:",
+                     f"  {c} -> {d}", f"  {b} -> {c} -> {d}", f"  {a} -> {b} -> {c} -> {d}"])
+    out, _ = aws("who-can", "s3:GetObject", "b/k", "--world", made, "--chains", "--depth", "4")
+    same(out.splitlines()[-1], f"  {ann} -> {a} -> {b} -> {c} -> {d}")
+    out, _ = aws("who-can", "s3:PutObject", "b/k", "--world", made, "--chains", "--depth", "1")
+    same(out.splitlines()[-1], f"  {c} -> {d}")
+
+
+def past_the_limits():
+    """An account of 60 users, each with a managed policy of 100 statements of its own: 6,000 in all. User n may read object n."""
+    users, policies = [], []
+    for n in range(60):
+        arn = f"arn:aws:iam::111122223333:policy/p{n}"
+        statements = [statement(action="s3:GetObject", resource=f"arn:aws:s3:::b/{n}")] + [statement(action=f"ec2:Run{it}") for it in range(99)]
+        policies.append({"PolicyName": f"p{n}", "Arn": arn, "PolicyVersionList": [{"IsDefaultVersion": True, "Document": document(*statements)}]})
+        users.append({"UserName": f"u{n}", "UserId": f"AIDA{n}", "Arn": f"{ACCOUNT}user/u{n}", "AttachedManagedPolicies": [{"PolicyArn": arn}]})
+    return {"UserDetailList": users, "Policies": policies}
+
+
+def test_an_account_past_the_limits_of_a_world():
+    export = file(past_the_limits())
+    found = rows("who-can", "s3:GetObject", "arn:aws:s3:::b/57", export)
+    same([(it["principal"], it["decision"]) for it in found],
+         [(f"{ACCOUNT}user/u{n}", "allowed" if n == 57 else "implicitDeny") for n in range(60)])
+    same(found[57]["statements"][0]["policy"], "arn:aws:iam::111122223333:policy/p57")
+    resources = file([{"arn": f"arn:aws:s3:::b/{n}", "account": "111122223333"} for n in range(3)])
+    actions = file("s3:GetObject")
+    _, said = aws("world", export, "--resources", resources, "--actions", actions)
+    assert "the world has 6000 statements, and at most 4096 are read" in said, said
+    out, _ = aws("rules", file("always u2 s3:GetObject *b/2\nnever * s3:GetObject *b/2 except u2"), export, "--resources", resources)
+    assert out.endswith("2 rules: 2 kept, 0 broken, 0 empty\n"), out
+
+
+def test_decimals_need_no_word():
+    made = small_world(document(statement(Condition={"NumericGreaterThanEquals": {"s3:TlsVersion": "1.2"}})), context={"s3:TlsVersion": "1.3"})
+    same(rows("can", "ann", "s3:GetObject", "*", "--world", file(made))[0]["decision"], "allowed")
+    made["context"] = {"s3:TlsVersion": "1.1"}
+    same(rows("can", "ann", "s3:GetObject", "*", "--world", file(made), status=3)[0]["decision"], "implicitDeny")
+
+
+def test_iam_and_sts_actions_at_once():
+    found = rows("who-can", "*:*Role", "*/audit", EXPORT, "--actions", file("iam:PassRole\nsts:AssumeRole\n"))
+    # bob's boundary has nothing of iam and, of roles, deploy alone; audit trusts alice.
+    same(decided([it for it in found if it["decision"] == "allowed"]), {(f"{ACCOUNT}user/alice", "sts:AssumeRole", f"{ACCOUNT}role/app/audit"): "allowed"})
+    same(len(found), 16)
+
+
+def test_questions_that_ask_for_nothing():
+    for words, why in [
+        (["can", "nobody", "s3:GetObject", "arn:aws:s3:::b/k"], "no principal matches nobody"),
+        (["can", "alice", "s3:GetObject", "b/k"], "no resource matches b/k"),
+        (["can", "alice", "GetObject", "arn:aws:s3:::b/k"], "GetObject: an action is written 'service:Name'"),
+        (["who-can", "dynamodb:*", "arn:aws:s3:::b/k"], "no action matches dynamodb:*"),
+    ]:
+        _, said = aws(*words, EXPORT, status=1)
+        assert why in said, said
+    _, said = aws("can", "carol", "s3:GetObject", "arn:aws:s3:::b/k", *BOTH, status=1)
+    assert "which account is it of?" in said, said
+    found = rows("can", "carol", "s3:GetObject", "arn:aws:s3:::b/k", *BOTH, "--account", "444455556666", status=3)
+    same(found[0]["lacks"], ["identity"])
+
+
+def test_a_refused_policy_is_named():
+    export = load(EXPORT)
+    export["Policies"][2]["PolicyVersionList"][0]["Document"] = document(statement("allow"))
+    _, said = aws("can", "alice", "s3:GetObject", "arn:aws:s3:::b/k", file(export), status=1)
+    assert "iamsim refuses a policy: arn:aws:iam::aws:policy/ReadObjects: statement 0: the Effect is neither" in said, said
+
+
+def test_answers_as_csv():
+    out, _ = aws("can", "alice", "sts:AssumeRole", "*/audit", EXPORT, "--format", "csv")
+    found = list(csv.reader(io.StringIO(out)))
+    same(found, [["principal", "action", "resource", "decision", "policies", "lacks", "hangs on"],
+                 [f"{ACCOUNT}user/alice", "sts:AssumeRole", f"{ACCOUNT}role/app/audit", "allowed",
+                  f"{ACCOUNT}role/app/audit trust policy, statement 0 (the resource's policy); "
+                  f"{ACCOUNT}policy/AssumeRoles, statement 0 AppRoles (identity policy)", "", ""]])
+
+
+def strangers(said):
+    """What is told of who is not asked."""
+    return [line for line in said.splitlines() if "asked" in line and "the policy of" in line]
+
+
+def test_who_is_not_asked():
+    """Of an account without an export nobody is asked, which is said once for each that a policy grants to."""
+    bucket = "arn:aws:s3:::releases"
+    allow = lambda *who, **more: {"Effect": "Allow", "Principal": {"AWS": list(who)}, "Action": "s3:GetObject", "Resource": "*", **more}
+    line = lambda holder, account: f"iamsim-aws: the policy of {holder} names {account}, of which there is no export: nobody there is asked"
+    everybody = f"iamsim-aws: the policy of {bucket} names everybody (*): only principals of the exports are asked"
+    own = f"{ACCOUNT}user/alice"
+    deny = {**allow("555566667777"), "Effect": "Deny"}
+    cases = [(allow("999988887777", "arn:aws:iam::999988887777:role/r", own), [line(bucket, "999988887777")]),
+             (allow("arn:aws:sts::444455556666:assumed-role/r/s"), [line(bucket, "444455556666")]), (allow(own), []), (deny, []),
+             (allow("*"), [everybody]), ({**allow(), "Principal": "*"}, [everybody]), ({**allow(), "Principal": {"Service": "s3.amazonaws.com"}}, [])]
+    for one, wanted in cases:
+        further = file([{"arn": bucket, "account": "111122223333", "policy": document(one)}])
+        _, said = aws("who-can", "s3:GetObject", bucket, EXPORT, "--resources", further)
+        same(strangers(said), wanted, one)
+        _, said = aws("rules", file(f"never carol s3:GetObject {bucket}\nnever alice s3:PutObject {bucket}\n"), EXPORT, "--resources", further, "--allow-empty")
+        same(strangers(said), wanted, one)
+    # The role partner trusts 444455556666: with the export of that account it is asked.
+    role = f"{ACCOUNT}role/app/partner"
+    for exports, wanted in (([EXPORT], [line(role, "444455556666")]), ([EXPORT, data("partner.json")], [])):
+        _, said = aws("who-can", "sts:AssumeRole", role, *exports)
+        same(strangers(said), wanted)
