@@ -33,7 +33,7 @@ install-aws:
 	cd tools && find iamsim_aws -name '*.py' -o -path 'iamsim_aws/parts/*' | \
 		xargs -I FILE install -D -m 644 FILE $(DESTDIR)$(PREFIX)/lib/iamsim-aws/FILE
 
-# The gate: every proof from nothing, the must-fail edits, the tests, the rows and the stored run of the program (rt ci);
+# The gate: each proof, the must-fail edits, the tests, the rows and the stored run of the program (rt ci);
 # then the tests of the tools.
 test:
 	tools/gate
