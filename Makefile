@@ -17,7 +17,7 @@ check:
 
 # The main job, proved: one decision on the smallest example world.
 run: build
-	@./iamsim decide 0 0 0 < examples/smallest.json
+	@./iamsim decide 0 0 0 examples/smallest.json
 
 # The program, proved and built, as ./iamsim.
 build:

@@ -24,6 +24,14 @@ ANSWERS = {
     "first": BRIEF_HEADER + BRIEF,
 }
 
+# The same where one row is asked for.
+SELECTED = {
+    "matrix --action S3:GETOBJECT --decision allowed": HEADER + CELL,
+    f"matrix --format json --brief --principal {ANN}": ANSWERS["matrix --format json --brief"],
+    "first --resource arn:aws:s3:::b/?": BRIEF_HEADER + BRIEF,
+}
+EVERY = {**ANSWERS, **SELECTED}
+
 SMALLEST, FAULTY = row_world("smallest"), os.path.join(EXAMPLES, "faulty.json")
 READ, WRITE = (1, b"", b"fault 1 Read\n"), (1, b"", b"fault 4 Write\n")
 
@@ -34,36 +42,36 @@ def shell(words, streams, given=SMALLEST):
 
 
 def test_answers_on_the_smallest_world():
-    for words, text in ANSWERS.items():
+    for words, text in EVERY.items():
         same(answer(words.split(), SMALLEST), (0, text.encode(), b""), words)
 
 
 def test_input_that_cannot_be_read():
-    for words in ANSWERS:
+    for words in EVERY:
         for streams in ("<&-", "< /", "0> /dev/null"):
             same(shell(words, streams), READ, f"{words} {streams}")
         same(shell(words, "< /dev/null"), (1, b"", b"fault 2 World: 1 NotJson\n"), words)
 
 
 def test_output_that_cannot_be_written():
-    for words in ANSWERS:
+    for words in EVERY:
         for streams in (">&-", "> /dev/full", "1< /dev/null"):
             same(shell(words, streams), WRITE, f"{words} {streams}")
 
 
 def test_help_that_cannot_be_written():
-    for words in ("--help", "--version", "help first", *(f"{words} --help" for words in ANSWERS)):
+    for words in ("--help", "--version", "help first", *(f"{words} --help" for words in EVERY)):
         for streams in (">&-", "> /dev/full"):
             same(shell(words, streams), (1, b"", b""), f"{words} {streams}")
 
 
 def test_an_error_that_cannot_be_told():
     for streams in ("2>&-", "2> /dev/full", "2>&- >&-"):
-        for words in ANSWERS:
+        for words in EVERY:
             same(shell(words, f"{streams} < {FAULTY}"), (1, b"", b""), f"{words} {streams}")
         same(shell("matrix --workers 65", streams), (1, b"", b""), streams)
         same(shell("matrix --workers x", streams), (2, b"", b""), streams)
-    for words, text in ANSWERS.items():
+    for words, text in EVERY.items():
         same(shell(words, "2>&-"), (0, text.encode(), b""), words)
 
 
@@ -89,10 +97,11 @@ def leaves(words, world, wanted):
 
 
 def test_a_reader_that_goes_away():
-    for words in ANSWERS:
+    for words in EVERY:
         same(leaves(words, SMALLEST, 0), (b"", 1, b"fault 4 Write\n"), words)
     world = many_cells()
-    for words in (it for it in ANSWERS if it.startswith("matrix")):
+    matrices = [it for it in ANSWERS if it.startswith("matrix")]
+    for words in [*matrices, *(f"{it} --resource *" for it in matrices)]:
         status, whole, _ = answer(words.split(), world)
         same((status, len(whole) > 1_000_000), (0, True), words)
         for wanted in (1, len(HEADER), 5000):
@@ -109,7 +118,7 @@ def test_input_in_drips():
 
 def test_the_longest_input():
     too_large = (1, b"", b"fault 2 World: 9 TooLarge\n")
-    for words, text in ANSWERS.items():
+    for words, text in EVERY.items():
         same(answer(words.split(), SMALLEST.ljust(8_388_608)), (0, text.encode(), b""), words)
         same(answer(words.split(), SMALLEST.ljust(8_388_609)), too_large, words)
         same(shell(words, "< /dev/zero"), too_large, words)
@@ -134,7 +143,7 @@ def test_a_small_stack():
     # The deepest worlds that are read, and one a level deeper, in 256 KiB; what a shell gives is 32 times that.
     for text, line in [(b"[" * 127 + b"]" * 127, "2 BadShape at ."), (b'{"a":' * 127 + b"0" + b"}" * 127, "2 BadShape at moment"),
                        (b'[{"a":' * 63 + b"[]" + b"}]" * 63, "2 BadShape at ."), (b'{"a":' * 128, "1 NotJson"), (b"[" * 8_388_608, "1 NotJson")]:
-        for words in ANSWERS:
+        for words in EVERY:
             found = answer(["-c", f'ulimit -s 256; exec "$0" {words}', IAMSIM], text, program="bash")
             same(found, (1, b"", f"fault 2 World: {line}\n".encode()), words)
 
@@ -162,10 +171,10 @@ def test_numbers_at_the_ends_of_their_types():
 # What each command says of itself, and how it is used.
 ABOUT = {
     "": ("Answers who may do what in AWS, from policy documents alone, before they are put in force.", "<COMMAND>"),
-    "check": ("Read the world, and count what it has", ""),
-    "decide": ("Decide one request: may principal P do action A on resource R?", "<P> <A> <R>"),
-    "matrix": ("Decide all requests, and report each", "[OPTIONS]"),
-    "first": ("Find the first request that is allowed, in the order of the matrix", "[OPTIONS]"),
+    "check": ("Read the world, and count what it has", "[WORLD]"),
+    "decide": ("Decide one request: may principal P do action A on resource R?", "<P> <A> <R> [WORLD]"),
+    "matrix": ("Decide all requests, and report each", "[OPTIONS] [WORLD]"),
+    "first": ("Find the first request that is allowed, in the order of the matrix", "[OPTIONS] [WORLD]"),
 }
 
 
@@ -176,5 +185,5 @@ def test_help_goes_to_standard_output():
             lines = out.decode().split("\n")
             same((status, lines[0], said), (0, about, b""), words)
             assert f"Usage: {' '.join(f'iamsim {command} {usage}'.split())}" in lines, out
-            same("The world comes on standard input, as in: iamsim check < world.json" in lines, command != "", words)
+            same(sum(it.startswith("The world is read from the file WORLD") for it in lines), int(command != ""), words)
     same(shell("--version", "<&-"), (0, b"iamsim 0.1.0\n", b""))

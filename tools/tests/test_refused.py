@@ -20,7 +20,10 @@ LINES = [b"", b"fault 2 World: 10 OutOfMemory\n", b"fault 3 Matrix: 2 OutOfMemor
 FORMS = [form.split() for form in ("--format csv", "--format csv --brief", "--format json", "--format json --brief")]
 MATRICES = [["matrix", "--workers", workers, *form] for workers in ("1", "4") for form in FORMS]
 FIRSTS = [["first", "--workers", workers] for workers in ("1", "4")]
-COMMANDS = [["check"], ["decide", "0", "0", "0"], *MATRICES, *FIRSTS]
+ASKED = ["--principal", "*", "--action", "S3:*"]
+SELECTED = [*(["matrix", "--workers", workers, *form, *ASKED, "--decision", "allowed"] for workers in ("1", "4") for form in (FORMS[0], FORMS[3])),
+            ["first", "--workers", "4", *ASKED]]
+COMMANDS = [["check"], ["decide", "0", "0", "0"], *MATRICES, *FIRSTS, *SELECTED]
 
 # The ways of the allocator that refuse.c knows, and those that it does not.
 REFUSED = {"malloc", "calloc", "realloc", "aligned_alloc", "posix_memalign"}
@@ -105,9 +108,15 @@ def test_refused_memory():
     tell("refused memory", *refused(IAMSIM, jobs))
 
 
+def test_memory_refused_where_the_world_is_a_file():
+    files = [*(os.path.join(EXAMPLES, f"{name}.json") for name in ("smallest", "faulty")), "no-such-file", "/", "a\nb"]
+    jobs = [("REFUSE_CALL", later, [*words, path], b"") for path in files for words in (["check"], ["matrix"], ["matrix", *ASKED]) for later in (0, 1)]
+    tell("memory refused where the world is a file", *refused(IAMSIM, jobs))
+
+
 def test_refused_threads():
     many = [["matrix", "--workers", "64", "--tile", "1"], ["first", "--workers", "64", "--tile", "1"]]
-    jobs = [("REFUSE_THREAD", later, words, world) for world in worlds().values() for words in [*MATRICES, *FIRSTS, *many] for later in (0, 1)]
+    jobs = [("REFUSE_THREAD", later, words, world) for world in worlds().values() for words in [*MATRICES, *FIRSTS, *SELECTED, *many] for later in (0, 1)]
     tell("refused threads", *refused(IAMSIM, jobs))
 
 

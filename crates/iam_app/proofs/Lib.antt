@@ -1,2 +1,3 @@
 pub mod OneOutput
 pub mod Refusals
+mod Selecting

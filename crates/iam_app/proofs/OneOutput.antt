@@ -36,7 +36,7 @@ one_answer g world p a r text other (cell, is, (verdict, at, row)) (cell', is', 
     g.rows world cell' p a r verdict' text other
     (subst (λ v. IsCsvRow world cell' p a r v text) same (subst (λ c. IsCsvRow world c p a r verdict text) number row)) row'
 
-one_asked_report : Given → (task : Task) (options other : Options) (world : WorldValue) (text text' : List ℕ) → format_of options ≡ format_of other
+pub one_asked_report : Given → (task : Task) (options other : Options) (world : WorldValue) (text text' : List ℕ) → format_of options ≡ format_of other
     → options.brief ≡ other.brief → IsReportOf task options world text → IsReportOf task other world text' → text ≡ text'
 one_asked_report g t.Check options other world text text' format brief h k = h ∙ sym k
 one_asked_report g (t.Decide p a r) options other world text text' format brief h k = one_answer g world p a r text text' h k

@@ -4,7 +4,9 @@ use Rattle.std.specs.Prelude.{◌≡◌, ◌≢◌, ◌⊎◌, ℕ, List, ◌++�
 use Rattle.iam_options.specs.declared.options.Options.{Options}
 use Rattle.iam_world.specs.declared.fault.WorldFault.{WorldFault}
 use Rattle.iam_world.specs.declared.fault.WorldFault.TheVariants as w
+use Rattle.iam_selection.specs.Selection.{SelectionValue}
 use Rattle.iam_app.specs.Output.{EndsBy, IsOutput, WritesBeginning, WritesOutput}
+use Rattle.iam_app.specs.Selected.{IsSelectedOutput}
 use Rattle.iam_app.specs.declared.fault.RunFault.{RunFault}
 use Rattle.iam_app.specs.declared.fault.RunFault.TheVariants.{World, NoSuchCell}
 
@@ -17,6 +19,12 @@ abbrev pub OneOutput : Type 0
 OneOutput =
     (options other : Options) (bytes text text' : List ℕ) → AskTheSame options other
     → IsOutput options bytes text → IsOutput other bytes text' → text ≡ text'
+
+-- bytes have one report of what a selection asks for
+abbrev pub OneSelectedOutput : Type 0
+OneSelectedOutput =
+    (options other : Options) (selection : SelectionValue) (bytes text text' : List ℕ) → AskTheSame options other
+    → IsSelectedOutput options selection bytes text → IsSelectedOutput other selection bytes text' → text ≡ text'
 
 -- a fault of the input: of its world, or that it has no such cell; no stream, no want of memory, no tile and no number of
 -- workers brings it about

@@ -29,7 +29,7 @@ fn tile_length(options: &Options, cells: u64) -> u64
 }
 
 /// The world's cells in tiles of this length.
-fn cut_cells(alloc: Global, options: &Options, world: &World) -> Result<Cut, CutFault>
+pub fn cut_cells(alloc: Global, options: &Options, world: &World) -> Result<Cut, CutFault>
     ensures whole { IfOk result (λ cut. sum cut ≡ world_cells world.now) }
     ensures cut { OnOk result (HasCut options.now world.now) }
     ensures fault { IfErr result (λ fault. fault ≢ c.OutOfMemory → HasCutFault options.now world.now fault) }
@@ -38,7 +38,7 @@ fn cut_cells(alloc: Global, options: &Options, world: &World) -> Result<Cut, Cut
     Cut::even(alloc, tile_length(options, cells), cells)
 }
 
-fn format_in(options: &Options) -> Format
+pub fn format_in(options: &Options) -> Format
     ensures { result ≡ format_of options.now }
 {
     if options.json {

@@ -5,6 +5,7 @@ ghost use Rattle.iam_report.specs.Streams.{AppendsBeginning};
 ghost use Rattle.iam_app.specs.Code.Pieces.{report_text};
 
 use iam_report::{MatrixText, OutputFault, write_text};
+use iam_selection::ListText;
 use std::io::Write;
 
 /// A report, as it was made.
@@ -14,6 +15,8 @@ pub enum Report {
     Whole(Vec<u8>),
     /// Of all cells, to be put together when it is written.
     Matrix(MatrixText),
+    /// Of the rows that are asked for.
+    Rows(ListText),
 }
 
 /// Writes the whole report by way of an empty buffer, without a flush.
@@ -29,6 +32,7 @@ fn write_unflushed<W: Write>(
     match report {
         Report::Whole(text) => write_text(writer, text.as_slice()),
         Report::Matrix(matrix) => matrix.write_to(writer, kept),
+        Report::Rows(rows) => rows.write_to(writer, kept),
     }
 }
 

@@ -71,7 +71,7 @@ fn check(alloc: Global, world: &World) -> Result<Vec<u8>, OutOfMemory>
 }
 
 /// The report that the options ask for, of this world.
-fn report<T: Threads + Sync>(
+pub fn report<T: Threads + Sync>(
     rt: &T,
     alloc: Global,
     options: &Options,
@@ -110,7 +110,7 @@ fn answer<T: Threads + Sync>(
 }
 
 /// The fault of a run whose input is not taken.
-fn input_fault(fault: InputFault) -> RunFault
+pub fn input_fault(fault: InputFault) -> RunFault
     ensures { result ≡ fault_of_input fault }
 {
     match fault {

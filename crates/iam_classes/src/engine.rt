@@ -191,7 +191,8 @@ fn class_of<'a>(
     }
 }
 
-/// The class of principal p and resource r, by what a survey found, or else by a scan of all statements that apply.
+/// The class of principal p and resource r, by what a survey found, or else by the statements that the index
+/// lists for the pair.
 #[inline(never)]
 fn find_class<'a>(
     alloc: Global,
@@ -215,7 +216,7 @@ fn find_class<'a>(
     memo.class_with(alloc, p, r, shared)
 }
 
-/// What the requests of principal p for resource r share, as a survey found it, or by a scan.
+/// What the requests of principal p for resource r share, as a survey found it, or by the index.
 fn held_by<'a>(
     alloc: Global,
     index: &'a Index<'a>,

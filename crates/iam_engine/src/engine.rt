@@ -66,7 +66,7 @@ impl<'a> Engine<'a> {
     }
 
     /// The verdict on the request of a cell, which has to be below `cells()` of the world, whatever was asked before. All denies
-    /// are tested, and allows until one matches. After a refusal the engine is as usable as before.
+    /// are tested, and allows until a deny matches. After a refusal the engine is as usable as before.
     ///
     /// AWS IAM User Guide, "Policy evaluation logic".
     pub fn decide(&mut self, alloc: Global, cell: u64) -> Result<Verdict, OutOfMemory>

@@ -1,4 +1,4 @@
-mod CellLemmas
+pub mod CellLemmas
 pub mod DerivedLemmas
 mod ManagementLemmas
 mod OneAnswer

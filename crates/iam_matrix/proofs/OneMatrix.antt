@@ -31,7 +31,7 @@ one_matrix verdicts world xs ys h k = one_entries (IsVerdictOf world) (verdicts 
 pub one_brief_matrix : OneDecisionOf → Laws.OneBriefMatrix
 one_brief_matrix decisions world xs ys h k = one_entries (IsDecisionOf world) (decisions world) 0 xs ys (h.count ∙ sym k.count) h.each k.each
 
-none_allowed : OneDecisionOf → (world : WorldValue) (cell : ℕ) → IsNotAllowed world cell → ¬ IsDecisionOf world cell Allowed
+pub none_allowed : OneDecisionOf → (world : WorldValue) (cell : ℕ) → IsNotAllowed world cell → ¬ IsDecisionOf world cell Allowed
 none_allowed decisions world cell here allowed = here.not_allowed (decisions world cell here.decision Allowed here.is allowed)
 
 pub one_first : OneDecisionOf → Laws.OneFirst
@@ -52,7 +52,7 @@ one_report matrices briefs texts brief_texts format false world text other (verd
     let same : verdicts ≡ others = matrices world verdicts others h k in
     texts format world others text other k.count (subst (λ vs. IsReport format world vs text) same is) there
 
-one_first_text : OneTriple → OneBriefRow → (world : WorldValue) (first : Option ℕ) (text other : List ℕ) → IsFirstText world first text → IsFirstText world first other
+pub one_first_text : OneTriple → OneBriefRow → (world : WorldValue) (first : Option ℕ) (text other : List ℕ) → IsFirstText world first text → IsFirstText world first other
     → text ≡ other
 one_first_text triples rows world None text other h k = h ∙ sym k
 one_first_text triples rows world (Some cell) text other (p, a, r, here, h) (q, b, s, there, k) =

@@ -21,9 +21,9 @@ pub struct Cut {
 
 /// The cells of a tile: so many from this one on.
 #[derive(Clone, Copy)]
-pub(crate) struct Cells {
-    pub(crate) from: u64,
-    pub(crate) count: u64,
+pub struct Cells {
+    pub from: u64,
+    pub count: u64,
 }
 
 impl Model for Cut {
@@ -148,7 +148,7 @@ impl Cut {
     }
 
     /// The cells of a tile; there has to be such a tile.
-    pub(crate) fn cells(&self, tile: u64) -> Cells
+    pub fn cells(&self, tile: u64) -> Cells
         requires { tile < length self.now }
         ensures from { result.from ≡ start_of self.now tile }
         ensures count { result.count ≡ slice_index self.now tile }

@@ -15,7 +15,8 @@ mod survey;
 mod workers;
 
 pub use cells::{matrix, matrix_brief};
-pub use cut::{Cut, CutFault};
+pub use cut::{Cells, Cut, CutFault};
+pub use each::{decision_at, end_of};
 pub use fault::MatrixFault;
 pub use iam_crew::{Gate, Open};
 pub use iam_layers::{Decision, Verdict, World};
@@ -23,5 +24,6 @@ pub use iam_report::{MatrixText, csv_brief, csv_text, json_brief, json_text};
 pub use iam_row::{Format, csv_row, csv_row_brief};
 pub use iam_text::OutOfMemory;
 pub use laws::{one_brief_matrix, one_first, one_matrix, one_report};
-pub use report::{first_report, matrix_report};
-pub use search::first;
+pub use report::{first_report, first_text, matrix_report};
+pub use search::{first, is_behind};
+pub use workers::is_unlawful;

@@ -1,8 +1,7 @@
 // The reports of the matrix and of the first allowed cell.
-ghost use Rattle.std.specs.Prelude.{◌≡◌, ◌≤◌, ◌↔◌, IfOk, sum};
+ghost use Rattle.std.specs.Prelude.{◌≡◌, ◌<◌, ◌≤◌, ◌↔◌, IfOk, IfSome, sum};
 ghost use Rattle.iam_world.specs.World.{world_cells};
 ghost use Rattle.iam_row.specs.Piece.{text_of};
-ghost use Rattle.iam_matrix.specs.Matrix.{IsFirstAllowed};
 ghost use Rattle.iam_matrix.specs.Report.{IsFirstReport, IsFirstText, IsMatrixReport};
 ghost use Rattle.iam_matrix.specs.Code.Tiles.{AreTailsOf, Chain};
 ghost use Rattle.iam_matrix.specs.Workers.{IsUnlawful};
@@ -15,7 +14,7 @@ use crate::survey::survey_of;
 use crate::workers::is_unlawful;
 use iam_classes::{Index, Survey};
 use iam_crew::{Gate, gather};
-use iam_layers::{Decision, World};
+use iam_layers::{Decision, World, one_triple};
 use iam_report::{MatrixText, Tile};
 use iam_row::{Format, Quoted, brief_texts, csv_row_brief, full_texts, opening};
 use iam_text::OutOfMemory;
@@ -112,11 +111,12 @@ pub fn first_report<R: Threads + Sync, G: Gate + Sync>(
     Ok(first_text(alloc, world, found)?)
 }
 
-/// The text of what was found.
-fn first_text(alloc: Global, world: &World, found: Option<u64>) -> Result<Vec<u8>, OutOfMemory>
-    requires { IsFirstAllowed world.now found }
+/// The brief header, and the brief row of this cell with the decision that it is allowed, where one is given.
+pub fn first_text(alloc: Global, world: &World, found: Option<u64>) -> Result<Vec<u8>, OutOfMemory>
+    requires { IfSome found (λ cell. cell < world_cells world.now) }
     ensures { IfOk result (λ text. IsFirstText world.now found text.items) }
 {
+    one_triple();
     match found {
         Some(cell) => csv_row_brief(alloc, world, cell, Decision::Allowed),
         None => Vec::from_slice(alloc, opening(Format::Csv, true).as_bytes()),

@@ -74,7 +74,7 @@ impl<'a> Crew for Search<'a> {
 }
 
 /// Whether all cells from this one on lie behind the least cell offered.
-fn is_behind(low: Option<u64>, from: u64) -> bool
+pub fn is_behind(low: Option<u64>, from: u64) -> bool
     ensures { IsTrue result → bound_of low < from }
 {
     match low {

@@ -3,7 +3,7 @@ ghost use Rattle.std.specs.Prelude.{◌↔◌, IsTrue};
 ghost use Rattle.iam_matrix.specs.Workers.{IsUnlawful};
 
 /// Whether so many workers are none, or more than 64.
-pub(crate) fn is_unlawful(workers: u32) -> bool
+pub fn is_unlawful(workers: u32) -> bool
     ensures { IsTrue result ↔ IsUnlawful workers }
 {
     workers == 0 || workers > 64

@@ -1,8 +1,11 @@
 -- What the words of a command line say, where `clap` has matched them. LOGIC 13.3.
-use Rattle.std.specs.Prelude.{◌≡◌, ℕ, List, Some, codes}
+use Rattle.std.specs.Prelude.{◌≡◌, if◌then◌else◌, ℕ, List, [], Option, Some, None, codes, map, string_bytes}
+use Rattle.std.specs.Option.{option_map_or}
+use Rattle.std.specs.Str.{bytes_eq}
 use Rattle.std.specs.Str.Parse.{digits_value, without_leading_plus}
-use Rattle.clap.specs.Matches.{found_of, one_text}
+use Rattle.clap.specs.Matches.{found_of, matched_of, one_text, raw_values}
 use Rattle.clap.specs.declared.parser.matches.ArgMatches.{ArgMatches}
+use Rattle.iam_options.specs.declared.command.Asked.{Asked}
 use Rattle.iam_options.specs.declared.options.Task.{Task}
 use Rattle.iam_options.specs.declared.options.Task.TheVariants.{Check, Decide, Matrix, First}
 
@@ -25,3 +28,19 @@ IsDecide matches (Decide p a r) =
     IsNumberAt matches (codes "P") p × IsNumberAt matches (codes "A") a × IsNumberAt matches (codes "R") r
 IsDecide matches Matrix = ⊥
 IsDecide matches First = ⊥
+
+-- the texts that stand under this name, of all its uses
+abbrev pub texts_at : ArgMatches → List ℕ → List (List ℕ)
+texts_at matches name = option_map_or raw_values (matched_of (found_of matches) name) []
+
+-- the file that a word names, where there is one and it does not mean standard input
+abbrev pub world_named : Option (List ℕ) → Option (List ℕ)
+world_named None = None
+world_named (Some word) = if bytes_eq word (codes "-") then None else Some word
+
+-- what is asked for is what stands under each name
+pub record HasAsked (matches : ArgMatches) (asked : Asked) : Type 0 where
+  pub principals : map string_bytes asked.principals.items ≡ texts_at matches (codes "principal")
+  pub actions : map string_bytes asked.actions.items ≡ texts_at matches (codes "action")
+  pub resources : map string_bytes asked.resources.items ≡ texts_at matches (codes "resource")
+  pub decisions : map string_bytes asked.decisions.items ≡ texts_at matches (codes "decision")

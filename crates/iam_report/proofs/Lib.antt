@@ -1,4 +1,4 @@
-mod Buffered
+pub mod Buffered
 mod Fronts
 mod Picks
 mod Whole

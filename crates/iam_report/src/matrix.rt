@@ -3,7 +3,7 @@ ghost use Rattle.std.specs.Prelude.{◌≡◌, ◌++◌, ◌+◌, ◌<◌, ◌�
 ghost use Rattle.std.specs.Io.KnownBytes.{Appends};
 ghost use Rattle.std.specs.List.{flat_map};
 ghost use Rattle.iam_report.specs.Code.Buffer.{IsWithin, PutsRows, Passes};
-ghost use Rattle.iam_report.specs.Code.Line.{tail_at};
+ghost use Rattle.iam_report.specs.Code.Line.{row_behind, tail_at};
 ghost use Rattle.iam_report.specs.Code.Numbered.{no_tail, picked};
 ghost use Rattle.iam_row.specs.Piece.{first_position, row_at, rows_text, text_of};
 ghost use Rattle.iam_report.specs.Streams.{AppendsBeginning};
@@ -56,22 +56,25 @@ fn put_row<W: Write>(
     if line.keep(kept, at, n) {
         return Ok(());
     }
-    if let Err(fault) = put_pieces(writer, kept, line.quoted(), at, line.tail(n)) {
+    let comma = comma_before(at.cell);
+    if let Err(fault) = put_pieces(writer, kept, line.quoted(), comma, at, line.tail(n)) {
         return Err(fault);
     }
     Ok(())
 }
 
-/// Puts the row at a position, with this tail, piece by piece.
-fn put_pieces<W: Write>(
+/// Puts the row at a position, with this tail, piece by piece; where it is an object, this comma stands before it. No memory
+/// is taken. After a fault the writer gained a beginning of what was kept and the row.
+pub fn put_pieces<W: Write>(
     writer: &mut W,
     kept: &mut Vec<u8>,
     quoted: &Quoted,
+    comma: &str,
     at: Position,
     tail: &Tail,
 ) -> Result<(), OutputFault>
-    ensures ok { OnOk result (Passes (W.contents writer.old) (W.contents writer.new) kept.old.items kept.new.items (row_at quoted.now at tail.now)) }
-    ensures err { OnErr result (AppendsBeginning (W.contents writer.old) (W.contents writer.new) (kept.old.items ++ row_at quoted.now at tail.now)) }
+    ensures ok { OnOk result (Passes (W.contents writer.old) (W.contents writer.new) kept.old.items kept.new.items (row_behind quoted.now comma.now at tail.now)) }
+    ensures err { OnErr result (AppendsBeginning (W.contents writer.old) (W.contents writer.new) (kept.old.items ++ row_behind quoted.now comma.now at tail.now)) }
 {
     let mut buffer = Buffer::new();
     let cell = buffer.format(at.cell);
@@ -82,12 +85,9 @@ fn put_pieces<W: Write>(
     let back = tail.back.as_str();
     match quoted.format {
         Format::Csv => put_line(writer, kept, cell, principal, action, resource, back),
-        Format::Json => {
-            let comma = comma_before(at.cell);
-            put_object(
-                writer, kept, comma, action, cell, front, principal, resource, back,
-            )
-        }
+        Format::Json => put_object(
+            writer, kept, comma, action, cell, front, principal, resource, back,
+        ),
     }
 }
 

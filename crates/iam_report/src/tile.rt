@@ -1,4 +1,7 @@
 // The tails of a tile's rows.
+ghost use Rattle.std.specs.Prelude.{◌≡◌, ◌<◌, get_or, length};
+ghost use Rattle.iam_report.specs.Code.Numbered.{no_tail};
+
 use crate::numbers::Numbers;
 use iam_row::Tail;
 use std::marker::Model;
@@ -22,4 +25,22 @@ impl Model for Tile {
     ghost view = { λ tile. picked no_tail tile.tails.items tile.numbers };
 
     ghost invariant = { λ tile. All (λ n. n < length tile.tails.items) tile.numbers };
+}
+
+impl Tile {
+    /// How many rows it has.
+    pub fn len(&self) -> usize
+        ensures { result ≡ length self.now }
+    {
+        self.numbers.len()
+    }
+
+    /// The tail of row i.
+    #[inline]
+    pub fn tail(&self, i: usize) -> &Tail
+        requires { i < length self.now }
+        ensures { result.now ≡ get_or self.now i no_tail }
+    {
+        &self.tails[self.numbers.at(i) as usize]
+    }
 }

@@ -2,7 +2,7 @@ mod Cells
 mod Fields
 mod OneText
 mod Plain
-mod Rendered
+pub mod Rendered
 mod Reports
-mod Rows
-mod Texts
+pub mod Rows
+pub mod Texts

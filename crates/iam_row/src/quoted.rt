@@ -1,6 +1,6 @@
 // Texts as they stand in rows.
 ghost use Rattle.std.specs.Prelude.{◌≡◌, [], IfOk, get_or, map, string_bytes};
-ghost use Rattle.csv.specs.Writing.{default_writer, field_text};
+ghost use Rattle.csv.specs.Writing.{default_writer, field_text, needs_byte, needs_quotes};
 ghost use Rattle.serde_json.specs.Data.{string};
 ghost use Rattle.serde_json.specs.Written.{compact_text};
 ghost use Rattle.iam_layers.specs.Cell.{principal_text};
@@ -31,10 +31,27 @@ pub struct Quoted {
     pub resources: Items<Text>,
 }
 
-/// The bytes of a text as a field of CSV.
+/// Whether a byte sets a field apart, so that it has to stand in quotes.
+fn sets_apart(byte: u8) -> bool
+    ensures { result ≡ needs_byte default_writer byte }
+{
+    matches!(byte, b',' | b'"' | b'\r' | b'\n')
+}
+
+/// Whether a text as a field of CSV has to stand in quotes.
+fn needs_quotes(text: &str) -> bool
+    ensures { result ≡ needs_quotes default_writer text.now }
+{
+    text.as_bytes().iter().any(|&byte| sets_apart(byte))
+}
+
+/// The bytes of a text as a field of CSV. Most are their own field, for which no writer is made.
 fn csv_bytes(alloc: Global, text: &str) -> Result<Vec<u8>, OutOfMemory>
     ensures { IfOk result (λ bytes. bytes.items ≡ field_text default_writer text.now) }
 {
+    if !needs_quotes(text) {
+        return Vec::from_slice(alloc, text.as_bytes());
+    }
     let mut writer = Writer::from_writer(Vec::new(alloc));
     if writer.write_field(text.as_bytes()).is_err() {
         return Err(OutOfMemory);

@@ -19,7 +19,7 @@ use std::thread::Threads;
 const WORLDS: &str = "worlds.json";
 
 /// The files of rows, by theme.
-const ROWS: [&str; 10] = [
+const ROWS: [&str; 11] = [
     "commands.json",
     "conditions.json",
     "contexts.json",
@@ -28,6 +28,7 @@ const ROWS: [&str; 10] = [
     "layers.json",
     "limits.json",
     "matrix.json",
+    "selections.json",
     "shape.json",
     "versions.json",
 ];

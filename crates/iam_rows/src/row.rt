@@ -3,7 +3,7 @@
 // `status`, else 0 without a fault and 1 with one. Where it has `runs`, each of these has words and an answer of its own.
 use crate::input::{input_of, number_at, text_at};
 use crate::problem::Problem;
-use iam_app::{Usage, fault_line, options_of, run, status};
+use iam_app::{Command, RunFault, Usage, command_of, fault_line, run, run_selected, selection_of, status};
 use serde_json::Value;
 use std::alloc::Global;
 use std::thread::Threads;
@@ -123,13 +123,12 @@ fn answer_to<R: AllocGlobal + Threads + Sync>(
     input: &[u8],
 ) -> Result<Answer, Problem> {
     let alloc = rt.alloc();
-    let options = match options_of(alloc, words) {
-        Ok(options) => options,
+    let command = match command_of(alloc, words) {
+        Ok(command) => command,
         Err(usage) => return usage_answer(alloc, usage),
     };
-    let mut reader = input;
     let mut output = Vec::new(alloc);
-    let outcome = run(rt, alloc, &options, &mut reader, &mut output);
+    let outcome = outcome_of(rt, &command, input, &mut output);
     let fault = match &outcome {
         Ok(()) => String::new(alloc),
         Err(fault) => fault_line(alloc, fault)?,
@@ -139,6 +138,29 @@ fn answer_to<R: AllocGlobal + Threads + Sync>(
         output,
         fault,
     })
+}
+
+/// How the run that a command asks for ends.
+fn outcome_of<R: AllocGlobal + Threads + Sync>(
+    rt: &R,
+    command: &Command,
+    input: &[u8],
+    output: &mut Vec<u8>,
+) -> Result<(), RunFault> {
+    let alloc = rt.alloc();
+    let mut reader = input;
+    if command.asked.is_nothing() {
+        return run(rt, alloc, &command.options, &mut reader, output);
+    }
+    let selection = selection_of(alloc, &command.asked)?;
+    run_selected(
+        rt,
+        alloc,
+        &command.options,
+        &selection,
+        &mut reader,
+        output,
+    )
 }
 
 /// What comes of words that ask for no run. Of a refused command line the first line of its text is the fault.

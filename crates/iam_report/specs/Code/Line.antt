@@ -1,7 +1,10 @@
 -- Rows that share what stands beside the number of their cells.
-use Rattle.std.specs.Prelude.{◌≡◌, ℕ, Bool, List, [], ◌++◌, codes, get_or}
+use Rattle.std.specs.Prelude.{◌≡◌, ℕ, Bool, List, [], ◌++◌, codes, decimal, get_or}
 use Rattle.iam_report.specs.Code.Front.{FrontValue}
 use Rattle.iam_report.specs.Code.Numbered.{no_tail}
+use Rattle.iam_row.specs.Piece.{pieces_at}
+use Rattle.iam_row.specs.Report.{CellTexts}
+use Rattle.iam_row.specs.declared.position.Position.{Position}
 use Rattle.iam_row.specs.declared.quoted.Format.{Format}
 use Rattle.iam_row.specs.declared.quoted.Format.TheVariants.{Csv, Json}
 use Rattle.iam_row.specs.declared.quoted.Quoted.{Quoted}
@@ -36,3 +39,12 @@ tail_at tails n = get_or tails n no_tail
 pub record HasSides (quoted : Quoted) (tails : List Tail) (p a n : ℕ) (front : FrontValue) : Type 0 where
   pub before : front.before ≡ before_of quoted.format (get_or quoted.actions a [])
   pub behind : front.behind ≡ behind_of quoted.format (get_or quoted.principals p []) (get_or quoted.actions a []) (tail_at tails n).front
+
+-- a row, from its pieces; what stands before an object is given
+abbrev pub text_behind : Format → List ℕ → ℕ → CellTexts → Tail → List ℕ
+text_behind Csv comma cell pieces tail = decimal cell ++ (pieces.principal ++ (pieces.action ++ (pieces.resource ++ tail.back)))
+text_behind Json comma cell pieces tail =
+    comma ++ (pieces.action ++ (decimal cell ++ (tail.front ++ (pieces.principal ++ (pieces.resource ++ tail.back)))))
+
+abbrev pub row_behind : Quoted → List ℕ → Position → Tail → List ℕ
+row_behind quoted comma at tail = text_behind quoted.format comma at.cell (pieces_at quoted at) tail

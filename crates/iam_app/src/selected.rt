@@ -1,0 +1,192 @@
+// A run with a selection: of the commands about all cells, what is asked for is decided and reported alone.
+ghost use Rattle.std.specs.Prelude.{◌≡◌, IfOk, IfErr, OnOk};
+ghost use Rattle.std.specs.List.{AllZip};
+ghost use Rattle.iam_app.specs.Code.Pieces.{report_text};
+ghost use Rattle.iam_app.specs.Code.Refusal.{IsCellsRefusal, IsWorldRefusal};
+ghost use Rattle.iam_app.specs.Output.{CanWork, IsRefusal, format_of};
+ghost use Rattle.iam_app.specs.Selected.{EndsSelectedBy, IsSelectedOf, IsSelectedOutput, IsSelectionOf, Means, WritesSelected, patterns_in};
+ghost use Rattle.iam_app.specs.Streams.{ConsumesAtMost};
+ghost use Rattle.iam_decision.specs.declared.verdict.Decision.{Decision};
+ghost use Rattle.iam_row.specs.Words.{decision_word};
+ghost use Rattle.iam_selection.specs.Report.{IsFirstSelectedReport, IsSelectedReport};
+
+use crate::OutOfMemory;
+use crate::cells::{cut_cells, format_in};
+use crate::fault::RunFault;
+use crate::input::read_input;
+use crate::output::{Report, write_report};
+use crate::program::{input_fault, report};
+use iam_layers::{Decision, World};
+use iam_matrix::Open;
+use iam_options::{Asked, Options, Task};
+use iam_report::buffer;
+use iam_selection::{Selection, first_selected_report, selected_report};
+use iam_text::{Glob, Items};
+use std::alloc::Global;
+use std::io::{Read, Write};
+use std::mem;
+use std::thread::Threads;
+
+/// The patterns that these words are, in which `*` and `?` are wild.
+fn patterns(alloc: Global, words: &[String]) -> Result<Items<Glob>, OutOfMemory>
+    ensures { IfOk result (λ patterns. patterns ≡ patterns_in words.now) }
+{
+    let mut patterns = Vec::new(alloc);
+    for word in words {
+        patterns.push(Glob::read(alloc, word.as_str())?)?;
+    }
+    Ok(Items::from_vec(patterns))
+}
+
+/// The decision of a word, which is one of the three.
+fn decision(word: &str) -> Decision
+    ensures { (said : Decision) → word.now ≡ decision_word said → result ≡ said }
+{
+    match word {
+        "allowed" => Decision::Allowed,
+        "explicitDeny" => Decision::ExplicitDeny,
+        _ => Decision::ImplicitDeny,
+    }
+}
+
+/// The decisions of these words.
+fn decisions(alloc: Global, words: &[String]) -> Result<Items<Decision>, OutOfMemory>
+    ensures { IfOk result (λ decisions. AllZip Means words.now decisions) }
+{
+    let mut decisions = Vec::new(alloc);
+    for word in words {
+        decisions.push(decision(word.as_str()))?;
+    }
+    Ok(Items::from_vec(decisions))
+}
+
+/// What is asked for by the words of a command line. `OutOfMemory` comes where there is no memory for it.
+pub fn selection_of(alloc: Global, asked: &Asked) -> Result<Selection, OutOfMemory>
+    ensures { IfOk result (IsSelectionOf asked.now) }
+{
+    Ok(Selection {
+        principals: patterns(alloc, asked.principals.as_slice())?,
+        actions: patterns(alloc, asked.actions.as_slice())?,
+        resources: patterns(alloc, asked.resources.as_slice())?,
+        decisions: decisions(alloc, asked.decisions.as_slice())?,
+    })
+}
+
+/// The report of the rows that are asked for.
+fn matrix<T: Threads + Sync>(
+    rt: &T,
+    alloc: Global,
+    options: &Options,
+    selection: &Selection,
+    world: &World,
+) -> Result<Report, RunFault>
+    ensures work { OnOk result (CanWork options.now world.now) }
+    ensures ok { IfOk result (λ report. IsSelectedReport (format_of options.now) options.now.brief selection.now world.now (report_text report)) }
+    ensures fault { IfErr result (λ fault. IsCellsRefusal options.now world.now fault) }
+{
+    let cut = cut_cells(alloc, options, world)?;
+    let format = format_in(options);
+    let rows = selected_report(
+        rt,
+        alloc,
+        world,
+        selection,
+        &cut,
+        options.workers,
+        &Open,
+        format,
+        options.brief,
+    )?;
+    Ok(Report::Rows(rows))
+}
+
+/// The report of the first cell that is asked for and allowed.
+fn first<T: Threads + Sync>(
+    rt: &T,
+    alloc: Global,
+    options: &Options,
+    selection: &Selection,
+    world: &World,
+) -> Result<Report, RunFault>
+    ensures work { OnOk result (CanWork options.now world.now) }
+    ensures ok { IfOk result (λ report. IsFirstSelectedReport selection.now world.now (report_text report)) }
+    ensures fault { IfErr result (λ fault. IsCellsRefusal options.now world.now fault) }
+{
+    let cut = cut_cells(alloc, options, world)?;
+    let text = first_selected_report(
+        rt,
+        alloc,
+        world,
+        selection,
+        &cut,
+        options.workers,
+        &Open,
+    )?;
+    Ok(Report::Whole(text))
+}
+
+/// The report that the options and the selection ask for, of this world.
+fn asked_report<T: Threads + Sync>(
+    rt: &T,
+    alloc: Global,
+    options: &Options,
+    selection: &Selection,
+    world: &World,
+) -> Result<Report, RunFault>
+    ensures ok { IfOk result (λ report. IsSelectedOf options.now.task options.now selection.now world.now (report_text report)) }
+    ensures fault { IfErr result (λ fault. IsWorldRefusal options.now world.now fault) }
+{
+    match options.task {
+        Task::Matrix => matrix(rt, alloc, options, selection, world),
+        Task::First => first(rt, alloc, options, selection, world),
+        Task::Check | Task::Decide(..) => report(rt, alloc, options, world),
+    }
+}
+
+/// The report that the options and the selection ask for, of the world of these bytes.
+fn answer<T: Threads + Sync>(
+    rt: &T,
+    alloc: Global,
+    options: &Options,
+    selection: &Selection,
+    bytes: Vec<u8>,
+) -> Result<Report, RunFault>
+    ensures ok { IfOk result (λ report. IsSelectedOutput options.now selection.now bytes.items (report_text report)) }
+    ensures fault { IfErr result (λ fault. IsRefusal options.now bytes.items fault) }
+{
+    match World::from_vec(alloc, bytes) {
+        Ok(world) => {
+            let report = asked_report(rt, alloc, options, selection, &world);
+            // The run ends soon, as in a run without a selection.
+            mem::forget(world);
+            report
+        }
+        Err(fault) => Err(RunFault::World(fault)),
+    }
+}
+
+/// Reads a world, and writes what the options and the selection ask for: of `Matrix` and `First` the rows that are asked for
+/// alone, each as it stands in the report of all. Everything else is as in [`crate::run`], with the same faults.
+pub fn run_selected<T: Threads + Sync, R: Read, W: Write>(
+    rt: &T,
+    alloc: Global,
+    options: &Options,
+    selection: &Selection,
+    reader: &mut R,
+    writer: &mut W,
+) -> Result<(), RunFault>
+    ensures most { ConsumesAtMost (R.remaining reader.old) (R.remaining reader.new) 8388609 }
+    ensures done { OnOk result (WritesSelected options.now selection.now (R.remaining reader.old) (W.contents writer.old) (W.contents writer.new)) }
+    ensures fault { IfErr result (λ fault. EndsSelectedBy options.now selection.now (R.remaining reader.old) (W.contents writer.old) (W.contents writer.new) fault) }
+{
+    let bytes = match read_input(alloc, reader) {
+        Ok(bytes) => bytes,
+        Err(fault) => return Err(input_fault(fault)),
+    };
+    let report = answer(rt, alloc, options, selection, bytes)?;
+    let mut kept = buffer(alloc)?;
+    match write_report(writer, &mut kept, &report) {
+        Ok(()) => Ok(()),
+        Err(_) => Err(RunFault::Write),
+    }
+}

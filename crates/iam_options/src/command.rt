@@ -1,0 +1,210 @@
+// The whole command line: the options, the file of the world, and what is asked for.
+ghost use Rattle.std.specs.Prelude.{◌≡◌, ◌↔◌, IsTrue, IfOk, IfSome, Some, codes, length, map, option_map, string_bytes};
+ghost use Rattle.clap.specs.Words.{first_value, found_of, subcommand_name_of};
+ghost use Rattle.iam_options.specs.Words.{HasAsked, command_name, texts_at, world_named};
+
+use crate::arguments::{check, decide, first, matrix, named, with};
+use crate::options::{Options, Usage, options_in, usage_of};
+use clap::builder::ValueParser;
+use clap::{Arg, ArgAction, ArgMatches, Command as Parser};
+use std::alloc::{AllocError, Global};
+
+const ABOUT: &str =
+    "Answers who may do what in AWS, from policy documents alone, before they are put in force.
+The world is one JSON document with the accounts, the principals, the actions, the resources and
+their policies, in a file or on standard input. The answer goes to standard output.";
+
+const INPUT: &str = "The world is read from the file WORLD, as in: iamsim check world.json
+Where none is named, or -, it is read from standard input.";
+
+const SELECTION: &str =
+    "The world is read from the file WORLD, or from standard input where none is named, or -.
+
+In a PATTERN * and ? are wild: iamsim matrix world.json --principal '*:user/ann' --action 's3:*'
+An option with PATTERN or WORD may be given several times; then one of its values has to match.";
+
+/// The decisions that `--decision` takes.
+static DECISIONS: [&str; 3] = ["allowed", "explicitDeny", "implicitDeny"];
+
+/// What a command line asks for: the options, where the world comes from, and which rows are asked for.
+#[derive(Debug, Drop)]
+pub struct Command {
+    /// The command with its options.
+    pub options: Options,
+    /// The name of the file with the world; standard input where there is none.
+    pub world: Option<String>,
+    /// Which rows are asked for.
+    pub asked: Asked,
+}
+
+/// What stands behind `--principal`, `--action`, `--resource` and `--decision`, each in its order. An empty list says nothing.
+#[derive(Debug, Drop)]
+pub struct Asked {
+    /// Patterns of principals.
+    pub principals: Vec<String>,
+    /// Patterns of actions.
+    pub actions: Vec<String>,
+    /// Patterns of resources.
+    pub resources: Vec<String>,
+    /// Words for decisions: `allowed`, `explicitDeny` or `implicitDeny`.
+    pub decisions: Vec<String>,
+}
+
+impl Asked {
+    /// Whether nothing is said.
+    pub fn is_nothing(&self) -> bool
+        ensures { IsTrue result ↔ (length self.now.principals.items ≡ 0) × (length self.now.actions.items ≡ 0)
+            × (length self.now.resources.items ≡ 0) × (length self.now.decisions.items ≡ 0) }
+    {
+        self.principals.is_empty()
+            && self.actions.is_empty()
+            && self.resources.is_empty()
+            && self.decisions.is_empty()
+    }
+}
+
+/// Reads a command line; `words` are those after the program's name.
+pub fn command_of(alloc: Global, words: &[&str]) -> Result<Command, Usage> {
+    let mut parser = iamsim(alloc)?;
+    match parser.try_get_matches_from_mut(words) {
+        Ok(matches) => command_or_usage(alloc, &mut parser, &matches),
+        Err(error) => Err(usage_of(alloc, &error)),
+    }
+}
+
+fn command_or_usage(
+    alloc: Global,
+    parser: &mut Parser<'_>,
+    matches: &ArgMatches<'_>,
+) -> Result<Command, Usage> {
+    match command_in(alloc, matches)? {
+        Some(command) => Ok(command),
+        None => Err(Usage::Refused(parser.render_usage()?)),
+    }
+}
+
+/// The command that was read, with all that stands behind it. `None` does not come.
+fn command_in(alloc: Global, matches: &ArgMatches<'_>) -> Result<Option<Command>, AllocError>
+    ensures { IfOk result (λ found. IfSome found (λ command. subcommand_name_of matches.now ≡ Some (command_name command.options.task))) }
+{
+    let Some(options) = options_in(matches) else {
+        return Ok(None);
+    };
+    let Some((_, command)) = matches.subcommand() else {
+        return Ok(None);
+    };
+    Ok(Some(Command {
+        options,
+        world: world_in(alloc, command)?,
+        asked: asked_in(alloc, command)?,
+    }))
+}
+
+/// The file that is named, if not standard input.
+fn world_in(alloc: Global, command: &ArgMatches<'_>) -> Result<Option<String>, AllocError>
+    ensures { IfOk result (λ world. option_map string_bytes world ≡ world_named (first_value (found_of command.now) (codes "WORLD"))) }
+{
+    match command.get_str("WORLD") {
+        None => Ok(None),
+        Some(name) if name == "-" => Ok(None),
+        Some(name) => Ok(Some(String::from_str(alloc, name)?)),
+    }
+}
+
+fn asked_in(alloc: Global, command: &ArgMatches<'_>) -> Result<Asked, AllocError>
+    ensures { IfOk result (λ asked. HasAsked command.now asked) }
+{
+    Ok(Asked {
+        principals: texts_at(alloc, command, "principal")?,
+        actions: texts_at(alloc, command, "action")?,
+        resources: texts_at(alloc, command, "resource")?,
+        decisions: texts_at(alloc, command, "decision")?,
+    })
+}
+
+/// The texts that stand under this name, in their order.
+fn texts_at(alloc: Global, command: &ArgMatches<'_>, name: &str) -> Result<Vec<String>, AllocError>
+    ensures { IfOk result (λ texts. map string_bytes texts.items ≡ texts_at command.now name.now) }
+{
+    match command.get_strs(name) {
+        Some(texts) => copied(alloc, texts),
+        None => Ok(Vec::new(alloc)),
+    }
+}
+
+fn copied(alloc: Global, texts: &[&str]) -> Result<Vec<String>, AllocError>
+    ensures { IfOk result (λ copies. map string_bytes copies.items ≡ map (λ text. text.now) texts.now) }
+{
+    let mut copies = Vec::new(alloc);
+    for text in texts {
+        copies.push(String::from_str(alloc, text)?)?;
+    }
+    Ok(copies)
+}
+
+/// The parser of whole command lines.
+fn iamsim<'a>(alloc: Global) -> Result<Parser<'a>, AllocError> {
+    let parser = with(named(alloc, ABOUT), of_world(alloc, Ok(check(alloc))));
+    let parser = with(parser, of_world(alloc, decide(alloc)));
+    let parser = with(
+        parser,
+        selecting_rows(alloc, of_world(alloc, matrix(alloc))),
+    );
+    with(parser, selecting(alloc, of_world(alloc, first(alloc))))
+}
+
+/// A command of a world that may be named.
+fn of_world<'a>(
+    alloc: Global,
+    command: Result<Parser<'a>, AllocError>,
+) -> Result<Parser<'a>, AllocError> {
+    command?.after_help(INPUT).arg(world(alloc))
+}
+
+/// A command for some requests.
+fn selecting<'a>(
+    alloc: Global,
+    command: Result<Parser<'a>, AllocError>,
+) -> Result<Parser<'a>, AllocError> {
+    command?
+        .after_help(SELECTION)
+        .arg(pattern(alloc, "principal", "Only requests of principals that match"))?
+        .arg(pattern(
+            alloc,
+            "action",
+            "Only requests for actions that match, in any case of letters",
+        ))?
+        .arg(pattern(alloc, "resource", "Only requests on resources that match"))
+}
+
+/// A command for some rows.
+fn selecting_rows<'a>(
+    alloc: Global,
+    command: Result<Parser<'a>, AllocError>,
+) -> Result<Parser<'a>, AllocError> {
+    selecting(alloc, command)?.arg(decision(alloc))
+}
+
+fn world<'a>(alloc: Global) -> Arg<'a> {
+    Arg::new(alloc, "WORLD")
+        .value_parser(ValueParser::NonEmptyString)
+        .help("The file with the world [default: standard input]")
+}
+
+fn pattern<'a>(alloc: Global, name: &'static str, help: &'static str) -> Arg<'a> {
+    Arg::new(alloc, name)
+        .long(name)
+        .value_name("PATTERN")
+        .value_parser(ValueParser::NonEmptyString)
+        .action(ArgAction::Append)
+        .help(help)
+}
+
+fn decision<'a>(alloc: Global) -> Arg<'a> {
+    Arg::new(alloc, "decision")
+        .long("decision")
+        .value_name("WORD")
+        .value_parser(DECISIONS.as_slice())
+        .action(ArgAction::Append)
+        .help("Only rows with this decision")
+}

@@ -1,0 +1,9 @@
+mod Flags
+mod Founds
+mod Listings
+mod Nothing
+mod Offers
+mod OneListing
+mod Picks
+mod Walks
+mod Written

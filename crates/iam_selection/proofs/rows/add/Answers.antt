@@ -1,0 +1,62 @@
+use Rattle.std.proofs.Common.{◌≡◌, Bool, Result, Ok, Err, OnOk, inl, inr, refl, sym, subst, slice_get}
+use Rattle.std.proofs.lemmas.Option.{slice_get_within}
+use Rattle.iam_decision.specs.declared.verdict.Verdict.{Verdict}
+use Rattle.iam_layers.specs.Cell.{IsDecisionOf, IsVerdictAt, IsVerdictOf}
+use Rattle.iam_world.specs.World.{WorldValue}
+use Rattle.iam_row.specs.Piece.{bare}
+use Rattle.iam_selection.specs.Code.Listing.{IsEntryOf}
+use Rattle.iam_selection.proofs.rows.add.Goals as goal
+
+at_ok : {T E P Q : Type 0} (r : Result T E) → (P → Q) → OnOk r P → OnOk r Q
+at_ok (Ok x) f p = f p
+at_ok (Err e) f p = tt
+
+pub returns-then-not-wants-clause-added : goal.returns-then-not-wants-clause-added
+returns-then-not-wants-clause-added c =
+    let at = c.args.at in
+    let verdict = c.verdict-verdict.result.now in
+    let V : WorldValue → Type 0 = λ w. IsVerdictAt w at.principal at.action at.resource verdict in
+    let told = subst V c.in_ok-number.ensures.same (c.verdict-verdict.ensures at.principal at.action at.resource c.in_ok-number.ensures.number) in
+    let (applicable, request, asked, holds) = told in
+    let off = c.if-not-wants.true in (
+      verdict.decision,
+      (at.principal, at.action, at.resource, c.requires.cell, (applicable, request, asked, holds.decided)),
+      inr ((λ wanted. let on = c.wants.ensures.1 wanted in let wrong : ⊥ = cc in wrong), refl, refl),
+    )
+
+pub returns-then-brief-clause-added : goal.returns-then-brief-clause-added
+returns-then-brief-clause-added c =
+    let at = c.args.at in
+    let world = c.args.engine.now.world in
+    let verdict = c.verdict-verdict.result.now in
+    let V : WorldValue → Type 0 = λ w. IsVerdictAt w at.principal at.action at.resource verdict in
+    let told = subst V c.in_ok-number.ensures.same (c.verdict-verdict.ensures at.principal at.action at.resource c.in_ok-number.ensures.number) in
+    let (applicable, request, asked, holds) = told in
+    let decided : IsDecisionOf world at.cell verdict.decision = (at.principal, at.action, at.resource, c.requires.cell, (applicable, request, asked, holds.decided)) in
+    let E : Bool → Type 0 = λ brief. IsEntryOf brief world at.cell (bare verdict.decision) in
+    at_ok c.push_decision.result
+    (λ pushed. (
+      verdict.decision,
+      decided,
+      inl (c.wants.ensures.0 c.if-not-wants.false, c.in_ok-push.ensures.items, (bare verdict.decision, subst E (sym c.if-brief.true) (verdict.decision, decided, refl), pushed)),
+    ))
+    c.push_decision.ensures
+
+pub returns-else-brief-clause-added : goal.returns-else-brief-clause-added
+returns-else-brief-clause-added c =
+    let at = c.args.at in
+    let world = c.args.engine.now.world in
+    let verdict = c.verdict-verdict.result.now in
+    let V : WorldValue → Type 0 = λ w. IsVerdictAt w at.principal at.action at.resource verdict in
+    let told = subst V c.in_ok-number.ensures.same (c.verdict-verdict.ensures at.principal at.action at.resource c.in_ok-number.ensures.number) in
+    let (applicable, request, asked, holds) = told in
+    let decided : IsDecisionOf world at.cell verdict.decision = (at.principal, at.action, at.resource, c.requires.cell, (applicable, request, asked, holds.decided)) in
+    let is : IsVerdictOf world at.cell verdict = (at.principal, at.action, at.resource, c.requires.cell, told) in
+    let E : Bool → Type 0 = λ brief. IsEntryOf brief world at.cell verdict in
+    at_ok c.push_hinted.result
+    (λ pushed. (
+      verdict.decision,
+      decided,
+      inl (c.wants.ensures.0 c.if-not-wants.false, c.in_ok-push.ensures.items, (verdict, subst E (sym c.if-brief.false) is, pushed)),
+    ))
+    c.push_hinted.ensures

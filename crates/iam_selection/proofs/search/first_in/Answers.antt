@@ -1,0 +1,96 @@
+use Rattle.std.proofs.Common.{◌≡◌, ◌+◌, ◌-◌, ◌<◌, ◌≤◌, ℕ, subst, sym, ap, ◌∙◌, refl, ⊎_elim, arith}
+use Rattle.std.proofs.lemmas.Bool.{cases_lt}
+use Rattle.iam_classes.specs.Engine.{EngineValue}
+use Rattle.iam_decision.specs.declared.verdict.Decision.{Decision}
+use Rattle.iam_layers.specs.Cell.{IsCell, IsDecisionOf}
+use Rattle.iam_world.specs.World.{WorldValue, world_cells}
+use Rattle.iam_matrix.specs.Matrix.{IsNotAllowed}
+use Rattle.iam_selection.specs.Selection.{IsSelected}
+use Rattle.iam_selection.specs.Code.Listing.{IsPickedCell}
+use Rattle.iam_selection.proofs.search.first_in.Goals as goal
+use Rattle.iam_selection.proofs.search.first_in.Goals.{else-asks-via-then-asks+in_ok-decision_at+else-is_allowed, else-asks-via-else-asks}
+
+pub loop-at-preserved-then-not-asks_row : goal.loop-at-preserved-then-not-asks_row
+loop-at-preserved-then-not-asks_row c =
+    let selection = c.args.picker.now.selection in
+    let world = c.args.engine.now.world in
+    let so_far = c.loop-at.invariant in
+    let at = c.loop-at.at in
+    let past = c.past_row-at.ensures in
+    let Row : WorldValue → Type 0 = λ w. (cell r : ℕ) → IsCell w cell at.principal at.action r → ¬ IsSelected selection w cell in
+    let off = subst Row c.requires.world (c.asks_row.ensures c.if-not-asks_row.true) in
+    record {
+      least = omega (arith, so_far.least, past.more);
+      most = past.most;
+      there = past.is;
+      same = so_far.same;
+      not_allowed = λ cell from below selected.
+          ⊎_elim (λ before. so_far.not_allowed cell from before selected)
+          (λ above. let Cell : WorldValue → Type 0 = λ w. IsCell w cell at.principal at.action (at.resource + (cell - at.cell)) in
+          absurd (off cell (at.resource + (cell - at.cell)) (subst Cell c.world-world.ensures (past.same cell above below)) selected))
+          (cases_lt cell at.cell);
+    }
+
+pub returns-then-is_allowed-clause-first : goal.returns-then-is_allowed-clause-first
+returns-then-is_allowed-clause-first c =
+    let world = c.args.picker.now.world in
+    let selection = c.args.picker.now.selection in
+    let so_far = c.loop-at.invariant in
+    let cell = c.loop-at.at.cell in
+    let decision = c.in_ok-decision_at.field-0 in
+    let W : WorldValue → Type 0 = λ w. IsDecisionOf w cell decision in
+    let D : Decision → Type 0 = λ d. IsDecisionOf world cell d in
+    let told = subst W (so_far.same ∙ sym c.requires.world) c.in_ok-decision_at.ensures.decision in
+    let end = c.end_of-end.ensures in
+    let less = c.loop-at-test.true in
+    let F : WorldValue → Type 0 = λ w. c.args.tile.from + c.args.tile.count ≤ world_cells w in
+    let few = subst F (sym c.requires.world) c.requires.cells in
+    let N : WorldValue → Type 0 = λ w. (k : ℕ) → c.args.tile.from ≤ k → k < cell → IsSelected selection w k → IsNotAllowed w k in
+    let found : IsPickedCell c.args.picker.now cell = record {
+      below = omega (arith, less, end.value, few);
+      small = omega (arith, less, end.few);
+      selected = c.asks.ensures.0 c.if-asks.true;
+      allowed = subst D (c.is_allowed.ensures.0 c.if-is_allowed.true) told;
+    } in
+    (found, omega (arith, less, end.value), subst N (sym c.requires.world) so_far.not_allowed)
+
+pub loop-at-preserved : goal.loop-at-preserved
+loop-at-preserved c =
+    let selection = c.args.picker.now.selection in
+    let world = c.args.engine.now.world in
+    let so_far = c.loop-at.invariant in
+    let here = c.loop-at.at.cell in
+    let next = c.next_in-at.ensures in
+    let N : ℕ → Type 0 = λ k. IsSelected selection world k → IsNotAllowed world k in
+    let S : WorldValue → Type 0 = λ w. IsSelected selection w here in
+    let more : N here → (cell : ℕ) → c.args.tile.from ≤ cell → cell < c.next_in-at.result.cell → N cell = λ is cell from below.
+    ⊎_elim (λ before. so_far.not_allowed cell from before)
+    (λ after. let same : here ≡ cell = omega (arith, after, below, next.cell) in subst N same is)
+    (cases_lt cell here) in
+    elim c.else-asks.branch [
+      | else-asks-via-then-asks+in_ok-decision_at+else-is_allowed w ↦
+          let decision = w.in_ok-decision_at.field-0 in
+          let W : WorldValue → Type 0 = λ v. IsDecisionOf v here decision in
+          let off = w.if-is_allowed.false in
+          let is : IsNotAllowed world here = record {
+            decision = decision;
+            is = subst W so_far.same w.in_ok-decision_at.ensures.decision;
+            not_allowed = λ same. let allowed = w.is_allowed.ensures.1 same in let wrong : ⊥ = cc in wrong;
+          } in
+          record {
+            least = omega (arith, so_far.least, next.cell);
+            most = omega (arith, next.cell, c.loop-at-test.true);
+            there = λ below. next.is (omega (arith, below, next.cell));
+            same = ap (λ (e : EngineValue). e.world) w.engine-is ∙ w.in_ok-decision_at.ensures.same ∙ so_far.same;
+            not_allowed = more (λ selected. is);
+          }
+      | else-asks-via-else-asks w ↦
+          let off = w.if-asks.false in
+          record {
+            least = omega (arith, so_far.least, next.cell);
+            most = omega (arith, next.cell, c.loop-at-test.true);
+            there = λ below. next.is (omega (arith, below, next.cell));
+            same = ap (λ (e : EngineValue). e.world) w.engine-is ∙ so_far.same;
+            not_allowed = more (λ selected. let on = c.asks.ensures.1 (subst S (sym c.requires.world) selected) in absurd (let wrong : ⊥ = cc in wrong));
+          }
+    ]

@@ -1,0 +1,4 @@
+pub mod Code
+pub mod Laws
+pub mod Report
+pub mod Selection

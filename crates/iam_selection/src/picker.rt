@@ -1,0 +1,154 @@
+// Which requests of a world are selected.
+ghost use Rattle.std.specs.Prelude.{◌≡◌, ◌↔◌, ℕ, ◌<◌, Any, IfOk, IsTrue, chars, false, length};
+ghost use Rattle.iam_text.specs.Glob.{Matches, MatchesFold};
+ghost use Rattle.iam_layers.specs.Cell.{IsCell, principal_text};
+ghost use Rattle.iam_selection.specs.Code.Listing.{AreFlags, IsActionMeant, IsPrincipalMeant, IsResourceMeant};
+ghost use Rattle.iam_selection.specs.Selection.{IsMeant, IsSelected};
+
+use crate::selection::Selection;
+use iam_layers::{World, one_triple};
+use iam_row::Position;
+use iam_text::{Compiled, Glob, OutOfMemory};
+use std::alloc::Global;
+use std::marker::Model;
+
+/// Tells which requests of a world are selected. Each principal, action and resource was held against the patterns once.
+#[derive(Drop)]
+pub struct Picker<'a> {
+    world: &'a World,
+    selection: &'a Selection,
+    // Which of each are meant.
+    principals: Vec<bool>,
+    actions: Vec<bool>,
+    resources: Vec<bool>,
+}
+
+impl<'a> Model for Picker<'a> {
+    ghost use Rattle.iam_selection.specs.Code.Listing.{AreFlags, IsActionMeant, IsPrincipalMeant, IsResourceMeant, PickerValue};
+    ghost use Rattle.std.specs.Prelude.{length};
+
+    ghost Value = { PickerValue };
+
+    ghost view = { λ picker. record { world = picker.world.now; selection = picker.selection.now } };
+
+    ghost invariant = { λ picker. AreFlags (IsPrincipalMeant picker.selection.now picker.world.now) (length picker.world.now.principals) picker.principals.items
+        × AreFlags (IsActionMeant picker.selection.now picker.world.now) (length picker.world.now.actions) picker.actions.items
+        × AreFlags (IsResourceMeant picker.selection.now picker.world.now) (length picker.world.now.resources) picker.resources.items };
+}
+
+/// The patterns, as they match many texts.
+fn compiled<'a>(alloc: Global, patterns: &'a [Glob]) -> Result<Vec<Compiled<'a>>, OutOfMemory>
+    ensures { IfOk result (λ compiled. compiled.items ≡ patterns.entry.now) }
+{
+    let mut compiled = Vec::with_capacity(alloc, patterns.len())?;
+    for pattern in patterns {
+        compiled.push(Compiled::of(alloc, pattern)?)?;
+    }
+    Ok(compiled)
+}
+
+/// Whether a text is meant.
+fn is_meant(patterns: &[Compiled<'_>], text: &str) -> bool
+    ensures { IsTrue result ↔ IsMeant (λ pattern. Matches pattern (chars text.now)) patterns.now }
+{
+    patterns.is_empty() || patterns.iter().any(|pattern| pattern.matches(text))
+}
+
+/// Whether a text is meant, without regard to case.
+fn is_meant_fold(patterns: &[Compiled<'_>], text: &str) -> bool
+    ensures { IsTrue result ↔ IsMeant (λ pattern. MatchesFold pattern (chars text.now)) patterns.now }
+{
+    patterns.is_empty() || patterns.iter().any(|pattern| pattern.matches_fold(text))
+}
+
+/// Which principals of a world are meant.
+fn principals(alloc: Global, world: &World, selection: &Selection) -> Result<Vec<bool>, OutOfMemory>
+    ensures { IfOk result (λ flags. AreFlags (IsPrincipalMeant selection.now world.now) (length world.now.principals) flags.items) }
+{
+    let patterns = compiled(alloc, selection.principals.as_slice())?;
+    let mut flags = Vec::new(alloc);
+    for p in 0..world.principals() {
+        flags.push(is_meant(patterns.as_slice(), world.principal_text(p)))?;
+    }
+    Ok(flags)
+}
+
+/// Which actions of a world are meant.
+fn actions(alloc: Global, world: &World, selection: &Selection) -> Result<Vec<bool>, OutOfMemory>
+    ensures { IfOk result (λ flags. AreFlags (IsActionMeant selection.now world.now) (length world.now.actions) flags.items) }
+{
+    let patterns = compiled(alloc, selection.actions.as_slice())?;
+    let mut flags = Vec::new(alloc);
+    for a in 0..world.actions() {
+        flags.push(is_meant_fold(patterns.as_slice(), world.action_text(a)))?;
+    }
+    Ok(flags)
+}
+
+/// Which resources of a world are meant.
+fn resources(alloc: Global, world: &World, selection: &Selection) -> Result<Vec<bool>, OutOfMemory>
+    ensures { IfOk result (λ flags. AreFlags (IsResourceMeant selection.now world.now) (length world.now.resources) flags.items) }
+{
+    let patterns = compiled(alloc, selection.resources.as_slice())?;
+    let mut flags = Vec::new(alloc);
+    for r in 0..world.resources() {
+        flags.push(is_meant(patterns.as_slice(), world.resource_text(r)))?;
+    }
+    Ok(flags)
+}
+
+impl<'a> Picker<'a> {
+    /// What a selection means in a world. `OutOfMemory` comes where there is no memory for it.
+    pub fn of(
+        alloc: Global,
+        world: &'a World,
+        selection: &'a Selection,
+    ) -> Result<Picker<'a>, OutOfMemory>
+        ensures world { IfOk result (λ picker. picker.world ≡ world.entry.now) }
+        ensures selection { IfOk result (λ picker. picker.selection ≡ selection.entry.now) }
+    {
+        Ok(Picker {
+            world,
+            selection,
+            principals: principals(alloc, world, selection)?,
+            actions: actions(alloc, world, selection)?,
+            resources: resources(alloc, world, selection)?,
+        })
+    }
+
+    /// The world.
+    pub fn world(&self) -> &'a World
+        ensures { result.now ≡ self.now.world }
+    {
+        self.world
+    }
+
+    /// The selection.
+    pub fn selection(&self) -> &'a Selection
+        ensures { result.now ≡ self.now.selection }
+    {
+        self.selection
+    }
+
+    /// Whether a request of a cell's principal for its action may be selected, whatever the resource.
+    #[inline]
+    pub fn asks_row(&self, at: Position) -> bool
+        requires { IsCell self.now.world at.cell at.principal at.action at.resource }
+        ensures { result ≡ false → (cell r : ℕ) → IsCell self.now.world cell at.principal at.action r → ¬ IsSelected self.now.selection self.now.world cell }
+    {
+        one_triple();
+        self.principals[at.principal as usize] && self.actions[at.action as usize]
+    }
+
+    /// Whether the request of a cell is selected.
+    #[inline]
+    pub fn asks(&self, at: Position) -> bool
+        requires { IsCell self.now.world at.cell at.principal at.action at.resource }
+        ensures { IsTrue result ↔ IsSelected self.now.selection self.now.world at.cell }
+    {
+        one_triple();
+        self.principals[at.principal as usize]
+            && self.actions[at.action as usize]
+            && self.resources[at.resource as usize]
+    }
+}
