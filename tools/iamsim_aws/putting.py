@@ -1,13 +1,17 @@
 """Drafts of policies in place of those of a world."""
 
-from typing import Any, Dict, List, NamedTuple, Set, Tuple
+from typing import Any, Dict, List, NamedTuple, Optional, Set, Tuple
 
 from . import files
-from .arns import resource_part, service_of
+from .arns import account_of, resource_part, service_of
 from .documents import Policy, World, mapped, places
 from .exports import document
 from .faults import Fault
 from .kinds import bucket_of
+from .making import Estate
+
+
+NO_SUCH = "no policy and no resource is called so"
 
 
 class Draft(NamedTuple):
@@ -80,8 +84,27 @@ def put(world: World, drafts: List[Draft], aliases: Dict[str, str]) -> World:
     return world
 
 
-def refuse_strangers(world: World, drafts: List[Draft], aliases: Dict[str, str]) -> None:
-    """Each draft has to be of a policy that is there."""
+def is_managed(name: str) -> bool:
+    return service_of(name) == "iam" and resource_part(name).startswith("policy/")
+
+
+def with_managed(estate: Estate, drafts: List[Draft]) -> Estate:
+    """The estate with the managed policies that drafts name by their ARN and the exports do not hold, as one of AWS's that
+    a plan attaches."""
+    new = [it for it in drafts if is_managed(it.name) and not any(it.name in of.policies for of in estate.accounts)]
+    made = estate.copied() if new else estate
+    for draft in new:
+        version = {"Document": draft.document, "IsDefaultVersion": True}
+        for it in made.accounts:
+            if account_of(draft.name) in ("aws", it.account):
+                it.policies[draft.name] = {"Arn": draft.name, "PolicyVersionList": [version]}
+    return made
+
+
+def refuse_strangers(world: World, drafts: List[Draft], aliases: Dict[str, str], estate: Optional[Estate]) -> None:
+    """Each draft has to be of a policy that somebody has."""
+    held = {name for it in (estate.accounts if estate else []) for arn in it.policies for name in called(arn)}
     for draft in drafts:
         if not put_one(world, draft, aliases)[1]:
-            raise Fault(f"--put {draft.name}: no policy and no resource is called so")
+            why = "nobody has this policy, so the draft changes nothing" if draft.name in held else NO_SUCH
+            raise Fault(f"--put {draft.name}: {why}")
