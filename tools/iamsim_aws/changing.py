@@ -13,6 +13,7 @@ from .keys import given_keys
 from .patterns import common, is_pattern, matcher
 from .reports import Answers, keys_of
 from .sources import ASSUME, Source
+from .strangers import strangers, with_strangers
 
 
 class Changes(NamedTuple):
@@ -167,6 +168,8 @@ def changes_of(before: Source, after: Source, patterns: List[str], resource: str
     actions, found = actions_of(before, after, patterns), []
     for worlds in zip(before.worlds(actions), after.worlds(actions)):
         pair = with_witnesses(*worlds, resource, before.estate is not None)
+        some = strangers(after, list(pair))
+        pair = with_strangers(before, pair[0], some), with_strangers(after, pair[1], some)
         keyed = with_keys(*pair)
         answers = ask_all([*pair, *(it for _, *two in keyed for it in two)])
         first = compared(*answers[:2])

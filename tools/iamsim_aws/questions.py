@@ -4,11 +4,12 @@ import re
 from typing import Any, Dict, List, NamedTuple, Optional
 
 from . import kinds
-from .arns import account_of, names_of_principal, names_of_resource, service_of
+from .arns import account_of, names_of_resource, service_of
 from .documents import Policy, World
 from .faults import Fault
 from .patterns import any_matches, is_pattern, matcher
 from .sources import ASSUME, Source
+from .strangers import is_excepted, is_meant, strangers, with_strangers
 
 ACTION = re.compile(r"[A-Za-z0-9-]+:[A-Za-z0-9_.-]+")
 ARN = re.compile(r"arn:[^:]*:[^:]+:[^:]*:[^:]*:.+", re.DOTALL)
@@ -22,6 +23,7 @@ class Scope(NamedTuple):
     policy: Optional[Policy] = None
     account: Optional[str] = None
     sealed: bool = False
+    outside: bool = False
 
 
 class Question(NamedTuple):
@@ -43,13 +45,8 @@ class Asked(NamedTuple):
     added: List[str]
 
 
-def principals(world: World, question: Question) -> List[Dict[str, Any]]:
-    found = []
-    for it in world["principals"]:
-        names = names_of_principal(it)
-        if any_matches([question.principal], names) and not any_matches(question.exceptions, names):
-            found.append(it)
-    return found
+def principals(some: List[Dict[str, Any]], question: Question) -> List[Dict[str, Any]]:
+    return [it for it in some if is_meant(it, question.principal) and not is_excepted(it, question.exceptions)]
 
 
 def actions(scope: Scope, pattern: str) -> Dict[str, str]:
@@ -104,8 +101,11 @@ def asked_in(scope: Scope, world: World, question: Question) -> Asked:
     )
     found += [it.resource for it in witnesses]
     resources = [with_control(scope, dressed(scope, it)) for it in found]
-    narrow = {**world, "principals": principals(world, question), "resources": resources}
+    narrow = {**world, "principals": principals(world["principals"], question), "resources": resources}
     narrow["accounts"] = with_account(scope, world, resources)
+    if scope.outside:
+        some = strangers(scope.source, [narrow], question.principal)
+        narrow = with_strangers(scope.source, narrow, principals(some, question))
     return Asked(narrow, {it.resource["arn"]: it.pattern for it in witnesses}, without, added)
 
 
@@ -137,6 +137,6 @@ def missing(scope: Scope, question: Question) -> str:
     if not chosen:
         return f"no action matches {question.action}: name actions by --actions, or their services by --services"
     found = scope.source.worlds(list(chosen))
-    if not any(principals(it, question) for it in found):
+    if not any(principals(it["principals"], question) for it in found):
         return f"no principal matches {question.principal}"
     return f"no resource matches {question.resource}: name its ARN, resources by --resources, or ask with --kinds"

@@ -4,14 +4,15 @@ import re
 from typing import Dict, List, NamedTuple, Optional
 
 from . import files
-from .arns import names_of_principal, principal_text
+from .arns import principal_text
 from .asking import ask_all
 from .faults import Fault, tell
 from .hanging import Turn, is_too_much, turns
-from .patterns import any_matches, is_pattern
+from .patterns import is_pattern
 from .questions import Asked, Question, Scope, missing, worlds
 from .reports import Answers
 from .sources import ASSUME
+from .strangers import is_excepted, strangers
 
 WORD = re.compile(r"(?:\\.|[^\s\\])+")
 KINDS = ("never", "always")
@@ -89,24 +90,26 @@ def question_of(words: List[str], where: str) -> Question:
 
 def exceptions(scope: Scope, rule: Rule) -> Dict[str, List[str]]:
     """The principals that each exception of a rule means. A name alone has to mean one, so that none is excepted unseen."""
-    people = scope.source.world([ASSUME])["principals"]
-    found = {}
+    world, found = scope.source.world([ASSUME]), {}
+    people = world["principals"] + (strangers(scope.source, [world]) if rule.question.exceptions else [])
     for it in rule.question.exceptions:
-        found[it] = [principal_text(one) for one in people if any_matches([it], names_of_principal(one))]
+        found[it] = [principal_text(one) for one in people if is_excepted(one, [it])]
         if len(found[it]) > 1 and ":" not in it and not is_pattern(it):
             raise Fault(f"{rule.name}: several principals are called {it}, name one by its ARN: {', '.join(found[it])}")
     return found
 
 
 def asked_by(scope: Scope, rule: Rule) -> List[Asked]:
-    """The worlds of a rule's requests; what must never be is asked of texts for the policies' patterns too."""
+    """The worlds of a rule's requests; what must never be is asked of texts for the policies' patterns and of who is
+    outside too."""
     for it, people in exceptions(scope, rule).items():
         if not people:
             tell(f"{rule.name}: the exception {it} matches no principal")
     question = rule.question
-    has_kinds = rule.kind == "never" and (is_pattern(question.resource) or is_pattern(question.action))
+    is_never = rule.kind == "never"
+    has_kinds = is_never and (is_pattern(question.resource) or is_pattern(question.action))
     try:
-        return worlds(scope._replace(kinds=scope.kinds or has_kinds), question)
+        return worlds(scope._replace(kinds=scope.kinds or has_kinds, outside=is_never), question)
     except Fault as fault:
         raise Fault(f"{rule.name}: {fault}") from None
 
