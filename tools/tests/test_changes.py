@@ -139,17 +139,21 @@ def test_changes_in_words_and_for_a_review():
     assert "&#60;b&#62;No" in lines[6] and "Old&#124;&#96;" in lines[6], lines[6]
 
 
-def test_who_is_not_asked_of_what_changes():
-    """A draft that trusts an account without an export changes nothing that is asked, which is said; what stays as it is, is not."""
-    role = f"{ACCOUNT}role/app/audit"
-    trust = lambda who: file(document({"Effect": "Allow", "Principal": who, "Action": "sts:AssumeRole"}))
-    told = lambda said: [it for it in said.splitlines() if f"the policy of {ACCOUNT}" in it]
-    _, said = aws("changes", EXPORT, "--put", f"audit={trust({'AWS': ['999988887777', ALICE]})}")
-    same(told(said), [f"iamsim-aws: the policy of {role} names 999988887777, of which there is no export: nobody there is asked"])
-    _, said = aws("changes", EXPORT, "--put", f"audit={trust('*')}")
-    same(told(said), [f"iamsim-aws: the policy of {role} names everybody (*): only principals of the exports are asked"])
-    _, said = aws("changes", EXPORT, "--put", f"audit={trust({'AWS': BOB})}")
-    same(told(said), [])
+def test_a_review_has_the_warnings():
+    """What stands on standard error stands in the Markdown too."""
+    plan = file({"resource_changes": [{"address": "aws_lambda_function.f", "mode": "managed", "type": "aws_lambda_function",
+                                       "change": {"before": None, "after": {"name": "`<f>"}, "after_unknown": {}}}]})
+    out, said = aws("changes", EXPORT, "--terraform", plan, "--format", "markdown")
+    lines = [line[len("iamsim-aws: "):] for line in said.splitlines()]
+    same(lines, ["1 changes of aws_lambda_function are not read: they are taken to change no policy",
+                 "without --services an action pattern is taken over the actions of the world and of its policies",
+                 "no request was compared: the two sides differ in no policy, or no resource matches"])
+    same(out.splitlines(), ["**0 lost and 0 gained, of 0 requests**", "", "### Notes", "",
+                            "- <code>1 changes of aws&#95;lambda&#95;function are not read: they are taken to change no policy</code>",
+                            f"- <code>{lines[1].replace('`', '&#96;')}</code>", f"- <code>{lines[2]}</code>"])
+    before = small_world(document(statement()))
+    out, said = aws("changes", "--before", file(before), "--after", file(before), "--action", "s3:GetObject", "--format", "markdown")
+    same((out, said), ("**0 lost and 0 gained, of 1 requests**\n", ""))
 
 
 def test_actions_without_the_service_reference():

@@ -10,6 +10,7 @@ from ..faults import Fault, line_of, tell
 from ..pipelines import Case, fault, junit, sarif
 from ..questions import Scope
 from ..ruling import Break, Outcome, check, read_rules
+from ..slips import slips
 from ..sources import add_source, source_of
 from ..telling import BY, LACKS, causes
 from .parsers import add, whole
@@ -72,6 +73,9 @@ def notes(scope: Scope, outcomes: List[Outcome]) -> None:
     """What the outcomes cover."""
     tell_actions(scope.source, [it.rule.question.action for it in outcomes])
     tell_strangers(scope.source, [asked.world for it in outcomes for asked in it.asked])
+    for it in outcomes:
+        for line in slips(scope, it.rule.question) if it.rule.kind == "never" and it.state == "kept" else ():
+            tell(f"{it.rule.name}: {line}")
     added = {arn for it in outcomes for asked in it.asked for arn in asked.added}
     for arn in sorted(added):
         tell(f"{arn} is not in the world: it is asked for without a policy of its own, but its bucket's")
