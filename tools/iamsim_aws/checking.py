@@ -159,7 +159,7 @@ def holder_of(world: World, path: str) -> str:
 def named(world: World, path: List[str]) -> str:
     """The name of the principal, action or resource at a path, behind the line of its fault."""
     it = world[path[0]][int(path[1])]
-    texts = [it] if isinstance(it, str) else [it.get(name) for name in NAMES] if isinstance(it, dict) else []
+    texts: List[Any] = [it.get(name) for name in NAMES] if isinstance(it, dict) else [it]
     found = [text for text in texts if isinstance(text, str)]
     return f" ({found[0]})" if found else ""
 

@@ -113,8 +113,9 @@ def grants(worlds: Iterable[World]) -> Iterator[Tuple[Any, str]]:
     """The statements of the resources' policies, each with its resource's partition."""
     for world in worlds:
         for it in world["resources"]:
+            partition = re.match(r"arn:([A-Za-z0-9-]+):", it["arn"])
             for statement in statements_of(it["policy"].document) if "policy" in it else ():
-                yield statement, (it["arn"].split(":") + [""])[1] or "aws"
+                yield statement, partition[1] if partition else "aws"
 
 
 def nobody_in(worlds: List[World], known: Set[str]) -> str:
