@@ -88,23 +88,40 @@ def is_managed(name: str) -> bool:
     return service_of(name) == "iam" and resource_part(name).startswith("policy/")
 
 
-def with_managed(estate: Estate, drafts: List[Draft]) -> Estate:
-    """The estate with the managed policies that drafts name by their ARN and the exports do not hold, as one of AWS's that
-    a plan attaches."""
+def with_drafts(estate: Estate, drafts: List[Draft]) -> Estate:
+    """The estate with the drafts of the organisation's policies, and with the managed policies that drafts name by their ARN
+    and the exports do not hold, as one of AWS's that a plan attaches."""
+    made = estate._replace(organization=estate.organization.copied())
     new = [it for it in drafts if is_managed(it.name) and not any(it.name in of.policies for of in estate.accounts)]
-    made = estate.copied() if new else estate
+    made = made.copied() if new else made
     for draft in new:
         version = {"Document": draft.document, "IsDefaultVersion": True}
         for it in made.accounts:
             if account_of(draft.name) in ("aws", it.account):
                 it.policies[draft.name] = {"Arn": draft.name, "PolicyVersionList": [version]}
+    for draft in drafts:
+        for own in made.organization.policies.values():
+            if draft.name in names_of_organization(own):
+                own["Content"] = draft.document
     return made
 
 
+def names_of_organization(it: Dict[str, Any]) -> Set[str]:
+    """What a policy of the organisation may be called."""
+    summary = it["PolicySummary"]
+    return called(str(summary.get("Arn") or summary["Id"])) | {str(summary["Id"]), str(summary.get("Name"))}
+
+
 def refuse_strangers(world: World, drafts: List[Draft], aliases: Dict[str, str], estate: Optional[Estate]) -> None:
-    """Each draft has to be of a policy that somebody has."""
-    held = {name for it in (estate.accounts if estate else []) for arn in it.policies for name in called(arn)}
+    """Each draft has to be of a policy that somebody has; one of the organisation may bind what the world does not name."""
+    held: Set[str] = set()
+    bound: Set[str] = set()
+    if estate:
+        held = {name for it in estate.accounts for arn in it.policies for name in called(arn)}
+        attached = {it.get("Id") for of in estate.organization.targets.values() for it in of}
+        for key, it in estate.organization.policies.items():
+            (bound if key in attached else held).update(names_of_organization(it))
     for draft in drafts:
-        if not put_one(world, draft, aliases)[1]:
+        if not put_one(world, draft, aliases)[1] and draft.name not in bound:
             why = "nobody has this policy, so the draft changes nothing" if draft.name in held else NO_SUCH
             raise Fault(f"--put {draft.name}: {why}")

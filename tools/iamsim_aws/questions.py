@@ -4,9 +4,10 @@ import re
 from typing import Any, Dict, List, NamedTuple, Optional
 
 from . import kinds
-from .arns import account_of, names_of_resource, service_of
+from .arns import account_of, names_of_resource
 from .documents import Policy, World
 from .faults import Fault
+from .making import bound
 from .patterns import any_matches, is_pattern, matcher
 from .sources import ASSUME, Source
 from .strangers import is_excepted, is_meant, strangers, with_strangers
@@ -100,26 +101,14 @@ def asked_in(scope: Scope, world: World, question: Question) -> Asked:
         kinds.resources(world, pattern, world["actions"]) if scope.kinds and is_pattern(pattern) else ([], [])
     )
     found += [it.resource for it in witnesses]
-    resources = [with_control(scope, dressed(scope, it)) for it in found]
+    estate = scope.source.estate
+    resources = [bound(estate, dressed(scope, it)) if estate else dressed(scope, it) for it in found]
     narrow = {**world, "principals": principals(world["principals"], question), "resources": resources}
     narrow["accounts"] = with_account(scope, world, resources)
     if scope.outside:
         some = strangers(scope.source, [narrow], question.principal)
         narrow = with_strangers(scope.source, narrow, principals(some, question))
     return Asked(narrow, {it.resource["arn"]: it.pattern for it in witnesses}, without, added)
-
-
-def with_control(scope: Scope, resource: Dict[str, Any]) -> Dict[str, Any]:
-    """A resource with the resource control policies of its account."""
-    estate = scope.source.estate
-    if estate is None or "control" in resource:
-        return resource
-    keys = estate.organization.keys(resource["account"], "Resource")
-    context = {**keys, **resource.get("context", {})}
-    taken = {it.lower() for it in estate.context or {}}
-    context = {key: value for key, value in context.items() if key.lower() not in taken}
-    control = estate.organization.control(resource["account"], service_of(resource["arn"]))
-    return {**resource, **control, **({"context": context} if context else {})}
 
 
 def worlds(scope: Scope, question: Question) -> List[Asked]:

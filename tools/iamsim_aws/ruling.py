@@ -132,16 +132,15 @@ def check(scope: Scope, rules: List[Rule], as_given: bool = False) -> List[Outco
 def met(asked: Asked, answers: Answers, cells: List[int]) -> int:
     """How many requests are of what is named, or of what a policy speaks of; others stand for a pattern of the rule that
     may have a slip."""
-    own = {text for text, pattern in asked.witnesses.items() if not pattern}
-    rows = (
-        (answers.world["actions"][a], answers.world["resources"][r]["arn"]) for _, a, r in map(answers.place, cells)
-    )
-    return sum(action not in own and resource not in own for action, resource in rows)
+    own, world = {text for text, pattern in asked.witnesses.items() if not pattern}, answers.world
+    is_met = [action not in own and it["arn"] not in own for action in world["actions"] for it in world["resources"]]
+    return sum(is_met[cell % len(is_met)] for cell in cells)
 
 
 def breaks(rule: Rule, answers: Answers, cells: List[int], as_given: bool) -> List[Break]:
     """The requests that break a rule. What is never allowed is not with a key that nothing gives either."""
-    found = [Break(answers, cell, None) for cell in cells if is_broken(rule, answers, cell)]
+    flags, wrong = answers.flags(), int(rule.kind == "never")
+    found = [Break(answers, cell, None) for cell in cells if flags[cell] == wrong]
     if rule.kind == "always" or as_given or not cells:
         return found
     if is_too_much(answers.world):
@@ -160,7 +159,3 @@ def cells_of(scope: Scope, answers: Answers) -> List[int]:
     world, count = answers.world, answers.shape[2]
     kept = [references.keeps(action, it["arn"]) for action in world["actions"] for it in world["resources"]]
     return [cell for cell in every if kept[cell % (answers.shape[1] * count)]]
-
-
-def is_broken(rule: Rule, answers: Answers, cell: int) -> bool:
-    return (answers.at(cell).decision == "allowed") == (rule.kind == "never")

@@ -71,6 +71,27 @@ def test_drafts_of_buckets_and_organisations():
         same(found, {("gained", ALICE, "sts:AssumeRole", f"{ACCOUNT}role/app/audit"): ("explicitDeny", "allowed")}, name)
 
 
+def test_drafts_that_bind_what_is_not_named():
+    """A resource control policy binds objects that no resource of the world is, before and after its draft."""
+    organization, allow = load(data("organization.json")), {"Effect": "Allow", "Principal": "*", "Action": "*", "Resource": "*"}
+    summary = {"Id": "p-10", "Name": "Edge", "Type": "RESOURCE_CONTROL_POLICY", "Arn": "arn:aws:organizations::999900001111:policy/o-example0001/resource_control_policy/p-10"}
+    organization["policies"] += [{"PolicySummary": summary, "Content": document(allow)},
+                                 {"PolicySummary": {**summary, "Id": "p-11", "Name": "Loose", "Arn": f"{summary['Arn'][:-2]}11"}, "Content": document(allow)}]
+    for items in organization["targets"].values():
+        items.append(summary)
+    draft = file(document(allow, {"Effect": "Deny", "Principal": "*", "Action": "s3:GetObject", "Resource": "arn:aws:s3:::new/*"}))
+    given = [EXPORT, "--organization", file({**organization, "controlled": ["s3"]})]
+    rule = file("never * s3:GetObject arn:aws:s3:::new/x\n")
+    aws("rules", rule, *given, status=3)
+    for name in ("Edge", "p-10", summary["Arn"]):
+        aws("rules", rule, *given, "--put", f"{name}={draft}")
+    # alice, bob and deploy read any object.
+    found = changes(*given, "--put", f"Edge={draft}", "--action", "s3:GetObject", "--resource", "arn:aws:s3:::new/*")
+    same(found, {("lost", it, "s3:GetObject", "arn:aws:s3:::new/x"): ("allowed", "explicitDeny") for it in (ALICE, BOB, f"{SESSION}deploy/s1")})
+    _, said = aws("rules", rule, *given, "--put", f"Loose={draft}", status=1)
+    same(said, "iamsim-aws: --put Loose: nobody has this policy, so the draft changes nothing\n")
+
+
 def test_drafts_that_are_of_nothing():
     draft = file(document())
     _, said = aws("changes", EXPORT, "--put", f"NoSuch={draft}", status=1)
