@@ -70,7 +70,7 @@ def account_for(scope: Scope, world: World, arn: str) -> str:
     ids = [it["id"] for it in world["accounts"]]
     if found is None and len(ids) == 1:
         return str(ids[0])
-    if found is None or not re.fullmatch(r"\d{12}", found):
+    if found is None or not re.fullmatch(r"[0-9]{12}", found):
         raise Fault(f"{arn}: which account is it of? Say it by --account, or name the resource in --resources")
     return found
 

@@ -20,7 +20,7 @@ EVERYBODY = "*"
 ANYONE, ANYBODY = "(anyone)", "(anybody)"
 ASSUMED = "what its own account may allow (assumed)"
 SEGMENT = r"[!-)+-.0->@-~]+"
-PARTY = re.compile(rf"arn:([A-Za-z0-9-]+):(?:iam|sts)::(\d{{12}}):(root|user|role|assumed-role)((?:/{SEGMENT})*)")
+PARTY = re.compile(rf"arn:([A-Za-z0-9-]+):(?:iam|sts)::([0-9]{{12}}):(root|user|role|assumed-role)((?:/{SEGMENT})*)")
 EQUAL = ("StringEquals", "StringEqualsIgnoreCase", "StringLike", "ArnEquals", "ArnLike")
 
 Principal = Dict[str, Any]

@@ -13,7 +13,7 @@ from .organizations import CONTROL, SERVICE
 
 Values = Dict[str, Any]
 INDEX = re.compile(r"\[[^\]]*\]")
-QUEUE = re.compile(r"https://sqs\.((?!us-gov-)[a-z0-9-]+)\.amazonaws\.com/(\d{12})/([^/]+)")
+QUEUE = re.compile(r"https://sqs\.((?!us-gov-)[a-z0-9-]+)\.amazonaws\.com/([0-9]{12})/([^/]+)")
 INLINE = {"user": "UserPolicyList", "group": "GroupPolicyList", "role": "RolePolicyList"}
 ATTACHED = ("AttachedManagedPolicies", "PolicyArn")
 
