@@ -29,7 +29,7 @@ def variables_of(text: str) -> List[str]:
 
 def resolved(text: str, values: Dict[str, str]) -> Optional[str]:
     """The text with the variables' values, keys in lower case; None where one has none."""
-    lacking = []
+    lacking: List[str] = []
 
     def value(found: "re.Match[str]") -> str:
         key, default, sign = found.groups()

@@ -488,7 +488,7 @@ def on_organization_policy(apply: Apply, change: Change) -> None:
             f"{change.address}: the organization has no policy {own}: it is taken to bind nobody who is asked"
         )
     if change.after is None:
-        policies.pop(own, None)
+        policies.pop(str(own), None)
         return
     name, content = values.get("id") or change.address, apply.document(change, "content")
     summary = {
@@ -519,7 +519,7 @@ def detach(apply: Apply, change: Change, name: Any, target: Any) -> None:
 def on_organization_attachment(apply: Apply, change: Change) -> None:
     before, policies = change.before or {}, apply.organization.policies
     name, target = (apply.text(change, it) if change.after else None for it in ("policy_id", "target_id"))
-    summary = policies.get(name or before.get("policy_id"), {}).get("PolicySummary", {})
+    summary = policies.get(str(name or before.get("policy_id")), {}).get("PolicySummary", {})
     if not of_access(apply, change, summary.get("Type")):
         return
     if change.before:

@@ -36,11 +36,11 @@ def add_all(commands: Any) -> None:
 
 def run(options: argparse.Namespace) -> int:
     """The status; where there is no answer, the reports for pipelines say so and none of an earlier run is left."""
-    report(options, [fault(options.rules, "it came to no answer")])
+    report(options, [fault(files.name_of(options.rules), "it came to no answer")])
     try:
         return checked(options)
     except Fault as why:
-        report(options, [fault(options.rules, str(why))])
+        report(options, [fault(files.name_of(options.rules), str(why))])
         raise
 
 
