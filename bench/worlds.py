@@ -5,7 +5,6 @@ import argparse
 import json
 import os
 import random
-import sys
 
 VERSION = "2012-10-17"
 HOME, PARTNER, VENDOR = "100000000001", "200000000002", "300000000003"

@@ -4,7 +4,7 @@ import array
 from typing import List
 
 from . import decimals
-from .checking import lines, refused_documents
+from .checking import lines, refused_documents, with_name
 from .documents import World
 from .faults import Fault
 from .program import Refused, side_by_side, world_bytes
@@ -33,10 +33,10 @@ def put(all_of: Answers, principal: int, resource: int, part: Answers) -> None:
 
 
 def explained(world: World, refused: Refused) -> Fault:
-    """The fault of a world, by its policy's name."""
+    """The fault of a world, by the name of its policy, or of who is refused."""
     told = lines(world, refused_documents(world))
     if not told:
-        return refused
+        return Fault(with_name(world, str(refused)))
     more = f", and {len(told) - 1} more: iamsim-aws check tells all" if len(told) > 1 else ""
     return Fault(f"iamsim refuses a policy: {told[0]}{more}")
 
@@ -53,7 +53,7 @@ def ask_all(worlds: List[World], brief: bool = False) -> List[Answers]:
         try:
             text = next(texts).decode()
         except Refused as refused:
-            raise explained(worlds[n], refused) from None
+            raise explained(part.world, refused) from None
         put(found[n], part.principal, part.resource, read_report(part.world, text))
     return found
 

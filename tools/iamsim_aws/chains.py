@@ -5,6 +5,7 @@ from typing import Dict, List, Set
 from .arns import principal_arn, principal_text
 from .asking import ask
 from .sources import ASSUME, Source
+from .strangers import strangers, with_strangers
 
 
 def edges(source: Source) -> Dict[str, List[str]]:
@@ -14,9 +15,9 @@ def edges(source: Source) -> Dict[str, List[str]]:
     for it in world["principals"]:
         if "role" in it:
             sessions.setdefault(principal_arn(it), []).append(principal_text(it))
-    resources = [it for it in world["resources"] if it["arn"] in sessions]
+    narrow = {**world, "resources": [it for it in world["resources"] if it["arn"] in sessions]}
     found: Dict[str, List[str]] = {}
-    answers = ask({**world, "resources": resources}, brief=True)
+    answers = ask(with_strangers(source, narrow, strangers(source, [narrow])), brief=True)
     for cell in answers.allowed():
         row = answers.row(cell)
         found.setdefault(row.principal, []).extend(it for it in sessions[row.resource] if it != row.principal)

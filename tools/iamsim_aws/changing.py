@@ -1,6 +1,6 @@
 """What changes between two sources: requests that are lost, and those that are gained."""
 
-from typing import Any, Dict, List, NamedTuple, Tuple
+from typing import Any, Dict, List, NamedTuple, Sequence, Tuple
 
 from . import hanging, kinds
 from .arns import principal_text
@@ -10,9 +10,11 @@ from .documents import World, bare, mapped, places
 from .faults import tell
 from .files import compact
 from .keys import given_keys
+from .making import bound
 from .patterns import common, is_pattern, matcher
 from .reports import Answers, keys_of
 from .sources import ASSUME, Source
+from .strangers import strangers, with_strangers
 
 
 class Changes(NamedTuple):
@@ -124,23 +126,23 @@ def same_cell(changes: Changes, cell: int, is_before: bool) -> Any:
     return (p * other.shape[1] + a) * other.shape[2] + r
 
 
-def with_witnesses(before: World, after: World, pattern: str, has_witnesses: bool) -> Tuple[World, World]:
-    """The resources of both worlds that a pattern chooses, with a text for each pattern of the changed documents."""
+def with_witnesses(sources: Sequence[Source], worlds: Sequence[World], pattern: str) -> List[World]:
+    """The resources of the worlds before and after that a pattern chooses; of exports with a text for each pattern of the
+    changed documents."""
     found: Dict[Tuple[str, str], Dict[str, Any]] = {}
-    for changed, world in zip(differing(before, after), (before, after)):
-        for it in (
-            kinds.resources(changed, pattern, world["actions"])[0] if has_witnesses and is_pattern(pattern) else ()
-        ):
+    for changed, world in zip(differing(*worlds), worlds) if sources[0].estate and is_pattern(pattern) else ():
+        for it in kinds.resources(changed, pattern, world["actions"])[0]:
             found.setdefault((it.resource["arn"], it.resource["account"]), it.resource)
 
-    def joined(world: World) -> World:
+    def joined(source: Source, world: World) -> World:
         known = {it["arn"] for it in world["resources"]}
         ids = {it["id"] for it in world["accounts"]}
         more = [kinds.beside(world, arn, account) for arn, account in found if arn not in known and account in ids]
+        more = [bound(source.estate, it) if source.estate else it for it in more]
         chosen = [it for it in [*world["resources"], *more] if matcher(pattern)(it["arn"])]
         return {**world, "resources": chosen}
 
-    return joined(before), joined(after)
+    return [joined(source, world) for source, world in zip(sources, worlds)]
 
 
 def with_keys(before: World, after: World) -> List[Tuple[str, World, World]]:
@@ -166,7 +168,9 @@ def changes_of(before: Source, after: Source, patterns: List[str], resource: str
     """What changes, by worlds of actions: as it is, and what changes with a key alone that nothing gives."""
     actions, found = actions_of(before, after, patterns), []
     for worlds in zip(before.worlds(actions), after.worlds(actions)):
-        pair = with_witnesses(*worlds, resource, before.estate is not None)
+        pair = with_witnesses((before, after), worlds, resource)
+        some = strangers(after, pair)
+        pair = [with_strangers(source, world, some) for source, world in zip((before, after), pair)]
         keyed = with_keys(*pair)
         answers = ask_all([*pair, *(it for _, *two in keyed for it in two)])
         first = compared(*answers[:2])

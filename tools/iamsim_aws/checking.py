@@ -10,6 +10,7 @@ from .program import Refused, run
 from .splitting import BYTES, STATEMENTS, count_of, size_of
 
 ACCOUNT = "000000000000"
+NAMES = ["user", "role", "arn", "id"]
 AT_DOCUMENT = re.compile(r"fault 2 World: 8 Policy at ([^:]+): (document|statement \d+): (\d+) (\w+)")
 AT_PLACE = re.compile(r"fault 2 World: \d+ \w+ at ([^:]+)(?:: .*)?")
 NOTHING = Policy("", {"Version": "2012-10-17", "Statement": []})
@@ -140,7 +141,7 @@ def other_faults(world: World, refused: List[Finding]) -> List[Finding]:
             return [*found, Finding("", line)]
         n = int(path[1])
         told = "/".join([path[0], str(numbers[path[0]].pop(n)), *path[2:]])
-        found.append(Finding(told, line.replace("/".join(path), told, 1)))
+        found.append(Finding(told, line.replace("/".join(path), told, 1) + named(rest, path)))
         rest[path[0]] = rest[path[0]][:n] + rest[path[0]][n + 1 :]
         line = refusal(rest)
     return found
@@ -153,6 +154,21 @@ def holder_of(world: World, path: str) -> str:
     if axis == "principals":
         return principal_text(it)
     return f"account {it['id']}" if axis == "accounts" else str(it["arn"])
+
+
+def named(world: World, path: List[str]) -> str:
+    """The name of the principal, action or resource at a path, behind the line of its fault."""
+    it = world[path[0]][int(path[1])]
+    texts: List[Any] = [it.get(name) for name in NAMES] if isinstance(it, dict) else [it]
+    found = [text for text in texts if isinstance(text, str)]
+    return f" ({found[0]})" if found else ""
+
+
+def with_name(world: World, line: str) -> str:
+    """The line of a fault with the name of what stands at its place."""
+    place = AT_PLACE.fullmatch(line)
+    path = place.group(1).split("/") if place else []
+    return line + (named(world, path) if len(path) > 1 and path[0] in world and path[1].isdigit() else "")
 
 
 def lines(world: World, found: List[Finding]) -> List[str]:

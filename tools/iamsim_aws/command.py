@@ -7,7 +7,7 @@ import sys
 from typing import List, Optional
 
 from .commands import changes, page, questions, reports, rules, worlds
-from .faults import Fault, tell
+from .faults import TOLD, Fault, tell
 
 DESCRIPTION = """Questions to iamsim about what AWS gives: who can, what changes, and the rules that a team keeps.
 It calls no service; iamsim decides. docs/AWS.md explains it."""
@@ -45,6 +45,7 @@ def main(words: Optional[List[str]] = None) -> int:
     options = parsed(words)
     # What a command reads it keeps to its end: looking for garbage among it would take a third of the time.
     gc.disable()
+    TOLD.clear()
     try:
         status = options.run(options)
         sys.stdout.flush()

@@ -1,15 +1,13 @@
 """What an answer does not cover, in lines on standard error."""
 
-from typing import Any, Dict, Iterable, Iterator, Set
+from typing import Any, Dict, Iterable
 
-from .arns import account_of, principal_arn
-from .documents import World, each, places, statements_of
-from .exports import ACCOUNT
+from .arns import account_of
+from .documents import World, conditions_of, statements_of
 from .faults import tell
 from .patterns import is_pattern
 from .sources import Source
-
-EVERYBODY = "*"
+from .strangers import accounts_of, named_by, stand_in
 
 
 def tell_actions(source: Source, patterns: Iterable[str]) -> None:
@@ -19,42 +17,22 @@ def tell_actions(source: Source, patterns: Iterable[str]) -> None:
 
 
 def tell_strangers(source: Source, worlds: Iterable[World]) -> None:
-    """Accounts without an export to which policies of the worlds' resources grant, each once."""
-    known, told = accounts_of(source), set()
+    """Those to whom policies of the worlds' resources grant and for whom nobody is asked, each once."""
+    known = accounts_of(source)
+    in_organization = source.estate is not None and source.estate.organization.is_there
+    found: Dict[str, None] = {}
     for world in worlds:
-        for it in places(world):
-            if it.kind != "resource":
-                continue
-            holder = world["resources"][int(it.path.split("/")[1])]["arn"]
-            for account in named(it.policy.document):
-                if account not in known and account not in told:
-                    told.add(account)
-                    tell(line(holder, account))
+        for it in world["resources"]:
+            for statement in statements_of(it["policy"].document) if "policy" in it else ():
+                for text in named_by(statement):
+                    if account_of(text) not in ("", *known) and not stand_in(text, "aws", "", "session"):
+                        found[f"the policy of {it['arn']} names {text}, for whom nobody is asked"] = None
+                if in_organization and named_by(statement) and asks_for_members(statement):
+                    what = "grants to members of an organisation: of those without an export nobody is asked"
+                    found[f"the policy of {it['arn']} {what}"] = None
+    for line in found:
+        tell(line)
 
 
-def line(holder: str, account: str) -> str:
-    if account == EVERYBODY:
-        return f"the policy of {holder} names everybody (*): only principals of the exports are asked"
-    return f"the policy of {holder} names {account}, of which there is no export: nobody there is asked"
-
-
-def accounts_of(source: Source) -> Set[str]:
-    """The accounts whose principals are asked for."""
-    if source.estate is not None:
-        return {it.account for it in source.estate.accounts}
-    return {account_of(principal_arn(it)) for it in (source.given or {}).get("principals", [])}
-
-
-def named(document: Any) -> Iterator[str]:
-    """The accounts of the principals to which a resource's policy grants, and '*' for everybody."""
-    for it in statements_of(document):
-        if not isinstance(it, dict) or it.get("Effect") != "Allow":
-            continue
-        given = it.get("Principal")
-        principals: Dict[str, Any] = given if isinstance(given, dict) else {"AWS": given}
-        if "NotPrincipal" in it:
-            yield EVERYBODY
-        for text in map(str, each(principals.get("AWS"))):
-            account = text if text == EVERYBODY else account_of(text) or text
-            if account == EVERYBODY or ACCOUNT.fullmatch(account):
-                yield account
+def asks_for_members(statement: Any) -> bool:
+    return any(key.lower().startswith("aws:principalorg") for _, key, _ in conditions_of(statement))

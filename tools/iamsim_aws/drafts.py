@@ -25,13 +25,14 @@ def before_and_after(source: Source, options: argparse.Namespace) -> Tuple[Sourc
             raise Fault("--terraform: a plan is put into effect on exports, and not on a world")
         first, estate = terraform.applied(estate, options.terraform, options.account, options.allow_unknown)
     drafts = [putting.read_draft(it) for it in options.put]
+    estate = putting.with_drafts(estate, drafts) if estate else None
     aliases = estate.organization.names() if estate else {}
 
     def change(world: World) -> World:
         return putting.put(world, drafts, aliases)
 
     plain = source.like(estate, lambda world: world)
-    putting.refuse_strangers(plain.world([ASSUME]), drafts, aliases)
+    putting.refuse_strangers(plain.world([ASSUME]), drafts, aliases, estate)
     return source.like(first, lambda world: world), source.like(estate, change)
 
 

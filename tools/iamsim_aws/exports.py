@@ -9,7 +9,7 @@ from .arns import account_of
 from .documents import Policy
 from .faults import Fault
 
-ACCOUNT = re.compile(r"\d{12}")
+ACCOUNT = re.compile(r"[0-9]{12}")
 LISTS = {"UserDetailList": "users", "GroupDetailList": "groups", "RoleDetailList": "roles", "Policies": "policies"}
 
 

@@ -1,6 +1,10 @@
 """What ends the command, and lines beside the answer."""
 
 import sys
+from typing import List
+
+# The lines that were told, which a report may hold too.
+TOLD: List[str] = []
 
 
 class Fault(Exception):
@@ -16,4 +20,5 @@ def line_of(text: object) -> str:
 
 def tell(text: object) -> None:
     """A line on standard error."""
-    print(f"iamsim-aws: {line_of(text)}", file=sys.stderr)
+    TOLD.append(line_of(text))
+    print(f"iamsim-aws: {TOLD[-1]}", file=sys.stderr)

@@ -4,9 +4,9 @@ import gzip
 import json
 import sys
 import zlib
-from typing import Any
+from typing import Any, Dict, List, Tuple
 
-from .faults import Fault
+from .faults import Fault, tell
 
 
 def name_of(path: str) -> str:
@@ -49,13 +49,25 @@ def no_constant(name: str) -> None:
 
 
 def parsed(text: str, what: str) -> Any:
-    """The JSON value of a text."""
+    """The JSON value of a text. Of equal keys of an object the last stands, and each is told once."""
+    equal: Dict[str, None] = {}
+
+    def members(pairs: List[Tuple[str, Any]]) -> Dict[str, Any]:
+        made = dict(pairs)
+        if len(made) < len(pairs):
+            keys = [key for key, _ in pairs]
+            equal.update((it, None) for it in made if keys.count(it) > 1)
+        return made
+
     try:
-        return json.loads(text, parse_constant=no_constant)
+        found = json.loads(text, parse_constant=no_constant, object_pairs_hook=members)
     except RecursionError:
         raise Fault(f"{what}: its JSON is nested too deep") from None
     except ValueError as error:
         raise Fault(f"{what}: it is no JSON: {error}") from None
+    for key in equal:
+        tell(f"{what}: the key {key} comes twice in one object: the last one stands")
+    return found
 
 
 def read_json(path: str) -> Any:

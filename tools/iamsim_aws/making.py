@@ -136,23 +136,21 @@ def refuse_doubles(arns: List[str]) -> None:
 
 
 def resources_of(estate: Estate, actions: List[str], patterns: List[str]) -> List[Dict[str, Any]]:
-    found = [it for account in estate.accounts for it in roles_as_resources(estate, account, actions)]
-    found += [with_control(estate, it) for it in estate.further]
-    made = []
-    for it in found:
-        if is_chosen(patterns, names_of_resource(it["arn"])):
-            keys = estate.organization.keys(it["account"], "Resource")
-            own = it.get("context", {})
-            made.append(
-                keep_context({**it, "context": {**keys, **own}} if isinstance(own, dict) else it, estate.context)
-            )
-    return made
+    roles = [it for account in estate.accounts for it in roles_as_resources(estate, account, actions)]
+    found = [with_keys(estate, it) for it in roles] + [bound(estate, it) for it in estate.further]
+    return [it for it in found if is_chosen(patterns, names_of_resource(it["arn"]))]
 
 
-def with_control(estate: Estate, resource: Dict[str, Any]) -> Dict[str, Any]:
-    if "control" in resource:
-        return resource
-    return {**resource, **estate.organization.control(resource["account"], service_of(resource["arn"]))}
+def with_keys(estate: Estate, resource: Dict[str, Any]) -> Dict[str, Any]:
+    keys, own = estate.organization.keys(resource["account"], "Resource"), resource.get("context", {})
+    made = {**resource, "context": {**keys, **own}} if isinstance(own, dict) else resource
+    return keep_context(made, estate.context)
+
+
+def bound(estate: Estate, resource: Dict[str, Any]) -> Dict[str, Any]:
+    """A resource with the resource control policies and the keys of its account."""
+    control = estate.organization.control(resource["account"], service_of(resource["arn"]))
+    return with_keys(estate, resource if "control" in resource else {**resource, **control})
 
 
 def world_of(

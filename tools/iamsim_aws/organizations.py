@@ -9,6 +9,7 @@ from .exports import policy
 from .faults import Fault
 
 SERVICE, CONTROL = "SERVICE_CONTROL_POLICY", "RESOURCE_CONTROL_POLICY"
+MEMBERS = ["id", "management", "parents", "targets", "policies"]
 
 
 class Organization:
@@ -120,4 +121,7 @@ def read_organization(path: Optional[str]) -> Organization:
     given = files.read_json(path)
     if not isinstance(given, dict):
         raise Fault(f"{files.name_of(path)}: it is no object")
+    lacking = [it for it in MEMBERS if it not in given]
+    if lacking:
+        raise Fault(f"{files.name_of(path)}: it is no file of 'iamsim-aws organization': it has no {lacking[0]}")
     return Organization(given)

@@ -29,7 +29,7 @@ def variables_of(text: str) -> List[str]:
 
 def resolved(text: str, values: Dict[str, str]) -> Optional[str]:
     """The text with the variables' values, keys in lower case; None where one has none."""
-    lacking = []
+    lacking: List[str] = []
 
     def value(found: "re.Match[str]") -> str:
         key, default, sign = found.groups()
@@ -88,6 +88,9 @@ def meeting(first: str, second: str, fold: bool) -> Optional[str]:
 @functools.lru_cache(maxsize=None)
 def common(first: str, second: str = "*", fold: bool = False) -> Optional[str]:
     """A text that matches both patterns, with runs of at least one character where that can be; None where none does."""
+    given = [re.split(r"[*?]", it.lower() if fold else it, maxsplit=1)[0] for it in (first, second)]
+    if not given[0].startswith(given[1]) and not given[1].startswith(given[0]):
+        return None
     for one, other in ((True, True), (True, False), (False, True), (False, False)):
         found = meeting(signs_of(first, one), signs_of(second, other), fold)
         if found is not None:

@@ -1,13 +1,17 @@
 """Drafts of policies in place of those of a world."""
 
-from typing import Any, Dict, List, NamedTuple, Set, Tuple
+from typing import Any, Dict, List, NamedTuple, Optional, Set, Tuple
 
 from . import files
-from .arns import resource_part, service_of
+from .arns import account_of, resource_part, service_of
 from .documents import Policy, World, mapped, places
 from .exports import document
 from .faults import Fault
 from .kinds import bucket_of
+from .making import Estate
+
+
+NO_SUCH = "no policy and no resource is called so"
 
 
 class Draft(NamedTuple):
@@ -80,8 +84,44 @@ def put(world: World, drafts: List[Draft], aliases: Dict[str, str]) -> World:
     return world
 
 
-def refuse_strangers(world: World, drafts: List[Draft], aliases: Dict[str, str]) -> None:
-    """Each draft has to be of a policy that is there."""
+def is_managed(name: str) -> bool:
+    return service_of(name) == "iam" and resource_part(name).startswith("policy/")
+
+
+def with_drafts(estate: Estate, drafts: List[Draft]) -> Estate:
+    """The estate with the drafts of the organisation's policies, and with the managed policies that drafts name by their ARN
+    and the exports do not hold, as one of AWS's that a plan attaches."""
+    made = estate._replace(organization=estate.organization.copied())
+    new = [it for it in drafts if is_managed(it.name) and not any(it.name in of.policies for of in estate.accounts)]
+    made = made.copied() if new else made
+    for draft in new:
+        version = {"Document": draft.document, "IsDefaultVersion": True}
+        for it in made.accounts:
+            if account_of(draft.name) in ("aws", it.account):
+                it.policies[draft.name] = {"Arn": draft.name, "PolicyVersionList": [version]}
     for draft in drafts:
-        if not put_one(world, draft, aliases)[1]:
-            raise Fault(f"--put {draft.name}: no policy and no resource is called so")
+        for own in made.organization.policies.values():
+            if draft.name in names_of_organization(own):
+                own["Content"] = draft.document
+    return made
+
+
+def names_of_organization(it: Dict[str, Any]) -> Set[str]:
+    """What a policy of the organisation may be called."""
+    summary = it["PolicySummary"]
+    return called(str(summary.get("Arn") or summary["Id"])) | {str(summary["Id"]), str(summary.get("Name"))}
+
+
+def refuse_strangers(world: World, drafts: List[Draft], aliases: Dict[str, str], estate: Optional[Estate]) -> None:
+    """Each draft has to be of a policy that somebody has; one of the organisation may bind what the world does not name."""
+    held: Set[str] = set()
+    bound: Set[str] = set()
+    if estate:
+        held = {name for it in estate.accounts for arn in it.policies for name in called(arn)}
+        attached = {it.get("Id") for of in estate.organization.targets.values() for it in of}
+        for key, it in estate.organization.policies.items():
+            (bound if key in attached else held).update(names_of_organization(it))
+    for draft in drafts:
+        if not put_one(world, draft, aliases)[1] and draft.name not in bound:
+            why = "nobody has this policy, so the draft changes nothing" if draft.name in held else NO_SUCH
+            raise Fault(f"--put {draft.name}: {why}")

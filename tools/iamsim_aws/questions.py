@@ -4,11 +4,13 @@ import re
 from typing import Any, Dict, List, NamedTuple, Optional
 
 from . import kinds
-from .arns import account_of, names_of_principal, names_of_resource, service_of
+from .arns import account_of, names_of_resource
 from .documents import Policy, World
 from .faults import Fault
+from .making import bound
 from .patterns import any_matches, is_pattern, matcher
 from .sources import ASSUME, Source
+from .strangers import is_excepted, is_meant, strangers, with_strangers
 
 ACTION = re.compile(r"[A-Za-z0-9-]+:[A-Za-z0-9_.-]+")
 ARN = re.compile(r"arn:[^:]*:[^:]+:[^:]*:[^:]*:.+", re.DOTALL)
@@ -22,6 +24,7 @@ class Scope(NamedTuple):
     policy: Optional[Policy] = None
     account: Optional[str] = None
     sealed: bool = False
+    outside: bool = False
 
 
 class Question(NamedTuple):
@@ -43,13 +46,8 @@ class Asked(NamedTuple):
     added: List[str]
 
 
-def principals(world: World, question: Question) -> List[Dict[str, Any]]:
-    found = []
-    for it in world["principals"]:
-        names = names_of_principal(it)
-        if any_matches([question.principal], names) and not any_matches(question.exceptions, names):
-            found.append(it)
-    return found
+def principals(some: List[Dict[str, Any]], question: Question) -> List[Dict[str, Any]]:
+    return [it for it in some if is_meant(it, question.principal) and not is_excepted(it, question.exceptions)]
 
 
 def actions(scope: Scope, pattern: str) -> Dict[str, str]:
@@ -72,7 +70,7 @@ def account_for(scope: Scope, world: World, arn: str) -> str:
     ids = [it["id"] for it in world["accounts"]]
     if found is None and len(ids) == 1:
         return str(ids[0])
-    if found is None or not re.fullmatch(r"\d{12}", found):
+    if found is None or not re.fullmatch(r"[0-9]{12}", found):
         raise Fault(f"{arn}: which account is it of? Say it by --account, or name the resource in --resources")
     return found
 
@@ -103,23 +101,14 @@ def asked_in(scope: Scope, world: World, question: Question) -> Asked:
         kinds.resources(world, pattern, world["actions"]) if scope.kinds and is_pattern(pattern) else ([], [])
     )
     found += [it.resource for it in witnesses]
-    resources = [with_control(scope, dressed(scope, it)) for it in found]
-    narrow = {**world, "principals": principals(world, question), "resources": resources}
-    narrow["accounts"] = with_account(scope, world, resources)
-    return Asked(narrow, {it.resource["arn"]: it.pattern for it in witnesses}, without, added)
-
-
-def with_control(scope: Scope, resource: Dict[str, Any]) -> Dict[str, Any]:
-    """A resource with the resource control policies of its account."""
     estate = scope.source.estate
-    if estate is None or "control" in resource:
-        return resource
-    keys = estate.organization.keys(resource["account"], "Resource")
-    context = {**keys, **resource.get("context", {})}
-    taken = {it.lower() for it in estate.context or {}}
-    context = {key: value for key, value in context.items() if key.lower() not in taken}
-    control = estate.organization.control(resource["account"], service_of(resource["arn"]))
-    return {**resource, **control, **({"context": context} if context else {})}
+    resources = [bound(estate, dressed(scope, it)) if estate else dressed(scope, it) for it in found]
+    narrow = {**world, "principals": principals(world["principals"], question), "resources": resources}
+    narrow["accounts"] = with_account(scope, world, resources)
+    if scope.outside:
+        some = strangers(scope.source, [narrow], question.principal)
+        narrow = with_strangers(scope.source, narrow, principals(some, question))
+    return Asked(narrow, {it.resource["arn"]: it.pattern for it in witnesses}, without, added)
 
 
 def worlds(scope: Scope, question: Question) -> List[Asked]:
@@ -137,6 +126,6 @@ def missing(scope: Scope, question: Question) -> str:
     if not chosen:
         return f"no action matches {question.action}: name actions by --actions, or their services by --services"
     found = scope.source.worlds(list(chosen))
-    if not any(principals(it, question) for it in found):
+    if not any(principals(it["principals"], question) for it in found):
         return f"no principal matches {question.principal}"
     return f"no resource matches {question.resource}: name its ARN, resources by --resources, or ask with --kinds"

@@ -10,6 +10,7 @@ from typing import Any, Dict, Iterator, List, NamedTuple, Tuple
 from .arns import principal_text
 from .documents import World
 from .faults import Fault
+from .strangers import shown
 
 DECISIONS = ["allowed", "explicitDeny", "implicitDeny"]
 
@@ -70,9 +71,7 @@ class Answers:
     def row(self, cell: int) -> Row:
         p, a, r = self.place(cell)
         world = self.world
-        return Row(
-            principal_text(world["principals"][p]), world["actions"][a], world["resources"][r]["arn"], self.at(cell)
-        )
+        return Row(shown(world["principals"][p]), world["actions"][a], world["resources"][r]["arn"], self.at(cell))
 
     def flags(self) -> bytes:
         """1 for each cell that is allowed, in order, else 0."""

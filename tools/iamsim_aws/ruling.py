@@ -4,14 +4,15 @@ import re
 from typing import Dict, List, NamedTuple, Optional
 
 from . import files
-from .arns import names_of_principal, principal_text
+from .arns import principal_text
 from .asking import ask_all
 from .faults import Fault, tell
 from .hanging import Turn, is_too_much, turns
-from .patterns import any_matches, is_pattern
+from .patterns import is_pattern
 from .questions import Asked, Question, Scope, missing, worlds
 from .reports import Answers
 from .sources import ASSUME
+from .strangers import is_excepted, strangers
 
 WORD = re.compile(r"(?:\\.|[^\s\\])+")
 KINDS = ("never", "always")
@@ -89,24 +90,26 @@ def question_of(words: List[str], where: str) -> Question:
 
 def exceptions(scope: Scope, rule: Rule) -> Dict[str, List[str]]:
     """The principals that each exception of a rule means. A name alone has to mean one, so that none is excepted unseen."""
-    people = scope.source.world([ASSUME])["principals"]
-    found = {}
+    world, found = scope.source.world([ASSUME]), {}
+    people = world["principals"] + (strangers(scope.source, [world]) if rule.question.exceptions else [])
     for it in rule.question.exceptions:
-        found[it] = [principal_text(one) for one in people if any_matches([it], names_of_principal(one))]
+        found[it] = [principal_text(one) for one in people if is_excepted(one, [it])]
         if len(found[it]) > 1 and ":" not in it and not is_pattern(it):
             raise Fault(f"{rule.name}: several principals are called {it}, name one by its ARN: {', '.join(found[it])}")
     return found
 
 
 def asked_by(scope: Scope, rule: Rule) -> List[Asked]:
-    """The worlds of a rule's requests; what must never be is asked of texts for the policies' patterns too."""
+    """The worlds of a rule's requests; what must never be is asked of texts for the policies' patterns and of who is
+    outside too."""
     for it, people in exceptions(scope, rule).items():
         if not people:
             tell(f"{rule.name}: the exception {it} matches no principal")
     question = rule.question
-    has_kinds = rule.kind == "never" and (is_pattern(question.resource) or is_pattern(question.action))
+    is_never = rule.kind == "never"
+    has_kinds = is_never and (is_pattern(question.resource) or is_pattern(question.action))
     try:
-        return worlds(scope._replace(kinds=scope.kinds or has_kinds), question)
+        return worlds(scope._replace(kinds=scope.kinds or has_kinds, outside=is_never), question)
     except Fault as fault:
         raise Fault(f"{rule.name}: {fault}") from None
 
@@ -129,16 +132,15 @@ def check(scope: Scope, rules: List[Rule], as_given: bool = False) -> List[Outco
 def met(asked: Asked, answers: Answers, cells: List[int]) -> int:
     """How many requests are of what is named, or of what a policy speaks of; others stand for a pattern of the rule that
     may have a slip."""
-    own = {text for text, pattern in asked.witnesses.items() if not pattern}
-    rows = (
-        (answers.world["actions"][a], answers.world["resources"][r]["arn"]) for _, a, r in map(answers.place, cells)
-    )
-    return sum(action not in own and resource not in own for action, resource in rows)
+    own, world = {text for text, pattern in asked.witnesses.items() if not pattern}, answers.world
+    is_met = [action not in own and it["arn"] not in own for action in world["actions"] for it in world["resources"]]
+    return sum(is_met[cell % len(is_met)] for cell in cells)
 
 
 def breaks(rule: Rule, answers: Answers, cells: List[int], as_given: bool) -> List[Break]:
     """The requests that break a rule. What is never allowed is not with a key that nothing gives either."""
-    found = [Break(answers, cell, None) for cell in cells if is_broken(rule, answers, cell)]
+    flags, wrong = answers.flags(), int(rule.kind == "never")
+    found = [Break(answers, cell, None) for cell in cells if flags[cell] == wrong]
     if rule.kind == "always" or as_given or not cells:
         return found
     if is_too_much(answers.world):
@@ -157,7 +159,3 @@ def cells_of(scope: Scope, answers: Answers) -> List[int]:
     world, count = answers.world, answers.shape[2]
     kept = [references.keeps(action, it["arn"]) for action in world["actions"] for it in world["resources"]]
     return [cell for cell in every if kept[cell % (answers.shape[1] * count)]]
-
-
-def is_broken(rule: Rule, answers: Answers, cell: int) -> bool:
-    return (answers.at(cell).decision == "allowed") == (rule.kind == "never")

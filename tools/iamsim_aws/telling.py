@@ -8,6 +8,7 @@ from .documents import Policy, World, statements_of
 from .faults import line_of
 from .hanging import Turn
 from .reports import Answers
+from .strangers import is_stranger
 
 LAYERS = {
     "org": "organisation policy",
@@ -114,6 +115,7 @@ def as_json(answers: Answers, cell: int, turns: List[Turn]) -> Dict[str, Any]:
     ]
     return {
         "principal": row.principal,
+        "outside": is_stranger(answers.world["principals"][answers.place(cell)[0]]),
         "action": row.action,
         "resource": row.resource,
         "decision": row.answer.decision,

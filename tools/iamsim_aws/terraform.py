@@ -13,7 +13,7 @@ from .organizations import CONTROL, SERVICE
 
 Values = Dict[str, Any]
 INDEX = re.compile(r"\[[^\]]*\]")
-QUEUE = re.compile(r"https://sqs\.((?!us-gov-)[a-z0-9-]+)\.amazonaws\.com/(\d{12})/([^/]+)")
+QUEUE = re.compile(r"https://sqs\.((?!us-gov-)[a-z0-9-]+)\.amazonaws\.com/([0-9]{12})/([^/]+)")
 INLINE = {"user": "UserPolicyList", "group": "GroupPolicyList", "role": "RolePolicyList"}
 ATTACHED = ("AttachedManagedPolicies", "PolicyArn")
 
@@ -471,41 +471,64 @@ def give_before(apply: Apply, change: Change) -> None:
         )
 
 
+def of_access(apply: Apply, change: Change, kind: Optional[str]) -> bool:
+    """Whether a policy of the organisation decides on access, and not on tags or backups: then --organization has to be there."""
+    if (kind or SERVICE) not in (SERVICE, CONTROL):
+        return False
+    if not apply.organization.is_there:
+        raise Fault(f"{change.address}: the plan changes policies of the organisation: give it by --organization")
+    return True
+
+
 def on_organization_policy(apply: Apply, change: Change) -> None:
-    for values, is_there in ((change.before, False), (change.after, True)):
-        name = (values or {}).get("id") or change.address
-        if values and not is_there and change.after is None:
-            apply.organization.policies.pop(name, None)
-        if values and is_there:
-            content = apply.document(change, "content")
-            summary = {
-                "Id": name,
-                "Arn": values.get("arn") or name,
-                "Name": values.get("name"),
-                "Type": values.get("type") or SERVICE,
-            }
-            if content is not None:
-                apply.organization.policies[name] = {"PolicySummary": summary, "Content": content}
+    policies, values = apply.organization.policies, change.after or change.before or {}
+    own = (change.before or {}).get("id")
+    if of_access(apply, change, values.get("type")) and change.before and own not in policies:
+        apply.notes.append(
+            f"{change.address}: the organization has no policy {own}: it is taken to bind nobody who is asked"
+        )
+    if change.after is None:
+        policies.pop(str(own), None)
+        return
+    name, content = values.get("id") or change.address, apply.document(change, "content")
+    summary = {
+        "Id": name,
+        "Arn": values.get("arn") or name,
+        "Name": values.get("name"),
+        "Type": values.get("type") or SERVICE,
+    }
+    if content is not None:
+        policies[name] = {"PolicySummary": summary, "Content": content}
+
+
+def detach(apply: Apply, change: Change, name: Any, target: Any) -> None:
+    """Takes a policy off a target; where the organization does not have it there, that is a fault or is told."""
+    items = apply.organization.targets.get(target)
+    if items is not None and any(it.get("Id") == name for it in items):
+        items[:] = [it for it in items if it.get("Id") != name]
+    elif items is not None and name in apply.organization.policies:
+        raise Fault(
+            f"{change.address}: the plan takes the policy {name} off {target}, to which the organization does not attach it: they do not match"
+        )
+    else:
+        apply.notes.append(
+            f"{change.address}: the organization does not have the policy {name} at {target}: taking it off is taken to change nothing"
+        )
 
 
 def on_organization_attachment(apply: Apply, change: Change) -> None:
-    before = change.before or {}
-    for items in apply.organization.targets.values():
-        items[:] = [
-            it
-            for it in items
-            if not (
-                it.get("Id") == before.get("policy_id")
-                and items is apply.organization.targets.get(before.get("target_id"))
-            )
-        ]
+    before, policies = change.before or {}, apply.organization.policies
     name, target = (apply.text(change, it) if change.after else None for it in ("policy_id", "target_id"))
+    summary = policies.get(str(name or before.get("policy_id")), {}).get("PolicySummary", {})
+    if not of_access(apply, change, summary.get("Type")):
+        return
+    if change.before:
+        detach(apply, change, before.get("policy_id"), before.get("target_id"))
     if name and target:
-        if name not in apply.organization.policies:
+        if name not in policies:
             raise Fault(f"{change.address}: neither the organization nor the plan has the policy {name}")
-        kind = apply.organization.policies[name]["PolicySummary"].get("Type") or SERVICE
-        if kind in (SERVICE, CONTROL):
-            apply.organization.targets.setdefault(target, []).append({"Id": name, "Type": kind})
+        kind = summary.get("Type") or SERVICE
+        apply.organization.targets.setdefault(target, []).append({"Id": name, "Type": kind})
 
 
 # The attribute that names whose policy it is, of each kind of resource with a policy.

@@ -3,10 +3,12 @@
 import json
 import os
 import sys
+import tempfile
 
-from harness import TOOLS, answer, same
+from harness import TOOLS, answer, aws, load, same
 
 sys.path.insert(0, os.path.join(os.path.dirname(TOOLS), "bench"))
+from exports import write
 from random_worlds import Maker
 from worlds import made
 
@@ -25,6 +27,15 @@ def test_worlds_to_measure_are_accepted():
         p, a, r = (len(world[it]) for it in ("principals", "actions", "resources"))
         wanted = f"ok principals {p} actions {a} resources {r} cells {p * a * r} statements {statements_in(world)}\n"
         same(answer(["check"], made(name)), (0, wanted.encode(), b""), name)
+
+
+def test_exports_to_measure_are_read():
+    """Two accounts of 40 users and 60 roles, each role a resource."""
+    paths = write(tempfile.mkdtemp(dir=os.environ["TOOLS_TEST_ROOM"]), 2)
+    same([load(it) for it in write(tempfile.mkdtemp(dir=os.environ["TOOLS_TEST_ROOM"]), 2)], [load(it) for it in paths])
+    world, _ = aws("world", *paths)
+    status, said, _ = answer(["check"], world.encode())
+    same((status, said.decode().rsplit(" statements", 1)[0]), (0, "ok principals 200 actions 1 resources 120 cells 24000"))
 
 
 def test_a_random_world_is_the_same_each_time():

@@ -71,6 +71,27 @@ def test_drafts_of_buckets_and_organisations():
         same(found, {("gained", ALICE, "sts:AssumeRole", f"{ACCOUNT}role/app/audit"): ("explicitDeny", "allowed")}, name)
 
 
+def test_drafts_that_bind_what_is_not_named():
+    """A resource control policy binds objects that no resource of the world is, before and after its draft."""
+    organization, allow = load(data("organization.json")), {"Effect": "Allow", "Principal": "*", "Action": "*", "Resource": "*"}
+    summary = {"Id": "p-10", "Name": "Edge", "Type": "RESOURCE_CONTROL_POLICY", "Arn": "arn:aws:organizations::999900001111:policy/o-example0001/resource_control_policy/p-10"}
+    organization["policies"] += [{"PolicySummary": summary, "Content": document(allow)},
+                                 {"PolicySummary": {**summary, "Id": "p-11", "Name": "Loose", "Arn": f"{summary['Arn'][:-2]}11"}, "Content": document(allow)}]
+    for items in organization["targets"].values():
+        items.append(summary)
+    draft = file(document(allow, {"Effect": "Deny", "Principal": "*", "Action": "s3:GetObject", "Resource": "arn:aws:s3:::new/*"}))
+    given = [EXPORT, "--organization", file({**organization, "controlled": ["s3"]})]
+    rule = file("never * s3:GetObject arn:aws:s3:::new/x\n")
+    aws("rules", rule, *given, status=3)
+    for name in ("Edge", "p-10", summary["Arn"]):
+        aws("rules", rule, *given, "--put", f"{name}={draft}")
+    # alice, bob and deploy read any object.
+    found = changes(*given, "--put", f"Edge={draft}", "--action", "s3:GetObject", "--resource", "arn:aws:s3:::new/*")
+    same(found, {("lost", it, "s3:GetObject", "arn:aws:s3:::new/x"): ("allowed", "explicitDeny") for it in (ALICE, BOB, f"{SESSION}deploy/s1")})
+    _, said = aws("rules", rule, *given, "--put", f"Loose={draft}", status=1)
+    same(said, "iamsim-aws: --put Loose: nobody has this policy, so the draft changes nothing\n")
+
+
 def test_drafts_that_are_of_nothing():
     draft = file(document())
     _, said = aws("changes", EXPORT, "--put", f"NoSuch={draft}", status=1)
@@ -139,17 +160,21 @@ def test_changes_in_words_and_for_a_review():
     assert "&#60;b&#62;No" in lines[6] and "Old&#124;&#96;" in lines[6], lines[6]
 
 
-def test_who_is_not_asked_of_what_changes():
-    """A draft that trusts an account without an export changes nothing that is asked, which is said; what stays as it is, is not."""
-    role = f"{ACCOUNT}role/app/audit"
-    trust = lambda who: file(document({"Effect": "Allow", "Principal": who, "Action": "sts:AssumeRole"}))
-    told = lambda said: [it for it in said.splitlines() if f"the policy of {ACCOUNT}" in it]
-    _, said = aws("changes", EXPORT, "--put", f"audit={trust({'AWS': ['999988887777', ALICE]})}")
-    same(told(said), [f"iamsim-aws: the policy of {role} names 999988887777, of which there is no export: nobody there is asked"])
-    _, said = aws("changes", EXPORT, "--put", f"audit={trust('*')}")
-    same(told(said), [f"iamsim-aws: the policy of {role} names everybody (*): only principals of the exports are asked"])
-    _, said = aws("changes", EXPORT, "--put", f"audit={trust({'AWS': BOB})}")
-    same(told(said), [])
+def test_a_review_has_the_warnings():
+    """What stands on standard error stands in the Markdown too."""
+    plan = file({"resource_changes": [{"address": "aws_lambda_function.f", "mode": "managed", "type": "aws_lambda_function",
+                                       "change": {"before": None, "after": {"name": "`<f>"}, "after_unknown": {}}}]})
+    out, said = aws("changes", EXPORT, "--terraform", plan, "--format", "markdown")
+    lines = [line[len("iamsim-aws: "):] for line in said.splitlines()]
+    same(lines, ["1 changes of aws_lambda_function are not read: they are taken to change no policy",
+                 "without --services an action pattern is taken over the actions of the world and of its policies",
+                 "no request was compared: the two sides differ in no policy, or no resource matches"])
+    same(out.splitlines(), ["**0 lost and 0 gained, of 0 requests**", "", "### Notes", "",
+                            "- <code>1 changes of aws&#95;lambda&#95;function are not read: they are taken to change no policy</code>",
+                            f"- <code>{lines[1].replace('`', '&#96;')}</code>", f"- <code>{lines[2]}</code>"])
+    before = small_world(document(statement()))
+    out, said = aws("changes", "--before", file(before), "--after", file(before), "--action", "s3:GetObject", "--format", "markdown")
+    same((out, said), ("**0 lost and 0 gained, of 1 requests**\n", ""))
 
 
 def test_actions_without_the_service_reference():

@@ -17,6 +17,7 @@ sys.path.insert(0, TOOLS)
 from iamsim_aws import command  # noqa: E402
 
 EXPORT = data("account.json")
+ORGANIZATION = load(data("organization.json"))
 
 
 def call(*words):
@@ -62,7 +63,9 @@ def test_faults_name_what_was_read_and_where():
         (["--resources", file({})], "it is no list of resources"), (["--resources", file(["x"])], "resource 0 is no object"),
         (["--resources", file([{"arn": "a", "account": "111122223333", "policy": "{"}])], "a policy: its document: it is no JSON"),
         (["--context", file([])], "it is no object"), (["--organization", file([])], "it is no object"),
-        (["--organization", file({"id": "o", "parents": 3})], "organization: parents is not of the form"),
+        (["--organization", file({**ORGANIZATION, "parents": 3})], "organization: parents is not of the form"),
+        (["--organization", file({"Roots": []})], "it is no file of 'iamsim-aws organization': it has no id"),
+        (["--organization", file({**ORGANIZATION, "targets": None})], "organization: targets is not of the form"),
         (["--actions", file("# none\n")], "the world has no actions"), (["--services", file("{}")], "it is no file of AWS's service reference"),
         (["--resources", "no-such-file"], "no-such-file: No such file or directory"), (["--resources", TOOLS], "Is a directory"),
         (["--resources", file(b"\x1f\x8bcut")], "iamsim-aws: "), (["--resources", file(b"\xff\xfe\x00")], "no text in UTF-8 or UTF-16"),
@@ -74,6 +77,21 @@ def test_faults_name_what_was_read_and_where():
         aws("world", file(value), status=1)
     same(run([AWS, "world"], status=2)[0], "")
     same(run([AWS, "world", EXPORT, "--moment", "-1"], status=2)[0], "")
+
+
+def test_equal_keys_are_told():
+    """Of equal keys of an object the last stands; each is told once, with its file."""
+    twice = '{"Version": "2012-10-17", "Statement": {"Effect": "Deny", "Principal": "*", "Action": "s3:GetObject", "Action": "s3:Put*", "Effect": "Allow", "Resource": "*", "Action": "s3:Get*"}}'
+    path = file(twice)
+    out, said = aws("can", "alice", "s3:GetObject", "arn:aws:s3:::b/k", EXPORT, "--policy", path)
+    assert out.startswith("allowed: "), out
+    same(said.splitlines(), [f"iamsim-aws: {path}: the key {it} comes twice in one object: the last one stands" for it in ("Effect", "Action")])
+    # In a file of other things, and in a policy that stands there as a text.
+    for value, what in ((f'[{{"arn": "arn:aws:s3:::b", "account": "111122223333", "policy": {twice}}}]', None),
+                        (json.dumps([{"arn": "arn:aws:s3:::b", "account": "111122223333", "policy": twice}]), "arn:aws:s3:::b policy: its document")):
+        further = file(value)
+        _, said = aws("who-can", "ec2:RunInstances", "arn:aws:s3:::b", EXPORT, "--resources", further)
+        same(said.splitlines(), [f"iamsim-aws: {what or further}: the key {it} comes twice in one object: the last one stands" for it in ("Effect", "Action")])
 
 
 def test_check_tells_every_fault():

@@ -248,32 +248,3 @@ def test_answers_as_csv():
                  [f"{ACCOUNT}user/alice", "sts:AssumeRole", f"{ACCOUNT}role/app/audit", "allowed",
                   f"{ACCOUNT}role/app/audit trust policy, statement 0 (the resource's policy); "
                   f"{ACCOUNT}policy/AssumeRoles, statement 0 AppRoles (identity policy)", "", ""]])
-
-
-def strangers(said):
-    """What is told of who is not asked."""
-    return [line for line in said.splitlines() if "asked" in line and "the policy of" in line]
-
-
-def test_who_is_not_asked():
-    """Of an account without an export nobody is asked, which is said once for each that a policy grants to."""
-    bucket = "arn:aws:s3:::releases"
-    allow = lambda *who, **more: {"Effect": "Allow", "Principal": {"AWS": list(who)}, "Action": "s3:GetObject", "Resource": "*", **more}
-    line = lambda holder, account: f"iamsim-aws: the policy of {holder} names {account}, of which there is no export: nobody there is asked"
-    everybody = f"iamsim-aws: the policy of {bucket} names everybody (*): only principals of the exports are asked"
-    own = f"{ACCOUNT}user/alice"
-    deny = {**allow("555566667777"), "Effect": "Deny"}
-    cases = [(allow("999988887777", "arn:aws:iam::999988887777:role/r", own), [line(bucket, "999988887777")]),
-             (allow("arn:aws:sts::444455556666:assumed-role/r/s"), [line(bucket, "444455556666")]), (allow(own), []), (deny, []),
-             (allow("*"), [everybody]), ({**allow(), "Principal": "*"}, [everybody]), ({**allow(), "Principal": {"Service": "s3.amazonaws.com"}}, [])]
-    for one, wanted in cases:
-        further = file([{"arn": bucket, "account": "111122223333", "policy": document(one)}])
-        _, said = aws("who-can", "s3:GetObject", bucket, EXPORT, "--resources", further)
-        same(strangers(said), wanted, one)
-        _, said = aws("rules", file(f"never carol s3:GetObject {bucket}\nnever alice s3:PutObject {bucket}\n"), EXPORT, "--resources", further, "--allow-empty")
-        same(strangers(said), wanted, one)
-    # The role partner trusts 444455556666: with the export of that account it is asked.
-    role = f"{ACCOUNT}role/app/partner"
-    for exports, wanted in (([EXPORT], [line(role, "444455556666")]), ([EXPORT, data("partner.json")], [])):
-        _, said = aws("who-can", "sts:AssumeRole", role, *exports)
-        same(strangers(said), wanted)

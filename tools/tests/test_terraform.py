@@ -248,6 +248,30 @@ def test_policies_of_the_organisation():
     same(changes(plan(new, attached, configuration=root), *given), {("lost", it, OBJECT) for it in (ALICE, BOB, f"{SESSION}deploy/s1")})
 
 
+def test_plans_that_do_not_fit_the_organisation():
+    scp = {"id": "p-00000001", "name": "NoAudit", "type": "SERVICE_CONTROL_POLICY", "content": text(statement("Deny"))}
+    attachment = {"policy_id": "p-00000001", "target_id": "111122223333"}
+    plans = [change("aws_organizations_policy.p", scp, None), change("aws_organizations_policy.p", None, scp),
+             change("aws_organizations_policy_attachment.a", attachment, None), change("aws_organizations_policy_attachment.a", None, attachment)]
+    for it in plans:
+        _, said = aws("changes", EXPORT, "--terraform", plan(it), status=1)
+        same(said, f"iamsim-aws: {it['address']}: the plan changes policies of the organisation: give it by --organization\n")
+    # Policies of another kind decide on no access.
+    tags = {"id": "p-t", "name": "Tags", "type": "TAG_POLICY", "content": text()}
+    of_tags = change("aws_organizations_policy.t", None, {"name": "Tags", "type": "TAG_POLICY", "content": text()}, id=True)
+    same(changes(plan(change("aws_organizations_policy.t", tags, None))), set())
+    same(changes(plan(of_tags)), set())
+    given = [EXPORT, "--organization", data("organization.json")]
+    # NoAudit is attached to the unit, not to the account.
+    _, said = aws("changes", *given, "--terraform", plan(plans[2]), status=1)
+    assert "the plan takes the policy p-00000001 off 111122223333, to which the organization does not attach it: they do not match" in said, said
+    stranger = change("aws_organizations_policy_attachment.a", {"policy_id": "p-9", "target_id": "ou-ab12-9"}, None)
+    _, said = aws("changes", *given, "--terraform", plan(stranger))
+    assert "the organization does not have the policy p-9 at ou-ab12-9: taking it off is taken to change nothing" in said, said
+    _, said = aws("changes", *given, "--terraform", plan(change("aws_organizations_policy.p", {**scp, "id": "p-9"}, None)))
+    assert "aws_organizations_policy.p: the organization has no policy p-9: it is taken to bind nobody who is asked" in said, said
+
+
 def test_plans_that_fit_nothing():
     stranger = plan(change("aws_iam_user_policy.x", None, {"user": "stranger", "name": "x", "policy": READ}))
     _, said = aws("changes", EXPORT, "--terraform", stranger, status=1)
@@ -288,6 +312,29 @@ def test_what_the_export_lacks():
     inline, attached = {"user": "bob", "name": "Anything", "policy": text(statement())}, {"user": "bob", "policy_arn": f"{ACCOUNT}policy/AssumeRoles"}
     gone = plan(change("aws_iam_user.b", bob, None), change("aws_iam_user_policy.b", inline, None), change("aws_iam_user_policy_attachment.b", attached, None))
     same(changes(gone), {("lost", BOB, OBJECT)})
+
+
+def test_a_managed_policy_that_the_export_does_not_hold():
+    """One of AWS's that nobody has yet: --put gives its document to a plan that attaches it."""
+    arn = "arn:aws:iam::aws:policy/AmazonS3ReadOnlyAccess"
+    made = plan(change("aws_iam_role_policy_attachment.a", None, {"role": "audit", "policy_arn": arn}))
+    _, said = aws("changes", EXPORT, "--terraform", made, status=1)
+    assert f"role/app/audit: the export does not hold the policy {arn}" in said, said
+    draft = file(document(statement(action="s3:Get*")))
+    same(changes(made, "--put", f"{arn}={draft}"), {("gained", f"{SESSION}audit/s1", OBJECT)})
+    rules = file(f"never audit s3:GetObject {OBJECT}\n")
+    out, _ = aws("rules", rules, EXPORT, "--resources", RESOURCES, "--terraform", made, "--put", f"{arn}={draft}", status=3)
+    assert f"allowed by {arn}, statement 0 (identity policy)" in out, out
+    # Without a plan nobody has it; the same of a policy of the export that nobody has.
+    _, said = aws("changes", EXPORT, "--put", f"{arn}={draft}", status=1)
+    same(said, f"iamsim-aws: --put {arn}: nobody has this policy, so the draft changes nothing\n")
+    export = load(EXPORT)
+    export["Policies"].append({**export["Policies"][1], "PolicyName": "Unused", "Arn": f"{ACCOUNT}policy/limits/Unused"})
+    for name in ("Unused", f"{ACCOUNT}policy/limits/Unused"):
+        _, said = aws("changes", file(export), "--put", f"{name}={draft}", status=1)
+        same(said, f"iamsim-aws: --put {name}: nobody has this policy, so the draft changes nothing\n")
+    _, said = aws("changes", EXPORT, "--put", f"{arn.replace('policy/', '')}={draft}", status=1)
+    assert "no policy and no resource is called so" in said, said
 
 
 def test_rules_over_a_plan():

@@ -8,7 +8,7 @@ from .. import drafts, files
 from ..changing import Changes, changes_of, differing, same_cell
 from ..covering import tell_actions, tell_strangers
 from ..documents import World
-from ..faults import Fault, line_of, tell
+from ..faults import TOLD, Fault, line_of, tell
 from ..paging import data, page
 from ..reports import csv_text
 from ..sources import add_source
@@ -55,13 +55,10 @@ def run(options: argparse.Namespace) -> int:
     tell_strangers(after, [world for it in found if not it.given for world in changed(it)])
     lines = [line for it in found for line in lines_of(it)]
     requests = sum(len(it.after.numbers) for it in found if not it.given)
-    if options.format == "page":
-        files.write(page_of(found))
-        return 3 if lines and options.exit_status else 0
-    write = {"text": as_text, "csv": as_csv, "markdown": as_markdown}[options.format]
-    files.write(write(lines, requests))
-    if not requests:
+    if not requests and options.format != "page":
         tell("no request was compared: the two sides differ in no policy, or no resource matches")
+    write = {"text": as_text, "csv": as_csv, "markdown": as_markdown}
+    files.write(page_of(found) if options.format == "page" else write[options.format](lines, requests))
     return 3 if lines and options.exit_status else 0
 
 
@@ -139,7 +136,7 @@ def code(text: str) -> str:
 
 
 def as_markdown(lines: List[Line], requests: int) -> str:
-    """For a review's comment."""
+    """For a review's comment, with what was told on standard error."""
     found = [f"**{summary(lines, requests)}**", ""]
     for kind in ("lost", "gained"):
         of = [it for it in lines if it.change == kind]
@@ -159,4 +156,5 @@ def as_markdown(lines: List[Line], requests: int) -> str:
             ]
             found.append(f"| {' | '.join(cells)} |")
         found += [""] if of else []
+    found += ["### Notes", "", *(f"- {code(it)}" for it in TOLD)] if TOLD else []
     return "\n".join(found).rstrip("\n") + "\n"

@@ -13,6 +13,7 @@ from ..hanging import Turn
 from ..questions import Asked, Question, Scope, missing, worlds
 from ..reports import Answers, csv_text
 from ..sources import add_source, source_of
+from ..strangers import is_stranger
 from ..telling import HEADER, as_fields, as_json, told
 from .parsers import add, whole
 
@@ -156,7 +157,7 @@ def can(options: argparse.Namespace) -> int:
 
 
 def who_can(options: argparse.Namespace) -> int:
-    scope = scope_of(options)
+    scope = scope_of(options)._replace(outside=True)
     found = answered(scope, Question("*", options.action, options.resource))
     lines: List[str] = []
     for it in found:
@@ -169,20 +170,31 @@ def who_can(options: argparse.Namespace) -> int:
 
 
 def who_lines(found: Found) -> List[str]:
-    """Who is allowed, and who would be with one key more."""
-    _, answers, turns = found
-    allowed = answers.allowed()
-    some = set(allowed)
-    hanging_cells = [cell for cell in sorted(turns) if cell not in some]
-    people, cells = len({answers.place(it)[0] for it in allowed}), len(answers.numbers)
-    lines = [f"{people} of {answers.shape[0]} principals are allowed, by {len(allowed)} of {cells} requests"]
-    for cell in allowed:
-        lines += told(answers, cell, turns.get(cell, []), False)
-    if hanging_cells:
-        lines.append(f"{len(hanging_cells)} more would be, with a key that nothing gives:")
-    for cell in hanging_cells:
-        lines += told(answers, cell, turns[cell], False)
+    """Who is allowed, and who would be with one key more; then the same of who is outside."""
+    answers = found.answers
+    outside = [is_stranger(it) for it in answers.world["principals"]]
+    people = len(outside) - sum(outside)
+    some = [it for it in answers.allowed() if not outside[answers.place(it)[0]]]
+    who, cells = len({answers.place(it)[0] for it in some}), people * answers.shape[1] * answers.shape[2]
+    lines = [f"{who} of {people} principals are allowed, by {len(some)} of {cells} requests"]
+    lines += lines_for(found, some, [it for it in sorted(found.turns) if not outside[answers.place(it)[0]]])
+    if any(outside):
+        some = [it for it in answers.allowed() if outside[answers.place(it)[0]]]
+        who = len({answers.place(it)[0] for it in some})
+        what = "stand-ins for who is outside the exports are allowed, where their own accounts let them"
+        lines.append(f"{who} of {sum(outside)} {what}")
+        lines += lines_for(found, some, [it for it in sorted(found.turns) if outside[answers.place(it)[0]]])
     return lines
+
+
+def lines_for(found: Found, allowed: List[int], turned: List[int]) -> List[str]:
+    _, answers, turns = found
+    some = set(allowed)
+    lines = [line for it in allowed for line in told(answers, it, turns.get(it, []), False)]
+    more = [it for it in turned if it not in some]
+    if more:
+        lines.append(f"{len(more)} more would be, with a key that nothing gives:")
+    return lines + [line for it in more for line in told(answers, it, turns[it], False)]
 
 
 def chain_lines(scope: Scope, found: List[Found], depth: int) -> List[str]:

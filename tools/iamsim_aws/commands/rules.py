@@ -2,15 +2,15 @@
 
 import argparse
 import time
-from typing import Any, Dict, List
-from urllib.parse import quote
-from xml.sax.saxutils import escape, quoteattr
+from typing import Any, List, Set
 
 from .. import drafts, files
 from ..covering import tell_actions, tell_strangers
-from ..faults import line_of, tell
+from ..faults import Fault, line_of, tell
+from ..pipelines import Case, fault, junit, sarif
 from ..questions import Scope
 from ..ruling import Break, Outcome, check, read_rules
+from ..slips import slips
 from ..sources import add_source, source_of
 from ..telling import BY, LACKS, causes
 from .parsers import add, whole
@@ -35,6 +35,22 @@ def add_all(commands: Any) -> None:
 
 
 def run(options: argparse.Namespace) -> int:
+    """The status; where there is no answer, the reports for pipelines say so and none of an earlier run is left."""
+    report(options, [fault(files.name_of(options.rules), "it came to no answer")])
+    try:
+        return checked(options)
+    except Fault as why:
+        report(options, [fault(files.name_of(options.rules), str(why))])
+        raise
+
+
+def report(options: argparse.Namespace, cases: List[Case]) -> None:
+    for path, write in ((options.junit, junit), (options.sarif, sarif)):
+        if path:
+            files.write_file(path, write(cases))
+
+
+def checked(options: argparse.Namespace) -> int:
     if options.moment is None:
         options.moment = int(time.time())
     rules = read_rules(options.rules)
@@ -48,10 +64,7 @@ def run(options: argparse.Namespace) -> int:
     counts = {state: sum(it.state == state for it in outcomes) for state in STATUSES}
     files.write(f"{len(outcomes)} rules: " + ", ".join(f"{n} {state}" for state, n in counts.items()) + "\n")
     fails = {"broken"} if options.allow_empty else {"broken", "empty"}
-    if options.junit:
-        files.write_file(options.junit, junit(outcomes, options.most, fails))
-    if options.sarif:
-        files.write_file(options.sarif, sarif(outcomes, options.most, fails))
+    report(options, [case_of(it, options.most, fails) for it in outcomes])
     found = [STATUSES[state] for state in ("broken", "empty") if counts[state] and state in fails]
     return found[0] if found else 0
 
@@ -60,6 +73,9 @@ def notes(scope: Scope, outcomes: List[Outcome]) -> None:
     """What the outcomes cover."""
     tell_actions(scope.source, [it.rule.question.action for it in outcomes])
     tell_strangers(scope.source, [asked.world for it in outcomes for asked in it.asked])
+    for it in outcomes:
+        for line in slips(scope, it.rule.question) if it.rule.kind == "never" and it.state == "kept" else ():
+            tell(f"{it.rule.name}: {line}")
     added = {arn for it in outcomes for asked in it.asked for arn in asked.added}
     for arn in sorted(added):
         tell(f"{arn} is not in the world: it is asked for without a policy of its own, but its bucket's")
@@ -95,56 +111,9 @@ def lines_of(outcome: Outcome, most: int) -> List[str]:
     return [*lines, f"  and {more} more"] if more > 0 else lines
 
 
-def clean(text: str) -> str:
-    """A text of XML in one line; what XML cannot hold is told by its escape."""
-    return line_of(text)
-
-
-def junit(outcomes: List[Outcome], most: int, fails: Any) -> str:
-    failures = sum(it.state in fails for it in outcomes)
-    lines = [
-        '<?xml version="1.0" encoding="UTF-8"?>',
-        f'<testsuite name="iamsim-aws rules" tests="{len(outcomes)}" failures="{failures}">',
-    ]
-    for it in outcomes:
-        head = f"<testcase classname={quoteattr(clean(it.rule.file))} name={quoteattr(clean(f'{it.rule.name}: {it.rule.text}'))}"
-        if it.state not in fails:
-            lines.append(f"  {head}/>")
-            continue
-        text = "\n".join(escape(clean(line)) for line in lines_of(it, most))
-        lines += [
-            f"  {head}>",
-            f'    <failure type="{it.state}" message={quoteattr(clean(lines_of(it, most)[-1].strip()))}>{text}</failure>',
-            "  </testcase>",
-        ]
-    return "\n".join([*lines, "</testsuite>"]) + "\n"
-
-
-def result(outcome: Outcome, text: str) -> Dict[str, Any]:
-    place = {
-        "artifactLocation": {"uri": quote(outcome.rule.file.replace("\\", "/"))},
-        "region": {"startLine": outcome.rule.line},
-    }
-    return {
-        "ruleId": outcome.state,
-        "level": "error",
-        "message": {"text": f"{outcome.rule.text}: {text}"},
-        "locations": [{"physicalLocation": place}],
-    }
-
-
-def sarif(outcomes: List[Outcome], most: int, fails: Any) -> str:
-    results = []
-    for it in outcomes:
-        if it.state in fails:
-            texts = [message(one) for one in it.broken[:most]] or [it.empty]
-            results += [result(it, text) for text in texts]
-    described = {"broken": "A rule of access is broken", "empty": "A rule of access meets no request"}
-    rules = [{"id": name, "shortDescription": {"text": text}} for name, text in described.items()]
-    driver = {"name": "iamsim-aws", "rules": rules}
-    value = {
-        "$schema": "https://json.schemastore.org/sarif-2.1.0.json",
-        "version": "2.1.0",
-        "runs": [{"tool": {"driver": driver}, "results": results}],
-    }
-    return files.compact(value) + "\n"
+def case_of(outcome: Outcome, most: int, fails: Set[str]) -> Case:
+    """An outcome as reports for pipelines have it."""
+    rule, passes = outcome.rule, outcome.state not in fails
+    reasons = [message(it) for it in outcome.broken[:most]] or [outcome.empty]
+    lines = lines_of(outcome, most)
+    return Case(rule.file, rule.line, rule.text, outcome.state, [] if passes else lines, [] if passes else reasons)

@@ -1,0 +1,51 @@
+"""Names in rules that are likely a slip: what they mean is met by nothing but patterns for all of a service."""
+
+from typing import List
+
+from .arns import names_of_resource, resource_part
+from .documents import places, statements_of
+from .kinds import patterns_of_actions, texts_of
+from .patterns import VARIABLE, any_matches, common, is_pattern
+from .questions import Question, Scope
+from .sources import ASSUME
+
+
+def is_wide(name: str) -> bool:
+    """Whether a pattern leaves the name of an action or of a resource open."""
+    return not name.strip("*?/")
+
+
+def is_known_action(scope: Scope, asked: str) -> bool:
+    """Whether a list of actions or a policy names an action that a pattern means."""
+    source = scope.source
+    spoken = patterns_of_actions(source.world([ASSUME]))
+    named = [*source.references.actions(), *source.actions, *(it for it in spoken if not is_wide(it.partition(":")[2]))]
+    return any(common(it, asked, True) for it in named)
+
+
+def is_known_resource(scope: Scope, asked: str) -> bool:
+    """Whether the world or a policy names a resource that a pattern means."""
+    world = scope.source.world([ASSUME])
+    if any(any_matches([asked], names_of_resource(it["arn"])) for it in world["resources"]):
+        return True
+    every = (statement for it in places(world) for statement in statements_of(it.policy.document))
+    named = {VARIABLE.sub("*", text) for it in every for text in texts_of(it, "Resource", "NotResource")}
+    return any(may_mean(asked, it) for it in named if not is_wide(resource_part(it)))
+
+
+def may_mean(asked: str, pattern: str) -> bool:
+    """Whether two patterns of resources meet part by part: a wildcard may hold colons, but is hardly meant to."""
+    parts = asked.split(":", 5), pattern.split(":", 5)
+    if not len(parts[0]) == len(parts[1]) == 6:
+        parts = [asked.rpartition(":")[2]], [resource_part(pattern)]
+    return all(common(one, other) is not None for one, other in zip(*parts))
+
+
+def slips(scope: Scope, question: Question) -> List[str]:
+    """A line for each name of a question that is likely a slip."""
+    action, resource, found = question.action, question.resource, []
+    if not is_wide(action) and not is_known_action(scope, action):
+        found.append(f"no list and no policy names an action that {action} means, but for all of a service")
+    if is_pattern(resource) and not is_wide(resource_part(resource)) and not is_known_resource(scope, resource):
+        found.append(f"nothing names a resource that {resource} means, but policies for all")
+    return [f"{it}: is it a slip?" for it in found]
