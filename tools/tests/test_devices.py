@@ -4,6 +4,7 @@ import itertools
 import json
 import os
 import subprocess
+import tempfile
 
 from harness import EXAMPLES, IAMSIM, answer, row_world, same
 
@@ -146,6 +147,25 @@ def test_a_small_stack():
         for words in EVERY:
             found = answer(["-c", f'ulimit -s 256; exec "$0" {words}', IAMSIM], text, program="bash")
             same(found, (1, b"", f"fault 2 World: {line}\n".encode()), words)
+
+
+def test_many_elements_on_many_actions_take_little_memory():
+    # 4,096 different patterns of actions, each tried on 4,096 actions: what is kept of them is bounded.
+    statements = [{"Effect": "Allow", "Action": f"s3:Get{i}?", "Resource": "*"} for i in range(4096)]
+    documents = [{"Version": "2012-10-17", "Statement": statements[at : at + 1024]} for at in range(0, 4096, 1024)]
+    world = {"moment": 0, "accounts": [{"id": "111122223333"}], "principals": [{"user": ANN, "identity": documents}],
+             "actions": [f"s3:Get{i}x" for i in range(4096)], "resources": [{"arn": "arn:aws:s3:::b/k", "account": "111122223333"}]}
+    text = json.dumps(world).encode()
+    wanted = BRIEF_HEADER + "".join(f"{i},{ANN},s3:Get{i}x,arn:aws:s3:::b/k,allowed\n" for i in range(4096))
+    with tempfile.TemporaryFile() as given, tempfile.TemporaryFile() as out:
+        given.write(text)
+        given.seek(0)
+        ran = subprocess.Popen([IAMSIM, "matrix", "--brief", "--workers", "4"], stdin=given, stdout=out)
+        _, status, used = os.wait4(ran.pid, 0)
+        ran.returncode = status
+        out.seek(0)
+        same((status, out.read()), (0, wanted.encode()))
+    assert used.ru_maxrss < 80 * 1024, f"{used.ru_maxrss} KiB"
 
 
 def test_refused_command_lines_go_to_standard_error():

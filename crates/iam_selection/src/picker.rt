@@ -97,6 +97,11 @@ fn resources(alloc: Global, world: &World, selection: &Selection) -> Result<Vec<
     Ok(flags)
 }
 
+/// How many are meant.
+fn count(flags: &[bool]) -> u64 {
+    flags.iter().filter(|&&flag| flag).count() as u64
+}
+
 impl<'a> Picker<'a> {
     /// What a selection means in a world. `OutOfMemory` comes where there is no memory for it.
     pub fn of(
@@ -128,6 +133,18 @@ impl<'a> Picker<'a> {
         ensures { result.now ≡ self.now.selection }
     {
         self.selection
+    }
+
+    /// Whether many pairs of a principal and a resource are meant: one in eight, or more.
+    pub fn is_broad(&self) -> bool {
+        let pairs = self
+            .world
+            .principals()
+            .saturating_mul(self.world.resources());
+        let meant = count(self.principals.as_slice()).saturating_mul(count(
+            self.resources.as_slice(),
+        ));
+        meant >= pairs / 8
     }
 
     /// Whether a request of a cell's principal for its action may be selected, whatever the resource.

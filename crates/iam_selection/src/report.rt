@@ -45,11 +45,22 @@ pub fn selected_report<R: Threads + Sync, G: Gate + Sync>(
     one_triple();
     let quoted = Quoted::of(alloc, world, format)?;
     let picker = Picker::of(alloc, world, selection)?;
-    let index = Index::sparse(alloc, world)?;
+    let index = index_of(alloc, world, picker.is_broad())?;
     let tiles = picked_tiles(
         rt, alloc, &index, &picker, cut, workers, gate, format, brief,
     )?;
     Ok(ListText::of(quoted, brief, tiles))
+}
+
+/// The index of a world; with the rows of resource elements, which cost time at first, where many pairs are looked at.
+fn index_of<'a>(alloc: Global, world: &'a World, is_broad: bool) -> Result<Index<'a>, OutOfMemory>
+    ensures { IfOk result (λ index. index ≡ world.entry.now) }
+{
+    if is_broad {
+        Index::build(alloc, world)
+    } else {
+        Index::sparse(alloc, world)
+    }
 }
 
 /// The rows of all tiles that are asked for, in the order of tiles.

@@ -18,7 +18,7 @@ fn the_signs_of_a_pattern_are_a_pattern(rt: HostRuntime) -> Result<(), Fail> {
 }
 
 /// Patterns, texts, and whether they match with regard to case and without.
-const COMPILED: [(&str, &str, bool, bool); 10] = [
+const COMPILED: [(&str, &str, bool, bool); 14] = [
     ("s3:GetObject", "s3:GetObject", true, true),
     ("s3:GetObject", "S3:getobject", false, true),
     ("s3:Get*", "S3:GETOBJECT", false, true),
@@ -29,7 +29,16 @@ const COMPILED: [(&str, &str, bool, bool); 10] = [
     ("ab*ab", "aba", false, false),
     ("*a?c*", "xxabcx", true, true),
     ("????", "\u{e9}\u{e9}\u{e9}\u{e9}", true, true),
+    // A walk that tries each splitting would not end.
+    (MANY_WILDCARDS, MANY_LETTERS, false, false),
+    (MANY_WILDCARDS, "aaaaaaaaaaaaaaaaaaaaaaaab", true, true),
+    (MANY_WILDCARDS, "AAAAAAAAAAAAAAAAAAAAAAAAB", false, true),
+    ("?*?*?*?*?*?*", "\u{e9}\u{e9}\u{e9}\u{e9}\u{e9}", false, false),
 ];
+
+const MANY_WILDCARDS: &str = "*a*a*a*a*a*a*a*a*a*a*a*a*a*a*a*a*a*a*a*a*a*a*a*a*b";
+
+const MANY_LETTERS: &str = "aaaaaaaaaaaaaaaaaaaaaaaaaaaaaaaaaaaaaaaaaaaaaaaaaaaaaaaaaaaaaaaaaaaaaaaaaaaaaaaaaaaaaaaaaaaa";
 
 #[test]
 fn compiled_patterns_match(rt: HostRuntime) -> Result<(), Fail> {
