@@ -113,15 +113,7 @@ fn first<T: Threads + Sync>(
     ensures fault { IfErr result (λ fault. IsCellsRefusal options.now world.now fault) }
 {
     let cut = cut_cells(alloc, options, world)?;
-    let text = first_selected_report(
-        rt,
-        alloc,
-        world,
-        selection,
-        &cut,
-        options.workers,
-        &Open,
-    )?;
+    let text = first_selected_report(rt, alloc, world, selection, &cut, options.workers, &Open)?;
     Ok(Report::Whole(text))
 }
 

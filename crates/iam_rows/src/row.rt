@@ -3,7 +3,9 @@
 // `status`, else 0 without a fault and 1 with one. Where it has `runs`, each of these has words and an answer of its own.
 use crate::input::{input_of, number_at, text_at};
 use crate::problem::Problem;
-use iam_app::{Command, RunFault, Usage, command_of, fault_line, run, run_selected, selection_of, status};
+use iam_app::{
+    Command, RunFault, Usage, command_of, fault_line, run, run_selected, selection_of, status,
+};
 use serde_json::Value;
 use std::alloc::Global;
 use std::thread::Threads;
@@ -153,14 +155,7 @@ fn outcome_of<R: AllocGlobal + Threads + Sync>(
         return run(rt, alloc, &command.options, &mut reader, output);
     }
     let selection = selection_of(alloc, &command.asked)?;
-    run_selected(
-        rt,
-        alloc,
-        &command.options,
-        &selection,
-        &mut reader,
-        output,
-    )
+    run_selected(rt, alloc, &command.options, &selection, &mut reader, output)
 }
 
 /// What comes of words that ask for no run. Of a refused command line the first line of its text is the fault.

@@ -33,12 +33,18 @@ const COMPILED: [(&str, &str, bool, bool); 14] = [
     (MANY_WILDCARDS, MANY_LETTERS, false, false),
     (MANY_WILDCARDS, "aaaaaaaaaaaaaaaaaaaaaaaab", true, true),
     (MANY_WILDCARDS, "AAAAAAAAAAAAAAAAAAAAAAAAB", false, true),
-    ("?*?*?*?*?*?*", "\u{e9}\u{e9}\u{e9}\u{e9}\u{e9}", false, false),
+    (
+        "?*?*?*?*?*?*",
+        "\u{e9}\u{e9}\u{e9}\u{e9}\u{e9}",
+        false,
+        false,
+    ),
 ];
 
 const MANY_WILDCARDS: &str = "*a*a*a*a*a*a*a*a*a*a*a*a*a*a*a*a*a*a*a*a*a*a*a*a*b";
 
-const MANY_LETTERS: &str = "aaaaaaaaaaaaaaaaaaaaaaaaaaaaaaaaaaaaaaaaaaaaaaaaaaaaaaaaaaaaaaaaaaaaaaaaaaaaaaaaaaaaaaaaaaaa";
+const MANY_LETTERS: &str =
+    "aaaaaaaaaaaaaaaaaaaaaaaaaaaaaaaaaaaaaaaaaaaaaaaaaaaaaaaaaaaaaaaaaaaaaaaaaaaaaaaaaaaaaaaaaaaa";
 
 #[test]
 fn compiled_patterns_match(rt: HostRuntime) -> Result<(), Fail> {
