@@ -90,21 +90,26 @@ impl Entries {
     }
 
     /// Puts a decision behind the others, fewer than 2 ^ 32, as a verdict without places and layers.
+    #[inline(always)]
     pub fn push_decision(&mut self, alloc: Global, decision: Decision) -> Result<(), OutOfMemory>
         requires { length self.old < 2 ^ 32 }
         ensures { OnOk result (self.new ≡ self.old ++ bare decision ∷ []) }
     {
-        let last = self.hints.at(decision as usize);
-        let number = put_bare(
-            alloc,
-            &mut self.distinct,
-            &mut self.numbers,
-            &mut self.guesses,
-            last,
-            decision,
-        )?;
-        self.hints.set(decision as usize, number);
-        Ok(())
+        if let Some(number) = self.hints.at(decision as usize) {
+            if is_bare_at(self.distinct.as_slice(), number, decision) {
+                return self.numbers.push(number);
+            }
+        }
+        self.push_other(alloc, decision)
+    }
+
+    /// Puts a decision behind the others that its hint does not lead to.
+    #[inline(never)]
+    fn push_other(&mut self, alloc: Global, decision: Decision) -> Result<(), OutOfMemory>
+        requires { length self.old < 2 ^ 32 }
+        ensures { OnOk result (self.new ≡ self.old ++ bare decision ∷ []) }
+    {
+        self.push_hinted(alloc, decision as usize, &bare(alloc, decision))
     }
 
     /// The tails of their rows, in full or in brief.
@@ -136,29 +141,6 @@ fn tails_of(
         tails.push(Tail::of(alloc, format, brief, verdict)?)?;
     }
     Ok(tails)
-}
-
-/// Puts a decision behind the others, as a verdict without places and layers; its number.
-fn put_bare(
-    alloc: Global,
-    distinct: &mut Vec<Verdict>,
-    numbers: &mut Numbers,
-    guesses: &mut Guesses,
-    last: Option<u32>,
-    decision: Decision,
-) -> Result<u32, OutOfMemory>
-    requires { length distinct.old.items < 2 ^ 32 }
-    ensures put { IfOk result (λ number. IsPut (bare decision) number distinct.old.items numbers.old distinct.new.items numbers.new) }
-    ensures refused { OnErr result ((distinct.new.items ≡ distinct.old.items) × (numbers.new ≡ numbers.old)) }
-{
-    if let Some(number) = last {
-        if is_bare_at(distinct.as_slice(), number, decision) {
-            numbers.push(number)?;
-            return Ok(number);
-        }
-    }
-    let verdict = bare(alloc, decision);
-    put(alloc, distinct, numbers, guesses, None, &verdict)
 }
 
 /// Puts a verdict behind the others; its number. It is copied where none of them is found to be equal.
