@@ -4,7 +4,6 @@ import itertools
 import json
 import os
 import subprocess
-import tempfile
 
 from harness import EXAMPLES, IAMSIM, answer, row_world, same
 
@@ -155,17 +154,9 @@ def test_many_elements_on_many_actions_take_little_memory():
     documents = [{"Version": "2012-10-17", "Statement": statements[at : at + 1024]} for at in range(0, 4096, 1024)]
     world = {"moment": 0, "accounts": [{"id": "111122223333"}], "principals": [{"user": ANN, "identity": documents}],
              "actions": [f"s3:Get{i}x" for i in range(4096)], "resources": [{"arn": "arn:aws:s3:::b/k", "account": "111122223333"}]}
-    text = json.dumps(world).encode()
     wanted = BRIEF_HEADER + "".join(f"{i},{ANN},s3:Get{i}x,arn:aws:s3:::b/k,allowed\n" for i in range(4096))
-    with tempfile.TemporaryFile() as given, tempfile.TemporaryFile() as out:
-        given.write(text)
-        given.seek(0)
-        ran = subprocess.Popen([IAMSIM, "matrix", "--brief", "--workers", "4"], stdin=given, stdout=out)
-        _, status, used = os.wait4(ran.pid, 0)
-        ran.returncode = status
-        out.seek(0)
-        same((status, out.read()), (0, wanted.encode()))
-    assert used.ru_maxrss < 80 * 1024, f"{used.ru_maxrss} KiB"
+    found = answer(["-c", 'ulimit -d 49152; exec "$0" matrix --brief --workers 4', IAMSIM], json.dumps(world).encode(), program="bash")
+    same(found, (0, wanted.encode(), b""))
 
 
 def test_refused_command_lines_go_to_standard_error():
