@@ -11,6 +11,7 @@ import tarfile
 import tempfile
 
 from harness import IAMSIM, TOOLS, Skipped, run, same
+from roots import inside, make_root
 from shells import Zsh, bash_words
 
 sys.path.insert(0, TOOLS)
@@ -295,6 +296,35 @@ def test_the_package():
         line.split()[0] + " " + line.split()[1] for line in run(["dpkg-deb", "--contents", package()])[0].splitlines()
     }
     same(modes, {"drwxr-xr-x root/root", "-rwxr-xr-x root/root", "-rw-r--r-- root/root"})
+
+
+def smoke(root, program, command, shared, folder="/"):
+    """Runs both commands in a root of its own: their help, the first example, a question."""
+    assert "Usage: iamsim <COMMAND>" in inside(root, [program, "--help"], folder)
+    assert "usage: iamsim-aws" in inside(root, [command, "--help"], folder)
+    row = "0,arn:aws:iam::111122223333:user/ann,S3:getobject,arn:aws:s3:::b/k,allowed,identity/0/0,\n"
+    out = inside(root, [program, "decide", "0", "0", "0", f"{shared}examples/smallest.json"], folder)
+    same(out, "cell,principal,action,resource,decision,statements,lacks\n" + row)
+    account = f"{shared}tools/tests/data/account.json"
+    out = inside(root, [command, "can", "alice", "sts:AssumeRole", "*/audit", account, "--format", "csv"], folder)
+    same((out.count("\n"), ",allowed," in out), (2, True))
+
+
+def test_the_archive_runs_in_an_empty_root():
+    root = room()
+    make_root(root, IAMSIM)
+    run(["tar", "-xzf", archive(), "-C", f"{root}/tmp"])
+    smoke(root, "./iamsim", "tools/iamsim-aws", "", f"/tmp/{os.path.basename(unpacked())}")
+
+
+def test_the_package_runs_in_an_empty_root():
+    need("dpkg-deb")
+    root = room()
+    make_root(root, IAMSIM)
+    run(["dpkg-deb", "--extract", package(), root])
+    smoke(root, "iamsim", "iamsim-aws", "/usr/share/doc/iamsim/")
+    words = "source /usr/share/bash-completion/completions/iamsim; complete -p iamsim; COMP_WORDS=(iamsim ma) COMP_CWORD=1; _iamsim; echo $COMPREPLY"
+    same(inside(root, ["bash", "-c", words]), "complete -F _iamsim iamsim\nmatrix\n")
 
 
 def test_lintian_finds_no_error():
