@@ -1,5 +1,6 @@
 """A root with this machine's Python, env and bash, what these want, and nothing else."""
 
+import glob
 import os
 import re
 import shutil
@@ -24,10 +25,10 @@ LEFT_OUT = (
 )
 
 
-def needed(path):
-    """The libraries that a file wants, and what loads them."""
-    ran = subprocess.run(["ldd", path], capture_output=True, encoding="utf-8")
-    return re.findall(r"(/\S+) \(0x", ran.stdout)
+def needed(paths):
+    """The libraries that these files want, and what loads them."""
+    ran = subprocess.run(["ldd", *paths], capture_output=True, encoding="utf-8")
+    return set(re.findall(r"(/\S+) \(0x", ran.stdout))
 
 
 def put(path, root):
@@ -53,7 +54,9 @@ def make_root(root, *programs):
     wanted = [python, shutil.which("env"), shutil.which("bash")]
     for it in wanted:
         put(it, root)
-    for it in {library for one in (*wanted, *programs, *found) for library in needed(one)}:
+    # Python 3.8 loads libgcc by itself where a thread ends.
+    loaded = glob.glob("/lib*/libgcc_s.so.1") + glob.glob("/lib/*/libgcc_s.so.1")
+    for it in {*loaded, *needed([*wanted, *programs, *found])}:
         put(it, root)
     for name, to in (("env", shutil.which("env")), ("python3", python)):
         if not os.path.exists(f"{root}/usr/bin/{name}"):

@@ -310,21 +310,27 @@ def smoke(root, program, command, shared, folder="/"):
     same((out.count("\n"), ",allowed," in out), (2, True))
 
 
-def test_the_archive_runs_in_an_empty_root():
+@functools.lru_cache(maxsize=None)
+def empty_root():
     root = room()
     make_root(root, IAMSIM)
-    run(["tar", "-xzf", archive(), "-C", f"{root}/tmp"])
-    smoke(root, "./iamsim", "tools/iamsim-aws", "", f"/tmp/{os.path.basename(unpacked())}")
+    return root
+
+
+def test_the_archive_runs_in_an_empty_root():
+    run(["tar", "-xzf", archive(), "-C", f"{empty_root()}/tmp"])
+    folder = f"/tmp/{os.path.basename(unpacked())}"
+    smoke(empty_root(), "./iamsim", "tools/iamsim-aws", "", folder)
+    shutil.rmtree(empty_root() + folder)
 
 
 def test_the_package_runs_in_an_empty_root():
     need("dpkg-deb")
-    root = room()
-    make_root(root, IAMSIM)
-    run(["dpkg-deb", "--extract", package(), root])
-    smoke(root, "iamsim", "iamsim-aws", "/usr/share/doc/iamsim/")
-    words = "source /usr/share/bash-completion/completions/iamsim; complete -p iamsim; COMP_WORDS=(iamsim ma) COMP_CWORD=1; _iamsim; echo $COMPREPLY"
-    same(inside(root, ["bash", "-c", words]), "complete -F _iamsim iamsim\nmatrix\n")
+    run(["dpkg-deb", "--extract", package(), empty_root()])
+    smoke(empty_root(), "iamsim", "iamsim-aws", "/usr/share/doc/iamsim/")
+    words = "source /usr/share/bash-completion/completions/iamsim; complete -p iamsim; "
+    words += "COMP_WORDS=(iamsim ma) COMP_CWORD=1; _iamsim; echo $COMPREPLY"
+    same(inside(empty_root(), ["bash", "-c", words]), "complete -F _iamsim iamsim\nmatrix\n")
 
 
 def test_lintian_finds_no_error():
