@@ -230,28 +230,19 @@ def test_links_of_the_documents_lead_to_files_of_the_archive():
             assert re.match(r"https?:", link) or os.path.exists(to), f"{path}: {link}"
 
 
-def test_the_unpacked_program_answers_the_first_example():
-    words, wanted = re.search(
-        r"`(\./iamsim decide [^`]*)`[^`]*\n\n```\n(.*?)```", read(TOP, "README.md"), re.S
-    ).groups()
-    ran = subprocess.run(words, shell=True, cwd=unpacked(), capture_output=True, encoding="utf-8")
+def test_what_readme_says_to_type_answers_the_first_example():
+    text, folder = read(TOP, "README.md"), room()
+    shutil.copy(archive(), folder)
+    typed = re.search(r"^## Install\n.*?```\n(.*?)```", text, re.M | re.S).group(1)
+    wanted = re.search(r"`\./iamsim decide [^`]*`[^`]*\n\n```\n(.*?)```", text, re.S).group(1)
+    ran = subprocess.run(["bash", "-euc", typed], cwd=folder, capture_output=True, encoding="utf-8")
     same((ran.stdout, ran.stderr, ran.returncode), (wanted, "", 0))
-    words = [
-        "env",
-        "-u",
-        "IAMSIM",
-        "tools/iamsim-aws",
-        "can",
-        "alice",
-        "sts:AssumeRole",
-        "*/audit",
-        "tools/tests/data/account.json",
-        "--format",
-        "csv",
-    ]
-    ran = subprocess.run(
-        words, cwd=unpacked(), capture_output=True, encoding="utf-8", env={**os.environ, "PYTHONDONTWRITEBYTECODE": "1"}
-    )
+
+
+def test_the_unpacked_command_finds_the_program():
+    words = "env -u IAMSIM tools/iamsim-aws can alice sts:AssumeRole */audit tools/tests/data/account.json --format csv"
+    more = {**os.environ, "PYTHONDONTWRITEBYTECODE": "1"}
+    ran = subprocess.run(words.split(), cwd=unpacked(), capture_output=True, encoding="utf-8", env=more)
     same((ran.stdout.count("\n"), ",allowed," in ran.stdout, ran.stderr), (2, True, ""))
 
 
