@@ -121,9 +121,7 @@ def argument(made: argparse.ArgumentParser, action: argparse.Action) -> Paramete
     """Of an option or an argument of argparse."""
     said = made._get_formatter()._expand_help(action) if action.help else ""
     choices = [str(it) for it in action.choices or ()]
-    takes = action.nargs != 0
-    value = str(action.metavar or action.dest.upper()) if takes and (not choices or not action.option_strings) else ""
-    value = value or ("WORD" if choices else "")
+    value = "" if action.nargs == 0 else str(action.metavar or ("WORD" if choices else action.dest.upper()))
     shapes = {"*": f"[{value} ...]", "+": f"{value} [{value} ...]", "?": f"[{value}]"}
     shape = "" if action.option_strings else shapes.get(str(action.nargs), value)
     again = bool(action.option_strings) and type(action).__name__ == "_AppendAction"

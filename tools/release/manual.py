@@ -87,12 +87,10 @@ def examples(command: Command) -> List[str]:
 
 def see_also(command: Command, pages: List[str]) -> List[str]:
     others = [f"{BOLD}{escaped(it)}{ROMAN}(1)" for it in pages if it != command.page]
-    return [
-        ".PP",
-        ",\n".join(others) + ".",
-        ".PP",
-        escaped("The documents: README.md, and guide.md, reference.md and AWS.md in docs/."),
-    ]
+    documents = (
+        "README.md, docs/guide.md, docs/reference.md and docs/AWS.md; share/doc/iamsim has them where it is installed."
+    )
+    return [".PP", ",\n".join(others) + ".", ".PP", escaped(documents)]
 
 
 def page(command: Command, pages: List[str], version: str, day: str) -> str:
