@@ -14,7 +14,7 @@ from .proof import Refused, sum_of
 
 DOCUMENTS = ["README.md", "CHANGELOG.md", "CONTRIBUTING.md", "bench/README.md", "docs/*", "examples/*.json"]
 DOCUMENTS += ["tools/tests/data/account.json"]
-TOOLS = ["tools/iamsim-aws", "tools/install", "tools/iamsim_aws/**/*.py", "tools/iamsim_aws/parts/*"]
+TOOLS = ["tools/iamsim-aws", "tools/install", "tools/iamsim_aws/**/*"]
 
 
 def files_of(top: str, patterns: List[str]) -> List[str]:
@@ -23,7 +23,7 @@ def files_of(top: str, patterns: List[str]) -> List[str]:
         paths = [it for it in glob.glob(os.path.join(top, pattern), recursive=True) if os.path.isfile(it)]
         if not paths:
             raise Refused(f"there is no {pattern}")
-        found += [os.path.relpath(it, top) for it in paths]
+        found += [os.path.relpath(it, top) for it in paths if "/__pycache__/" not in it]
     return sorted(found)
 
 
