@@ -1,4 +1,4 @@
-.PHONY: try rows check run build install install-aws test stress attacks fmt
+.PHONY: try rows check run build install install-aws test stress attacks fmt dist
 
 PREFIX ?= /usr/local
 
@@ -23,15 +23,18 @@ run: build
 build:
 	@tools/build
 
-# The program and iamsim-aws, copied to PREFIX/bin, and the package of the latter to PREFIX/lib/iamsim-aws.
-install: build install-aws
-	install -D iamsim $(DESTDIR)$(PREFIX)/bin/iamsim
+# The program, iamsim-aws, man pages, completions and documents, copied below PREFIX.
+install: build
+	@IAMSIM=$(CURDIR)/iamsim tools/dist --tree dist/tree
+	DESTDIR="$(DESTDIR)" dist/tree/tools/install "$(PREFIX)"
 
-# iamsim-aws alone.
+# iamsim-aws and its package alone.
 install-aws:
-	install -D tools/iamsim-aws $(DESTDIR)$(PREFIX)/bin/iamsim-aws
-	cd tools && find iamsim_aws -name '*.py' -o -path 'iamsim_aws/parts/*' | \
-		xargs -I FILE install -D -m 644 FILE $(DESTDIR)$(PREFIX)/lib/iamsim-aws/FILE
+	DESTDIR="$(DESTDIR)" tools/install --aws "$(PREFIX)"
+
+# The release: an archive and a Debian package in dist/. It wants a gate that passed on this commit, or UNPROVED=1.
+dist:
+	@tools/dist
 
 # The gate: each proof, the must-fail edits, the tests, the rows and the stored run of the program (rt ci);
 # then the tests of the tools.

@@ -1,0 +1,1 @@
+"""The release: what the commands say of themselves, man pages, completions, the archive and the package."""
