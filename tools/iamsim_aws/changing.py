@@ -9,7 +9,7 @@ from .checking import NOTHING
 from .documents import World, bare, mapped, places
 from .faults import tell
 from .files import compact
-from .keys import given_keys
+from .keys import with_key
 from .making import bound
 from .patterns import common, is_pattern, matcher
 from .reports import Answers, keys_of
@@ -146,17 +146,12 @@ def with_witnesses(sources: Sequence[Source], worlds: Sequence[World], pattern: 
 
 
 def with_keys(before: World, after: World) -> List[Tuple[str, World, World]]:
-    """The worlds with each key that nothing gives and the changed documents ask for, one at a time, with that in words."""
+    """The worlds with each key that requests lack and the changed documents ask for, one at a time, with that in words."""
     asked: Dict[str, List[str]] = {}
     for it in differing(before, after):
         for key, texts in hanging.wanted(it).items():
             asked.setdefault(key, []).extend(text for text in texts if text not in asked.get(key, []))
-    given = {**given_keys(before), **given_keys(after)}
-
-    def with_key(world: World, key: str, text: str) -> World:
-        return {**world, "context": {**world.get("context", {}), key: text}}
-
-    pairs = [(key, text) for key, texts in asked.items() if key.lower() not in given for text in texts]
+    pairs = [(key, text) for key, texts in asked.items() for text in texts]
     cells = hanging.cells_of(before) + hanging.cells_of(after)
     if len(pairs) * cells > hanging.MOST:
         tell(f"what changes with these keys alone was not asked, since it is too much: {', '.join(asked)}")
