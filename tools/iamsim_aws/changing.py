@@ -1,6 +1,6 @@
 """What changes between two sources: requests that are lost, and those that are gained."""
 
-from typing import Any, Dict, List, NamedTuple, Sequence, Tuple
+from typing import Any, Dict, List, NamedTuple, Optional, Sequence, Tuple
 
 from . import hanging, kinds
 from .arns import principal_text
@@ -12,6 +12,7 @@ from .files import compact
 from .keys import with_key
 from .making import bound
 from .patterns import common, is_pattern, matcher
+from .questions import ARN, Scope, account_for, with_account
 from .reports import Answers, keys_of
 from .sources import ASSUME, Source
 from .strangers import strangers, with_strangers
@@ -76,10 +77,14 @@ def spoken_of(before: World, after: World) -> List[str]:
 
 
 def actions_of(before: Source, after: Source, patterns: List[str]) -> List[str]:
-    """The given actions of a choice; where none are given, those of which the changed documents speak."""
-    if before.actions:
-        every = {it.lower(): it for it in [*before.actions, *after.actions]}
-        return [it for it in every.values() if any(matcher(asked, True)(it) for asked in patterns)]
+    """The given actions of a choice, and of exports those of which the changed documents speak."""
+    listed = [it for source in (before, after) for it in [*(source.given or {}).get("actions", []), *source.actions]]
+    given = {it.lower(): it for it in listed if any(matcher(asked, True)(it) for asked in patterns)}
+    return list({**(spoken_actions(before, after, patterns) if before.estate else {}), **given}.values())
+
+
+def spoken_actions(before: Source, after: Source, patterns: List[str]) -> Dict[str, str]:
+    """The actions of a choice of which the changed documents speak, by their lower case."""
     worlds = before.world([ASSUME]), after.world([ASSUME])
     spoken, known = spoken_of(*worlds), before.references.actions()
     named = [text for it in worlds for text in kinds.patterns_of_actions(it) if not is_pattern(text)]
@@ -95,7 +100,7 @@ def actions_of(before: Source, after: Source, patterns: List[str]) -> List[str]:
             text = common(pattern, asked, True)
             if text and not any(matcher(pattern, True)(it) for it in found):
                 found[kinds.action_text(text).lower()] = kinds.action_text(text)
-    return list(found.values())
+    return found
 
 
 def compared(first: Answers, second: Answers, given: str = "") -> Changes:
@@ -126,10 +131,20 @@ def same_cell(changes: Changes, cell: int, is_before: bool) -> Any:
     return (p * other.shape[1] + a) * other.shape[2] + r
 
 
-def with_witnesses(sources: Sequence[Source], worlds: Sequence[World], pattern: str) -> List[World]:
+def is_named(worlds: Sequence[World], asked: str) -> bool:
+    """Whether an ARN is asked for, which no resource of the worlds has."""
+    is_arn = ARN.fullmatch(asked) is not None and not is_pattern(asked)
+    return is_arn and not any(it["arn"] == asked for world in worlds for it in world["resources"])
+
+
+def with_witnesses(scopes: Sequence[Scope], worlds: Sequence[World], pattern: str) -> List[World]:
     """The resources of the worlds before and after that a pattern chooses; of exports with a text for each pattern of the
-    changed documents."""
+    changed documents. An ARN that no world names is asked for all the same."""
     found: Dict[Tuple[str, str], Dict[str, Any]] = {}
+    sources = [it.source for it in scopes]
+    if is_named(worlds, pattern):
+        account = account_for(scopes[0], worlds[0], pattern)
+        return [with_named(scope, world, pattern, account) for scope, world in zip(scopes, worlds)]
     for changed, world in zip(differing(*worlds), worlds) if sources[0].estate and is_pattern(pattern) else ():
         for it in kinds.resources(changed, pattern, world["actions"])[0]:
             found.setdefault((it.resource["arn"], it.resource["account"]), it.resource)
@@ -143,6 +158,13 @@ def with_witnesses(sources: Sequence[Source], worlds: Sequence[World], pattern: 
         return {**world, "resources": chosen}
 
     return [joined(source, world) for source, world in zip(sources, worlds)]
+
+
+def with_named(scope: Scope, world: World, arn: str, account: str) -> World:
+    """The world with that resource alone."""
+    one, estate = kinds.beside(world, arn, account), scope.source.estate
+    resources = [bound(estate, one) if estate else one]
+    return {**world, "resources": resources, "accounts": with_account(scope, world, resources)}
 
 
 def with_keys(before: World, after: World) -> List[Tuple[str, World, World]]:
@@ -159,11 +181,14 @@ def with_keys(before: World, after: World) -> List[Tuple[str, World, World]]:
     return [(f"`{key}` is `{text}`", with_key(before, key, text), with_key(after, key, text)) for key, text in pairs]
 
 
-def changes_of(before: Source, after: Source, patterns: List[str], resource: str) -> List[Changes]:
+def changes_of(
+    before: Source, after: Source, patterns: List[str], resource: str, account: Optional[str] = None
+) -> List[Changes]:
     """What changes, by worlds of actions: as it is, and what changes with a key alone that nothing gives."""
+    scopes = [Scope(it, account=account) for it in (before, after)]
     actions, found = actions_of(before, after, patterns), []
     for worlds in zip(before.worlds(actions), after.worlds(actions)):
-        pair = with_witnesses((before, after), worlds, resource)
+        pair = with_witnesses(scopes, worlds, resource)
         some = strangers(after, pair)
         pair = [with_strangers(source, world, some) for source, world in zip((before, after), pair)]
         keyed = with_keys(*pair)

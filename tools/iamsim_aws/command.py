@@ -22,6 +22,7 @@ def parser() -> argparse.ArgumentParser:
         description=DESCRIPTION,
         epilog=STATUSES,
         formatter_class=argparse.RawDescriptionHelpFormatter,
+        allow_abbrev=False,
     )
     commands = made.add_subparsers(title="commands", metavar="COMMAND", required=True)
     for group in (questions, changes, rules, page, worlds, reports):

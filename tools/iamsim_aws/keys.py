@@ -89,9 +89,7 @@ def with_key(world: World, key: str, value: Any) -> World:
         return {**world, "context": {**context_of(world), key: value}}
     if by == "":
         return world
-    some = [
-        it if n in numbers else {**it, "context": {**context_of(it), key: value}} for n, it in enumerate(world[by])
-    ]
+    some = [it if n in numbers else {**it, "context": {**context_of(it), key: value}} for n, it in enumerate(world[by])]
     return {**world, by: some}
 
 
