@@ -6,7 +6,7 @@ from . import hanging, kinds
 from .arns import principal_text
 from .asking import ask_all
 from .checking import NOTHING
-from .documents import World, bare, mapped, places
+from .documents import World, bare, mapped, places, statements_of
 from .faults import tell
 from .files import compact
 from .keys import with_key
@@ -73,7 +73,14 @@ def rest_of(world: World) -> Dict[str, Any]:
 def spoken_of(before: World, after: World) -> List[str]:
     """The action patterns of the changed documents; of all documents where anything else changes, as a tag."""
     worlds = (before, after) if rest_of(before) != rest_of(after) else differing(before, after)
-    return [text for it in worlds for text in kinds.patterns_of_actions(it)]
+    spoken = [text for it in worlds for text in kinds.patterns_of_actions(it)]
+    return [*spoken, *(["*"] if any(map(has_rest, worlds)) else [])]
+
+
+def has_rest(world: World) -> bool:
+    """Whether a document speaks of all actions but some."""
+    every = (statement for it in places(world) for statement in statements_of(it.policy.document))
+    return any(isinstance(it, dict) and "NotAction" in it for it in every)
 
 
 def actions_of(before: Source, after: Source, patterns: List[str]) -> List[str]:
@@ -86,20 +93,23 @@ def actions_of(before: Source, after: Source, patterns: List[str]) -> List[str]:
 def spoken_actions(before: Source, after: Source, patterns: List[str]) -> Dict[str, str]:
     """The actions of a choice of which the changed documents speak, by their lower case."""
     worlds = before.world([ASSUME]), after.world([ASSUME])
-    spoken, known = spoken_of(*worlds), before.references.actions()
-    named = [text for it in worlds for text in kinds.patterns_of_actions(it) if not is_pattern(text)]
+    spoken, references = spoken_of(*worlds), before.references
+    texts = [text for it in worlds for text in kinds.patterns_of_actions(it) if not is_pattern(text)]
+    # Of a service that has a file all actions are known.
+    known = [*references.actions(), *(it for it in texts if not references.has_file(it))]
     found: Dict[str, str] = {}
     for asked in patterns:
         if not is_pattern(asked):
             found[asked.lower()] = asked
             continue
-        for action in known or named:
+        for action in known:
             if matcher(asked, True)(action) and any(matcher(it, True)(action) for it in spoken):
                 found.setdefault(action.lower(), action)
-        for pattern in () if known else spoken:
+        for pattern in filter(is_pattern, spoken):
             text = common(pattern, asked, True)
-            if text and not any(matcher(pattern, True)(it) for it in found):
-                found[kinds.action_text(text).lower()] = kinds.action_text(text)
+            action = kinds.action_text(text) if text else None
+            if action and not references.has_file(action):
+                found.setdefault(action.lower(), action)
     return found
 
 

@@ -59,7 +59,8 @@ def run(options: argparse.Namespace) -> int:
     tell_strangers(after, [world for it in found if not it.given for world in changed(it)])
     lines = [line for it in found for line in lines_of(it)]
     requests = sum(len(it.after.numbers) for it in found if not it.given)
-    tell_slips((before, after), patterns, options.resource)
+    if not lines:
+        tell_slips((before, after), patterns, options.resource)
     if not requests and options.format != "page":
         tell("no request was compared: the two sides differ in no policy, or no resource matches")
     write = {"text": as_text, "csv": as_csv, "markdown": as_markdown}
