@@ -92,7 +92,7 @@ def notes(found: List[Found]) -> List[str]:
         lines += key_notes(asked, turns)
     if any(it.asked.witnesses for it in found):
         lines.append(
-            "the answer covers these texts and the resources of the world; a text has no policy of its own but its bucket's"
+            "the answer covers such texts as were asked for and the resources of the world; a text has no policy of its own but its bucket's"
         )
     return [line_of(it) for it in lines]
 
