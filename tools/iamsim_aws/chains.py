@@ -1,43 +1,88 @@
 """Who may come to a request by assuming roles, one after the other."""
 
-from typing import Dict, List, Set
+from typing import Dict, List, NamedTuple, Set
 
 from .arns import principal_arn, principal_text
 from .asking import ask
+from .faults import tell
+from .hanging import is_too_much, turns
+from .reports import Answers
 from .sources import ASSUME, Source
 from .strangers import strangers, with_strangers
 
 
-def edges(source: Source) -> Dict[str, List[str]]:
-    """For each principal the sessions of roles that it may assume."""
+class Step(NamedTuple):
+    """A principal that may assume a role, and the key that it lacks for it, in words."""
+
+    principal: str
+    given: str
+
+
+class Way(NamedTuple):
+    """The principals from the first to the one that may do what is asked, and the keys that are lacked, in words."""
+
+    principals: List[str]
+    given: List[str]
+
+    def words(self) -> str:
+        given = f", if {' and '.join(dict.fromkeys(self.given))}" if self.given else ""
+        return " -> ".join(self.principals) + given
+
+
+# The steps that lead to each session.
+Steps = Dict[str, List[Step]]
+
+
+def opened(answers: Answers) -> Dict[int, str]:
+    """The requests that are allowed with a key that they lack, each with the first such key."""
+    if is_too_much(answers.world):
+        tell("who may assume roles with keys that nothing gives was not asked, since it is too much")
+        return {}
+    found = turns(answers.world, answers)
+    first = {cell: next((it for it in of if it.decision == "allowed"), None) for cell, of in found.items()}
+    return {cell: f"`{it.key}` is `{it.value}`" for cell, it in first.items() if it}
+
+
+def steps_of(source: Source) -> Steps:
+    """Who may assume which role."""
     world = source.world([ASSUME])
     sessions: Dict[str, List[str]] = {}
     for it in world["principals"]:
         if "role" in it:
             sessions.setdefault(principal_arn(it), []).append(principal_text(it))
     narrow = {**world, "resources": [it for it in world["resources"] if it["arn"] in sessions]}
-    found: Dict[str, List[str]] = {}
-    answers = ask(with_strangers(source, narrow, strangers(source, [narrow])), brief=True)
-    for cell in answers.allowed():
+    found: Steps = {}
+    answers = ask(with_strangers(source, narrow, strangers(source, [narrow])))
+    for cell, given in [*((it, "") for it in answers.allowed()), *opened(answers).items()]:
         row = answers.row(cell)
-        found.setdefault(row.principal, []).extend(it for it in sessions[row.resource] if it != row.principal)
+        for it in sessions[row.resource]:
+            if it != row.principal:
+                found.setdefault(it, []).append(Step(row.principal, given))
     return found
 
 
-def ways(source: Source, allowed: Set[str], depth: int) -> Dict[str, List[str]]:
-    """For each principal that is not allowed itself a shortest way to one that is, of at most `depth` steps."""
-    back: Dict[str, List[str]] = {}
-    for principal, sessions in edges(source).items():
-        for it in sessions:
-            back.setdefault(it, []).append(principal)
-    found = {it: [it] for it in sorted(allowed)}
+def ways(steps: Steps, ends: Dict[str, str], depth: int) -> Dict[str, Way]:
+    """For each principal that is no end itself a shortest way to one, of at most `depth` steps."""
+    found = {it: Way([it], [given] if given else []) for it, given in sorted(ends.items())}
     reached = list(found)
     for _ in range(depth):
         nearer = []
         for it in reached:
-            for principal in back.get(it, []):
+            for principal, given in steps.get(it, []):
                 if principal not in found:
-                    found[principal] = [principal, *found[it]]
+                    way = found[it]
+                    found[principal] = Way([principal, *way.principals], [*([given] if given else []), *way.given])
                     nearer.append(principal)
+        if not nearer:
+            break
         reached = nearer
-    return {principal: way for principal, way in found.items() if len(way) > 1}
+    return {principal: way for principal, way in found.items() if len(way.principals) > 1}
+
+
+def chains(source: Source, allowed: Set[str], lacking: Dict[str, str], depth: int) -> List[List[Way]]:
+    """The ways to those that are allowed, and the further ones with keys that nothing gives."""
+    steps = steps_of(source)
+    plain = {it: [step for step in of if not step.given] for it, of in steps.items()}
+    first = ways(plain, dict.fromkeys(allowed, ""), depth)
+    keyed = ways(steps, {**lacking, **dict.fromkeys(allowed, "")}, depth)
+    return [list(first.values()), [way for who, way in keyed.items() if who not in first]]

@@ -1,17 +1,18 @@
 """What changes between two sources: requests that are lost, and those that are gained."""
 
-from typing import Any, Dict, List, NamedTuple, Sequence, Tuple
+from typing import Any, Dict, List, NamedTuple, Optional, Sequence, Tuple
 
 from . import hanging, kinds
 from .arns import principal_text
 from .asking import ask_all
 from .checking import NOTHING
-from .documents import World, bare, mapped, places
+from .documents import World, bare, mapped, places, statements_of
 from .faults import tell
 from .files import compact
-from .keys import given_keys
+from .keys import with_key
 from .making import bound
 from .patterns import common, is_pattern, matcher
+from .questions import ARN, Scope, account_for, with_account
 from .reports import Answers, keys_of
 from .sources import ASSUME, Source
 from .strangers import strangers, with_strangers
@@ -72,30 +73,44 @@ def rest_of(world: World) -> Dict[str, Any]:
 def spoken_of(before: World, after: World) -> List[str]:
     """The action patterns of the changed documents; of all documents where anything else changes, as a tag."""
     worlds = (before, after) if rest_of(before) != rest_of(after) else differing(before, after)
-    return [text for it in worlds for text in kinds.patterns_of_actions(it)]
+    spoken = [text for it in worlds for text in kinds.patterns_of_actions(it)]
+    return [*spoken, *(["*"] if any(map(has_rest, worlds)) else [])]
+
+
+def has_rest(world: World) -> bool:
+    """Whether a document speaks of all actions but some."""
+    every = (statement for it in places(world) for statement in statements_of(it.policy.document))
+    return any(isinstance(it, dict) and "NotAction" in it for it in every)
 
 
 def actions_of(before: Source, after: Source, patterns: List[str]) -> List[str]:
-    """The given actions of a choice; where none are given, those of which the changed documents speak."""
-    if before.actions:
-        every = {it.lower(): it for it in [*before.actions, *after.actions]}
-        return [it for it in every.values() if any(matcher(asked, True)(it) for asked in patterns)]
+    """The given actions of a choice, and of exports those of which the changed documents speak."""
+    listed = [it for source in (before, after) for it in [*(source.given or {}).get("actions", []), *source.actions]]
+    given = {it.lower(): it for it in listed if any(matcher(asked, True)(it) for asked in patterns)}
+    return list({**(spoken_actions(before, after, patterns) if before.estate else {}), **given}.values())
+
+
+def spoken_actions(before: Source, after: Source, patterns: List[str]) -> Dict[str, str]:
+    """The actions of a choice of which the changed documents speak, by their lower case."""
     worlds = before.world([ASSUME]), after.world([ASSUME])
-    spoken, known = spoken_of(*worlds), before.references.actions()
-    named = [text for it in worlds for text in kinds.patterns_of_actions(it) if not is_pattern(text)]
+    spoken, references = spoken_of(*worlds), before.references
+    texts = [text for it in worlds for text in kinds.patterns_of_actions(it) if not is_pattern(text)]
+    # Of a service that has a file all actions are known.
+    known = [*references.actions(), *(it for it in texts if not references.has_file(it))]
     found: Dict[str, str] = {}
     for asked in patterns:
         if not is_pattern(asked):
             found[asked.lower()] = asked
             continue
-        for action in known or named:
+        for action in known:
             if matcher(asked, True)(action) and any(matcher(it, True)(action) for it in spoken):
                 found.setdefault(action.lower(), action)
-        for pattern in () if known else spoken:
+        for pattern in filter(is_pattern, spoken):
             text = common(pattern, asked, True)
-            if text and not any(matcher(pattern, True)(it) for it in found):
-                found[kinds.action_text(text).lower()] = kinds.action_text(text)
-    return list(found.values())
+            action = kinds.action_text(text) if text else None
+            if action and not references.has_file(action):
+                found.setdefault(action.lower(), action)
+    return found
 
 
 def compared(first: Answers, second: Answers, given: str = "") -> Changes:
@@ -126,10 +141,20 @@ def same_cell(changes: Changes, cell: int, is_before: bool) -> Any:
     return (p * other.shape[1] + a) * other.shape[2] + r
 
 
-def with_witnesses(sources: Sequence[Source], worlds: Sequence[World], pattern: str) -> List[World]:
+def is_named(worlds: Sequence[World], asked: str) -> bool:
+    """Whether an ARN is asked for, which no resource of the worlds has."""
+    is_arn = ARN.fullmatch(asked) is not None and not is_pattern(asked)
+    return is_arn and not any(it["arn"] == asked for world in worlds for it in world["resources"])
+
+
+def with_witnesses(scopes: Sequence[Scope], worlds: Sequence[World], pattern: str) -> List[World]:
     """The resources of the worlds before and after that a pattern chooses; of exports with a text for each pattern of the
-    changed documents."""
+    changed documents. An ARN that no world names is asked for all the same."""
     found: Dict[Tuple[str, str], Dict[str, Any]] = {}
+    sources = [it.source for it in scopes]
+    if is_named(worlds, pattern):
+        account = account_for(scopes[0], worlds[0], pattern)
+        return [with_named(scope, world, pattern, account) for scope, world in zip(scopes, worlds)]
     for changed, world in zip(differing(*worlds), worlds) if sources[0].estate and is_pattern(pattern) else ():
         for it in kinds.resources(changed, pattern, world["actions"])[0]:
             found.setdefault((it.resource["arn"], it.resource["account"]), it.resource)
@@ -145,18 +170,20 @@ def with_witnesses(sources: Sequence[Source], worlds: Sequence[World], pattern: 
     return [joined(source, world) for source, world in zip(sources, worlds)]
 
 
+def with_named(scope: Scope, world: World, arn: str, account: str) -> World:
+    """The world with that resource alone."""
+    one, estate = kinds.beside(world, arn, account), scope.source.estate
+    resources = [bound(estate, one) if estate else one]
+    return {**world, "resources": resources, "accounts": with_account(scope, world, resources)}
+
+
 def with_keys(before: World, after: World) -> List[Tuple[str, World, World]]:
-    """The worlds with each key that nothing gives and the changed documents ask for, one at a time, with that in words."""
+    """The worlds with each key that requests lack and the changed documents ask for, one at a time, with that in words."""
     asked: Dict[str, List[str]] = {}
     for it in differing(before, after):
         for key, texts in hanging.wanted(it).items():
             asked.setdefault(key, []).extend(text for text in texts if text not in asked.get(key, []))
-    given = {**given_keys(before), **given_keys(after)}
-
-    def with_key(world: World, key: str, text: str) -> World:
-        return {**world, "context": {**world.get("context", {}), key: text}}
-
-    pairs = [(key, text) for key, texts in asked.items() if key.lower() not in given for text in texts]
+    pairs = [(key, text) for key, texts in asked.items() for text in texts]
     cells = hanging.cells_of(before) + hanging.cells_of(after)
     if len(pairs) * cells > hanging.MOST:
         tell(f"what changes with these keys alone was not asked, since it is too much: {', '.join(asked)}")
@@ -164,11 +191,14 @@ def with_keys(before: World, after: World) -> List[Tuple[str, World, World]]:
     return [(f"`{key}` is `{text}`", with_key(before, key, text), with_key(after, key, text)) for key, text in pairs]
 
 
-def changes_of(before: Source, after: Source, patterns: List[str], resource: str) -> List[Changes]:
+def changes_of(
+    before: Source, after: Source, patterns: List[str], resource: str, account: Optional[str] = None
+) -> List[Changes]:
     """What changes, by worlds of actions: as it is, and what changes with a key alone that nothing gives."""
+    scopes = [Scope(it, account=account) for it in (before, after)]
     actions, found = actions_of(before, after, patterns), []
     for worlds in zip(before.worlds(actions), after.worlds(actions)):
-        pair = with_witnesses((before, after), worlds, resource)
+        pair = with_witnesses(scopes, worlds, resource)
         some = strangers(after, pair)
         pair = [with_strangers(source, world, some) for source, world in zip((before, after), pair)]
         keyed = with_keys(*pair)

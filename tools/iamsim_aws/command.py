@@ -13,7 +13,8 @@ DESCRIPTION = """Questions to iamsim about what AWS gives: who can, what changes
 It calls no service; iamsim decides. docs/AWS.md explains it."""
 
 STATUSES = """statuses: 0 done; 1 a fault, told in one line; 2 the command line is refused; 3 'can': not all is allowed,
-'rules': a rule is broken; 4 'rules': a rule meets no request"""
+'rules': a rule is broken, 'changes --exit-status': something changes; 4 'rules': a rule meets no request,
+'changes --exit-status': no request is of --action and --resource"""
 
 
 def parser() -> argparse.ArgumentParser:
@@ -22,6 +23,7 @@ def parser() -> argparse.ArgumentParser:
         description=DESCRIPTION,
         epilog=STATUSES,
         formatter_class=argparse.RawDescriptionHelpFormatter,
+        allow_abbrev=False,
     )
     commands = made.add_subparsers(title="commands", metavar="COMMAND", required=True)
     for group in (questions, changes, rules, page, worlds, reports):

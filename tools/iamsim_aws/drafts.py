@@ -33,6 +33,7 @@ def before_and_after(source: Source, options: argparse.Namespace) -> Tuple[Sourc
 
     plain = source.like(estate, lambda world: world)
     putting.refuse_strangers(plain.world([ASSUME]), drafts, aliases, estate)
+    putting.refuse_doubles(plain.world([ASSUME]), drafts, aliases, estate)
     return source.like(first, lambda world: world), source.like(estate, change)
 
 

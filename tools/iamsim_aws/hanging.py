@@ -1,10 +1,10 @@
-"""What answers hang on: keys that nothing gives, each given a value that the policies ask for, and iamsim asked again."""
+"""What answers hang on: keys that requests lack, each given a value that the policies ask for, and iamsim asked again."""
 
 from typing import Any, Dict, Iterator, List, NamedTuple, Tuple
 
 from .asking import ask_all
 from .documents import World, conditions_of, each
-from .keys import given_keys, plain_operator
+from .keys import givers, lacks, plain_operator, with_key
 from .kinds import first_text, statements, values_of
 from .patterns import common, resolved
 from .reports import Answers
@@ -50,14 +50,14 @@ def texts_for(operator: str, value: Any) -> List[str]:
 
 
 def wanted(world: World) -> Dict[str, List[str]]:
-    """The keys that nothing gives and statements on the world's actions ask for, with the values that they ask for."""
-    given = given_keys(world)
+    """The keys that requests lack and statements on the world's actions ask for, with the values that they ask for."""
+    given = givers(world)
     names: Dict[str, str] = {}
     found: Dict[str, Dict[str, None]] = {}
     for path, statement, is_new in statements(world, world["actions"]):
         values = values_of(world, path)[0] if is_new else {}
         for operator, key, asked in conditions_of(statement):
-            if key.lower() in given:
+            if not lacks(world, given, path, key):
                 continue
             texts = found.setdefault(names.setdefault(key.lower(), key), {})
             for value in each(asked):
@@ -69,7 +69,7 @@ def wanted(world: World) -> Dict[str, List[str]]:
 def questions(world: World) -> Iterator[Tuple[str, str, World]]:
     for key, texts in wanted(world).items():
         for text in texts:
-            yield key, text, {**world, "context": {**world.get("context", {}), key: text}}
+            yield key, text, with_key(world, key, text)
 
 
 def is_too_much(world: World) -> bool:

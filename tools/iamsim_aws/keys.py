@@ -1,8 +1,8 @@
-"""The condition keys that policies ask for and nothing gives (docs/LOGIC.md, 7.5 and 4.4)."""
+"""The condition keys that policies ask for and requests lack (docs/LOGIC.md, 7.5 and 4.4)."""
 
-from typing import Any, Dict, Iterator, List, Tuple
+from typing import Any, Dict, Iterator, List, Set, Tuple
 
-from .documents import World, conditions_of, contexts, each, places, statements_of
+from .documents import World, conditions_of, each, places, statements_of
 from .patterns import variables_of
 
 # Those that follow from the request.
@@ -43,26 +43,62 @@ def asked_by(statement: Any, version: Any) -> Iterator[str]:
         yield from variables_in(statement.get(element, []))
 
 
-def asked(world: World) -> Iterator[Tuple[str, Any, str]]:
-    """(key, policy, place) of each key that a policy asks for."""
-    for kind, path, policy in places(world):
+def asked(world: World) -> Iterator[Tuple[str, str, str]]:
+    """(key, path of the document, place) of each key that a policy asks for."""
+    for _, path, policy in places(world):
         version = policy.document.get("Version") if isinstance(policy.document, dict) else None
         for n, statement in enumerate(statements_of(policy.document)):
             for key in asked_by(statement, version):
-                yield key, policy, f"{path} statement {n}"
+                yield key, path, f"{path} statement {n}"
 
 
-def given_keys(world: World) -> Dict[str, str]:
-    """The keys that contexts give or that follow from the request, by their lower case."""
-    return {key.lower(): key for key in [*DERIVED, *(key for context in contexts(world) for key in context)]}
+# The axis whose members give a key, and their numbers; no axis where each request has it.
+Givers = Dict[str, Tuple[str, Set[int]]]
+
+
+def givers(world: World) -> Givers:
+    """Who gives each key, by its lower case. What a world gives for all, no principal and no resource gives besides, and of
+    these two one kind alone gives a key (docs/LOGIC.md, 12.4)."""
+    found: Givers = {}
+    for axis in ("principals", "resources"):
+        for n, it in enumerate(world[axis]):
+            for key in context_of(it):
+                found.setdefault(key.lower(), (axis, set()))[1].add(n)
+    found.update((key.lower(), ("", set())) for key in [*DERIVED, *context_of(world)])
+    return found
+
+
+def context_of(holder: Any) -> Dict[str, Any]:
+    given = holder.get("context") if isinstance(holder, dict) else None
+    return given if isinstance(given, dict) else {}
+
+
+def lacks(world: World, given: Givers, path: str, key: str) -> bool:
+    """Whether a request that the document at a path may decide lacks a key."""
+    if key.lower() not in given:
+        return True
+    by, numbers = given[key.lower()]
+    axis, n = path.split("/")[:2]
+    return by != "" and (int(n) not in numbers if axis == by else len(numbers) < len(world[by]))
+
+
+def with_key(world: World, key: str, value: Any) -> World:
+    """The world with a value of a key for each request that lacks it."""
+    by, numbers = givers(world).get(key.lower(), (None, set()))
+    if by is None:
+        return {**world, "context": {**context_of(world), key: value}}
+    if by == "":
+        return world
+    some = [it if n in numbers else {**it, "context": {**context_of(it), key: value}} for n, it in enumerate(world[by])]
+    return {**world, by: some}
 
 
 def lacking(world: World) -> Dict[str, List[str]]:
-    """The keys that policies ask for and nothing gives, sorted without regard to case, each with the places that ask."""
-    given, found = given_keys(world), {}
+    """The keys that policies ask for and requests lack, sorted without regard to case, each with the places that ask."""
+    given, found = givers(world), {}
     names: Dict[str, str] = {}
-    for key, _, place in asked(world):
-        if key.lower() not in given:
+    for key, path, place in asked(world):
+        if lacks(world, given, path, key):
             names.setdefault(key.lower(), key)
             found.setdefault(key.lower(), set()).add(place)
     return {names[it]: sorted(found[it]) for it in sorted(found)}

@@ -106,7 +106,6 @@ def resources(world: World, asked: str, actions: List[str]) -> Tuple[List[Witnes
     """A witness for the asked pattern and for each pattern of a policy that meets it, in the account of who has the policy
     where it leaves that open; and the patterns without one. Named resources stand for themselves alone: a deny on one of
     them says nothing of the others."""
-    asked = asked if asked.startswith(("arn:", "*")) else f"arn:*:*:*:*:{asked}"
     named = {it["arn"] for it in world["resources"]}
     ids = {it["id"] for it in world["accounts"]}
     patterns: Dict[Tuple[str, str], None] = {}
@@ -118,16 +117,26 @@ def resources(world: World, asked: str, actions: List[str]) -> Tuple[List[Witnes
                 patterns[pattern, account] = None
     found: Dict[Tuple[str, str], Witness] = {}
     without = []
-    for pattern, account in [*patterns, *((asked, account) for account in ids if (asked, account) not in patterns)]:
-        arn = witness(pattern, asked, account)
+    wide = in_parts_of("", asked)
+    for pattern, account in [*patterns, *((wide, account) for account in ids if (wide, account) not in patterns)]:
+        of_pattern = in_parts_of(pattern, asked)
+        arn = witness(pattern, of_pattern, account)
         owner = (account_of(arn) or account) if arn else ""
         if arn and owner in ids:
             if arn not in named:
                 own = pattern if (pattern, account) in patterns else ""
                 found.setdefault((arn, owner), Witness(beside(world, arn, owner), own))
-        elif pattern != asked and common(pattern, asked):
+        elif pattern != wide and common(pattern, of_pattern):
             without.append(pattern)
     return list(found.values()), list(dict.fromkeys(without))
+
+
+def in_parts_of(pattern: str, asked: str) -> str:
+    """What is asked for as a pattern of ARNs; a name stands behind the parts of the pattern that it meets."""
+    if asked.startswith(("arn:", "*")):
+        return asked
+    parts = pattern.split(":", 5)
+    return ":".join([*(parts[:5] if len(parts) == 6 else ["arn", *"****"]), asked])
 
 
 def witness(pattern: str, asked: str, account: str) -> Optional[str]:

@@ -25,14 +25,16 @@ class Estate(NamedTuple):
         return self._replace(accounts=[it.copied() for it in self.accounts], further=[dict(it) for it in self.further])
 
 
-def read_resources(path: Optional[str]) -> List[Dict[str, Any]]:
-    """The further resources of a file, each with its policy's document."""
-    if path is None:
-        return []
-    what, given = files.name_of(path), files.read_json(path)
-    if not isinstance(given, list):
-        raise Fault(f"{what}: it is no list of resources")
-    return [further(it, f"{what}: resource {n}") for n, it in enumerate(given)]
+def read_resources(paths: List[str]) -> List[Dict[str, Any]]:
+    """The further resources of files, each with its policy's document."""
+    found = []
+    for path in paths:
+        what, given = files.name_of(path), files.read_json(path)
+        if not isinstance(given, list):
+            raise Fault(f"{what}: it is no list of resources")
+        found += [further(it, f"{what}: resource {n}") for n, it in enumerate(given)]
+    refuse_doubles([it["arn"] for it in found])
+    return found
 
 
 def further(it: Any, what: str) -> Dict[str, Any]:
@@ -127,12 +129,13 @@ def principals_of(estate: Estate, patterns: List[str]) -> List[Dict[str, Any]]:
     return made
 
 
-def refuse_doubles(arns: List[str]) -> None:
+def refuse_doubles(names: List[str], fold: bool = False) -> None:
     seen = set()
-    for it in arns:
-        if it in seen:
+    for it in names:
+        own = it.lower() if fold else it
+        if own in seen:
             raise Fault(f"{it} comes twice")
-        seen.add(it)
+        seen.add(own)
 
 
 def resources_of(estate: Estate, actions: List[str], patterns: List[str]) -> List[Dict[str, Any]]:

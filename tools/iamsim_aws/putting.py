@@ -63,14 +63,34 @@ def put_one(world: World, draft: Draft, aliases: Dict[str, str]) -> Tuple[World,
             for it in world["resources"]
         ]
         return {**world, "resources": resources}, True
+    meant = meant_by(world, draft, aliases)
+    made = mapped(world, lambda _kind, _path, it: Policy(it.name, draft.document) if it.name in meant else it)
+    return made, bool(meant)
+
+
+def meant_by(world: World, draft: Draft, aliases: Dict[str, str]) -> Set[str]:
+    """The name of the policy that a draft is of, which is no resource's."""
     names = {it.policy.name for it in places(world)}
     meant = {it for it in names if draft.name in called(it) or aliases.get(it) == draft.name}
     if draft.name in meant:
         meant = {draft.name}
     if len(meant) > 1:
         raise Fault(f"--put {draft.name}: several policies are called so: {', '.join(sorted(meant))}")
-    made = mapped(world, lambda _kind, _path, it: Policy(it.name, draft.document) if it.name in meant else it)
-    return made, bool(meant)
+    return meant
+
+
+def refuse_doubles(world: World, drafts: List[Draft], aliases: Dict[str, str], estate: Optional[Estate]) -> None:
+    """Of two drafts of one policy nobody sees which counts."""
+    seen: Dict[str, str] = {}
+    others = estate.organization.policies.items() if estate else ()
+    for draft in drafts:
+        own = {it["arn"] for it in world["resources"] if is_resource(it, draft.name)}
+        of_organization = {key for key, it in others if draft.name in names_of_organization(it)}
+        meant = own or of_organization or meant_by(world, draft, aliases) or {draft.name}
+        for it in sorted(meant):
+            if it in seen:
+                raise Fault(f"--put {seen[it]} and --put {draft.name}: both are drafts of one policy")
+            seen[it] = draft.name
 
 
 def policy_name(resource: Dict[str, Any], draft: Draft) -> str:

@@ -54,7 +54,7 @@ def actions(scope: Scope, pattern: str) -> Dict[str, str]:
     """The actions that a pattern asks for, each with the pattern of a policy that it stands for, or itself."""
     if not is_pattern(pattern):
         if not ACTION.fullmatch(pattern):
-            raise Fault(f"{pattern}: an action is written 'service:Name', and '*' and '?' are wild")
+            raise Fault(f"{pattern or 'an empty text'}: an action is written 'service:Name', and '*' and '?' are wild")
         return {pattern: pattern}
     source = scope.source
     references = source.references

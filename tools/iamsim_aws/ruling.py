@@ -16,7 +16,7 @@ from .strangers import is_excepted, strangers
 
 WORD = re.compile(r"(?:\\.|[^\s\\])+")
 KINDS = ("never", "always")
-NOTHING_SPEAKS = "nothing that is named, and no pattern of a policy, is meant by it"
+NOTHING_SPEAKS = "nothing that is named, and no pattern of a policy, is meant by it (--actions, --services and --resources name more)"
 
 
 class Rule(NamedTuple):

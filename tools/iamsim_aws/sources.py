@@ -8,7 +8,7 @@ from . import files
 from .documents import World, dressed
 from .exports import read_exports
 from .faults import Fault, tell
-from .making import Estate, has_service, outside, read_resources, warnings, world_of
+from .making import Estate, has_service, outside, read_resources, refuse_doubles, warnings, world_of
 from .organizations import read_organization
 from .references import References
 
@@ -18,9 +18,10 @@ ASSUME = "sts:AssumeRole"
 def add_options(parser: argparse.ArgumentParser) -> None:
     """What exports are joined with."""
     add = parser.add_argument
-    add("--resources", metavar="FILE", help="further resources, a JSON list of {arn, account, policy, sealed, context}")
+    files_of = {"action": "append", "default": [], "metavar": "FILE"}
+    add("--resources", **files_of, help="further resources, a JSON list of {arn, account, policy, sealed, context}")
     add("--organization", metavar="FILE", help="the organisation's policies, as iamsim-aws organization collects them")
-    add("--context", metavar="FILE", help="the condition keys of all requests, a JSON object")
+    add("--context", **files_of, help="the condition keys of all requests, a JSON object")
     add("--session", default="session", metavar="NAME", help="the name of each role's session (default: session)")
     add(
         "--moment",
@@ -69,12 +70,19 @@ def read_object(path: Optional[str]) -> Optional[Dict[str, Any]]:
     return given
 
 
+def read_context(paths: List[str]) -> Optional[Dict[str, Any]]:
+    """The keys of all files, each of which is given once."""
+    given = [read_object(path) or {} for path in paths]
+    refuse_doubles([key for it in given for key in it], fold=True)
+    return {key: value for it in given for key, value in it.items()} if paths else None
+
+
 def estate_of(options: argparse.Namespace, exports: List[str]) -> Estate:
     estate = Estate(
         read_exports(exports),
         read_resources(options.resources),
         read_organization(options.organization),
-        read_object(options.context),
+        read_context(options.context),
         options.session,
         int(time.time()) if options.moment is None else options.moment,
     )
@@ -150,6 +158,8 @@ def source_of(options: argparse.Namespace) -> Source:
     if options.world is not None:
         if options.exports:
             raise Fault("name exports or a world, and not both")
+        if options.resources or options.context or options.organization:
+            raise Fault("--resources, --context and --organization join exports: a world has what they give in itself")
         given = read_world(options.world, options.names)
         return Source(None, given, actions or given["actions"], references)
     return Source(estate_of(options, options.exports), None, actions, references)

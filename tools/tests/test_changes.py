@@ -106,6 +106,76 @@ def test_drafts_that_are_of_nothing():
          {("lost", f"{SESSION}worker/s1", "s3:GetObject", "arn:aws:s3:::homes/alice/x"): ("allowed", "implicitDeny")})
 
 
+def test_a_named_action_does_not_hide_the_rest_of_a_pattern():
+    """The draft allows s3:Get*, of which another policy denies s3:GetObject: what else s3:Get* is, is gained."""
+    inline = [{"PolicyName": "Own", "PolicyDocument": document(statement(action="s3:ListBucket"))},
+              {"PolicyName": "Deny", "PolicyDocument": document(statement("Deny", "s3:GetObject"))}]
+    export = file({"UserDetailList": [{"UserName": "ann", "UserId": "AIDA0", "Arn": f"{ACCOUNT}user/ann", "UserPolicyList": inline}]})
+    draft = file(document(statement(action=["s3:Get*", "s3:ListBucket"])))
+    gained = lambda *words: {(it[0], it[2]) for it in changes(export, "--put", *words)}
+    same(gained(f"Own={draft}"), {("gained", "s3:Getx")})
+    # A statement on all actions but some speaks of all others.
+    rest = file(document(statement(action="s3:ListBucket"), {"Effect": "Allow", "NotAction": "iam:*", "Resource": "*"}))
+    same(gained(f"Own={rest}"), {("gained", "any:x")})
+    same(gained(f"Own={rest}", "--action", "kms:*"), {("gained", "kms:x")})
+    # With the service reference of one service the actions of others are asked for too.
+    both = file(document(statement(action=["s3:P*", "s3:ListBucket", "kms:Decrypt", "sqs:*"])))
+    same(gained(f"Own={both}", "--services", data("s3.json")), {("gained", it) for it in ("s3:PutObject", "kms:Decrypt", "sqs:x")})
+
+
+def test_given_actions_join_those_of_the_draft():
+    draft = file(document(statement(action=["s3:Get*", "s3:List*"]), statement("Allow", "dynamodb:Query")))
+    both = [ALICE, f"{SESSION}deploy/s1"]
+    found = changes(EXPORT, "--put", f"ReadObjects={draft}", "--actions", file("kms:Decrypt\n"))
+    same(set(found), {("gained", it, "dynamodb:Query", "*") for it in both})
+    # Of the given ones, too, those alone that are chosen.
+    out, _ = aws("changes", EXPORT, "--put", f"ReadObjects={draft}", "--actions", file("kms:Decrypt\n"), "--action", "kms:*", "--resource", "arn:aws:s3:::b/k")
+    same(out, "0 lost and 0 gained, of 8 requests\n")
+
+
+def test_an_object_that_nothing_names():
+    """It is asked for as who-can does: with the policy of its bucket."""
+    resources = file([{"arn": "arn:aws:s3:::homes", "account": "111122223333", "policy": document()}])
+    denying = file(document({"Effect": "Deny", "Principal": {"AWS": ALICE}, "Action": "s3:GetObject", "Resource": "*"}))
+    for what in ("arn:aws:s3:::homes/alice/x", "arn:aws:s3:::homes"):
+        found = changes(EXPORT, "--resources", resources, "--put", f"homes={denying}", "--resource", what)
+        same(found, {("lost", ALICE, "s3:GetObject", what): ("allowed", "explicitDeny")})
+    nothing = file(document())
+    found = changes(EXPORT, "--put", f"ReadObjects={nothing}", "--action", "s3:GetObject", "--resource", "arn:aws:s3:::new/k")
+    same(set(found), {("lost", it, "s3:GetObject", "arn:aws:s3:::new/k") for it in (ALICE, f"{SESSION}deploy/s1")})
+    partner = [EXPORT, data("partner.json")]
+    _, said = aws("changes", *partner, "--put", f"ReadObjects={nothing}", "--resource", "arn:aws:s3:::new/k", status=1)
+    assert "which account is it of?" in said, said
+    same(len(changes(*partner, "--put", f"ReadObjects={nothing}", "--action", "s3:GetObject", "--resource", "arn:aws:s3:::new/k", "--account", "111122223333")), 2)
+
+
+def test_a_choice_that_meets_nothing():
+    """It is told, and is status 4 with --exit-status; that nothing differs at all is status 0."""
+    draft = file(document({"Effect": "Deny", "Principal": {"AWS": ALICE}, "Action": "s3:GetObject", "Resource": "*"}))
+    resources = file([{"arn": "arn:aws:s3:::homes", "account": "111122223333", "policy": document()}])
+    words = ["changes", EXPORT, "--resources", resources, "--put", f"homes={draft}", "--exit-status"]
+    _, said = aws(*words, "--resource", "arn:aws:s3:::hoems/*")
+    assert "nothing names a resource that arn:aws:s3:::hoems/* means, but policies for all: is it a slip?\n" in said, said
+    _, said = aws(*words, "--action", "s3:PutObjekt")
+    assert "names an action that s3:PutObjekt means, but for all of a service: is it a slip?\n" in said, said
+    out, said = aws(*words, "--action", "kms:*", status=4)
+    same(out, "0 lost and 0 gained, of 0 requests\n")
+    assert "no request was compared" in said, said
+    aws(*words, "--resource", "arn:aws:s3:::homes", status=3)
+    aws(*words[:4], "--put", f"homes={file(document())}", "--exit-status", "--action", "kms:*")
+
+
+def test_two_drafts_of_one_policy():
+    draft, organization = file(document()), ["--organization", data("organization.json")]
+    arn = "arn:aws:iam::aws:policy/ReadObjects"
+    for first, second, more in [("ReadObjects", "ReadObjects", []), ("ReadObjects", arn, []), ("audit", "role/app/audit", []),
+                                ("NoAudit", "p-00000001", organization)]:
+        for words in (["changes", EXPORT], ["rules", file("never chain s3:PutObject *"), EXPORT]):
+            _, said = aws(*words, *more, "--put", f"{first}={draft}", "--put", f"{second}={draft}", status=1)
+            same(said.splitlines()[-1], f"iamsim-aws: --put {first} and --put {second}: both are drafts of one policy")
+    aws("changes", EXPORT, "--put", f"ReadObjects={draft}", "--put", f"Homes={draft}")
+
+
 def test_exports_before_and_after():
     after = load(EXPORT)
     # bob goes, and zoe comes, who may read; alice leaves the developers, by whom she writes and assumes.

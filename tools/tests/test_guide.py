@@ -24,8 +24,7 @@ def room_of(text):
     room = tempfile.mkdtemp(dir=os.environ["TOOLS_TEST_ROOM"])
     shutil.copy(data("account.json"), os.path.join(room, "export.json"))
     shutil.copy(data("partner.json"), room)
-    with open(os.path.join(room, "draft.json"), "w") as it:
-        it.write(str(document(statement(action="s3:PutObject", resource="arn:aws:s3:::homes/${aws:username}/*"))).replace("'", '"'))
+    shutil.copy(data("draft.json"), room)
     with open(os.path.join(room, "rules.txt"), "w") as it:
         it.write(re.search(r"^```\n(# rules.txt.*?)^```$", text, re.M | re.S).group(1))
     os.symlink(AWS, os.path.join(room, "iamsim-aws"))

@@ -143,7 +143,7 @@ def test_texts_that_stand_for_patterns():
     same([it["decision"] for it in found if it["resource"] == "*"], ["implicitDeny"])
     out, _ = aws("who-can", "kms:Decrypt", "*", "--world", file(made), "--kinds")
     assert f"{wanted[1]} stands for arn:aws:kms:*:111122223333:key/a* of a policy\n" in out, out
-    assert "the answer covers these texts" in out, out
+    assert "the answer covers such texts as were asked for" in out, out
     # Without --kinds the resources of the world alone are asked for.
     same(len(rows("who-can", "kms:Decrypt", "*", "--world", file(made))), 1)
     # An action pattern takes the actions that policies name, and with --kinds a text for each pattern.
@@ -248,3 +248,52 @@ def test_answers_as_csv():
                  [f"{ACCOUNT}user/alice", "sts:AssumeRole", f"{ACCOUNT}role/app/audit", "allowed",
                   f"{ACCOUNT}role/app/audit trust policy, statement 0 (the resource's policy); "
                   f"{ACCOUNT}policy/AssumeRoles, statement 0 AppRoles (identity policy)", "", ""]])
+
+
+def test_options_that_stand_twice():
+    """Files of resources and of keys are joined; what cannot be is refused."""
+    first, second = (file([{"arn": f"arn:aws:s3:::{it}/x", "account": "111122223333"}]) for it in ("one", "two"))
+    found = rows("can", "alice", "s3:GetObject", "*/x", EXPORT, "--resources", first, "--resources", second)
+    same([it["resource"] for it in found], ["arn:aws:s3:::one/x", "arn:aws:s3:::two/x"])
+    twice = file([{"arn": "arn:aws:s3:::one/x", "account": "111122223333"}] * 2)
+    for words in (["--resources", twice], ["--resources", first, "--resources", first]):
+        _, said = aws("can", "alice", "s3:GetObject", "*/x", EXPORT, *words, status=1)
+        same(said, "iamsim-aws: arn:aws:s3:::one/x comes twice\n")
+    keys = [file({it: "1"}) for it in ("a", "b", "A")]
+    made = json.loads(aws("world", EXPORT, "--context", keys[0], "--context", keys[1])[0])
+    same(made["context"], {"a": "1", "b": "1"})
+    _, said = aws("world", EXPORT, "--context", keys[0], "--context", keys[2], status=1)
+    same(said, "iamsim-aws: A comes twice\n")
+    question = ["can", "alice", "s3:GetObject", "arn:aws:s3:::b/k", EXPORT]
+    for name in ("--policy", "--account", "--session", "--actions", "--format"):
+        _, said = aws(*question, name, "csv", name, "csv", status=2)
+        assert said.endswith(f"argument {name}: it stands twice\n"), said
+    _, said = aws("can", "ann", "s3:GetObject", "*", "--world", file(small_world()), "--context", keys[0], status=1)
+    assert "a world has what they give in itself" in said, said
+
+
+def test_options_are_written_in_full():
+    for words in (["can", "alice", "s3:GetObject", "b", EXPORT, "--polic", "x"], ["rules", "r", EXPORT, "--as"], ["changes", EXPORT, "--exit"]):
+        _, said = aws(*words, status=2)
+        assert "unrecognized arguments: --" in said, said
+
+
+def test_roles_with_a_key():
+    """The role a may be assumed with sts:ExternalId alone, which nothing gives; its session may assume b, and so on."""
+    made = chained()
+    made["resources"][0]["policy"]["Statement"][0]["Condition"] = {"StringEquals": {"sts:ExternalId": "e-1"}}
+    ann, a, b, c, d = "arn:aws:iam::111122223333:user/ann", *(f"arn:aws:sts::111122223333:assumed-role/{it}/s" for it in "abcd")
+    for depth in ("4", "9" * 30):
+        out, _ = aws("who-can", "s3:GetObject", "b/k", "--world", file(made), "--chains", "--depth", depth)
+        same(out.splitlines()[-2:], ["1 more may come to it by assuming roles, with keys that nothing gives:",
+                                     f"  {ann} -> {a} -> {b} -> {c} -> {d}, if `sts:ExternalId` is `e-1`"])
+    # Where the request itself wants a key, nobody comes to it without.
+    made["principals"][5]["identity"][0]["Statement"][0]["Condition"] = {"Bool": {"k": "true"}}
+    out, _ = aws("who-can", "s3:GetObject", "b/k", "--world", file(made), "--chains", "--depth", "1")
+    same(out.splitlines()[-2:], ["1 more may come to it by assuming roles, with keys that nothing gives:", f"  {c} -> {d}, if `k` is `true`"])
+
+
+def test_a_name_stands_behind_the_parts_of_a_pattern():
+    made = file(small_world(document(statement(resource=["arn:aws:s3:::ledger/*", "arn:aws:s3:::other/*"]))))
+    found = rows("who-can", "s3:GetObject", "ledger/secret/*", "--world", made, "--kinds")
+    same([it["resource"] for it in found if it["decision"] == "allowed"], ["arn:aws:s3:::ledger/secret/x"])

@@ -5,13 +5,15 @@ import time
 from typing import Any, Dict, List, NamedTuple, Tuple
 
 from .. import drafts, files
-from ..changing import Changes, changes_of, differing, same_cell
+from ..changing import Changes, changes_of, differing, same_cell, spoken_of
 from ..covering import tell_actions, tell_strangers
 from ..documents import World
 from ..faults import TOLD, Fault, line_of, tell
 from ..paging import data, page
+from ..questions import Question, Scope
 from ..reports import csv_text
-from ..sources import add_source
+from ..slips import slips
+from ..sources import ASSUME, Source, add_source
 from ..telling import BY, LACKS, causes
 from .parsers import add
 
@@ -40,9 +42,11 @@ def add_all(commands: Any) -> None:
     parser.add_argument("--after", nargs="+", metavar="FILE", help="exports, or a world")
     help_of_action = "only actions that match (default: those of which the changed policies speak)"
     parser.add_argument("--action", action="append", default=[], metavar="PATTERN", help=help_of_action)
-    parser.add_argument("--resource", default="*", metavar="PATTERN", help="only resources whose ARN matches")
+    help_of_resource = "only resources whose ARN matches; an ARN that nothing names is asked for all the same"
+    parser.add_argument("--resource", default="*", metavar="PATTERN", help=help_of_resource)
     parser.add_argument("--format", choices=["text", "csv", "markdown", "page"], default="text")
-    parser.add_argument("--exit-status", action="store_true", help="status 3 where anything changes")
+    help_of_status = "status 3 where anything changes, 4 where no request is of --action and --resource"
+    parser.add_argument("--exit-status", action="store_true", help=help_of_status)
 
 
 def run(options: argparse.Namespace) -> int:
@@ -50,16 +54,35 @@ def run(options: argparse.Namespace) -> int:
         options.moment = int(time.time())
     before, after = drafts.both(options)
     patterns = options.action or ["*"]
-    found = changes_of(before, after, patterns, options.resource)
+    found = changes_of(before, after, patterns, options.resource, options.account)
     tell_actions(after, patterns)
     tell_strangers(after, [world for it in found if not it.given for world in changed(it)])
     lines = [line for it in found for line in lines_of(it)]
     requests = sum(len(it.after.numbers) for it in found if not it.given)
+    if not lines:
+        tell_slips((before, after), patterns, options.resource)
     if not requests and options.format != "page":
         tell("no request was compared: the two sides differ in no policy, or no resource matches")
     write = {"text": as_text, "csv": as_csv, "markdown": as_markdown}
     files.write(page_of(found) if options.format == "page" else write[options.format](lines, requests))
-    return 3 if lines and options.exit_status else 0
+    if not options.exit_status:
+        return 0
+    is_choice = bool(options.action) or options.resource != "*"
+    is_empty = not requests and is_choice and is_different(before, after)
+    return 3 if lines else 4 if is_empty else 0
+
+
+def is_different(before: Source, after: Source) -> bool:
+    return bool(spoken_of(before.world([ASSUME]), after.world([ASSUME])))
+
+
+def tell_slips(sources: Tuple[Source, Source], patterns: List[str], resource: str) -> None:
+    """Names that are likely a slip before and after."""
+    for pattern in patterns:
+        before, after = (slips(Scope(it), Question("*", pattern, resource)) for it in sources)
+        for line in before:
+            if line in after and line not in TOLD:
+                tell(line)
 
 
 def changed(changes: Changes) -> Tuple[World, World]:

@@ -4,6 +4,18 @@ import argparse
 from typing import Any, Callable
 
 
+class Once(argparse.Action):
+    """Stores the value of an option, which stands once: of two nobody sees which counts."""
+
+    is_seen = False
+
+    def __call__(self, parser: Any, options: argparse.Namespace, value: Any, name: Any = None) -> None:
+        if name is not None and self.is_seen:
+            raise argparse.ArgumentError(self, "it stands twice")
+        self.is_seen = True
+        setattr(options, self.dest, value)
+
+
 def add(
     commands: Any, name: str, what: str, example: str, run: Callable[[argparse.Namespace], int]
 ) -> argparse.ArgumentParser:
@@ -14,7 +26,9 @@ def add(
         description=what[0].upper() + what[1:] + ".",
         epilog=f"example:\n  {example}",
         formatter_class=argparse.RawDescriptionHelpFormatter,
+        allow_abbrev=False,
     )
+    parser.register("action", None, Once)
     parser.set_defaults(run=run)
     return parser
 

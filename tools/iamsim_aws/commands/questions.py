@@ -92,7 +92,7 @@ def notes(found: List[Found]) -> List[str]:
         lines += key_notes(asked, turns)
     if any(it.asked.witnesses for it in found):
         lines.append(
-            "the answer covers these texts and the resources of the world; a text has no policy of its own but its bucket's"
+            "the answer covers such texts as were asked for and the resources of the world; a text has no policy of its own but its bucket's"
         )
     return [line_of(it) for it in lines]
 
@@ -199,10 +199,19 @@ def lines_for(found: Found, allowed: List[int], turned: List[int]) -> List[str]:
 
 def chain_lines(scope: Scope, found: List[Found], depth: int) -> List[str]:
     allowed: Set[str] = {it.answers.row(cell).principal for it in found for cell in it.answers.allowed()}
-    ways = chains.ways(scope.source, allowed, depth)
-    lines = [
-        f"{len(ways)} more may come to it by assuming at most {depth} roles one after the other:"
-        if ways
-        else "nobody else may come to it by assuming roles"
-    ]
-    return [line_of(it) for it in [*lines, *(f"  {' -> '.join(way)}" for way in ways.values())]]
+    lacking = {
+        it.answers.row(cell).principal: f"`{turn.key}` is `{turn.value}`"
+        for it in found
+        for cell, of in it.turns.items()
+        for turn in of
+        if turn.decision == "allowed"
+    }
+    ways, keyed = chains.chains(scope.source, allowed, lacking, depth)
+    lines = [] if ways or keyed else ["nobody else may come to it by assuming roles"]
+    if ways:
+        lines = [f"{len(ways)} more may come to it by assuming at most {depth} roles one after the other:"]
+        lines += [f"  {way.words()}" for way in ways]
+    if keyed:
+        lines.append(f"{len(keyed)} more may come to it by assuming roles, with keys that nothing gives:")
+        lines += [f"  {way.words()}" for way in keyed]
+    return [line_of(it) for it in lines]

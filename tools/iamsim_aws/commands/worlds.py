@@ -27,7 +27,7 @@ def add_all(commands: Any) -> None:
     add_world(
         add(commands, "decimals", "make a world without decimals", "iamsim-aws decimals world.json > whole.json", whole)
     )
-    what = "list the keys that policies ask for and nothing gives"
+    what = "list the keys that policies ask for and requests lack"
     add_world(add(commands, "keys", what, "iamsim-aws keys world.json", missing))
 
     example = "iamsim-aws organization 111122223333 444455556666 > organization.json"
@@ -68,7 +68,9 @@ def world(options: argparse.Namespace) -> int:
     refuse_empty(made)
     asked = keys.lacking(made)
     if asked:
-        tell(f"no context gives these keys, for which policies ask (iamsim-aws keys tells where): {', '.join(asked)}")
+        tell(
+            f"no context gives these keys to all requests, for which policies ask (iamsim-aws keys tells where): {', '.join(asked)}"
+        )
     for line in [*unmatched(made, options.principal, options.resource), *limits(made)]:
         tell(line)
     if options.names:
