@@ -1,4 +1,4 @@
-"""estate, and the job of one of its worlds."""
+"""estate."""
 
 import argparse
 import hashlib
@@ -10,7 +10,7 @@ import subprocess
 from typing import Any, Dict, List, Tuple
 
 from .. import files, program
-from ..estates import loading, running, schema
+from ..estates import running, schema
 from ..estates.planning import Plan
 from ..faults import Fault, tell
 from ..references import References
@@ -34,17 +34,6 @@ def add_all(commands: Any) -> None:
     parser.add_argument("--sshlogin", action="append", default=[], metavar="LOGIN", help="as 'parallel --sshlogin'")
     parser.add_argument("--slurm", action="store_true", help="makes the worlds and a Slurm array job, and asks nothing")
     parser.add_argument("--afresh", action="store_true", help="begins anew where the folder holds another estate")
-
-    what = "ask for one world of an estate and load it, as the jobs of 'estate' do"
-    parser = add(commands, "estate-world", what, "iamsim-aws estate-world estate/ 0", world)
-    parser.add_argument("folder", metavar="FOLDER")
-    parser.add_argument("world", type=int, metavar="N", help="the number of the world")
-    parser.add_argument("--workers", type=whole, default=1, metavar="N", help="threads of iamsim")
-
-
-def world(options: argparse.Namespace) -> int:
-    loading.load(options.folder, options.world, options.workers)
-    return 0
 
 
 def sums(options: argparse.Namespace) -> List[Tuple[str, str, str]]:

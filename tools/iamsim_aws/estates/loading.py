@@ -14,8 +14,6 @@ import zlib
 from typing import IO, Any, Dict, Iterator, List, Optional, Tuple
 
 from .. import files
-from ..asking import explained
-from ..documents import dressed
 from ..faults import Fault
 from ..program import Refused, program
 from . import schema
@@ -239,6 +237,10 @@ def ask(folder: str, world: World, workers: int) -> None:
 
 def in_words(folder: str, world: World, refused: Refused) -> str:
     """The fault of a world by its policy and account."""
+    # Most jobs have no fault, and want none of what this takes.
+    from ..asking import explained
+    from ..documents import dressed
+
     try:
         value = files.read_json(os.path.join(folder, "worlds", f"{world.n}.json"))
         return str(explained(dressed(value, world.names(value)), refused))

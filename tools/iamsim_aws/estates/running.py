@@ -126,14 +126,9 @@ def ask_here(base: sqlite3.Connection, folder: str, jobs: Optional[str], lock: I
         return True
     count = base.execute("SELECT count(*) FROM worlds").fetchone()[0]
     workers = max(1, processors() // len(left))
-    command = [
-        sys.executable,
-        os.path.abspath(sys.argv[0]),
-        "estate-world",
-        os.path.abspath(folder),
-        "--workers",
-        str(workers),
-    ]
+    package = os.path.dirname(os.path.dirname(os.path.abspath(__file__)))
+    command = ["env", f"PYTHONPATH={os.path.dirname(package)}", f"IAMSIM={os.path.abspath(program())}"]
+    command += [sys.executable, "-m", "iamsim_aws.estates", os.path.abspath(folder), str(workers)]
     words = [*(["--jobs", jobs] if jobs else []), "--joblog", log_of(base, folder, "joblog"), "--resume-failed"]
     words[words.index("--joblog") + 1] = os.path.abspath(words[words.index("--joblog") + 1])
     words.append(" ".join(map(shlex.quote, command)) + " {}")
