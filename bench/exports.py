@@ -1,8 +1,8 @@
 #!/usr/bin/env python3
 """Makes exports of accounts to measure iamsim-aws with, the same bytes each time: exports.py [--estate] FOLDER [ACCOUNTS]
 
-Each is some 400 KB: 40 users, 60 roles, 8 groups, and 80 managed policies of three versions each. With --estate each has 110 users
-and 200 roles, and beside them stand the files actions, resources.json (100 an account) and organization.json (three levels of SCPs).
+Each is some 400 KB: 40 users, 60 roles, 8 groups, and 80 managed policies of three versions each. With --estate each has 250 users
+and 60 roles, and beside them stand the files actions, resources.json (240 an account) and organization.json (three levels of SCPs).
 """
 
 import json
@@ -41,7 +41,7 @@ def trust(rng, account, count):
     return document({"Effect": "Allow", "Action": "sts:AssumeRole", **rng.choice(kinds)})
 
 
-def export(n, count, users_of=40, roles_of=60):
+def export(n, count, users_of=40):
     """The export of an account, of so many."""
     rng, account = random.Random(n), account_of(n)
     policies = [managed(rng, account, it) for it in range(80)]
@@ -54,7 +54,7 @@ def export(n, count, users_of=40, roles_of=60):
     assume = {"PolicyName": "assume", "PolicyDocument": document(allow("sts:AssumeRole", "arn:aws:iam::*:role/r1*"))}
     roles = [{"Path": "/", "RoleName": f"r{it}", "RoleId": f"AROA{it:016}", "Arn": f"{arn}role/r{it}", "CreateDate": date, "InstanceProfileList": [],
               "AssumeRolePolicyDocument": trust(rng, account, count), "RolePolicyList": [assume] if it % 5 == 0 else [],
-              "AttachedManagedPolicies": some_of(rng, policies, 3), "RoleLastUsed": {}, "Tags": [{"Key": "team", "Value": rng.choice(TEAMS)}]} for it in range(roles_of)]
+              "AttachedManagedPolicies": some_of(rng, policies, 3), "RoleLastUsed": {}, "Tags": [{"Key": "team", "Value": rng.choice(TEAMS)}]} for it in range(60)]
     return {"UserDetailList": users, "GroupDetailList": groups, "RoleDetailList": roles, "Policies": policies}
 
 
@@ -79,15 +79,15 @@ def with_aws(rng, made):
         versions = [{"Document": document(statement), "VersionId": "v1", "IsDefaultVersion": True}]
         made["Policies"].append({"PolicyName": name, "PolicyId": f"ANPA{name:.16}", "Arn": arn, "DefaultVersionId": "v1", "PolicyVersionList": versions})
     for it in made["UserDetailList"] + made["RoleDetailList"]:
-        names = ["AdministratorAccess"] if rng.random() < 0.12 else [name for name in ("Data", "Keys") if rng.random() < 0.3]
+        names = ["AdministratorAccess"] if rng.random() < 0.15 else [name for name in ("Data", "Keys") if rng.random() < 0.4]
         it["AttachedManagedPolicies"] += [{"PolicyName": name, "PolicyArn": f"arn:aws:iam::aws:policy/{name}"} for name in names]
     return made
 
 
 def resources(n, count):
-    """A hundred resources of an account: objects, keys, queues and secrets; one in five grants to another account too."""
+    """The resources of an account: objects, keys, queues and secrets; one in seven grants to another account too."""
     rng, account, found = random.Random(1000 + n), account_of(n), []
-    for it in range(100):
+    for it in range(240):
         own, other = f"arn:aws:iam::{account}:root", f"arn:aws:iam::{account_of(rng.randrange(count))}:root"
         service = ("s3", "s3", "kms", "sqs", "secretsmanager")[it % 5]
         arn = {"s3": f"arn:aws:s3:::team{it % 80}-{account}/{it}", "kms": f"arn:aws:kms:eu-west-1:{account}:key/{it:08}"}.get(service)
@@ -113,7 +113,7 @@ def organization(count):
 def write_estate(folder, count):
     """The words of 'iamsim-aws estate' for so many accounts."""
     os.makedirs(folder, exist_ok=True)
-    made = {f"{account_of(n)}.json": with_aws(random.Random(n), export(n, count, 110, 200)) for n in range(count)}
+    made = {f"{account_of(n)}.json": with_aws(random.Random(n), export(n, count, 250)) for n in range(count)}
     beside = {"resources.json": [it for n in range(count) for it in resources(n, count)], "organization.json": organization(count)}
     for name, value in {**made, **beside}.items():
         with open(os.path.join(folder, name), "w") as it:

@@ -69,7 +69,7 @@ class World:
         self.count: int = base.execute("SELECT count(*) FROM worlds").fetchone()[0]
         self.principals = self.rows("name, account", "principals", "principal", 0)
         self.actions = self.rows("name", "actions", "action", 1)
-        self.resources = self.rows("arn, account", "resources", "resource", 2)
+        self.resources = self.rows("arn, account, NOT sealed", "resources", "resource", 2)
 
     def rows(self, what: str, table: str, key: str, axis: int) -> List[Tuple[Any, ...]]:
         command = f"SELECT {what} FROM {table} WHERE {key} >= ? AND {key} < ? ORDER BY {key}"
@@ -148,7 +148,7 @@ class Loader:
         self.reasons = Reasons(world)
         self.rows, self.allowed = array.array("Q"), 0
         self.totals: Dict[Tuple[int, int, int], List[int]] = {}
-        self.owners = [it[1] for it in world.resources]
+        self.owners, self.unsealed = [it[1] for it in world.resources], [it[2] for it in world.resources]
         self.marks = [int.from_bytes(hashlib.sha256(it[0].encode()).digest()[:7], "big") for it in world.resources]
 
     def take(self, rows: Iterator[Dict[str, Any]]) -> None:
@@ -166,9 +166,10 @@ class Loader:
             if not is_same or row["decision"] != "allowed":
                 raise Fault("the report is not that of the world: make the estate anew")
             self.rows.extend((first_p + p, first_a + a, first_r + r, reason))
-            total = self.totals.setdefault((p, a, self.owners[r]), [0, 0])
+            total = self.totals.setdefault((p, a, self.owners[r]), [0, 0, 0])
             total[0] += 1
-            total[1] += self.marks[r]
+            total[1] += self.unsealed[r]
+            total[2] += self.marks[r]
             if len(self.rows) >= 4 * ROWS:
                 self.write()
 
@@ -185,9 +186,11 @@ class Loader:
         self.write()
         self.base.executemany("INSERT INTO reasons VALUES (?, ?, ?, ?)", self.reasons.rows())
         first_p, first_a, _ = self.world.firsts
-        rows = ((first_p + p, first_a + a, of, n, mark & MARKS) for (p, a, of), (n, mark) in self.totals.items())
-        add = "SET allowed = allowed + excluded.allowed, mark = (mark + excluded.mark) & ?"
-        command = f"INSERT INTO totals VALUES (?, ?, ?, ?, ?) ON CONFLICT (principal, action, account) DO UPDATE {add}"
+        rows = ((first_p + p, first_a + a, of, *it[:2], it[2] & MARKS) for (p, a, of), it in self.totals.items())
+        add = "SET allowed = allowed + excluded.allowed, unsealed = unsealed + excluded.unsealed, mark = (mark + excluded.mark) & ?"
+        command = (
+            f"INSERT INTO totals VALUES (?, ?, ?, ?, ?, ?) ON CONFLICT (principal, action, account) DO UPDATE {add}"
+        )
         self.base.executemany(command, ((*it, MARKS) for it in rows))
         done = "UPDATE worlds SET ended = 'done', fault = NULL, allowed = ? WHERE world = ?"
         self.base.execute(done, (self.allowed, self.world.n))

@@ -33,7 +33,7 @@ CREATE TABLE reasons (reason INTEGER NOT NULL, number INTEGER NOT NULL, layer TE
 CREATE TABLE access (principal INTEGER NOT NULL, action INTEGER NOT NULL, resource INTEGER NOT NULL, reason INTEGER NOT NULL,
   PRIMARY KEY (principal, action, resource)) WITHOUT ROWID;
 CREATE TABLE totals (principal INTEGER NOT NULL, action INTEGER NOT NULL, account INTEGER NOT NULL, allowed INTEGER NOT NULL,
-  mark INTEGER NOT NULL, PRIMARY KEY (principal, action, account)) WITHOUT ROWID;
+  unsealed INTEGER NOT NULL, mark INTEGER NOT NULL, PRIMARY KEY (principal, action, account)) WITHOUT ROWID;
 CREATE VIEW causes AS SELECT reason, reasons.number AS number, layer, policies.name AS policy, statements.number AS statement, sid, json
   FROM reasons JOIN statements USING (statement) JOIN policies USING (policy);
 CREATE VIEW allowed AS SELECT principals.name AS principal, actions.name AS action, resources.arn AS resource, reason
