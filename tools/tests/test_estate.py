@@ -6,6 +6,7 @@ import io
 import json
 import os
 import random
+import re
 import resource
 import shutil
 import signal
@@ -15,7 +16,7 @@ import sys
 import tempfile
 import time
 
-from harness import AWS, IAMSIM, Skipped, answer, aws, data, document, file, on_all_processors, run, same, statement, world
+from harness import AWS, IAMSIM, TOOLS, Skipped, answer, aws, data, document, file, on_all_processors, run, same, statement, world
 
 ACTIONS = ["s3:GetObject", "kms:Decrypt", "sts:AssumeRole", "iam:PassRole"]
 A, B, C = "111111111111", "222222222222", "333333333333"
@@ -310,3 +311,25 @@ def test_a_hundred_random_requests():
     found = on_all_processors(decided, [(some, resources, organization, kinds[it[1]], it) for it in asked])
     same([it == "allowed" for it in found], [it in there for it in asked])
     assert 8 <= sum(it in there for it in asked) < 100
+
+
+def questions(where, **given):
+    """What the five questions of the document answer, each by the last of its statements."""
+    with open(os.path.join(os.path.dirname(TOOLS), "docs", "estates.md"), encoding="utf-8") as it:
+        texts = re.findall(r"```sql\n(.*?)```", it.read(), re.S)
+    base = sqlite3.connect(os.path.join(where, "access.db"))
+    try:
+        return [[base.execute(one, given).fetchall() for one in text.strip().rstrip(";").split(";\n")][-1] for text in texts]
+    finally:
+        base.close()
+
+
+def test_five_questions():
+    where, before = folder(), folder()
+    eve = user(A, "eve", document(statement()))
+    ended(words(where, exports()), 0)
+    ended(words(before, exports([eve])[:2]), 0)
+    decrypt = [(BOB, "resource", f"{KEY} policy", 0, None), (BOB, "identity", f"{BOB} inline p0", 0, None)]
+    lost = [("lost", eve["Arn"], action, it) for action, of in (("iam:PassRole", [OWN, OBJECT]), ("kms:Decrypt", [OBJECT]), ("s3:GetObject", [OBJECT]), ("sts:AssumeRole", [OWN, GUEST, OBJECT])) for it in of]
+    wanted = [decrypt, [(ANN, GUEST)], [("s3:GetObject", OBJECT)], [(ANN,)], [("gained", CY, "s3:GetObject", OBJECT), *lost]]
+    same(questions(where, key=KEY, account=B, principal=CY, before=os.path.join(before, "access.db")), wanted)
