@@ -23,7 +23,7 @@ ROWS = 1 << 20  # so many rows wait in memory before the transaction begins
 MARKS = (1 << 62) - 1
 BETWEEN = re.compile(r"[\s,]*")
 COMMAND = ["matrix", "--format", "json", "--decision", "allowed"]
-Place = Tuple[str, int]
+Place = Tuple[Any, int]
 
 
 def texts(stream: IO[bytes]) -> Iterator[str]:
@@ -107,8 +107,7 @@ class Reasons:
         for account in {it[1] for it in world.principals}:
             for _, place, policy, _ in world.holdings("accounts", account, account + 1):
                 self.places["accounts", account, place] = policy
-        statements = world.base.execute("SELECT policy, number, statement FROM statements")
-        self.statements = {(policy, number): it for policy, number, it in statements}
+        self.statements: Dict[Place, int] = {}
         self.quick: Dict[Any, int] = {}
         self.known: Dict[Tuple[Place, ...], int] = {}
 
@@ -132,7 +131,11 @@ class Reasons:
             holder = "accounts", self.world.principals[p][1]
         else:
             holder = ("resources", r) if layer in ("resource", "control") else ("principals", p)
-        return layer, self.statements[self.places[(*holder, way)], int(number)]
+        key = self.places[(*holder, way)], int(number)
+        if key not in self.statements:
+            command = "SELECT statement FROM statements WHERE policy = ? AND number = ?"
+            self.statements[key] = self.world.base.execute(command, key).fetchone()[0]
+        return layer, self.statements[key]
 
     def rows(self) -> Iterator[Tuple[int, int, str, int]]:
         for some, n in self.known.items():

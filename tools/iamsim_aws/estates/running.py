@@ -107,7 +107,7 @@ def ask_elsewhere(
         "joblog.elsewhere",
         "--workdir",
         "...",
-        "--basefile",
+        "--transferfile",
         "ask.sh",
         "--transferfile",
         "worlds/{}.json",
