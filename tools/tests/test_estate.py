@@ -16,22 +16,49 @@ import sys
 import tempfile
 import time
 
-from harness import AWS, IAMSIM, TOOLS, Skipped, answer, aws, data, document, file, on_all_processors, run, same, statement, world
+from harness import (
+    AWS,
+    IAMSIM,
+    TOOLS,
+    Skipped,
+    answer,
+    aws,
+    data,
+    document,
+    file,
+    on_all_processors,
+    run,
+    same,
+    statement,
+    world,
+)
 
 ACTIONS = ["s3:GetObject", "kms:Decrypt", "sts:AssumeRole", "iam:PassRole"]
 A, B, C = "111111111111", "222222222222", "333333333333"
-HOSTILE = "x'; DROP TABLE access; --\n\"quoted\", `y`"
+HOSTILE = 'x\'; DROP TABLE access; --\n"quoted", `y`'
 
 
 def user(account, name, *documents):
     inline = [{"PolicyName": f"p{n}", "PolicyDocument": it} for n, it in enumerate(documents)]
-    return {"UserName": name, "UserId": f"AIDA{name[:4]}", "Arn": f"arn:aws:iam::{account}:user/{name}", "UserPolicyList": inline}
+    return {
+        "UserName": name,
+        "UserId": f"AIDA{name[:4]}",
+        "Arn": f"arn:aws:iam::{account}:user/{name}",
+        "UserPolicyList": inline,
+    }
 
 
 def role(account, name, trust, *documents):
     inline = [{"PolicyName": f"p{n}", "PolicyDocument": it} for n, it in enumerate(documents)]
     arn = f"arn:aws:iam::{account}:role/{name}"
-    return {"RoleName": name, "RoleId": f"AROA{name[:4]}", "Arn": arn, "AssumeRolePolicyDocument": trust, "RolePolicyList": inline, "Path": "/"}
+    return {
+        "RoleName": name,
+        "RoleId": f"AROA{name[:4]}",
+        "Arn": arn,
+        "AssumeRolePolicyDocument": trust,
+        "RolePolicyList": inline,
+        "Path": "/",
+    }
 
 
 def trusts(*principals):
@@ -41,16 +68,29 @@ def trusts(*principals):
 def exports(more=()):
     """Three accounts: ann may do all in the first, the second trusts her, bob decrypts there, and the third has one who reads."""
     root = [f"arn:aws:iam::{it}:root" for it in (A, B, C)]
-    first = {"UserDetailList": [user(A, "ann", document(statement())), *more], "RoleDetailList": [role(A, "own", trusts(root[0]))]}
-    second = {"UserDetailList": [user(B, "bob", document(statement(action="kms:Decrypt")))], "RoleDetailList": [role(B, "guest", trusts(root[0]))]}
+    first = {
+        "UserDetailList": [user(A, "ann", document(statement())), *more],
+        "RoleDetailList": [role(A, "own", trusts(root[0]))],
+    }
+    second = {
+        "UserDetailList": [user(B, "bob", document(statement(action="kms:Decrypt")))],
+        "RoleDetailList": [role(B, "guest", trusts(root[0]))],
+    }
     third = {"UserDetailList": [user(C, "cy", document(statement(action="s3:Get*", resource="arn:aws:s3:::b/*")))]}
     return [first, second, third]
 
 
 KEY, OBJECT = f"arn:aws:kms:eu-west-1:{B}:key/1", "arn:aws:s3:::b/k"
-KEY_POLICY = document({"Effect": "Allow", "Principal": {"AWS": f"arn:aws:iam::{B}:root"}, "Action": "kms:*", "Resource": "*"})
-READ_POLICY = document({"Effect": "Allow", "Principal": {"AWS": C}, "Action": "s3:GetObject", "Resource": "arn:aws:s3:::b/*"})
-RESOURCES = [{"arn": KEY, "account": B, "sealed": True, "policy": KEY_POLICY}, {"arn": OBJECT, "account": A, "policy": READ_POLICY}]
+KEY_POLICY = document(
+    {"Effect": "Allow", "Principal": {"AWS": f"arn:aws:iam::{B}:root"}, "Action": "kms:*", "Resource": "*"}
+)
+READ_POLICY = document(
+    {"Effect": "Allow", "Principal": {"AWS": C}, "Action": "s3:GetObject", "Resource": "arn:aws:s3:::b/*"}
+)
+RESOURCES = [
+    {"arn": KEY, "account": B, "sealed": True, "policy": KEY_POLICY},
+    {"arn": OBJECT, "account": A, "policy": READ_POLICY},
+]
 OWN, GUEST = f"arn:aws:iam::{A}:role/own", f"arn:aws:iam::{B}:role/guest"
 ANN, BOB, CY = f"arn:aws:iam::{A}:user/ann", f"arn:aws:iam::{B}:user/bob", f"arn:aws:iam::{C}:user/cy"
 # A trust policy grants sts: alone, and a role for iam: has no policy, so that its own account's policies decide.
@@ -108,7 +148,10 @@ def test_three_accounts():
     out, said = ended(words(where, exports()), 0)
     same((out, said), ("2 worlds, 80 requests asked for, 9 allowed\n", ""))
     same(allowed(where), sorted(WANTED))
-    causes = rows(where, f"SELECT layer, policy, statement FROM allowed JOIN causes USING (reason) WHERE principal = '{CY}' ORDER BY number")
+    causes = rows(
+        where,
+        f"SELECT layer, policy, statement FROM allowed JOIN causes USING (reason) WHERE principal = '{CY}' ORDER BY number",
+    )
     same(causes, [("resource", f"{OBJECT} policy", 0), ("identity", f"{CY} inline p0", 0)])
     same(rows(where, "SELECT id FROM accounts WHERE has_export ORDER BY id"), [(A,), (B,), (C,)])
     same(rows(where, "SELECT count(*) FROM files WHERE length(sha256) = 64 AND account IS NOT NULL"), [(3,)])
@@ -144,11 +187,17 @@ def test_a_killed_run_goes_on():
     for count in (1, 4):
         it = started(given)
         end = time.monotonic() + 120
-        while it.poll() is None and time.monotonic() < end and not (os.path.exists(log) and len(open(log).readlines()) > count):
+        while (
+            it.poll() is None
+            and time.monotonic() < end
+            and not (os.path.exists(log) and len(open(log).readlines()) > count)
+        ):
             time.sleep(0.02)
         os.killpg(it.pid, signal.SIGKILL)
         it.wait()
-        done, loaded = rows(where, "SELECT (SELECT sum(allowed) FROM worlds WHERE ended = 'done'), (SELECT count(*) FROM access)")[0]
+        done, loaded = rows(
+            where, "SELECT (SELECT sum(allowed) FROM worlds WHERE ended = 'done'), (SELECT count(*) FROM access)"
+        )[0]
         same(done, loaded)
         out, said = aws("who-can", "s3:GetObject", "*", "--database", os.path.join(where, "access.db"))
         left = len(rows(where, "SELECT world FROM worlds WHERE ended = 'waiting'"))
@@ -175,15 +224,27 @@ def test_a_refused_policy_is_told_and_the_rest_is_there():
 
 def test_hostile_names():
     arn = f"arn:aws:s3:::b/{HOSTILE}"
-    rest = [{"arn": arn, "account": A, "policy": document({"Effect": "Allow", "Principal": "*", "Action": "s3:*", "Resource": "*", "Sid": HOSTILE})}]
+    rest = [
+        {
+            "arn": arn,
+            "account": A,
+            "policy": document(
+                {"Effect": "Allow", "Principal": "*", "Action": "s3:*", "Resource": "*", "Sid": HOSTILE}
+            ),
+        }
+    ]
     it = user(A, "ann", document(statement(Sid=HOSTILE)))
     it["UserPolicyList"][0]["PolicyName"] = HOSTILE
     where = folder() + " 'q' \"r\" $HOME `id`\nline"
     made = role(A, "own", trusts(f"arn:aws:iam::{A}:root"))
-    out, _ = ended(words(where, [{"UserDetailList": [it], "RoleDetailList": [made]}], resources=rest, actions=["s3:GetObject"]), 0)
+    out, _ = ended(
+        words(where, [{"UserDetailList": [it], "RoleDetailList": [made]}], resources=rest, actions=["s3:GetObject"]), 0
+    )
     same(out, "1 worlds, 2 requests asked for, 2 allowed\n")
     same({it[2] for it in allowed(where)}, {arn})
-    found = rows(where, f"SELECT policy, sid FROM allowed JOIN causes USING (reason) WHERE principal = '{ANN}' ORDER BY layer")
+    found = rows(
+        where, f"SELECT policy, sid FROM allowed JOIN causes USING (reason) WHERE principal = '{ANN}' ORDER BY layer"
+    )
     same(found, [(f"{ANN} inline {HOSTILE}", HOSTILE), (f"{arn} policy", HOSTILE)])
     base = os.path.join(where, "access.db")
     out, _ = aws("who-can", "s3:GetObject", arn, "--database", base, "--format", "json")
@@ -210,7 +271,11 @@ def test_a_full_disk():
     ended([*given, "--slurm"], 0)
     size = os.path.getsize(os.path.join(where, "access.db"))
     ran = limited(given, size)
-    assert ran.returncode == 1 and "Traceback" not in ran.stderr and "worlds are not loaded: run the command again" in ran.stderr, ran.stderr
+    assert (
+        ran.returncode == 1
+        and "Traceback" not in ran.stderr
+        and "worlds are not loaded: run the command again" in ran.stderr
+    ), ran.stderr
     same(rows(where, "SELECT count(*) FROM access WHERE principal > 5"), [(0,)])
     out, _ = ended(given, 0)
     same(out.rsplit(", ", 1)[1], "4003 allowed\n")
@@ -234,8 +299,14 @@ def test_another_version_and_other_files():
     rows(where, "PRAGMA user_version = 7")
     for it in (given, ["who-can", "s3:GetObject", "*", "--database", path]):
         _, said = ended(it, 1)
-        same(said, f"iamsim-aws: {path}: its tables are of version 7, and this command has version 1: make the estate anew\n")
-    for text, why in (("no database at all, but a text that is long enough", "file is not a database"), ("", "it is no database of an estate")):
+        same(
+            said,
+            f"iamsim-aws: {path}: its tables are of version 7, and this command has version 1: make the estate anew\n",
+        )
+    for text, why in (
+        ("no database at all, but a text that is long enough", "file is not a database"),
+        ("", "it is no database of an estate"),
+    ):
         _, said = ended(["can", "ann", "s3:GetObject", "*", "--database", file(text)], 1)
         assert why in said and said.count("\n") == 1, said
 
@@ -243,13 +314,22 @@ def test_another_version_and_other_files():
 def test_without_parallel():
     given = words(folder(), exports())
     out, said = run(["env", "PATH=/nowhere", sys.executable, AWS, *given], status=1)
-    assert said.startswith("iamsim-aws: GNU parallel is not installed (parallel): on Debian") and said.count("\n") == 1, said
+    assert (
+        said.startswith("iamsim-aws: GNU parallel is not installed (parallel): on Debian") and said.count("\n") == 1
+    ), said
 
 
 def test_reports_of_other_machines():
     """The jobs of Slurm leave reports, which the command loads; one that is cut off is asked for again."""
     where = folder()
-    given = words(where, exports([user(A, "dan"), user(A, "eve", document(statement(effect="allow")))]), "--cells", "8", "--moment", "0")
+    given = words(
+        where,
+        exports([user(A, "dan"), user(A, "eve", document(statement(effect="allow")))]),
+        "--cells",
+        "8",
+        "--moment",
+        "0",
+    )
     out, _ = ended([*given, "--slurm"], 0)
     count = len(rows(where, "SELECT world FROM worlds"))
     text = open(os.path.join(where, "estate.slurm")).read()
@@ -273,12 +353,21 @@ def test_words_of_answers():
     base = ["--database", os.path.join(where, "access.db")]
     out, _ = aws("who-can", "KMS:decrypt", "key/1", *base)
     lines = ["1 of 5 principals are allowed, by 1 of 5 requests", f"allowed: {BOB} kms:Decrypt {KEY}"]
-    lines += [f"  allowed by {KEY} policy, statement 0 (the resource's policy)", f"  allowed by {BOB} inline p0, statement 0 (identity policy)"]
+    lines += [
+        f"  allowed by {KEY} policy, statement 0 (the resource's policy)",
+        f"  allowed by {BOB} inline p0, statement 0 (identity policy)",
+    ]
     same(out.splitlines()[:-1], lines)
     out, _ = aws("can", "cy", "*", OBJECT, *base, "--format", "csv", status=3)
-    same([it[1::2] for it in csv.reader(io.StringIO(out))], [["action", "decision"], ["s3:GetObject", "allowed"]] + [[it, "notAllowed"] for it in ACTIONS[1:]])
-    for question, why in ((["who-can", "s3:PutObject", "*"], "no action of the database matches s3:PutObject"), (["can", "dan", "*", "*"], "no principal"),
-                          (["who-can", "*", "*", "--kinds"], "--database answers alone: leave --kinds out")):
+    same(
+        [it[1::2] for it in csv.reader(io.StringIO(out))],
+        [["action", "decision"], ["s3:GetObject", "allowed"]] + [[it, "notAllowed"] for it in ACTIONS[1:]],
+    )
+    for question, why in (
+        (["who-can", "s3:PutObject", "*"], "no action of the database matches s3:PutObject"),
+        (["can", "dan", "*", "*"], "no principal"),
+        (["who-can", "*", "*", "--kinds"], "--database answers alone: leave --kinds out"),
+    ):
         _, said = aws(*question, *base, status=1)
         assert why in said, said
 
@@ -297,12 +386,20 @@ def decided(it):
 def test_a_hundred_random_requests():
     """The database says what iamsim says of a world of the request alone."""
     some = [data("account.json"), data("partner.json")]
-    objects = [{"arn": f"arn:aws:s3:::{it}", "account": "111122223333"} for it in ("homes/alice/x", "teams/red/x", "releases/app.zip")]
+    objects = [
+        {"arn": f"arn:aws:s3:::{it}", "account": "111122223333"}
+        for it in ("homes/alice/x", "teams/red/x", "releases/app.zip")
+    ]
     resources, organization, where = file(objects), data("organization.json"), folder()
     actions = ["s3:GetObject", "s3:PutObject", "sts:AssumeRole", "iam:PassRole", "iam:GetRole"]
-    given = words(where, [], "--organization", organization, "--moment", "0", "--cells", "60", resources=objects, actions=actions)
+    given = words(
+        where, [], "--organization", organization, "--moment", "0", "--cells", "60", resources=objects, actions=actions
+    )
     ended([*given[:2], *some, *given[2:]], 0)
-    axes = [[it[0] for it in rows(where, f"SELECT {what}")] for what in ("name FROM principals", "name FROM actions", "arn FROM resources")]
+    axes = [
+        [it[0] for it in rows(where, f"SELECT {what}")]
+        for what in ("name FROM principals", "name FROM actions", "arn FROM resources")
+    ]
     pick, there = random.Random(5), set(allowed(where))
     asked = sorted(there)[:20]
     asked += [tuple(map(pick.choice, axes)) for _ in range(100 - len(asked))]
@@ -319,7 +416,9 @@ def questions(where, **given):
         texts = re.findall(r"```sql\n(.*?)```", it.read(), re.S)
     base = sqlite3.connect(os.path.join(where, "access.db"))
     try:
-        return [[base.execute(one, given).fetchall() for one in text.strip().rstrip(";").split(";\n")][-1] for text in texts]
+        return [
+            [base.execute(one, given).fetchall() for one in text.strip().rstrip(";").split(";\n")][-1] for text in texts
+        ]
     finally:
         base.close()
 
@@ -330,6 +429,21 @@ def test_five_questions():
     ended(words(where, exports()), 0)
     ended(words(before, exports([eve])[:2]), 0)
     decrypt = [(BOB, "resource", f"{KEY} policy", 0, None), (BOB, "identity", f"{BOB} inline p0", 0, None)]
-    lost = [("lost", eve["Arn"], action, it) for action, of in (("iam:PassRole", [OWN, OBJECT]), ("kms:Decrypt", [OBJECT]), ("s3:GetObject", [OBJECT]), ("sts:AssumeRole", [OWN, GUEST, OBJECT])) for it in of]
-    wanted = [decrypt, [(ANN, GUEST)], [("s3:GetObject", OBJECT)], [(ANN,)], [("gained", CY, "s3:GetObject", OBJECT), *lost]]
+    lost = [
+        ("lost", eve["Arn"], action, it)
+        for action, of in (
+            ("iam:PassRole", [OWN, OBJECT]),
+            ("kms:Decrypt", [OBJECT]),
+            ("s3:GetObject", [OBJECT]),
+            ("sts:AssumeRole", [OWN, GUEST, OBJECT]),
+        )
+        for it in of
+    ]
+    wanted = [
+        decrypt,
+        [(ANN, GUEST)],
+        [("s3:GetObject", OBJECT)],
+        [(ANN,)],
+        [("gained", CY, "s3:GetObject", OBJECT), *lost],
+    ]
     same(questions(where, key=KEY, account=B, principal=CY, before=os.path.join(before, "access.db")), wanted)
