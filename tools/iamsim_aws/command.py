@@ -6,7 +6,7 @@ import os
 import sys
 from typing import List, Optional
 
-from .commands import changes, page, questions, reports, rules, worlds
+from .commands import changes, estates, page, questions, reports, rules, worlds
 from .faults import TOLD, Fault, tell
 
 DESCRIPTION = """Questions to iamsim about what AWS gives: who can, what changes, and the rules that a team keeps.
@@ -26,7 +26,7 @@ def parser() -> argparse.ArgumentParser:
         allow_abbrev=False,
     )
     commands = made.add_subparsers(title="commands", metavar="COMMAND", required=True)
-    for group in (questions, changes, rules, page, worlds, reports):
+    for group in (questions, changes, rules, page, worlds, reports, estates):
         group.add_all(commands)
     return made
 

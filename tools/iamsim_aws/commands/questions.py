@@ -15,6 +15,7 @@ from ..reports import Answers, csv_text
 from ..sources import add_source, source_of
 from ..strangers import is_stranger
 from ..telling import HEADER, as_fields, as_json, told
+from . import databases
 from .parsers import add, whole
 
 
@@ -56,6 +57,7 @@ def add_question(parser: argparse.ArgumentParser) -> None:
     )
     parser.add_argument("--account", metavar="ID", help="the account of a resource whose ARN names none")
     parser.add_argument("--format", choices=["text", "json", "csv"], default="text")
+    parser.add_argument("--database", metavar="FILE", help="ask the database of 'iamsim-aws estate', and nothing else")
 
 
 def scope_of(options: argparse.Namespace) -> Scope:
@@ -147,6 +149,8 @@ def write(options: argparse.Namespace, found: List[Found], text: List[str]) -> N
 
 
 def can(options: argparse.Namespace) -> int:
+    if options.database:
+        return databases.can(options)
     found = answered(scope_of(options), Question(options.principal, options.action, options.resource))
     lines = []
     for it in found:
@@ -157,6 +161,8 @@ def can(options: argparse.Namespace) -> int:
 
 
 def who_can(options: argparse.Namespace) -> int:
+    if options.database:
+        return databases.who_can(options)
     scope = scope_of(options)._replace(outside=True)
     found = answered(scope, Question("*", options.action, options.resource))
     lines: List[str] = []

@@ -1,0 +1,1 @@
+"""Many accounts in one database; docs/estates.md has its schema."""

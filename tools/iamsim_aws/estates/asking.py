@@ -1,0 +1,119 @@
+"""Questions to the database of an estate: what is allowed, and by which statements."""
+
+import json
+from typing import Any, Dict, Iterator, List, NamedTuple, Tuple
+
+from ..arns import names_of_resource, resource_part
+from ..faults import Fault, line_of
+from ..patterns import any_matches, matcher
+from ..telling import LAYERS
+from . import schema
+
+NOTE = (
+    "the database has what is allowed alone: not who is outside the exports, nor what hangs on keys that nothing gives"
+)
+
+
+class Request(NamedTuple):
+    """A request, and the number of what allows it; none where it is not allowed."""
+
+    principal: str
+    action: str
+    resource: str
+    reason: Any
+
+
+class Cause(NamedTuple):
+    layer: str
+    policy: str
+    number: int
+    sid: str
+    json: Any
+
+    def words(self) -> str:
+        sid = f" {self.sid}" if self.sid else ""
+        return f"{self.policy}, statement {self.number}{sid} ({LAYERS[self.layer]})"
+
+
+class Database:
+    def __init__(self, path: str):
+        self.base = schema.opened(path)
+        self.base.execute("PRAGMA temp_store = MEMORY")
+        self.known: Dict[int, List[Cause]] = {}
+
+    def choose(self, table: str, rows: List[int]) -> None:
+        self.base.execute(f"CREATE TEMP TABLE {table} (n INTEGER PRIMARY KEY)")
+        self.base.executemany(f"INSERT INTO {table} VALUES (?)", ((it,) for it in rows))
+
+    def choice(self, principal: str, action: str, resource: str) -> Tuple[int, int, int]:
+        """Chooses by three patterns; how many principals, actions and resources they mean."""
+        people = self.base.execute("SELECT principal, name, arn FROM principals")
+        names = ((n, [name, arn, resource_part(arn), resource_part(arn).split("/")[-1]]) for n, name, arn in people)
+        some = [n for n, it in names if principal == "*" or any_matches([principal], it)]
+        is_action = matcher(action, True)
+        actions = [n for n, name in self.base.execute("SELECT action, name FROM actions") if is_action(name)]
+        every = self.base.execute("SELECT resource, arn FROM resources")
+        of = [n for n, arn in every if any_matches([resource], names_of_resource(arn))]
+        for what, pattern, found in (
+            ("principal", principal, some),
+            ("action", action, actions),
+            ("resource", resource, of),
+        ):
+            if not found:
+                raise Fault(f"no {what} of the database matches {pattern}")
+            self.choose(f"some_{what}s", found)
+        return len(some), len(actions), len(of)
+
+    def allowed(self) -> Iterator[Request]:
+        """The chosen requests that are allowed, in order."""
+        command = """SELECT p.name, a.name, r.arn, x.reason FROM some_resources sr CROSS JOIN some_actions sa
+          CROSS JOIN access x ON x.resource = sr.n AND x.action = sa.n AND x.principal IN (SELECT n FROM some_principals)
+          JOIN principals p ON p.principal = x.principal JOIN actions a ON a.action = sa.n JOIN resources r ON r.resource = sr.n
+          ORDER BY x.principal, x.action, x.resource"""
+        return (Request(*it) for it in self.base.execute(command))
+
+    def counted(self) -> Tuple[int, int]:
+        """How many principals are allowed, and by how many of the chosen requests, of all principals."""
+        command = """SELECT count(DISTINCT x.principal), count(*) FROM some_resources sr CROSS JOIN some_actions sa
+          CROSS JOIN access x ON x.resource = sr.n AND x.action = sa.n"""
+        who, count = self.base.execute(command).fetchone()
+        return int(who), int(count)
+
+    def every(self) -> Iterator[Request]:
+        """All chosen requests, in order."""
+        command = """SELECT p.name, a.name, r.arn, x.reason FROM some_principals sp CROSS JOIN some_actions sa CROSS JOIN some_resources sr
+          LEFT JOIN access x ON x.principal = sp.n AND x.action = sa.n AND x.resource = sr.n
+          JOIN principals p ON p.principal = sp.n JOIN actions a ON a.action = sa.n JOIN resources r ON r.resource = sr.n
+          ORDER BY sp.n, sa.n, sr.n"""
+        return (Request(*it) for it in self.base.execute(command))
+
+    def causes(self, reason: int) -> List[Cause]:
+        """The statements that allow; one that stands at several levels once."""
+        if reason not in self.known:
+            command = "SELECT layer, policy, statement, sid, json FROM causes WHERE reason = ? ORDER BY number"
+            rows = self.base.execute(command, (reason,)).fetchall()
+            self.known[reason] = [Cause(*it[:3], it[3] or "", json.loads(it[4])) for it in rows]
+        return self.known[reason]
+
+    def told(self, it: Request, is_long: bool) -> List[str]:
+        """An answer in lines."""
+        word = "not allowed" if it.reason is None else "allowed"
+        lines = [f"{word}: {it.principal} {it.action} {it.resource}"]
+        for cause in [] if it.reason is None else self.causes(it.reason):
+            lines.append(f"  allowed by {cause.words()}")
+            if is_long:
+                lines += [f"    {one}" for one in json.dumps(cause.json, indent=2, ensure_ascii=False).split("\n")]
+        return [line_of(one) for one in lines]
+
+    def as_json(self, it: Request) -> Dict[str, Any]:
+        found = [] if it.reason is None else self.causes(it.reason)
+        statements = [
+            {"layer": c.layer, "policy": c.policy, "statement": c.number, "sid": c.sid, "json": c.json} for c in found
+        ]
+        head = {"principal": it.principal, "action": it.action, "resource": it.resource}
+        return {**head, "decision": "notAllowed" if it.reason is None else "allowed", "statements": statements}
+
+    def as_fields(self, it: Request) -> List[str]:
+        names = [] if it.reason is None else [cause.words() for cause in self.causes(it.reason)]
+        decision = "notAllowed" if it.reason is None else "allowed"
+        return [it.principal, it.action, it.resource, decision, "; ".join(names)]

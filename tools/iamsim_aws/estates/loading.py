@@ -1,0 +1,284 @@
+"""One world of an estate: it is asked, and what is allowed is loaded in one transaction."""
+
+import array
+import codecs
+import gzip
+import hashlib
+import json
+import os
+import re
+import sqlite3
+import subprocess
+import tempfile
+import zlib
+from typing import IO, Any, Dict, Iterator, List, Optional, Tuple
+
+from .. import files
+from ..faults import Fault
+from ..program import Refused, program
+from . import schema
+
+PIECE, LONGEST = 1 << 20, 1 << 26
+ROWS = 1 << 20  # so many rows wait in memory before the transaction begins
+MARKS = (1 << 62) - 1
+BETWEEN = re.compile(r"[\s,]*")
+COMMAND = ["matrix", "--format", "json", "--decision", "allowed"]
+Place = Tuple[Any, int]
+
+
+def texts(stream: IO[bytes]) -> Iterator[str]:
+    """The text of a stream in pieces."""
+    decoder = codecs.getincrementaldecoder("utf-8")()
+    for piece in iter(lambda: stream.read(PIECE), b""):
+        yield decoder.decode(piece)
+    yield decoder.decode(b"", True)
+
+
+def rows_in(pieces: Iterator[str]) -> Iterator[Dict[str, Any]]:
+    """The objects of a report that comes in pieces, one after another."""
+    decode, text, at = json.JSONDecoder().raw_decode, next(pieces, ""), 1
+    if not text.startswith("["):
+        raise Refused((text + "".join(pieces)).strip() or "iamsim wrote nothing")
+    while True:
+        at = BETWEEN.match(text, at).end()  # type: ignore[union-attr]
+        try:
+            row, at = decode(text, at)
+        except ValueError:
+            if text.startswith("]", at):
+                # What iamsim still writes is taken, so that it ends well.
+                if (text[at + 1 :] + "".join(pieces)).strip():
+                    raise Fault("the report goes on behind its end") from None
+                return
+            more = next(pieces, None)
+            if more is None or len(text) - at > LONGEST:
+                raise Fault("the report is no list of JSON objects, or is cut off") from None
+            text, at = text[at:] + more, 0
+        else:
+            yield row
+
+
+class World:
+    """A world as the database knows it."""
+
+    def __init__(self, base: sqlite3.Connection, n: int):
+        found = base.execute("SELECT * FROM worlds WHERE world = ?", (n,)).fetchone()
+        if found is None:
+            raise Fault(f"the estate has no world {n}")
+        self.base, self.n, self.ended = base, n, str(found[1])
+        self.firsts, self.ends = found[5::2], found[6::2]
+        self.count: int = base.execute("SELECT count(*) FROM worlds").fetchone()[0]
+        self.principals = self.rows("name, account", "principals", "principal", 0)
+        self.actions = self.rows("name", "actions", "action", 1)
+        self.resources = self.rows("arn, account, NOT sealed", "resources", "resource", 2)
+
+    def rows(self, what: str, table: str, key: str, axis: int) -> List[Tuple[Any, ...]]:
+        command = f"SELECT {what} FROM {table} WHERE {key} >= ? AND {key} < ? ORDER BY {key}"
+        return self.base.execute(command, (self.firsts[axis], self.ends[axis])).fetchall()
+
+    def holdings(self, axis: str, first: int, end: int) -> Iterator[Tuple[int, str, int, str]]:
+        command = "SELECT holder, place, policy, name FROM holdings JOIN policies USING (policy) WHERE kind = ? AND holder >= ? AND holder < ?"
+        yield from self.base.execute(command, (axis, first, end))
+
+    def names(self, value: Dict[str, Any]) -> Dict[str, str]:
+        """The policies' names by their paths in the world's file."""
+        found: Dict[str, str] = {}
+        members = {"resource/0": "policy", "boundary/0": "boundary"}
+        for axis, at in (("principals", 0), ("resources", 2)):
+            for holder, place, _, name in self.holdings(axis, self.firsts[at], self.ends[at]):
+                path = members.get(place, place.replace("session/", "sessionPolicies/"))
+                found[f"{axis}/{holder - self.firsts[at]}/{path}"] = name
+        ids = {it["id"]: n for n, it in enumerate(value["accounts"])}
+        for number, account in self.base.execute("SELECT account, id FROM accounts"):
+            if account in ids:
+                for _, place, _, name in self.holdings("accounts", number, number + 1):
+                    found[f"accounts/{ids[account]}/{place}"] = name
+        return found
+
+
+class Reasons:
+    """The statements that allow, as numbers: those of a world are its own, so that no order of the worlds changes them."""
+
+    def __init__(self, world: World):
+        self.world = world
+        self.places: Dict[Tuple[str, int, str], int] = {}
+        for axis, at in (("principals", 0), ("resources", 2)):
+            for holder, place, policy, _ in world.holdings(axis, world.firsts[at], world.ends[at]):
+                self.places[axis, holder - world.firsts[at], place] = policy
+        for account in {it[1] for it in world.principals}:
+            for _, place, policy, _ in world.holdings("accounts", account, account + 1):
+                self.places["accounts", account, place] = policy
+        self.statements: Dict[Place, int] = {}
+        self.quick: Dict[Any, int] = {}
+        self.known: Dict[Tuple[Place, ...], int] = {}
+
+    def of(self, p: int, r: int, places: Tuple[str, ...]) -> int:
+        """The number of what allows; places of a resource hang on the resource too."""
+        key = p, places
+        found = self.quick.get(key)
+        if found is None:
+            found = self.quick.get((p, r, places))
+        if found is None:
+            some = tuple(dict.fromkeys(self.statement(p, r, it) for it in places))
+            found = self.known.setdefault(some, len(self.known) * self.world.count + self.world.n)
+            is_alone = not any(it.startswith(("resource", "control")) for it in places)
+            self.quick[key if is_alone else (p, r, places)] = found
+        return found
+
+    def statement(self, p: int, r: int, place: str) -> Place:
+        way, _, number = place.rpartition("/")
+        layer = way.partition("/")[0]
+        if layer == "org":
+            holder = "accounts", self.world.principals[p][1]
+        else:
+            holder = ("resources", r) if layer in ("resource", "control") else ("principals", p)
+        key = self.places[(*holder, way)], int(number)
+        if key not in self.statements:
+            command = "SELECT statement FROM statements WHERE policy = ? AND number = ?"
+            self.statements[key] = self.world.base.execute(command, key).fetchone()[0]
+        return layer, self.statements[key]
+
+    def rows(self) -> Iterator[Tuple[int, int, str, int]]:
+        for some, n in self.known.items():
+            for at, (layer, statement) in enumerate(some):
+                yield n, at, layer, statement
+
+
+class Loader:
+    """Takes the rows of a report, and writes them within one transaction, which begins late."""
+
+    def __init__(self, world: World):
+        self.world, self.base = world, world.base
+        self.reasons = Reasons(world)
+        self.rows, self.allowed = array.array("Q"), 0
+        self.totals: Dict[Tuple[int, int, int], List[int]] = {}
+        self.owners, self.unsealed = [it[1] for it in world.resources], [it[2] for it in world.resources]
+        self.marks = [int.from_bytes(hashlib.sha256(it[0].encode()).digest()[:7], "big") for it in world.resources]
+
+    def take(self, rows: Iterator[Dict[str, Any]]) -> None:
+        names, arns = [it[0] for it in self.world.principals], [it[0] for it in self.world.resources]
+        actions, width = [it[0] for it in self.world.actions], len(self.world.resources)
+        first_p, first_a, first_r = self.world.firsts
+        for row in rows:
+            try:
+                pair, r = divmod(row["cell"], width)
+                p, a = divmod(pair, len(actions))
+                is_same = row["principal"] == names[p] and row["action"] == actions[a] and row["resource"] == arns[r]
+                reason = self.reasons.of(p, r, tuple(row["statements"]))
+            except (KeyError, TypeError, IndexError, ValueError):
+                is_same = False
+            if not is_same or row["decision"] != "allowed":
+                raise Fault("the report is not that of the world: make the estate anew")
+            self.rows.extend((first_p + p, first_a + a, first_r + r, reason))
+            total = self.totals.setdefault((p, a, self.owners[r]), [0, 0, 0])
+            total[0] += 1
+            total[1] += self.unsealed[r]
+            total[2] += self.marks[r]
+            if len(self.rows) >= 4 * ROWS:
+                self.write()
+
+    def write(self) -> None:
+        if not self.base.in_transaction:
+            self.base.execute("BEGIN IMMEDIATE")
+        it = iter(self.rows)
+        self.base.executemany("INSERT INTO access VALUES (?, ?, ?, ?)", zip(it, it, it, it))
+        self.allowed += len(self.rows) // 4
+        self.rows = array.array("Q")
+
+    def end(self) -> None:
+        """Ends the transaction; the world is loaded whole, or not at all."""
+        self.write()
+        self.base.executemany("INSERT INTO reasons VALUES (?, ?, ?, ?)", self.reasons.rows())
+        first_p, first_a, _ = self.world.firsts
+        rows = ((first_p + p, first_a + a, of, *it[:2], it[2] & MARKS) for (p, a, of), it in self.totals.items())
+        add = "SET allowed = allowed + excluded.allowed, unsealed = unsealed + excluded.unsealed, mark = (mark + excluded.mark) & ?"
+        command = (
+            f"INSERT INTO totals VALUES (?, ?, ?, ?, ?, ?) ON CONFLICT (principal, action, account) DO UPDATE {add}"
+        )
+        self.base.executemany(command, ((*it, MARKS) for it in rows))
+        done = "UPDATE worlds SET ended = 'done', fault = NULL, allowed = ? WHERE world = ?"
+        self.base.execute(done, (self.allowed, self.world.n))
+        self.base.execute("COMMIT")
+
+
+def report_of(folder: str, n: int, workers: int) -> Tuple[IO[bytes], Optional["subprocess.Popen[bytes]"], Any]:
+    """The report that another machine left, or that of iamsim as it comes."""
+    kept = os.path.join(folder, "reports", f"{n}.json.gz")
+    if os.path.exists(kept):
+        return gzip.open(kept), None, None  # type: ignore[return-value]
+    said = tempfile.TemporaryFile()
+    words = [program(), *COMMAND, "--workers", str(workers), os.path.join(folder, "worlds", f"{n}.json")]
+    try:
+        ran = subprocess.Popen(words, stdout=subprocess.PIPE, stderr=said)
+    except OSError as error:
+        raise Fault(f"iamsim cannot be run: {error.strerror or error}") from None
+    assert ran.stdout is not None
+    return ran.stdout, ran, said
+
+
+def ask(folder: str, world: World, workers: int) -> None:
+    """Loads a world, or raises Refused with the line of iamsim."""
+    stream, ran, said = report_of(folder, world.n, workers)
+    loader = Loader(world)
+    try:
+        with stream:
+            try:
+                loader.take(rows_in(texts(stream)))
+            except Refused as refused:
+                if ran is None:
+                    raise
+                ran.wait()
+                said.seek(0)
+                raise Refused(said.read().decode(errors="replace").strip() or str(refused)) from None
+        if ran is not None and ran.wait() != 0:
+            said.seek(0)
+            raise Refused(said.read().decode(errors="replace").strip() or f"iamsim ended with status {ran.returncode}")
+        loader.end()
+    except (EOFError, zlib.error, gzip.BadGzipFile, UnicodeDecodeError) as error:
+        raise Fault(f"the report of world {world.n} cannot be read: {error}") from None
+    finally:
+        if ran is not None and ran.poll() is None:
+            ran.kill()
+            ran.wait()
+
+
+def in_words(folder: str, world: World, refused: Refused) -> str:
+    """The fault of a world by its policy and account."""
+    # Most jobs have no fault, and want none of what this takes.
+    from ..asking import explained
+    from ..documents import dressed
+
+    try:
+        value = files.read_json(os.path.join(folder, "worlds", f"{world.n}.json"))
+        return str(explained(dressed(value, world.names(value)), refused))
+    except (Fault, KeyError, TypeError, IndexError, ValueError):
+        return str(refused)
+
+
+def forget(folder: str, n: int) -> None:
+    """Removes a report that another machine left; one that is at fault is asked for again."""
+    kept = os.path.join(folder, "reports", f"{n}.json.gz")
+    if os.path.exists(kept):
+        os.remove(kept)
+
+
+def load(folder: str, n: int, workers: int) -> None:
+    """Asks for one world, and keeps what is allowed, or how it failed."""
+    base = schema.opened(os.path.join(folder, "access.db"), 3600.0)
+    try:
+        world = World(base, n)
+        if world.ended == "waiting":
+            try:
+                ask(folder, world, workers)
+            except Refused as refused:
+                if base.in_transaction:
+                    base.execute("ROLLBACK")
+                fault = in_words(folder, world, refused)
+                base.execute("UPDATE worlds SET ended = 'failed', fault = ? WHERE world = ?", (fault, n))
+        forget(folder, n)
+    except sqlite3.Error as error:
+        raise Fault(f"world {n} is not loaded: {error}") from None
+    except Fault as fault:
+        forget(folder, n)
+        raise Fault(f"world {n} is not loaded: {fault}") from None
+    finally:
+        base.close()

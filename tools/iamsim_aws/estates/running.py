@@ -1,0 +1,135 @@
+"""The jobs of an estate: GNU parallel runs them here and on other machines, or Slurm does."""
+
+import fcntl
+import os
+import shlex
+import shutil
+import sqlite3
+import subprocess
+import sys
+from typing import IO, List, Optional
+
+from .. import files
+from ..faults import Fault
+from ..program import processors, program
+
+HOW = "on Debian and Ubuntu 'apt-get install parallel' installs it, on Fedora 'dnf install parallel', on macOS 'brew install parallel'"
+ASK = """#!/bin/sh
+# Asks iamsim for the world of this number; its report, or the line of its fault, is kept for the database.
+set -e
+mkdir -p reports
+"${IAMSIM:-iamsim}" matrix --format json --decision allowed --workers "${WORKERS:-1}" "worlds/$1.json" > "reports/$1.part" 2> "reports/$1.said" || cat "reports/$1.said" > "reports/$1.part"
+gzip -1 -c "reports/$1.part" > "reports/$1.gz"
+rm -f "reports/$1.part" "reports/$1.said"
+mv "reports/$1.gz" "reports/$1.json.gz"
+"""
+SLURM = """#!/bin/bash
+#SBATCH --job-name=iamsim-estate
+#SBATCH --array=0-{last}%{most}
+#SBATCH --cpus-per-task=1
+#SBATCH --output=slurm-%a.out
+# A task a world. Where all have ended, 'iamsim-aws estate' with the same words but --slurm loads the reports.
+cd {folder}
+exec sh ask.sh "$SLURM_ARRAY_TASK_ID"
+"""
+
+
+def locked(folder: str) -> IO[bytes]:
+    """Holds the folder until this run and all of its jobs have ended."""
+    path = os.path.join(folder, "lock")
+    try:
+        it = open(path, "ab")
+        fcntl.flock(it, fcntl.LOCK_EX | fcntl.LOCK_NB)
+    except BlockingIOError:
+        raise Fault(f"{folder}: another run of 'iamsim-aws estate' works on it") from None
+    except OSError as error:
+        raise Fault(f"{path}: {error.strerror or error}") from None
+    return it
+
+
+def parallel() -> str:
+    found = shutil.which("parallel")
+    if not found:
+        raise Fault(f"GNU parallel is not installed (parallel): {HOW}")
+    said = subprocess.run([found, "--version"], capture_output=True, text=True).stdout
+    if not said.startswith("GNU parallel"):
+        raise Fault(f"{found} is not GNU parallel: {HOW}")
+    return found
+
+
+def waiting(base: sqlite3.Connection) -> List[int]:
+    return [it[0] for it in base.execute("SELECT world FROM worlds WHERE ended = 'waiting' ORDER BY world")]
+
+
+def log_of(base: sqlite3.Connection, folder: str, name: str) -> str:
+    """The log by which a run goes on where an earlier one was stopped; one that tells of more than is there is put away."""
+    path = os.path.join(folder, name)
+    if os.path.exists(path):
+        left = set(waiting(base))
+        lines = [it.split("\t") for it in files.read_text(path).splitlines()[1:]]
+        done = {int(it[0]) - 1 for it in lines if len(it) > 6 and it[0].isdigit() and it[6] == "0"}
+        if done & left:
+            os.remove(path)
+    return path
+
+
+def run(words: List[str], numbers: List[int], folder: str, lock: IO[bytes]) -> int:
+    """GNU parallel with these words, a number a job; it and its jobs hold the folder's lock too."""
+    given = "".join(f"{it}\n" for it in numbers)
+    bar = ["--bar"] if sys.stderr.isatty() else []
+    command = [parallel(), *bar, "--halt", "soon,fail=1", *words]
+    try:
+        ran = subprocess.run(command, input=given, text=True, cwd=folder, pass_fds=[lock.fileno()])
+    except OSError as error:
+        raise Fault(f"GNU parallel cannot be run: {error.strerror or error}") from None
+    return ran.returncode
+
+
+def write_jobs(folder: str, count: int) -> None:
+    """The files by which other machines ask."""
+    files.write_file(os.path.join(folder, "ask.sh"), ASK)
+    where = shlex.quote(os.path.abspath(folder))
+    text = SLURM.format(last=count - 1, most=1000, folder=where)
+    files.write_file(os.path.join(folder, "estate.slurm"), text)
+
+
+def ask_elsewhere(
+    base: sqlite3.Connection, folder: str, logins: List[str], jobs: Optional[str], lock: IO[bytes]
+) -> None:
+    """Has other machines ask iamsim, by ssh; their reports come back as files, which are loaded here."""
+    os.makedirs(os.path.join(folder, "reports"), exist_ok=True)
+    left = [it for it in waiting(base) if not os.path.exists(os.path.join(folder, "reports", f"{it}.json.gz"))]
+    if not left:
+        return
+    words = [it for login in logins for it in ("--sshlogin", login)] + (["--jobs", jobs] if jobs else [])
+    words += [
+        "--joblog",
+        "joblog.elsewhere",
+        "--workdir",
+        "...",
+        "--transferfile",
+        "ask.sh",
+        "--transferfile",
+        "worlds/{}.json",
+    ]
+    words += ["--return", "reports/{}.json.gz", "--cleanup", "sh ask.sh {}"]
+    if os.environ.get("IAMSIM"):
+        words[-1] = f"IAMSIM={shlex.quote(os.path.abspath(program()))} " + words[-1]
+    if run(words, left, folder, lock) != 0:
+        raise Fault("a job on another machine did not end well: run the command again, which goes on from here")
+
+
+def ask_here(base: sqlite3.Connection, folder: str, jobs: Optional[str], lock: IO[bytes]) -> bool:
+    """Asks for the worlds that wait and loads them; whether all jobs ended well."""
+    left = waiting(base)
+    if not left:
+        return True
+    count = base.execute("SELECT count(*) FROM worlds").fetchone()[0]
+    workers = max(1, processors() // len(left))
+    package = os.path.dirname(os.path.dirname(os.path.abspath(__file__)))
+    command = ["env", f"PYTHONPATH={os.path.dirname(package)}", f"IAMSIM={os.path.abspath(program())}"]
+    command += [sys.executable, "-m", "iamsim_aws.estates", os.path.abspath(folder), str(workers)]
+    words = [*(["--jobs", jobs] if jobs else []), "--joblog", log_of(base, folder, "joblog"), "--resume-failed"]
+    words[words.index("--joblog") + 1] = os.path.abspath(words[words.index("--joblog") + 1])
+    words.append(" ".join(map(shlex.quote, command)) + " {}")
+    return run(words, list(range(count)), folder, lock) == 0

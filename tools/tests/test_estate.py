@@ -1,0 +1,449 @@
+"""iamsim-aws estate: many accounts in one database."""
+
+import csv
+import fcntl
+import io
+import json
+import os
+import random
+import re
+import resource
+import shutil
+import signal
+import sqlite3
+import subprocess
+import sys
+import tempfile
+import time
+
+from harness import (
+    AWS,
+    IAMSIM,
+    TOOLS,
+    Skipped,
+    answer,
+    aws,
+    data,
+    document,
+    file,
+    on_all_processors,
+    run,
+    same,
+    statement,
+    world,
+)
+
+ACTIONS = ["s3:GetObject", "kms:Decrypt", "sts:AssumeRole", "iam:PassRole"]
+A, B, C = "111111111111", "222222222222", "333333333333"
+HOSTILE = 'x\'; DROP TABLE access; --\n"quoted", `y`'
+
+
+def user(account, name, *documents):
+    inline = [{"PolicyName": f"p{n}", "PolicyDocument": it} for n, it in enumerate(documents)]
+    return {
+        "UserName": name,
+        "UserId": f"AIDA{name[:4]}",
+        "Arn": f"arn:aws:iam::{account}:user/{name}",
+        "UserPolicyList": inline,
+    }
+
+
+def role(account, name, trust, *documents):
+    inline = [{"PolicyName": f"p{n}", "PolicyDocument": it} for n, it in enumerate(documents)]
+    arn = f"arn:aws:iam::{account}:role/{name}"
+    return {
+        "RoleName": name,
+        "RoleId": f"AROA{name[:4]}",
+        "Arn": arn,
+        "AssumeRolePolicyDocument": trust,
+        "RolePolicyList": inline,
+        "Path": "/",
+    }
+
+
+def trusts(*principals):
+    return document({"Effect": "Allow", "Principal": {"AWS": list(principals)}, "Action": "sts:AssumeRole"})
+
+
+def exports(more=()):
+    """Three accounts: ann may do all in the first, the second trusts her, bob decrypts there, and the third has one who reads."""
+    root = [f"arn:aws:iam::{it}:root" for it in (A, B, C)]
+    first = {
+        "UserDetailList": [user(A, "ann", document(statement())), *more],
+        "RoleDetailList": [role(A, "own", trusts(root[0]))],
+    }
+    second = {
+        "UserDetailList": [user(B, "bob", document(statement(action="kms:Decrypt")))],
+        "RoleDetailList": [role(B, "guest", trusts(root[0]))],
+    }
+    third = {"UserDetailList": [user(C, "cy", document(statement(action="s3:Get*", resource="arn:aws:s3:::b/*")))]}
+    return [first, second, third]
+
+
+KEY, OBJECT = f"arn:aws:kms:eu-west-1:{B}:key/1", "arn:aws:s3:::b/k"
+KEY_POLICY = document(
+    {"Effect": "Allow", "Principal": {"AWS": f"arn:aws:iam::{B}:root"}, "Action": "kms:*", "Resource": "*"}
+)
+READ_POLICY = document(
+    {"Effect": "Allow", "Principal": {"AWS": C}, "Action": "s3:GetObject", "Resource": "arn:aws:s3:::b/*"}
+)
+RESOURCES = [
+    {"arn": KEY, "account": B, "sealed": True, "policy": KEY_POLICY},
+    {"arn": OBJECT, "account": A, "policy": READ_POLICY},
+]
+OWN, GUEST = f"arn:aws:iam::{A}:role/own", f"arn:aws:iam::{B}:role/guest"
+ANN, BOB, CY = f"arn:aws:iam::{A}:user/ann", f"arn:aws:iam::{B}:user/bob", f"arn:aws:iam::{C}:user/cy"
+# A trust policy grants sts: alone, and a role for iam: has no policy, so that its own account's policies decide.
+WANTED = [
+    (ANN, "iam:PassRole", OWN),
+    (ANN, "iam:PassRole", OBJECT),
+    (ANN, "kms:Decrypt", OBJECT),
+    (ANN, "s3:GetObject", OBJECT),
+    (ANN, "sts:AssumeRole", OWN),
+    (ANN, "sts:AssumeRole", GUEST),
+    (ANN, "sts:AssumeRole", OBJECT),
+    (BOB, "kms:Decrypt", KEY),
+    (CY, "s3:GetObject", OBJECT),
+]
+
+
+def folder():
+    return os.path.join(tempfile.mkdtemp(dir=os.environ["TOOLS_TEST_ROOM"]), "estate")
+
+
+def words(where, some, *more, resources=RESOURCES, actions=ACTIONS):
+    if not shutil.which("parallel"):
+        raise Skipped("there is no GNU parallel")
+    beside = ["--resources", file(resources), "--actions", file("\n".join(actions)), "--session", "s1"]
+    return ["estate", where, *(file(it) for it in some), *beside, *more]
+
+
+def rows(where, what):
+    base = sqlite3.connect(os.path.join(where, "access.db"))
+    try:
+        return base.execute(what).fetchall()
+    finally:
+        base.close()
+
+
+def allowed(where):
+    return sorted(rows(where, "SELECT principal, action, resource FROM allowed"))
+
+
+def everything(where):
+    """All rows but those of what differs between two folders."""
+    names = "actions accounts principals resources policies statements holdings reasons access totals worlds".split()
+    return {it: sorted(rows(where, f"SELECT * FROM {it}"), key=repr) for it in names}
+
+
+def ended(given, status, seconds=300):
+    """What a command writes, whose lines may be several."""
+    out, said = run([AWS, *given], status=status, seconds=seconds)
+    assert "Traceback" not in said, said
+    return out, said
+
+
+def test_three_accounts():
+    where = folder()
+    out, said = ended(words(where, exports()), 0)
+    same((out, said), ("2 worlds, 80 requests asked for, 9 allowed\n", ""))
+    same(allowed(where), sorted(WANTED))
+    causes = rows(
+        where,
+        f"SELECT layer, policy, statement FROM allowed JOIN causes USING (reason) WHERE principal = '{CY}' ORDER BY number",
+    )
+    same(causes, [("resource", f"{OBJECT} policy", 0), ("identity", f"{CY} inline p0", 0)])
+    same(rows(where, "SELECT id FROM accounts WHERE has_export ORDER BY id"), [(A,), (B,), (C,)])
+    same(rows(where, "SELECT count(*) FROM files WHERE length(sha256) = 64 AND account IS NOT NULL"), [(3,)])
+    same(sum(it[0] for it in rows(where, "SELECT allowed FROM totals")), 9)
+
+
+def test_the_same_estate_gives_the_same_rows():
+    where, other, some = folder(), folder(), exports()
+    for it in (where, other):
+        ended(words(it, some, "--cells", "8", "--moment", "0"), 0)
+    once = everything(where)
+    same(everything(other), once)
+    same(len(once["worlds"]) > 9, True)
+    same(allowed(where), sorted(WANTED))
+    out, _ = ended(words(where, some, "--cells", "8"), 0)
+    same((everything(where), out.split(", ", 1)[1]), (once, "80 requests asked for, 9 allowed\n"))
+    _, said = ended(words(where, some[:2], "--cells", "8"), 1)
+    assert "it is of other files or options: name another folder, or begin anew by --afresh" in said, said
+    ended(words(where, some[:2], "--cells", "8", "--afresh"), 0)
+    same(allowed(where), sorted(it for it in WANTED if it[0] != CY))
+
+
+def started(given):
+    return subprocess.Popen([AWS, *given], stdout=subprocess.DEVNULL, stderr=subprocess.DEVNULL, start_new_session=True)
+
+
+def test_a_killed_run_goes_on():
+    """It is killed after the first worlds and after some more; what is there is whole."""
+    where, some = folder(), exports()
+    given, whole = words(where, some, "--cells", "8", "--moment", "0", "--jobs", "1"), folder()
+    ended([given[0], whole, *given[2:]], 0)
+    log = os.path.join(where, "joblog")
+    for count in (1, 4):
+        it = started(given)
+        end = time.monotonic() + 120
+        while (
+            it.poll() is None
+            and time.monotonic() < end
+            and not (os.path.exists(log) and len(open(log).readlines()) > count)
+        ):
+            time.sleep(0.02)
+        os.killpg(it.pid, signal.SIGKILL)
+        it.wait()
+        done, loaded = rows(
+            where, "SELECT (SELECT sum(allowed) FROM worlds WHERE ended = 'done'), (SELECT count(*) FROM access)"
+        )[0]
+        same(done, loaded)
+        out, said = aws("who-can", "s3:GetObject", "*", "--database", os.path.join(where, "access.db"))
+        left = len(rows(where, "SELECT world FROM worlds WHERE ended = 'waiting'"))
+        assert left == 0 or f"{left} of " in said, said
+    ended(given, 0)
+    same(everything(where), everything(whole))
+
+
+def test_a_refused_policy_is_told_and_the_rest_is_there():
+    bad = user(A, "eve", document(statement(effect="allow")))
+    # Worlds of 8 requests have two principals at most: dan stands with ann, and eve with the role.
+    where, some = folder(), exports([user(A, "dan"), bad])
+    _, said = ended(words(where, some, "--cells", "8"), 1)
+    fault = f"iamsim refuses a policy: {bad['Arn']} inline p0: statement 0: the Effect is neither Allow nor Deny (fault 8 BadEffect); of {bad['Arn']}"
+    assert fault in said and said.count("\n") == 1, said
+    same(allowed(where), sorted(WANTED))
+    for question in (["who-can"], ["can", "ann"]):
+        _, said = ended([*question, "iam:PassRole", "*/own", "--database", os.path.join(where, "access.db")], 0)
+        assert said.count(fault) == 1 and "what they would allow is missing" in said, said
+    ended(words(where, exports(), "--cells", "8", "--afresh"), 0)
+    _, said = aws("who-can", "s3:GetObject", "*", "--database", os.path.join(where, "access.db"))
+    same(said, "")
+
+
+def test_hostile_names():
+    arn = f"arn:aws:s3:::b/{HOSTILE}"
+    rest = [
+        {
+            "arn": arn,
+            "account": A,
+            "policy": document(
+                {"Effect": "Allow", "Principal": "*", "Action": "s3:*", "Resource": "*", "Sid": HOSTILE}
+            ),
+        }
+    ]
+    it = user(A, "ann", document(statement(Sid=HOSTILE)))
+    it["UserPolicyList"][0]["PolicyName"] = HOSTILE
+    where = folder() + " 'q' \"r\" $HOME `id`\nline"
+    made = role(A, "own", trusts(f"arn:aws:iam::{A}:root"))
+    out, _ = ended(
+        words(where, [{"UserDetailList": [it], "RoleDetailList": [made]}], resources=rest, actions=["s3:GetObject"]), 0
+    )
+    same(out, "1 worlds, 2 requests asked for, 2 allowed\n")
+    same({it[2] for it in allowed(where)}, {arn})
+    found = rows(
+        where, f"SELECT policy, sid FROM allowed JOIN causes USING (reason) WHERE principal = '{ANN}' ORDER BY layer"
+    )
+    same(found, [(f"{ANN} inline {HOSTILE}", HOSTILE), (f"{arn} policy", HOSTILE)])
+    base = os.path.join(where, "access.db")
+    out, _ = aws("who-can", "s3:GetObject", arn, "--database", base, "--format", "json")
+    same([(row["principal"], row["resource"]) for row in json.loads(out)][:1], [(ANN, arn)])
+    out, _ = aws("who-can", "s3:GetObject", arn, "--database", base, "--format", "csv")
+    same({row[2] for row in csv.reader(io.StringIO(out))}, {"resource", arn})
+    out, _ = aws("who-can", "s3:GetObject", arn, "--database", base)
+    same(out.count("\n"), 1 + 3 + 2 + 1)
+
+
+def limited(given, size):
+    """The command, none of whose files may grow past so many bytes."""
+    limit = lambda: resource.setrlimit(resource.RLIMIT_FSIZE, (size, size))
+    return subprocess.run([AWS, *given], capture_output=True, text=True, timeout=300, preexec_fn=limit)
+
+
+def test_a_full_disk():
+    """While the worlds are made, and while they are loaded; then it goes on."""
+    rest = [{"arn": f"arn:aws:s3:::b/{n}", "account": A} for n in range(1000)]
+    where = folder()
+    given = words(where, exports(), "--moment", "0", resources=rest)
+    ran = limited(given, 65536)
+    assert ran.returncode == 1 and "Traceback" not in ran.stderr and ran.stderr.count("\n") == 1, ran.stderr
+    ended([*given, "--slurm"], 0)
+    size = os.path.getsize(os.path.join(where, "access.db"))
+    ran = limited(given, size)
+    assert (
+        ran.returncode == 1
+        and "Traceback" not in ran.stderr
+        and "worlds are not loaded: run the command again" in ran.stderr
+    ), ran.stderr
+    same(rows(where, "SELECT count(*) FROM access WHERE principal > 5"), [(0,)])
+    out, _ = ended(given, 0)
+    same(out.rsplit(", ", 1)[1], "4003 allowed\n")
+
+
+def test_two_runs_at_once():
+    where, some = folder(), exports()
+    os.makedirs(where)
+    with open(os.path.join(where, "lock"), "ab") as it:
+        fcntl.flock(it, fcntl.LOCK_EX)
+        _, said = ended(words(where, some), 1)
+    same(said, f"iamsim-aws: {where}: another run of 'iamsim-aws estate' works on it\n")
+    ended(words(where, some), 0)
+
+
+def test_another_version_and_other_files():
+    where, some = folder(), exports()
+    given = words(where, some)
+    ended(given, 0)
+    path = os.path.join(where, "access.db")
+    rows(where, "PRAGMA user_version = 7")
+    for it in (given, ["who-can", "s3:GetObject", "*", "--database", path]):
+        _, said = ended(it, 1)
+        same(
+            said,
+            f"iamsim-aws: {path}: its tables are of version 7, and this command has version 1: make the estate anew\n",
+        )
+    for text, why in (
+        ("no database at all, but a text that is long enough", "file is not a database"),
+        ("", "it is no database of an estate"),
+    ):
+        _, said = ended(["can", "ann", "s3:GetObject", "*", "--database", file(text)], 1)
+        assert why in said and said.count("\n") == 1, said
+
+
+def test_without_parallel():
+    given = words(folder(), exports())
+    out, said = run(["env", "PATH=/nowhere", sys.executable, AWS, *given], status=1)
+    assert (
+        said.startswith("iamsim-aws: GNU parallel is not installed (parallel): on Debian") and said.count("\n") == 1
+    ), said
+
+
+def test_reports_of_other_machines():
+    """The jobs of Slurm leave reports, which the command loads; one that is cut off is asked for again."""
+    where = folder()
+    given = words(
+        where,
+        exports([user(A, "dan"), user(A, "eve", document(statement(effect="allow")))]),
+        "--cells",
+        "8",
+        "--moment",
+        "0",
+    )
+    out, _ = ended([*given, "--slurm"], 0)
+    count = len(rows(where, "SELECT world FROM worlds"))
+    text = open(os.path.join(where, "estate.slurm")).read()
+    assert out.startswith(f"{count} worlds; 'sbatch ") and f"--array=0-{count - 1}%" in text, text
+    for n in range(count):
+        subprocess.run(["sh", "ask.sh", str(n)], cwd=where, check=True, env={**os.environ, "IAMSIM": IAMSIM})
+    same(len(os.listdir(os.path.join(where, "reports"))), count)
+    path = os.path.join(where, "reports", "3.json.gz")
+    with open(path, "rb+") as it:
+        it.truncate(os.path.getsize(path) - 5)
+    _, said = ended([*given, "--jobs", "1"], 1)
+    assert "world 3 is not loaded: the report of world 3 cannot be read" in said, said
+    _, said = ended(given, 1)
+    assert "(fault 8 BadEffect)" in said, said
+    same((allowed(where), os.listdir(os.path.join(where, "reports"))), (sorted(WANTED), []))
+
+
+def test_words_of_answers():
+    where = folder()
+    ended(words(where, exports()), 0)
+    base = ["--database", os.path.join(where, "access.db")]
+    out, _ = aws("who-can", "KMS:decrypt", "key/1", *base)
+    lines = ["1 of 5 principals are allowed, by 1 of 5 requests", f"allowed: {BOB} kms:Decrypt {KEY}"]
+    lines += [
+        f"  allowed by {KEY} policy, statement 0 (the resource's policy)",
+        f"  allowed by {BOB} inline p0, statement 0 (identity policy)",
+    ]
+    same(out.splitlines()[:-1], lines)
+    out, _ = aws("can", "cy", "*", OBJECT, *base, "--format", "csv", status=3)
+    same(
+        [it[1::2] for it in csv.reader(io.StringIO(out))],
+        [["action", "decision"], ["s3:GetObject", "allowed"]] + [[it, "notAllowed"] for it in ACTIONS[1:]],
+    )
+    for question, why in (
+        (["who-can", "s3:PutObject", "*"], "no action of the database matches s3:PutObject"),
+        (["can", "dan", "*", "*"], "no principal"),
+        (["who-can", "*", "*", "--kinds"], "--database answers alone: leave --kinds out"),
+    ):
+        _, said = aws(*question, *base, status=1)
+        assert why in said, said
+
+
+def decided(it):
+    """What iamsim says of a request, by a world of its principal and resource alone."""
+    some, resources, organization, kind, (p, a, r) = it
+    given = [*some, "--resources", resources, "--organization", organization, "--actions", file("\n".join(kind))]
+    made = json.dumps(world(*given, "--principal", p, "--resource", r)).encode()
+    status, out, said = answer(["decide", "0", str(kind.index(a)), "0"], made)
+    row = list(csv.reader(out.decode().splitlines()))[1]
+    same((status, said, row[1:4]), (0, b"", [p, a, r]))
+    return row[4]
+
+
+def test_a_hundred_random_requests():
+    """The database says what iamsim says of a world of the request alone."""
+    some = [data("account.json"), data("partner.json")]
+    objects = [
+        {"arn": f"arn:aws:s3:::{it}", "account": "111122223333"}
+        for it in ("homes/alice/x", "teams/red/x", "releases/app.zip")
+    ]
+    resources, organization, where = file(objects), data("organization.json"), folder()
+    actions = ["s3:GetObject", "s3:PutObject", "sts:AssumeRole", "iam:PassRole", "iam:GetRole"]
+    given = words(
+        where, [], "--organization", organization, "--moment", "0", "--cells", "60", resources=objects, actions=actions
+    )
+    ended([*given[:2], *some, *given[2:]], 0)
+    axes = [
+        [it[0] for it in rows(where, f"SELECT {what}")]
+        for what in ("name FROM principals", "name FROM actions", "arn FROM resources")
+    ]
+    pick, there = random.Random(5), set(allowed(where))
+    asked = sorted(there)[:20]
+    asked += [tuple(map(pick.choice, axes)) for _ in range(100 - len(asked))]
+    # Roles have a trust policy where sts: is asked for, and none for iam:, so actions of both kinds stand in worlds of their own.
+    kinds = {it: actions[:3] if it in actions[:3] else actions[3:] for it in actions}
+    found = on_all_processors(decided, [(some, resources, organization, kinds[it[1]], it) for it in asked])
+    same([it == "allowed" for it in found], [it in there for it in asked])
+    assert 8 <= sum(it in there for it in asked) < 100
+
+
+def questions(where, **given):
+    """What the five questions of the document answer, each by the last of its statements."""
+    with open(os.path.join(os.path.dirname(TOOLS), "docs", "estates.md"), encoding="utf-8") as it:
+        texts = re.findall(r"```sql\n(.*?)```", it.read(), re.S)
+    base = sqlite3.connect(os.path.join(where, "access.db"))
+    try:
+        return [
+            [base.execute(one, given).fetchall() for one in text.strip().rstrip(";").split(";\n")][-1] for text in texts
+        ]
+    finally:
+        base.close()
+
+
+def test_five_questions():
+    where, before = folder(), folder()
+    eve = user(A, "eve", document(statement()))
+    ended(words(where, exports()), 0)
+    ended(words(before, exports([eve])[:2]), 0)
+    decrypt = [(BOB, "resource", f"{KEY} policy", 0, None), (BOB, "identity", f"{BOB} inline p0", 0, None)]
+    lost = [
+        ("lost", eve["Arn"], action, it)
+        for action, of in (
+            ("iam:PassRole", [OWN, OBJECT]),
+            ("kms:Decrypt", [OBJECT]),
+            ("s3:GetObject", [OBJECT]),
+            ("sts:AssumeRole", [OWN, GUEST, OBJECT]),
+        )
+        for it in of
+    ]
+    wanted = [
+        decrypt,
+        [(ANN, GUEST)],
+        [("s3:GetObject", OBJECT)],
+        [(ANN,)],
+        [("gained", CY, "s3:GetObject", OBJECT), *lost],
+    ]
+    same(questions(where, key=KEY, account=B, principal=CY, before=os.path.join(before, "access.db")), wanted)
