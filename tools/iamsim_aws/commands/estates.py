@@ -39,7 +39,9 @@ def add_all(commands: Any) -> None:
 def sums(options: argparse.Namespace) -> List[Tuple[str, str, str]]:
     """Each file that is read, with its kind and its SHA-256 sum."""
     given = [(it, "export") for it in options.exports]
-    given += [(getattr(options, it), it) for it in BESIDE if getattr(options, it)]
+    for kind in BESIDE:
+        named = getattr(options, kind) or []
+        given += [(it, kind) for it in ([named] if isinstance(named, str) else named)]
     found = []
     for path, kind in given:
         if path == "-":
