@@ -4,7 +4,7 @@ use Rattle.std.specs.Prelude.{◌≡◌, ℕ, List, Option, String, map, string_
 use Rattle.std.specs.Global.{Global}
 use Rattle.std.specs.List.{AllZip}
 use Rattle.std.specs.Io.KnownBytes.{Appends}
-use Rattle.iam_text.specs.declared.sign.Sign.{Sign}
+use Rattle.iam_glob.specs.declared.sign.Sign.{Sign}
 use Rattle.iam_decision.specs.declared.verdict.Decision.{Decision}
 use Rattle.iam_world.specs.Reads.{IsWorld}
 use Rattle.iam_world.specs.World.{WorldValue}

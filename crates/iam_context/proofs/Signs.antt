@@ -4,8 +4,9 @@ use Rattle.std.proofs.lemmas.List.{append-nil}
 use Rattle.std.specs.Option.{option_and_then}
 use Rattle.std.specs.Str.{chars}
 use Rattle.iam_text.specs.declared.draft.Piece.{Piece}
-use Rattle.iam_text.specs.declared.sign.Sign.{Sign}
-use Rattle.iam_text.specs.Draft.{plain_draft, sign_of}
+use Rattle.iam_glob.specs.declared.sign.Sign.{Sign}
+use Rattle.iam_glob.specs.Glob.{sign_of}
+use Rattle.iam_text.specs.Draft.{plain_draft}
 use Rattle.iam_context.specs.Context.{ContextValue}
 use Rattle.iam_context.specs.Resolve.{resolved}
 

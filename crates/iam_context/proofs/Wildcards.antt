@@ -4,10 +4,9 @@ use Rattle.std.proofs.lemmas.List.{map-append}
 use Rattle.std.proofs.lemmas.Str.{chars-append}
 use Rattle.std.specs.List.{list_all}
 use Rattle.std.specs.Str.{IsUtf8, chars}
-use Rattle.iam_text.specs.declared.sign.Sign.{Sign}
-use Rattle.iam_text.specs.declared.sign.Sign.TheVariants.{Any, One, Given}
-use Rattle.iam_text.specs.Draft.{sign_of}
-use Rattle.iam_text.specs.Glob.{plain_sign}
+use Rattle.iam_glob.specs.declared.sign.Sign.{Sign}
+use Rattle.iam_glob.specs.declared.sign.Sign.TheVariants.{Any, One, Given}
+use Rattle.iam_glob.specs.Glob.{plain_sign, sign_of}
 use Rattle.iam_context.specs.Code.Wildcards.{is_no_wildcard}
 
 one_sign : (star mark : Bool) (c : ℕ) → not (star || mark) ≡ true → Given c ≡ (if star then Any else (if mark then One else Given c))

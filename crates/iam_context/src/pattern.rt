@@ -3,7 +3,7 @@ ghost use Rattle.std.specs.Prelude.{◌≡◌, ◌++◌, Bool, Some, None, map, 
 ghost use Rattle.std.specs.List.{list_all};
 ghost use Rattle.std.specs.Str.{chars};
 ghost use Rattle.std.specs.String.{string_bytes};
-ghost use Rattle.iam_text.specs.Draft.{sign_of};
+ghost use Rattle.iam_glob.specs.Glob.{sign_of};
 ghost use Rattle.iam_text.specs.Stretches.{piece_of};
 ghost use Rattle.iam_context.specs.Resolve.{one_or, piece_signs, resolved};
 ghost use Rattle.iam_context.specs.Code.Wildcards.{is_no_wildcard};

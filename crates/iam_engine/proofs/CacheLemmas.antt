@@ -6,8 +6,8 @@ use Rattle.std.specs.Map.{lookup}
 use Rattle.std.specs.Str.{chars}
 use Rattle.lru.specs.LruCache.{LruCache, put_entries}
 use Rattle.lru.proofs.CallerLemmas.{Contains-lookup, Contains-put_entries}
-use Rattle.iam_text.specs.Glob.{Matches}
-use Rattle.iam_text.specs.declared.sign.Sign.{Sign}
+use Rattle.iam_glob.specs.Glob.{Matches}
+use Rattle.iam_glob.specs.declared.sign.Sign.{Sign}
 use Rattle.iam_world.specs.World.{ResourceValue, WorldValue}
 use Rattle.iam_engine.specs.Cache.{Entry, HasArn, IsTrueOf, Remembers}
 

@@ -5,9 +5,9 @@ use Rattle.std.proofs.lemmas.List.{take_all}
 use Rattle.std.proofs.lemmas.List.Elements.{All-more}
 use Rattle.std.specs.Str.{chars}
 use Rattle.iam_text.specs.Draft.{plain_draft}
-use Rattle.iam_text.specs.Glob.{Matches}
+use Rattle.iam_glob.specs.Glob.{Matches}
 use Rattle.iam_text.specs.declared.draft.Piece.{Piece}
-use Rattle.iam_text.specs.declared.sign.Sign.{Sign}
+use Rattle.iam_glob.specs.declared.sign.Sign.{Sign}
 use Rattle.iam_context.specs.Context.{ContextValue}
 use Rattle.iam_context.specs.Resolve.{resolved}
 use Rattle.iam_element.specs.Reading.{ResourceElement}

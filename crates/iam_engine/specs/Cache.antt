@@ -2,8 +2,8 @@
 use Rattle.std.specs.Prelude.{◌≡◌, ◌↔◌, ℕ, Bool, Contains, IsTrue, List, Some}
 use Rattle.std.specs.List.{slice_get}
 use Rattle.std.specs.Str.{chars}
-use Rattle.iam_text.specs.Glob.{Matches}
-use Rattle.iam_text.specs.declared.sign.Sign.{Sign}
+use Rattle.iam_glob.specs.Glob.{Matches}
+use Rattle.iam_glob.specs.declared.sign.Sign.{Sign}
 use Rattle.iam_layers.specs.Cell.{IsResource}
 use Rattle.iam_world.specs.World.{WorldValue}
 

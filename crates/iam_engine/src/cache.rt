@@ -1,7 +1,7 @@
 // Which resource texts match which resources, as far as it is remembered.
 ghost use Rattle.std.specs.Prelude.{◌≡◌, ◌⊎◌, ◌↔◌, Contains, IfSome, IsTrue};
 ghost use Rattle.std.specs.Str.{chars};
-ghost use Rattle.iam_text.specs.Glob.{Matches};
+ghost use Rattle.iam_glob.specs.Glob.{Matches};
 ghost use Rattle.iam_world.specs.World.{WorldValue};
 ghost use Rattle.iam_engine.specs.Cache.{Entry, HasArn, Remembers};
 
@@ -39,7 +39,7 @@ impl<'a> Model for MatchCache<'a> {
 impl<'a> MatchCache<'a> {
     ghost use Rattle.std.specs.Prelude.{◌≡◌, ◌≤◌, ◌↔◌, IfOk, IsTrue};
     ghost use Rattle.std.specs.Str.{chars};
-    ghost use Rattle.iam_text.specs.Glob.{Matches};
+    ghost use Rattle.iam_glob.specs.Glob.{Matches};
     ghost use Rattle.iam_engine.specs.Cache.{HasArn};
 
     /// Nothing is remembered yet.

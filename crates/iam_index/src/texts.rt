@@ -25,7 +25,7 @@ pub struct Texts<'a> {
 
 impl<'a> Model for Texts<'a> {
     ghost use Rattle.std.specs.Prelude.{List, map};
-    ghost use Rattle.iam_text.specs.declared.sign.Sign.{Sign};
+    ghost use Rattle.iam_glob.specs.declared.sign.Sign.{Sign};
 
     ghost Value = { List (List Sign) };
 

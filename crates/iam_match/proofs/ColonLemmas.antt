@@ -3,9 +3,9 @@ use Rattle.std.proofs.Common.{◌≡◌, ◌↔◌, ℕ, List, [], ◌∷◌, �
 use Rattle.std.proofs.lemmas.List.Elements.{All-head, All-tail}
 use Rattle.std.specs.Str.{chars}
 use Rattle.iam_text.specs.Arn.{colon}
-use Rattle.iam_text.specs.Glob.{Matches}
-use Rattle.iam_text.specs.declared.sign.Sign.{Sign}
-use Rattle.iam_text.specs.declared.sign.Sign.TheVariants as sign
+use Rattle.iam_glob.specs.Glob.{Matches}
+use Rattle.iam_glob.specs.declared.sign.Sign.{Sign}
+use Rattle.iam_glob.specs.declared.sign.Sign.TheVariants as sign
 use Rattle.iam_match.specs.Entry.{IsNoColon, PartsMatch}
 
 -- the tails of equal lists

@@ -3,7 +3,7 @@ use Rattle.std.proofs.Common.{◌≡◌, ◌↔◌, ◌≤◌, arith, length, in
 use Rattle.iam_text.specs.Parts.{parts_of}
 use Rattle.iam_text.specs.declared.arn.Arn.{Arn}
 use Rattle.iam_text.specs.declared.draft.Piece.{Piece}
-use Rattle.iam_text.specs.declared.sign.Sign.{Sign}
+use Rattle.iam_glob.specs.declared.sign.Sign.{Sign}
 use Rattle.iam_value.specs.Address.{AddressBits, Block, Holds, IsAddress}
 use Rattle.iam_value.specs.Moment.{IsMoment}
 use Rattle.iam_context.specs.Context.{ContextValue}

@@ -4,10 +4,10 @@
 use Rattle.std.specs.Prelude.{◌≡◌, ◌⊎◌, ℕ, ℤ, ◌<ℤ◌, ◌≤ℤ◌, List, [], ◌∷◌, ◌++◌, Bool, true, false, Option, Some, None, IsSome, IsTrue, ⊤, All, Any, MatchBool}
 use Rattle.std.specs.Str.{chars}
 use Rattle.iam_text.specs.Arn.{IsArn, colon}
-use Rattle.iam_text.specs.Glob.{Equals, EqualsFold, Matches}
+use Rattle.iam_glob.specs.Glob.{Equals, EqualsFold, Matches}
 use Rattle.iam_text.specs.declared.draft.Piece.{Piece}
-use Rattle.iam_text.specs.declared.sign.Sign.{Sign}
-use Rattle.iam_text.specs.declared.sign.Sign.TheVariants as sign
+use Rattle.iam_glob.specs.declared.sign.Sign.{Sign}
+use Rattle.iam_glob.specs.declared.sign.Sign.TheVariants as sign
 use Rattle.iam_value.specs.Address.{AddressBits, Block, Holds, IsAddress}
 use Rattle.iam_value.specs.Bytes.{IsBase64}
 use Rattle.iam_value.specs.Moment.{IsMoment}

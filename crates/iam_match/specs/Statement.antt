@@ -2,8 +2,8 @@
 -- reference". LOGIC 2.3, 2.4, 4.4 and 6.10.
 use Rattle.std.specs.Prelude.{◌≡◌, ℕ, List, Option, Some, None, IsSome, ⊤, All, Any, MatchBool}
 use Rattle.std.specs.Str.{chars}
-use Rattle.iam_text.specs.declared.sign.Sign.{Sign}
-use Rattle.iam_text.specs.Glob.{Matches, MatchesFold}
+use Rattle.iam_glob.specs.declared.sign.Sign.{Sign}
+use Rattle.iam_glob.specs.Glob.{Matches, MatchesFold}
 use Rattle.iam_text.specs.declared.draft.Piece.{Piece}
 use Rattle.iam_element.specs.Reading.{ActionElement, ResourceElement}
 use Rattle.iam_policy.specs.Reading.{StatementValue}

@@ -1,9 +1,9 @@
 // ARN patterns, part by part.
 ghost use Rattle.std.specs.Prelude.{◌≡◌, ◌↔◌, ◌⊎◌, ◌++◌, ◌∷◌, [], All, IsTrue, MatchOption, map};
 ghost use Rattle.iam_text.specs.Arn.{colon};
-ghost use Rattle.iam_text.specs.declared.sign.Sign.TheVariants as sign;
+ghost use Rattle.iam_glob.specs.declared.sign.Sign.TheVariants as sign;
 ghost use Rattle.iam_text.specs.Parts.{parts_of};
-ghost use Rattle.iam_text.specs.Signs.{signs_in};
+ghost use Rattle.iam_glob.specs.Signs.{signs_in};
 ghost use Rattle.iam_match.specs.Entry.{IsNoColon, PartsMatch};
 
 use iam_text::{Arn, Sign, Signs};

@@ -1,7 +1,7 @@
 // Resource elements without variables.
 ghost use Rattle.std.specs.Prelude.{◌↔◌, Any, IsTrue};
 ghost use Rattle.std.specs.Str.{chars};
-ghost use Rattle.iam_text.specs.Glob.{Matches};
+ghost use Rattle.iam_glob.specs.Glob.{Matches};
 
 use iam_policy::Resources;
 use iam_text::{Compiled, OutOfMemory, TemplateForm};

@@ -1,7 +1,7 @@
 // Whether the resource element matches.
 ghost use Rattle.std.specs.Prelude.{◌↔◌, All, Any, IsTrue, IfOk, Some};
 ghost use Rattle.std.specs.Str.{chars};
-ghost use Rattle.iam_text.specs.Glob.{Matches};
+ghost use Rattle.iam_glob.specs.Glob.{Matches};
 ghost use Rattle.iam_context.specs.Resolve.{resolved};
 ghost use Rattle.iam_match.specs.Statement.{ResourceMatches, TextMatches};
 ghost use Rattle.iam_match.specs.Code.Texts.{TellsOfPattern, TextDiffers};

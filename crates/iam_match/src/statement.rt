@@ -1,7 +1,7 @@
 // Whether a statement matches, with its action and without.
 ghost use Rattle.std.specs.Prelude.{◌↔◌, All, Any, IsTrue, IfOk, IfSome};
 ghost use Rattle.std.specs.Str.{chars};
-ghost use Rattle.iam_text.specs.Glob.{MatchesFold};
+ghost use Rattle.iam_glob.specs.Glob.{MatchesFold};
 ghost use Rattle.iam_match.specs.Request.{access_of, request_of};
 ghost use Rattle.iam_match.specs.Entry.{EntryHolds};
 ghost use Rattle.iam_match.specs.Statement.{ActionMatches, ResourceMatches, RestMatches, StatementMatches};

@@ -1,7 +1,7 @@
 -- What is asked of a matrix: requests are selected by their texts, and their rows are asked for by their decisions. LOGIC 13.6.
 use Rattle.std.specs.Prelude.{◌≡◌, ◌⊎◌, ℕ, ◌<◌, List, [], Option, Some, None, Any, chars, map}
-use Rattle.iam_text.specs.Glob.{Matches, MatchesFold, wild_sign}
-use Rattle.iam_text.specs.declared.sign.Sign.{Sign}
+use Rattle.iam_glob.specs.Glob.{Matches, MatchesFold, wild_sign}
+use Rattle.iam_glob.specs.declared.sign.Sign.{Sign}
 use Rattle.iam_decision.specs.declared.verdict.Decision.{Decision}
 use Rattle.iam_decision.specs.declared.verdict.Decision.TheVariants.{Allowed}
 use Rattle.iam_layers.specs.Cell.{IsDecisionOf}

@@ -1,6 +1,6 @@
 // Which requests of a world are selected.
 ghost use Rattle.std.specs.Prelude.{◌≡◌, ◌↔◌, ℕ, ◌<◌, Any, IfOk, IsTrue, chars, false, length};
-ghost use Rattle.iam_text.specs.Glob.{Matches, MatchesFold};
+ghost use Rattle.iam_glob.specs.Glob.{Matches, MatchesFold};
 ghost use Rattle.iam_layers.specs.Cell.{IsCell, principal_text};
 ghost use Rattle.iam_selection.specs.Code.Listing.{AreFlags, IsActionMeant, IsPrincipalMeant, IsResourceMeant};
 ghost use Rattle.iam_selection.specs.Selection.{IsMeant, IsSelected};

@@ -8,8 +8,9 @@ use Rattle.std.specs.List.{list_all}
 use Rattle.std.specs.Str.{IsUtf8, chars, encode_utf8_all}
 use Rattle.iam_text.specs.declared.draft.Piece.{Piece}
 use Rattle.iam_text.specs.declared.draft.Piece.TheVariants.{Plain, Escaped, Variable}
-use Rattle.iam_text.specs.declared.sign.Sign.{Sign}
-use Rattle.iam_text.specs.Draft.{BeginsWith, IsApart, IsDraft, IsWritten, is_key, is_key_character, plain_draft, sign_of}
+use Rattle.iam_glob.specs.declared.sign.Sign.{Sign}
+use Rattle.iam_glob.specs.Glob.{sign_of}
+use Rattle.iam_text.specs.Draft.{BeginsWith, IsApart, IsDraft, IsWritten, is_key, is_key_character, plain_draft}
 use Rattle.iam_text.specs.Code.Forms.{HasClosed, HasDefault, HasForm, IsClosed, IsQuoted}
 use Rattle.iam_text.specs.Stretches.{IsCutAtForm, NoneBegins}
 use Rattle.iam_text.proofs.FormLemmas.{all_absent, closed_avoids, default_cut, key_all, literal_no_key, one_character, run_unique, spaces_unique}

@@ -12,7 +12,8 @@ use Rattle.iam_text.specs.declared.version.Version.TheVariants.{V2012, V2008}
 use Rattle.iam_text.specs.Code.Forms.{HasForm}
 use Rattle.iam_text.specs.Stretches.{IsCutAtForm, NoneBegins}
 use Rattle.iam_text.specs.Code.Kept.{OneDraft, OneDraft-prop}
-use Rattle.iam_text.specs.Draft.{IsDraft, IsDraftIn, plain_draft, sign_of}
+use Rattle.iam_glob.specs.Glob.{sign_of}
+use Rattle.iam_text.specs.Draft.{IsDraft, IsDraftIn, plain_draft}
 use Rattle.iam_text.proofs.DraftLemmas.{Along, along_cut, along_form, draft_along_off, none_read, plain_drafted}
 use Rattle.iam_text.proofs.VersionLemmas.{draft_unique_in}
 

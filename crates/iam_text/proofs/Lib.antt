@@ -1,12 +1,6 @@
 pub mod ArnLemmas
-pub mod AsciiLemmas
-pub mod BackLemmas
-pub mod CompiledLemmas
 pub mod DraftLemmas
 pub mod FormLemmas
-pub mod GivenLemmas
 pub mod KeptLemmas
-pub mod SignLemmas
 pub mod VariableLemmas
 pub mod VersionLemmas
-pub mod WalkLemmas

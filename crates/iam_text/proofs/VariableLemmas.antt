@@ -10,8 +10,9 @@ use Rattle.std.specs.Option.{option_map_or}
 use Rattle.std.specs.Str.{IsUtf8, encode_utf8_all}
 use Rattle.iam_text.specs.declared.draft.Piece.{Piece}
 use Rattle.iam_text.specs.declared.draft.Piece.TheVariants.{Plain, Escaped, Variable}
-use Rattle.iam_text.specs.Draft.{BeginsWith, IsDraft, is_key, is_key_character, sign_of}
-use Rattle.iam_text.specs.declared.sign.Sign.{Sign}
+use Rattle.iam_glob.specs.Glob.{sign_of}
+use Rattle.iam_text.specs.Draft.{BeginsWith, IsDraft, is_key, is_key_character}
+use Rattle.iam_glob.specs.declared.sign.Sign.{Sign}
 use Rattle.iam_text.specs.Code.Forms.{HasForm, IsQuoted}
 use Rattle.iam_text.specs.Stretches.{IsCutAtForm, NoneBegins}
 use Rattle.iam_text.specs.Variables.{State, outside, dollar, opened, escaped, key, spaces, default, closing, is_draft, is_draft_from, is_end, step}

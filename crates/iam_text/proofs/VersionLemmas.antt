@@ -4,7 +4,8 @@ use Rattle.std.specs.Str.{chars, IsUtf8}
 use Rattle.iam_text.specs.declared.draft.Piece.{Piece}
 use Rattle.iam_text.specs.declared.version.Version.{Version}
 use Rattle.iam_text.specs.declared.version.Version.TheVariants.{V2012, V2008}
-use Rattle.iam_text.specs.Draft.{IsDraftIn, plain_draft, sign_of}
+use Rattle.iam_glob.specs.Glob.{sign_of}
+use Rattle.iam_text.specs.Draft.{IsDraftIn, plain_draft}
 use Rattle.iam_text.specs.Variables.{is_draft_in}
 use Rattle.iam_text.proofs.DraftLemmas.{draft_unique}
 use Rattle.iam_text.proofs.VariableLemmas.{draft_tested, drafted}

@@ -1,23 +1,19 @@
 -- Texts that may hold variables: AWS IAM User Guide, "IAM policy elements: Variables and tags". A text is the list of
 -- its bytes, and so are a key and a default; an escaped piece is a character. LOGIC 4.1, 4.2 and 16.
-use Rattle.std.specs.Prelude.{◌≡◌, ◌≢◌, ℕ, List, [], ◌∷◌, ◌++◌, Bool, ◌||◌, not, ◌==◌, Some, None, IsTrue, codes, encode_utf8, map, replicate, if◌then◌else◌}
+use Rattle.std.specs.Prelude.{◌≡◌, ◌≢◌, ℕ, List, [], ◌∷◌, ◌++◌, Bool, ◌||◌, not, ◌==◌, Some, None, IsTrue, codes, encode_utf8, map, replicate}
 use Rattle.std.specs.List.{list_all}
 use Rattle.std.specs.Str.{chars}
 use Rattle.iam_text.specs.declared.draft.Piece.{Piece}
 use Rattle.iam_text.specs.declared.draft.Piece.TheVariants.{Plain, Escaped, Variable}
-use Rattle.iam_text.specs.declared.sign.Sign.{Sign}
+use Rattle.iam_glob.specs.declared.sign.Sign.{Sign}
 use Rattle.iam_text.specs.declared.version.Version.{Version}
 use Rattle.iam_text.specs.declared.version.Version.TheVariants.{V2012, V2008}
 use Rattle.iam_text.specs.Characters.{is_run}
-use Rattle.iam_text.specs.Glob.{plain_sign, wild_sign}
+use Rattle.iam_glob.specs.Glob.{sign_of}
 
 -- the pieces of a text without variables: each sign is one
 abbrev pub plain_draft : List Sign → List Piece
 plain_draft signs = map Plain signs
-
--- the sign of a character of the text, by whether wildcards stand there
-abbrev pub sign_of : Bool → ℕ → Sign
-sign_of wild c = if wild then wild_sign c else plain_sign c
 
 -- a character of a key: not `$`, `{`, `}`, `,`, `'`, `*` or `?`
 abbrev pub is_key_character : ℕ → Bool

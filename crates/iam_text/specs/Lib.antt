@@ -2,9 +2,7 @@ pub mod Arn
 pub mod Characters
 pub mod Code
 pub mod Draft
-pub mod Glob
 pub mod Parts
-pub mod Signs
 pub mod Stretches
 pub mod Template
 pub mod Variables

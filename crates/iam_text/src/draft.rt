@@ -4,17 +4,18 @@ ghost use Rattle.std.specs.List.{list_any};
 ghost use Rattle.std.specs.Str.{chars};
 ghost use Rattle.iam_text.specs.declared.draft.Piece.{Piece};
 ghost use Rattle.iam_text.specs.Code.Kept.{OneDraft, OneDraft-prop};
-ghost use Rattle.iam_text.specs.Draft.{IsDraftIn, plain_draft, sign_of};
+ghost use Rattle.iam_glob.specs.Glob.{sign_of};
+ghost use Rattle.iam_text.specs.Draft.{IsDraftIn, plain_draft};
 ghost use Rattle.iam_text.specs.Variables.{is_draft, is_draft_from, is_draft_in, opened};
 
 use crate::OutOfMemory;
 use crate::form::{cut_form, form_behind};
 use crate::items::Items;
 use crate::pieces::pieces_of;
-use crate::sign::Sign;
 use crate::stretches::Stretches;
 use crate::text::Text;
 use crate::version::Version;
+use iam_glob::Sign;
 use std::alloc::Global;
 use std::marker::Model;
 
@@ -53,7 +54,8 @@ impl Draft {
     ghost use Rattle.std.specs.Prelude.{◌≡◌, IfOk, IsTrue, List, MatchOption, map};
     ghost use Rattle.std.specs.Str.{chars};
     ghost use Rattle.iam_text.specs.declared.draft.Piece.{Piece};
-    ghost use Rattle.iam_text.specs.Draft.{IsDraft, plain_draft, sign_of};
+    ghost use Rattle.iam_glob.specs.Glob.{sign_of};
+    ghost use Rattle.iam_text.specs.Draft.{IsDraft, plain_draft};
     ghost use Rattle.iam_text.specs.Variables.{is_draft};
 
     /// The one draft of a text of version 2012-10-17, in which `*` and `?` are wildcards where `wild` says so; `None`

@@ -1,15 +1,16 @@
 // The pieces of a draft, made of its text.
 ghost use Rattle.std.specs.Prelude.{◌≡◌, ◌++◌, IfOk, OnOk, map};
 ghost use Rattle.std.specs.Str.{chars};
-ghost use Rattle.iam_text.specs.Draft.{plain_draft, sign_of};
+ghost use Rattle.iam_glob.specs.Glob.{sign_of};
+ghost use Rattle.iam_text.specs.Draft.{plain_draft};
 ghost use Rattle.iam_text.specs.Stretches.{piece_of};
 
 use crate::OutOfMemory;
 use crate::draft::Piece;
 use crate::form::Form;
-use crate::sign::sign_of;
 use crate::stretches::Stretches;
 use crate::text::Text;
+use iam_glob::sign_of;
 use std::alloc::Global;
 
 /// The pieces of what is left of a draft, in order.

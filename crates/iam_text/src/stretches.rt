@@ -2,7 +2,8 @@
 ghost use Rattle.std.specs.Prelude.{◌≡◌, ◌++◌, ◌∷◌, MatchOption, map};
 ghost use Rattle.std.specs.Str.{chars};
 ghost use Rattle.iam_text.specs.Code.Kept.{OneDraft, OneDraft-prop};
-ghost use Rattle.iam_text.specs.Draft.{plain_draft, sign_of};
+ghost use Rattle.iam_glob.specs.Glob.{sign_of};
+ghost use Rattle.iam_text.specs.Draft.{plain_draft};
 
 use crate::form::{Form, cut_form, form_behind};
 use crate::version::Version;

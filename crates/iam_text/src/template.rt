@@ -1,8 +1,8 @@
 // A text that may have variables: a pattern where it has none, else a draft.
 use crate::OutOfMemory;
 use crate::draft::{Draft, is_plain};
-use crate::glob::Glob;
 use crate::version::Version;
+use iam_glob::Glob;
 use std::alloc::Global;
 use std::marker::Model;
 

@@ -1,7 +1,7 @@
 -- What the code asks of a text of a resource element, beside the definition (`Statement`).
 use Rattle.std.specs.Prelude.{◌≡◌, ◌↔◌, ℕ, List, Bool, Option, Some, None, IsSome, IsTrue}
 use Rattle.iam_text.specs.declared.draft.Piece.{Piece}
-use Rattle.iam_text.specs.declared.sign.Sign.{Sign}
+use Rattle.iam_glob.specs.declared.sign.Sign.{Sign}
 use Rattle.iam_context.specs.Context.{ContextValue}
 use Rattle.iam_context.specs.Resolve.{resolved}
 use Rattle.iam_match.specs.Statement.{TextMatches}

@@ -1,7 +1,7 @@
 -- Rows of some cells, put together from pieces: what the workers make of a tile, and the text of all.
 use Rattle.std.specs.Prelude.{◌≡◌, ◌⊎◌, ◌↔◌, ℕ, ◌+◌, ◌/◌, ◌%◌, ◌<◌, ◌≤◌, ◌==◌, List, [], ◌∷◌, ◌++◌, Option, Some, None, Bool, IsTrue, MatchBool, chars, codes, if◌then◌else◌, length, map, max}
 use Rattle.std.specs.List.{AllByRecursion, flat_map, slice_get}
-use Rattle.iam_text.specs.Glob.{Matches, MatchesFold}
+use Rattle.iam_glob.specs.Glob.{Matches, MatchesFold}
 use Rattle.iam_decision.specs.declared.verdict.Decision.{Decision}
 use Rattle.iam_decision.specs.declared.verdict.Decision.TheVariants.{Allowed}
 use Rattle.iam_decision.specs.declared.verdict.Verdict.{Verdict}

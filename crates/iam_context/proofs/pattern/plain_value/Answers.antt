@@ -1,8 +1,7 @@
 use Rattle.std.proofs.Common.{◌≡◌, Some, map, option_map, sym, ap, ◌∙◌, subst}
 use Rattle.std.specs.Str.{chars}
 use Rattle.iam_text.specs.declared.form.Form.{Form}
-use Rattle.iam_text.specs.Draft.{sign_of}
-use Rattle.iam_text.specs.Glob.{plain_sign}
+use Rattle.iam_glob.specs.Glob.{plain_sign, sign_of}
 use Rattle.iam_text.specs.Stretches.{piece_of}
 use Rattle.iam_context.specs.Context.{values_of}
 use Rattle.iam_context.specs.Resolve.{one_or, piece_signs}

@@ -1,6 +1,6 @@
 use Rattle.std.proofs.Common.{◌∙◌, ◌++◌, ◌∷◌, Some, None, ap, if◌then◌else◌, map, sym}
 use Rattle.std.specs.Str.{chars}
-use Rattle.iam_text.specs.Draft.{sign_of}
+use Rattle.iam_glob.specs.Glob.{sign_of}
 use Rattle.iam_text.specs.Stretches.{piece_of}
 use Rattle.iam_context.specs.Resolve.{piece_signs, resolved}
 use Rattle.iam_context.proofs.Signs.{no_value, over_all, over_piece, over_plain}

@@ -2,8 +2,8 @@ use Rattle.std.proofs.Common.{◌++◌, ◌∷◌, List, Some, map, option_map, 
 use Rattle.std.proofs.lemmas.Str.{IsUtf8-string_bytes, chars-nil}
 use Rattle.std.specs.Str.{chars}
 use Rattle.std.specs.String.{string_bytes}
-use Rattle.iam_text.specs.declared.sign.Sign.{Sign}
-use Rattle.iam_text.specs.Draft.{sign_of}
+use Rattle.iam_glob.specs.declared.sign.Sign.{Sign}
+use Rattle.iam_glob.specs.Glob.{sign_of}
 use Rattle.iam_text.specs.Stretches.{piece_of}
 use Rattle.iam_context.specs.Resolve.{piece_signs, resolved}
 use Rattle.iam_context.proofs.Signs.{none, over_all, over_piece, over_plain}

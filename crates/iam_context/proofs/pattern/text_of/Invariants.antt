@@ -1,7 +1,7 @@
 use Rattle.std.proofs.Common.{◌≡◌, ◌++◌, length, map, option_map}
 use Rattle.std.specs.Str.{chars}
 use Rattle.std.specs.String.{string_bytes}
-use Rattle.iam_text.specs.Draft.{sign_of}
+use Rattle.iam_glob.specs.Glob.{sign_of}
 use Rattle.iam_context.specs.Resolve.{resolved}
 use Rattle.iam_context.proofs.pattern.text_of.Given as goal
 

@@ -1,6 +1,6 @@
 use Rattle.std.proofs.Common.{◌↔◌, ◌∷◌, List, ℕ, Bor, IsTrue, map, sym, subst}
 use Rattle.iam_match.specs.Entry.{PartsMatch}
-use Rattle.iam_text.specs.Signs.{signs_in}
+use Rattle.iam_glob.specs.Signs.{signs_in}
 use Rattle.iam_match.proofs.ColonLemmas.{parts_cut, parts_uncut}
 use Rattle.iam_match.proofs.arn.+parts_match.Goals as goal
 

@@ -2,10 +2,10 @@ use Rattle.std.proofs.Common.{◌≡◌, ◌<◌, ◌≤◌, All, List, arith, f
 use Rattle.std.proofs.lemmas.List.{take_all}
 use Rattle.std.proofs.lemmas.List.Elements.{All-more}
 use Rattle.iam_text.specs.Arn.{colon}
-use Rattle.iam_text.specs.Signs.{signs_in}
-use Rattle.iam_text.specs.contracts.sign.SignPartialEq as signs
-use Rattle.iam_text.specs.declared.sign.Sign.{Sign}
-use Rattle.iam_text.specs.declared.sign.Sign.TheVariants as sign
+use Rattle.iam_glob.specs.Signs.{signs_in}
+use Rattle.iam_glob.specs.contracts.sign.SignPartialEq as signs
+use Rattle.iam_glob.specs.declared.sign.Sign.{Sign}
+use Rattle.iam_glob.specs.declared.sign.Sign.TheVariants as sign
 use Rattle.iam_match.specs.Entry.{IsNoColon}
 use Rattle.iam_match.proofs.arn.cut_colon.Goals as goal
 

@@ -1,6 +1,6 @@
 use Rattle.std.proofs.Common.{All, take}
 use Rattle.iam_match.specs.Entry.{IsNoColon}
-use Rattle.iam_text.specs.Signs.{signs_in}
+use Rattle.iam_glob.specs.Signs.{signs_in}
 use Rattle.iam_match.proofs.arn.cut_colon.Given as goal
 
 -- the signs so far

@@ -1,6 +1,6 @@
 use Rattle.std.proofs.Common.{◌≡◌, ◌↔◌, IsTrue, List, chars, ap, ◌∙◌, subst}
-use Rattle.iam_text.specs.Glob.{MatchesFold}
-use Rattle.iam_text.specs.declared.sign.Sign.{Sign}
+use Rattle.iam_glob.specs.Glob.{MatchesFold}
+use Rattle.iam_glob.specs.declared.sign.Sign.{Sign}
 use Rattle.iam_selection.specs.Code.Listing.{IsActionMeant}
 use Rattle.iam_selection.specs.Selection.{IsMeant, SelectionValue}
 use Rattle.iam_selection.proofs.Flags.{action_meant, more_flags}

@@ -1,6 +1,6 @@
 use Rattle.std.proofs.Common.{◌≡◌, ◌↔◌, IsTrue, List, chars, ap, ◌∙◌, subst}
-use Rattle.iam_text.specs.Glob.{Matches}
-use Rattle.iam_text.specs.declared.sign.Sign.{Sign}
+use Rattle.iam_glob.specs.Glob.{Matches}
+use Rattle.iam_glob.specs.declared.sign.Sign.{Sign}
 use Rattle.iam_selection.specs.Code.Listing.{IsPrincipalMeant}
 use Rattle.iam_selection.specs.Selection.{IsMeant, SelectionValue}
 use Rattle.iam_selection.proofs.Flags.{principal_meant, more_flags}

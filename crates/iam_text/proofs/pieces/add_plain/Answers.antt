@@ -1,8 +1,9 @@
 use Rattle.std.proofs.Common.{◌++◌, ◌∙◌, ap, map, sym}
 use Rattle.std.proofs.lemmas.Iterator.{YieldsList-from_chars}
 use Rattle.std.proofs.lemmas.Iterator.Consumers.{YieldsList-end}
-use Rattle.iam_text.specs.Draft.{plain_draft, sign_of}
-use Rattle.iam_text.proofs.WalkLemmas.{map_same}
+use Rattle.iam_glob.specs.Glob.{sign_of}
+use Rattle.iam_text.specs.Draft.{plain_draft}
+use Rattle.iam_glob.proofs.WalkLemmas.{map_same}
 use Rattle.iam_text.proofs.pieces.add_plain.Goals as goal
 
 pub returns : goal.returns

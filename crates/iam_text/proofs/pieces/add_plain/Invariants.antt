@@ -1,5 +1,6 @@
 use Rattle.std.proofs.Common.{◌≡◌, ◌++◌, map}
-use Rattle.iam_text.specs.Draft.{plain_draft, sign_of}
+use Rattle.iam_glob.specs.Glob.{sign_of}
+use Rattle.iam_text.specs.Draft.{plain_draft}
 use Rattle.iam_text.proofs.pieces.add_plain.Given as goal
 
 -- the pieces of the characters so far

@@ -1,6 +1,6 @@
 use mathlib.Core.Bool.{beq}
 use Rattle.std.proofs.Common.{◌↔◌, IsTrue, List, Some, not, subst}
-use Rattle.iam_text.specs.declared.sign.Sign.{Sign}
+use Rattle.iam_glob.specs.declared.sign.Sign.{Sign}
 use Rattle.iam_element.specs.Reading.{ResourceElement}
 use Rattle.iam_match.specs.Statement.{ResourceMatches}
 use Rattle.iam_match.proofs.FixedLemmas.{SomeMatches, fixed_answer}

@@ -1,5 +1,5 @@
 use Rattle.std.proofs.Common.{List, subst, sym}
-use Rattle.iam_text.specs.declared.sign.Sign.{Sign}
+use Rattle.iam_glob.specs.declared.sign.Sign.{Sign}
 use Rattle.iam_text.specs.Draft.{IsDraftIn, plain_draft}
 use Rattle.iam_text.proofs.template.Template.of.Goals as goal
 

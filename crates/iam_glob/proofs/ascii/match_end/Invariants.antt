@@ -1,0 +1,9 @@
+use Rattle.iam_glob.specs.Code.Walk.{char_in, Later, Walks, Settles, signs_left, found_at}
+use Rattle.iam_glob.specs.Signs.{signs_in}
+use Rattle.iam_glob.proofs.ascii.match_end.Given as goal
+
+abbrev pub invariant-loop-place : goal.invariant-loop-place
+invariant-loop-place l = Settles (char_in l.case) (Later (Walks (char_in l.case) (signs_in l.fn.signs)) l.fn.text) (found_at l.place)
+
+abbrev pub decreases-loop-place : goal.decreases-loop-place
+decreases-loop-place l = signs_left (found_at l.place)

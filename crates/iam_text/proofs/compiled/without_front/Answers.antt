@@ -1,5 +1,0 @@
-use Rattle.iam_text.proofs.CompiledLemmas.{stripped}
-use Rattle.iam_text.proofs.compiled.without_front.Goals as goal
-
-pub returns-in_default : goal.returns-in_default
-returns-in_default c = stripped c.args.piece.now c.args.text.now c.strip_prefix.result c.strip_prefix.ensures.cases
