@@ -4,11 +4,7 @@ pub mod Stamps
 pub mod Cuts
 pub mod Times
 pub mod Octets
-pub mod Groups
-pub mod Filled
-pub mod Colons
-pub mod Slashes
+pub mod Addresses
 pub mod Unique
-pub mod OneAddress
 pub mod OneStamp
 pub mod Rows

@@ -5,5 +5,4 @@ pub mod Whole
 pub mod Bytes
 pub mod Moment
 pub mod Address
-pub mod Code
 pub mod Family

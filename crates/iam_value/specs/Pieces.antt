@@ -1,5 +1,6 @@
 -- Pieces of a text. LOGIC 8.
-use Rattle.std.specs.Prelude.{◌≡◌, ◌≢◌, ℕ, ◌≤◌, List, ◌∷◌, ◌++◌, length, All}
+use Rattle.std.specs.Prelude.{◌≡◌, ◌≢◌, ℕ, ◌<◌, ◌≤◌, List, ◌∷◌, ◌++◌, length, All}
+use Rattle.std.specs.Fmt.{decimal}
 use Rattle.std.specs.Str.Parse.{IsNumeral, digits_value}
 
 -- the separator does not stand in the text
@@ -10,6 +11,10 @@ Lacks separator text = All (λ c. c ≢ separator) text
 abbrev pub IsCutAt : ℕ → List ℕ → List ℕ → List ℕ → Type 0
 IsCutAt separator text front back = (text ≡ front ++ separator ∷ back) × Lacks separator front
 
--- digits in the radix, one or more and at most `longest`, and the number that they write
-abbrev pub IsNumber : ℕ → ℕ → List ℕ → ℕ → Type 0
-IsNumber radix longest text n = IsNumeral radix text × (length text ≤ longest) × (n ≡ digits_value radix text)
+-- decimal digits, one to nine of them, and the number that they write
+abbrev pub IsNumber : List ℕ → ℕ → Type 0
+IsNumber text n = IsNumeral 10 text × (length text ≤ 9) × (n ≡ digits_value 10 text)
+
+-- a decimal number of 0 to 255 without leading zeros
+abbrev pub IsOctet : List ℕ → ℕ → Type 0
+IsOctet text n = (n < 256) × (text ≡ decimal n)

@@ -42,7 +42,7 @@ fn digits(bytes: &[u8], count: usize) -> Option<u32>
     if bytes.len() != count {
         return None;
     }
-    number(bytes, 10, 9)
+    number(bytes)
 }
 
 /// The number of two decimal digits, if it is at most `most`.
@@ -74,7 +74,7 @@ fn fraction(bytes: &[u8]) -> Option<u32>
     ensures value { IsReading result (IsFraction bytes.now) }
     ensures below { IfSome result (λ n. n < 1_000_000_000) }
 {
-    let value = number(bytes, 10, 9)?;
+    let value = number(bytes)?;
     let scale = 10u32.pow(9 - bytes.len() as u32);
     Some(value * scale)
 }

@@ -7,7 +7,6 @@ ghost use Rattle.iam_value.specs.Reading.{IsReading, IsOnly};
 ghost use Rattle.iam_value.specs.Truth.{IsTruth};
 ghost use Rattle.iam_value.specs.Bytes.{IsBase64};
 
-mod addresses;
 mod dates;
 mod laws;
 mod numbers;

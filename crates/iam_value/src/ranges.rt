@@ -1,11 +1,11 @@
 //! Addresses, and ranges of them.
 ghost use Rattle.std.specs.Prelude.{◌≡◌, ◌≤◌, ◌↔◌, IsTrue};
 ghost use Rattle.iam_value.specs.Reading.{IsReading, IsOnly};
-ghost use Rattle.iam_value.specs.Address.{IsAddress, IsHost, IsNetwork, IsRange, Holds, first_bits};
+ghost use Rattle.iam_value.specs.Address.{bits_of, IsAddress, IsHost, IsNetwork, IsRange, Holds, first_bits};
 
-use crate::addresses::{dotted, grouped, octet};
-use crate::pieces::cut;
+use crate::pieces::octet;
 use std::marker::Model;
+use std::net::IpAddr;
 
 /// The family of an address.
 #[derive(Clone, Copy, Debug)]
@@ -40,24 +40,24 @@ impl Address {
         ensures value { IsReading result (IsAddress text.now) }
         ensures only { IsOnly result (IsAddress text.now) }
     {
-        Address::from_bytes(text.as_bytes())
+        match text.parse::<IpAddr>() {
+            Ok(ip) => Some(Address::of(ip)),
+            Err(_) => None,
+        }
     }
 
-    fn from_bytes(bytes: &[u8]) -> Option<Address>
-        ensures { IsReading result (IsAddress bytes.now) }
+    fn of(ip: IpAddr) -> Address
+        ensures { result ≡ bits_of ip }
     {
-        if let Some(number) = dotted(bytes) {
-            return Some(Address {
+        match ip {
+            IpAddr::V4(ip) => Address {
                 family: Family::V4,
-                number: u128::from(number),
-            });
-        }
-        match grouped(bytes) {
-            Some(number) => Some(Address {
+                number: u128::from(ip.to_bits()),
+            },
+            IpAddr::V6(ip) => Address {
                 family: Family::V6,
-                number,
-            }),
-            None => None,
+                number: ip.to_bits(),
+            },
         }
     }
 
@@ -109,27 +109,26 @@ impl Range {
         ensures value { IsReading result (IsRange text.now) }
         ensures only { IsOnly result (IsRange text.now) }
     {
-        let bytes = text.as_bytes();
-        match cut(bytes, b'/') {
-            None => Range::all_of(bytes),
-            Some((address, prefix)) => Range::first_of(address, octet(prefix)?),
+        match text.split_once('/') {
+            None => Range::all_of(text),
+            Some((address, prefix)) => Range::first_of(address, octet(prefix.as_bytes())?),
         }
     }
 
     /// The range of an address alone.
-    fn all_of(bytes: &[u8]) -> Option<Range>
-        ensures { IsReading result (IsHost bytes.now) }
+    fn all_of(text: &str) -> Option<Range>
+        ensures { IsReading result (IsHost text.now) }
     {
-        let address = Address::from_bytes(bytes)?;
+        let address = Address::read(text)?;
         let prefix = address.width();
         Some(Range { address, prefix })
     }
 
     /// The range of the addresses that agree with the one of the text in that many bits.
-    fn first_of(bytes: &[u8], prefix: u32) -> Option<Range>
-        ensures { IsReading result (IsNetwork bytes.now prefix) }
+    fn first_of(text: &str, prefix: u32) -> Option<Range>
+        ensures { IsReading result (IsNetwork text.now prefix) }
     {
-        let address = Address::from_bytes(bytes)?;
+        let address = Address::read(text)?;
         if prefix > address.width() {
             return None;
         }

@@ -4,5 +4,5 @@ use Rattle.iam_value.proofs.pieces.number.Given as goal
 
 abbrev pub invariant-loop-byte : goal.invariant-loop-byte
 invariant-loop-byte l =
-    AllDigits l.radix (take l.byte-index l.bytes)
-    × (l.value ≡ digits_value l.radix (take l.byte-index l.bytes))
+    AllDigits 10 (take l.byte-index l.bytes)
+    × (l.value ≡ digits_value 10 (take l.byte-index l.bytes))

@@ -1,7 +1,7 @@
 use Rattle.std.proofs.Common.{◌≡◌, length, get_or, arith}
 use Rattle.iam_value.proofs.Octets.{octet_number, octet_first, octet_from_digits}
-use Rattle.iam_value.proofs.addresses.octet.Goals as goal
-use Rattle.iam_value.proofs.addresses.octet.Goals.{else-bytes-gt1-via-then-bytes-gt1+else-bytes-eq48, else-bytes-gt1-via-else-bytes-gt1}
+use Rattle.iam_value.proofs.pieces.octet.Goals as goal
+use Rattle.iam_value.proofs.pieces.octet.Goals.{else-bytes-gt1-via-then-bytes-gt1+else-bytes-eq48, else-bytes-gt1-via-else-bytes-gt1}
 
 pub returns-then-bytes-eq48 : goal.returns-then-bytes-eq48
 returns-then-bytes-eq48 c = λ n is. octet_first c.args.bytes.now n is c.if-bytes-gt1.true c.if-bytes-eq48.true
