@@ -1,9 +1,10 @@
 -- What the words of a command line say, where `clap` has matched them. LOGIC 13.3.
-use Rattle.std.specs.Prelude.{◌≡◌, if◌then◌else◌, ℕ, List, [], Option, Some, None, codes, map, string_bytes}
+use Rattle.std.specs.Prelude.{◌≡◌, if◌then◌else◌, ℕ, List, [], Option, Some, None, codes, map, option_map, String, string_bytes}
+use Rattle.std.specs.Global.{Global}
 use Rattle.std.specs.Option.{option_map_or}
 use Rattle.std.specs.Str.{bytes_eq}
 use Rattle.std.specs.Str.Parse.{digits_value, without_leading_plus}
-use Rattle.clap.specs.Matches.{found_of, matched_of, one_text, raw_values}
+use Rattle.clap.specs.Matches.{first_value, found_of, matched_of, one_text, raw_values}
 use Rattle.clap.specs.declared.parser.matches.ArgMatches.{ArgMatches}
 use Rattle.iam_options.specs.declared.command.Asked.{Asked}
 use Rattle.iam_options.specs.declared.options.Task.{Task}
@@ -34,9 +35,13 @@ abbrev pub texts_at : ArgMatches → List ℕ → List (List ℕ)
 texts_at matches name = option_map_or raw_values (matched_of (found_of matches) name) []
 
 -- the file that a word names, where there is one and it does not mean standard input
-abbrev pub world_named : Option (List ℕ) → Option (List ℕ)
-world_named None = None
-world_named (Some word) = if bytes_eq word (codes "-") then None else Some word
+abbrev pub file_named : Option (List ℕ) → Option (List ℕ)
+file_named None = None
+file_named (Some word) = if bytes_eq word (codes "-") then None else Some word
+
+-- the file is the one that stands under this name
+abbrev pub IsFileAt : ArgMatches → List ℕ → Option (String Global) → Type 0
+IsFileAt matches name file = option_map string_bytes file ≡ file_named (first_value (found_of matches) name)
 
 -- what is asked for is what stands under each name
 pub record HasAsked (matches : ArgMatches) (asked : Asked) : Type 0 where

@@ -1,7 +1,6 @@
 // The whole command line: the options, the file of the world, and what is asked for.
-ghost use Rattle.std.specs.Prelude.{◌≡◌, ◌↔◌, IsTrue, IfOk, IfSome, Some, codes, length, map, option_map, string_bytes};
-ghost use Rattle.clap.specs.Words.{first_value, found_of, subcommand_name_of};
-ghost use Rattle.iam_options.specs.Words.{HasAsked, command_name, texts_at, world_named};
+ghost use Rattle.std.specs.Prelude.{◌≡◌, ◌↔◌, IsTrue, IfOk, codes, length, map, string_bytes};
+ghost use Rattle.iam_options.specs.Words.{HasAsked, IsFileAt, texts_at};
 
 use crate::arguments::{check, decide, first, matrix, named, with};
 use crate::options::{Options, Usage, options_in, usage_of};
@@ -77,37 +76,41 @@ fn command_or_usage(
     parser: &mut Parser<'_>,
     matches: &ArgMatches<'_>,
 ) -> Result<Command, Usage> {
-    match command_in(alloc, matches)? {
-        Some(command) => Ok(command),
-        None => Err(Usage::Refused(parser.render_usage()?)),
+    match (matches.subcommand(), options_in(matches)) {
+        (Some((_, command)), Some(options)) => Ok(command_in(alloc, options, command)?),
+        _ => Err(Usage::Refused(parser.render_usage()?)),
     }
 }
 
-/// The command that was read, with all that stands behind it. `None` does not come.
-fn command_in(alloc: Global, matches: &ArgMatches<'_>) -> Result<Option<Command>, AllocError>
-    ensures { IfOk result (λ found. IfSome found (λ command. subcommand_name_of matches.now ≡ Some (command_name command.options.task))) }
+/// A command that was read, with all that stands behind it.
+fn command_in(
+    alloc: Global,
+    options: Options,
+    command: &ArgMatches<'_>,
+) -> Result<Command, AllocError>
+    ensures options { IfOk result (λ read. read.options ≡ options) }
+    ensures world { IfOk result (λ read. IsFileAt command.now (codes "WORLD") read.world) }
+    ensures asked { IfOk result (λ read. HasAsked command.now read.asked) }
 {
-    let Some(options) = options_in(matches) else {
-        return Ok(None);
-    };
-    let Some((_, command)) = matches.subcommand() else {
-        return Ok(None);
-    };
-    Ok(Some(Command {
+    Ok(Command {
         options,
-        world: world_in(alloc, command)?,
+        world: file_at(alloc, command, "WORLD")?,
         asked: asked_in(alloc, command)?,
-    }))
+    })
 }
 
 /// The file that is named, if not standard input.
-fn world_in(alloc: Global, command: &ArgMatches<'_>) -> Result<Option<String>, AllocError>
-    ensures { IfOk result (λ world. option_map string_bytes world ≡ world_named (first_value (found_of command.now) (codes "WORLD"))) }
+fn file_at(
+    alloc: Global,
+    command: &ArgMatches<'_>,
+    name: &str,
+) -> Result<Option<String>, AllocError>
+    ensures { IfOk result (IsFileAt command.now name.now) }
 {
-    match command.get_str("WORLD") {
+    match command.get_str(name) {
         None => Ok(None),
-        Some(name) if name == "-" => Ok(None),
-        Some(name) => Ok(Some(String::from_str(alloc, name)?)),
+        Some(word) if word == "-" => Ok(None),
+        Some(word) => Ok(Some(String::from_str(alloc, word)?)),
     }
 }
 
