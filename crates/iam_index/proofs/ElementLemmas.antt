@@ -9,7 +9,7 @@ use Rattle.iam_layers.specs.Cell.{IsAction}
 use Rattle.iam_world.specs.World.{WorldValue}
 use Rattle.iam_index.specs.Elements.{AreElements, AreElementNumbers, HasElement, IsElement, MatchesNone, TellActs}
 use Rattle.iam_index.specs.declared.elements.Element.{Element}
-use Rattle.iam_index.proofs.ListLemmas.{get_back, get_more, some_same}
+use Rattle.iam_index.proofs.ListLemmas.{get_back, some_same}
 
 -- one more action of the world
 pub tell_more : (world : WorldValue) (action : ActionElement) (acts : List Bool) (act : Bool) (text : List ℕ) → IsAction world (length acts) text

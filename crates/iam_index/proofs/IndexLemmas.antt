@@ -11,7 +11,7 @@ use Rattle.iam_decision.specs.Applicable.{ApplicableValue}
 use Rattle.iam_decision.specs.Code.Scan.{org_placed, placed_value, requester_placed, resource_placed}
 use Rattle.iam_decision.specs.Living.{AreCandidates, IsIdle}
 use Rattle.iam_decision.specs.Matched.{Placed, in_layer, in_level, placed}
-use Rattle.iam_decision.specs.declared.place.Layer.TheVariants.{Org, Control, Resource, Identity, Boundary, Session}
+use Rattle.iam_decision.specs.declared.place.Layer.TheVariants.{Org, Control, Resource}
 use Rattle.iam_decision.specs.declared.scan.Standing.{Standing}
 use Rattle.iam_index.specs.Index.{AllAct}
 

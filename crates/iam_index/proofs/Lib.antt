@@ -3,4 +3,5 @@ pub mod SlotLemmas
 mod ElementLemmas
 mod IndexLemmas
 mod ListedLemmas
+mod MarkLemmas
 mod RowLemmas

@@ -1,11 +1,10 @@
 -- Lists of statements, one more at a time.
-use Rattle.std.proofs.Common.{◌≡◌, ◌<◌, inl, inr, ℕ, List, [], ◌∷◌, ◌++◌, length, Some, refl, sym, ap, subst, ◌∙◌, arith}
+use Rattle.std.proofs.Common.{◌≡◌, ◌<◌, inl, inr, ℕ, List, [], ◌∷◌, ◌++◌, length, Some, refl, sym, subst, arith}
 use Rattle.std.proofs.lemmas.Option.{slice_get_within}
 use Rattle.std.specs.List.{slice_get}
-use Rattle.iam_decision.specs.Applicable.{ApplicableValue}
 use Rattle.iam_decision.specs.Matched.{Placed}
 use Rattle.iam_decision.specs.declared.scan.Standing.{Standing}
-use Rattle.iam_world.specs.World.{ResourceValue, WorldValue}
+use Rattle.iam_world.specs.World.{WorldValue}
 use Rattle.iam_layers.specs.Applicable.{applicable_of}
 use Rattle.iam_layers.specs.Code.Statements.{HaveSameOrg}
 use Rattle.iam_index.specs.Index.{AreListed, AreLists, AreOrgs, HasOrg, HaveOrgs, ListsOrg, ListsRequester, ListsResource}

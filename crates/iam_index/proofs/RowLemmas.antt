@@ -1,5 +1,6 @@
 -- Rows stay those of their elements where more are put behind them.
-use Rattle.std.proofs.Common.{◌≡◌, inl, inr, ℕ, List, [], ◌∷◌, ◌++◌, length, Option, Some, IfSome, append-nil, append_assoc, refl, sym, ap, subst, ◌∙◌}
+use Rattle.std.proofs.Common.{◌≡◌, inl, inr, ℕ, List, [], ◌∷◌, ◌++◌, length, Option, Some, IfSome, arith, append_assoc, sym, ap, subst, ◌∙◌}
+use Rattle.std.proofs.lemmas.Option.{slice_get_within}
 use Rattle.std.specs.List.{slice_get}
 use Rattle.iam_decision.specs.declared.scan.Standing.{Standing}
 use Rattle.iam_element.specs.Reading.{ResourceElement}
@@ -49,6 +50,13 @@ list_rows_more {L} statements rows more all lists known list numbers is at own a
           let N : ListRows → Type 0 = λ k. AreStatementRows all (statements other) k.rows.items in
           subst N (sym same) (subst A here own)
     ]
+
+-- where no list is known
+pub no_list_rows : {L : Type 0} (statements : L → List Standing) (rows : List Row) (lists : List L) (known : List ListRows) → known ≡ []
+    → AreListRows statements rows lists known
+no_list_rows statements rows lists known none i list numbers there at =
+    let P : List ListRows → Type 0 = λ k. slice_get k i ≡ Some numbers in
+    let within = slice_get_within [] i numbers (subst P none at) in absurd (omega (arith, within))
 
 -- more rows, and more behind them
 pub more_and_more : (rows some all : List Row) → ((more : List Row) × (some ≡ rows ++ more)) → ((more : List Row) × (all ≡ some ++ more))

@@ -1,10 +1,14 @@
 // Action elements, and which actions of a world they match.
-ghost use Rattle.std.specs.Prelude.{◌≡◌, ◌↔◌, ℕ, List, IfOk, IfSome, IsTrue, OnOk, false, map};
+ghost use Rattle.std.specs.Prelude.{[], ◌∷◌, ◌≡◌, ◌↔◌, ◌++◌, ℕ, List, IfOk, IfSome, IsTrue, OnOk, false, map};
+ghost use Rattle.std.specs.Str.{chars};
+ghost use Rattle.iam_glob.specs.Glob.{MatchesFold};
+ghost use Rattle.iam_glob.specs.declared.sign.Sign.{Sign};
+ghost use Rattle.iam_services.specs.Services.{AreServices, TriesMatched, numbers_of};
 ghost use Rattle.iam_decision.specs.Living.{AreActing, living_value};
 ghost use Rattle.iam_layers.specs.Cell.{IsAction};
 ghost use Rattle.iam_match.specs.Statement.{ActionMatches};
 ghost use Rattle.iam_world.specs.World.{WorldValue};
-ghost use Rattle.iam_index.specs.Elements.{AreElements, AreElementNumbers, HasElement, IsElement, MatchesNone};
+ghost use Rattle.iam_index.specs.Elements.{AreElements, AreElementNumbers, AreKept, HasElement, IsElement, Marked, MatchesNone, TellSome};
 ghost use Rattle.iam_element.specs.Reading.{ActionElement};
 ghost use Rattle.iam_index.specs.declared.elements.Element.{Element};
 
@@ -13,11 +17,15 @@ use iam_decision::acting_are_found;
 use iam_layers::{Living, Matched, World};
 use iam_match::action_matches;
 use iam_policy::Actions;
-use iam_text::OutOfMemory;
+use iam_services::{Services, Tried};
+use iam_text::{Glob, OutOfMemory};
 use std::alloc::Global;
 
 /// How many answers are kept at most.
 const MOST_ACTS: u64 = 16_777_216;
+
+/// So few actions are sooner tried than sought by their services.
+const FEW: u64 = 1;
 
 /// The elements that were found last, by their prints.
 const PRINTS: u64 = 8_192;
@@ -36,6 +44,8 @@ pub struct Element<'a> {
 #[derive(Drop)]
 pub struct Elements<'a> {
     pub elements: Vec<Element<'a>>,
+    // The actions of the world by their services.
+    pub services: Services,
     // By a print the element that was last found with it: a hint.
     prints: Vec<Option<usize>>,
     // How many elements there is room for.
@@ -43,38 +53,40 @@ pub struct Elements<'a> {
 }
 
 impl<'a> Elements<'a> {
-    /// None yet, for a world of so many actions.
-    pub fn new(alloc: Global, actions: u64) -> Result<Elements<'a>, OutOfMemory>
-        ensures { IfOk result (λ elements. (world : WorldValue) → AreElements world elements.elements.items) }
+    /// None yet of a world.
+    pub fn new(alloc: Global, world: &World) -> Result<Elements<'a>, OutOfMemory>
+        ensures { IfOk result (AreKept world.now) }
     {
         Ok(Elements {
             elements: Vec::new(alloc),
+            services: services_of(alloc, world),
             prints: empty_slots(alloc, PRINTS)?,
-            most: (MOST_ACTS / actions.max(1)) as usize,
+            most: (MOST_ACTS / world.actions().max(1)) as usize,
         })
     }
 
     /// Whether an action element matches some action of the world; it is kept where there is room and memory for it.
     pub fn concerns(&mut self, alloc: Global, world: &World, action: &'a Actions) -> bool
-        ensures right { AreElements world.now self.old.elements.items → AreElements world.now self.new.elements.items }
-        ensures idle { AreElements world.now self.old.elements.items → result ≡ false → MatchesNone world.now action.entry.now }
+        requires { AreKept world.now self.old }
+        ensures right { AreKept world.now self.new }
+        ensures idle { result ≡ false → MatchesNone world.now action.entry.now }
     {
         let slot = slot_of(0, print_of(action), PRINTS as usize);
         if let Some(number) = self.known(slot, action) {
             return self.elements[number].some;
         }
         if self.elements.len() >= self.most {
-            return some_matches(world, action);
+            return some_matches(world, &self.services, action);
         }
-        match element_of(alloc, world, action) {
+        match element_of(alloc, world, &self.services, action) {
             Ok(element) => self.add(slot, element),
-            Err(_) => some_matches(world, action),
+            Err(_) => some_matches(world, &self.services, action),
         }
     }
 
     /// Puts the element behind the others, where there is memory for it; whether it matches some action.
     fn add(&mut self, slot: u64, element: Element<'a>) -> bool
-        ensures right { (world : WorldValue) → IsElement world element.entry → AreElements world self.old.elements.items → AreElements world self.new.elements.items }
+        ensures right { (world : WorldValue) → IsElement world element.entry → AreKept world self.old → AreKept world self.new }
         ensures same { result ≡ element.entry.some }
     {
         let number = self.elements.len();
@@ -171,32 +183,112 @@ impl<'a> Elements<'a> {
     }
 }
 
+/// The actions of the world by their services; by none where they are few, or there is no memory.
+fn services_of(alloc: Global, world: &World) -> Services
+    ensures { AreServices world.now.actions result }
+{
+    if world.actions() <= FEW {
+        return Services::none(alloc);
+    }
+    match found_services(alloc, world) {
+        Ok(services) => services,
+        Err(_) => Services::none(alloc),
+    }
+}
+
+/// The actions of the world by their services.
+fn found_services(alloc: Global, world: &World) -> Result<Services, OutOfMemory>
+    ensures { IfOk result (AreServices world.now.actions) }
+{
+    let mut services = Services::new(alloc)?;
+    for a in 0..world.actions() {
+        services.add(alloc, world.action_text(a), a)?;
+    }
+    Ok(services)
+}
+
 /// An action element with what it matches.
 fn element_of<'a>(
     alloc: Global,
     world: &World,
+    services: &Services,
     action: &'a Actions,
 ) -> Result<Element<'a>, OutOfMemory>
+    requires { AreServices world.now.actions services.now }
     ensures { IfOk result (λ element. IsElement world.now element × (element.action.now ≡ action.entry.now)) }
 {
-    let mut acts = Vec::with_capacity(alloc, world.actions() as usize)?;
-    let mut some = false;
-    for a in 0..world.actions() {
-        let act = action_matches(action, world.action_text(a));
-        some = either(some, act);
-        acts.push(act)?;
+    let acting = !action.is_negated();
+    let mut acts = vec![in alloc; !acting; world.actions() as usize]?;
+    for pattern in action.patterns() {
+        let tried = services.tried(pattern, world.actions());
+        mark(world, pattern, tried, acting, &mut acts);
     }
+    let some = acts.contains(&true);
     Ok(Element { action, acts, some })
 }
 
-fn either(one: bool, other: bool) -> bool
-    ensures { result ≡ false → (one ≡ false) × (other ≡ false) }
+/// Marks the actions that the pattern matches, which are among those on which it is tried.
+fn mark(world: &World, pattern: &Glob, tried: Tried<'_>, acting: bool, acts: &mut Vec<bool>)
+    requires { TriesMatched world.now.actions pattern.now (numbers_of tried) }
+    ensures { (done : List (List Sign)) → TellSome world.now acting done acts.old.items
+        → TellSome world.now acting (done ++ pattern.now ∷ []) acts.new.items }
 {
-    one || other
+    for i in 0..tried.len() {
+        mark_one(world, pattern, tried.at(i), acting, acts);
+    }
+}
+
+/// Marks action a, if the pattern matches it.
+#[inline(always)]
+fn mark_one(world: &World, pattern: &Glob, a: u64, acting: bool, acts: &mut Vec<bool>)
+    ensures { (done : List (List Sign)) (numbers : List ℕ) → Marked world.now acting done pattern.now numbers acts.old.items
+        → Marked world.now acting done pattern.now (numbers ++ a ∷ []) acts.new.items }
+{
+    let place = a as usize;
+    if place < acts.len() && acts[place] != acting && matches_at(world, pattern, a) {
+        acts[place] = acting;
+    }
+}
+
+/// Whether there is an action a, and the pattern matches it.
+#[inline(always)]
+fn matches_at(world: &World, pattern: &Glob, a: u64) -> bool
+    ensures { (text : List ℕ) → IsAction world.now a text → IsTrue result ↔ MatchesFold pattern.now (chars text) }
+{
+    a < world.actions() && pattern.matches_fold(world.action_text(a))
 }
 
 /// Whether an action element matches some action of the world.
-fn some_matches(world: &World, action: &Actions) -> bool
+fn some_matches(world: &World, services: &Services, action: &Actions) -> bool
+    requires { AreServices world.now.actions services.now }
+    ensures { result ≡ false → MatchesNone world.now action.now }
+{
+    if action.is_negated() {
+        return some_left(world, action);
+    }
+    for pattern in action.patterns() {
+        if some_tried(world, pattern, services.tried(pattern, world.actions())) {
+            return true;
+        }
+    }
+    false
+}
+
+/// Whether the pattern matches some of the actions on which it is tried.
+fn some_tried(world: &World, pattern: &Glob, tried: Tried<'_>) -> bool
+    requires { TriesMatched world.now.actions pattern.now (numbers_of tried) }
+    ensures { result ≡ false → (a : ℕ) (text : List ℕ) → IsAction world.now a text → ¬ MatchesFold pattern.now (chars text) }
+{
+    for i in 0..tried.len() {
+        if matches_at(world, pattern, tried.at(i)) {
+            return true;
+        }
+    }
+    false
+}
+
+/// The same of an element whose patterns leave actions over, tried on each.
+fn some_left(world: &World, action: &Actions) -> bool
     ensures { result ≡ false → MatchesNone world.now action.now }
 {
     for a in 0..world.actions() {

@@ -78,7 +78,7 @@ impl<'a> Index<'a> {
         ensures { IfOk result (λ index. index ≡ world.entry.now) }
     {
         let parts = Parts::of(alloc, world)?;
-        let mut elements = Elements::new(alloc, world.actions())?;
+        let mut elements = Elements::new(alloc, world)?;
         let orgs = org_lists(alloc, world, &mut elements)?;
         let requesters = requester_lists(alloc, world, &mut elements)?;
         let resources = resource_lists(alloc, world, &mut elements)?;

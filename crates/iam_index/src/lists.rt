@@ -3,7 +3,7 @@ ghost use Rattle.std.specs.Prelude.{[], ◌∷◌, ◌≡◌, ◌++◌, ◌<◌,
 ghost use Rattle.iam_decision.specs.Code.Scan.{placed_value};
 ghost use Rattle.iam_decision.specs.Matched.{Placed};
 ghost use Rattle.iam_layers.specs.Code.Statements.{HaveSameOrg};
-ghost use Rattle.iam_index.specs.Elements.{AreElements};
+ghost use Rattle.iam_index.specs.Elements.{AreKept};
 ghost use Rattle.iam_index.specs.Index.{AreListed, AreLists, AreOrgs, HasOrg, HaveOrgs, ListsOrg, ListsRequester, ListsResource};
 ghost use Rattle.iam_index.specs.declared.lists.Org.{Org};
 
@@ -42,8 +42,8 @@ fn add_concerned<'a>(
     listed: &mut Vec<Standing<'a>>,
     standing: Standing<'a>,
 ) -> Result<(), OutOfMemory>
-    requires { AreElements world.now elements.old.elements.items }
-    ensures right { AreElements world.now elements.new.elements.items }
+    requires { AreKept world.now elements.old }
+    ensures right { AreKept world.now elements.new }
     ensures listed { OnOk result ((before : List Placed) → AreListed world.now before listed.old.items
         → AreListed world.now (before ++ placed_value standing.entry ∷ []) listed.new.items) }
 {
@@ -61,8 +61,8 @@ fn concerned<'a>(
     elements: &mut Elements<'a>,
     statements: &[Standing<'a>],
 ) -> Result<Vec<Standing<'a>>, OutOfMemory>
-    requires { AreElements world.now elements.old.elements.items }
-    ensures right { AreElements world.now elements.new.elements.items }
+    requires { AreKept world.now elements.old }
+    ensures right { AreKept world.now elements.new }
     ensures listed { IfOk result (λ listed. AreListed world.now (map placed_value statements.now) listed.items) }
 {
     let mut listed = Vec::new(alloc);
@@ -80,8 +80,8 @@ fn org_list<'a>(
     p: u64,
 ) -> Result<Vec<Standing<'a>>, OutOfMemory>
     requires principal { p < length world.now.principals }
-    requires right { AreElements world.now elements.old.elements.items }
-    ensures right { AreElements world.entry.now elements.new.elements.items }
+    requires right { AreKept world.now elements.old }
+    ensures right { AreKept world.entry.now elements.new }
     ensures listed { IfOk result (λ listed. ListsOrg world.entry.now p listed.items) }
 {
     let mut statements = Vec::new(alloc);
@@ -101,8 +101,8 @@ fn requester_list<'a>(
     p: u64,
 ) -> Result<Vec<Standing<'a>>, OutOfMemory>
     requires principal { p < length world.now.principals }
-    requires right { AreElements world.now elements.old.elements.items }
-    ensures right { AreElements world.entry.now elements.new.elements.items }
+    requires right { AreKept world.now elements.old }
+    ensures right { AreKept world.entry.now elements.new }
     ensures listed { IfOk result (λ listed. ListsRequester world.entry.now p listed.items) }
 {
     let mut statements = Vec::new(alloc);
@@ -122,8 +122,8 @@ fn resource_list<'a>(
     r: u64,
 ) -> Result<Vec<Standing<'a>>, OutOfMemory>
     requires resource { r < length world.now.resources }
-    requires right { AreElements world.now elements.old.elements.items }
-    ensures right { AreElements world.entry.now elements.new.elements.items }
+    requires right { AreKept world.now elements.old }
+    ensures right { AreKept world.entry.now elements.new }
     ensures listed { IfOk result (λ listed. ListsResource world.entry.now r listed.items) }
 {
     let mut statements = Vec::new(alloc);
@@ -141,8 +141,8 @@ pub fn requester_lists<'a>(
     world: &'a World,
     elements: &mut Elements<'a>,
 ) -> Result<Vec<Listed<'a>>, OutOfMemory>
-    requires { AreElements world.now elements.old.elements.items }
-    ensures right { AreElements world.entry.now elements.new.elements.items }
+    requires { AreKept world.now elements.old }
+    ensures right { AreKept world.entry.now elements.new }
     ensures count { IfOk result (λ lists. length lists.items ≡ length world.entry.now.principals) }
     ensures lists { IfOk result (λ lists. AreLists (ListsRequester world.entry.now) lists.items) }
 {
@@ -160,8 +160,8 @@ pub fn resource_lists<'a>(
     world: &'a World,
     elements: &mut Elements<'a>,
 ) -> Result<Vec<Listed<'a>>, OutOfMemory>
-    requires { AreElements world.now elements.old.elements.items }
-    ensures right { AreElements world.entry.now elements.new.elements.items }
+    requires { AreKept world.now elements.old }
+    ensures right { AreKept world.entry.now elements.new }
     ensures count { IfOk result (λ lists. length lists.items ≡ length world.entry.now.resources) }
     ensures lists { IfOk result (λ lists. AreLists (ListsResource world.entry.now) lists.items) }
 {
@@ -215,9 +215,9 @@ fn org_number<'a>(
     p: u64,
 ) -> Result<usize, OutOfMemory>
     requires principal { p < length world.now.principals }
-    requires right { AreElements world.now elements.old.elements.items }
+    requires right { AreKept world.now elements.old }
     requires orgs { AreOrgs world.now orgs.old.items }
-    ensures right { AreElements world.entry.now elements.new.elements.items }
+    ensures right { AreKept world.entry.now elements.new }
     ensures orgs { IfOk result (λ _. AreOrgs world.entry.now orgs.new.items) }
     ensures more { IfOk result (λ _. (more : List Org) × (orgs.new.items ≡ orgs.old.items ++ more)) }
     ensures number { IfOk result (HasOrg world.entry.now orgs.new.items p) }
@@ -241,8 +241,8 @@ pub fn org_lists<'a>(
     world: &'a World,
     elements: &mut Elements<'a>,
 ) -> Result<Orgs<'a>, OutOfMemory>
-    requires { AreElements world.now elements.old.elements.items }
-    ensures right { AreElements world.entry.now elements.new.elements.items }
+    requires { AreKept world.now elements.old }
+    ensures right { AreKept world.entry.now elements.new }
     ensures count { IfOk result (λ found. length found.numbers.items ≡ length world.entry.now.principals) }
     ensures orgs { IfOk result (λ found. HaveOrgs world.entry.now found.orgs.items found.numbers.items) }
 {

@@ -1,6 +1,7 @@
 // Calls that take memory and that the program does not make, each of which has to succeed; and the letters of base64, which no
 // command tells from other letters.
 use iam_context::{Context, Derived, Part, Sought};
+use iam_services::Services;
 use iam_text::{Compiled, Draft, Glob, Items, Piece, Sign, Text};
 use iam_value::bytes;
 use std::test::Fail;
@@ -144,5 +145,18 @@ fn letters_of_base64(rt: HostRuntime) -> Result<(), Fail> {
         let found = bytes(rt.alloc(), text)?.ok_or("no bytes")?;
         assert_eq!(rt; found.as_slice(), want, "at {text}");
     }
+    Ok(())
+}
+
+#[test]
+fn a_pattern_is_tried_on_the_actions_of_its_service(rt: HostRuntime) -> Result<(), Fail> {
+    let alloc = rt.alloc();
+    let mut services = Services::new(alloc)?;
+    services.add(alloc, "S3:GetObject", 0)?;
+    services.add(alloc, "sqs:Send", 1)?;
+    services.add(alloc, "s3:PutObject", 2)?;
+    assert_eq!(rt; services.tried(&Glob::read(alloc, "s3:*")?, 3).len(), 2);
+    assert_eq!(rt; services.tried(&Glob::read(alloc, "ec2:Get")?, 3).len(), 0);
+    assert_eq!(rt; services.tried(&Glob::read(alloc, "s*:Get")?, 3).len(), 3);
     Ok(())
 }

@@ -1,11 +1,6 @@
-use Rattle.std.proofs.Common.{◌≡◌, false, length}
-use Rattle.iam_index.specs.Elements.{TellActs}
-use Rattle.iam_index.proofs.ElementLemmas.{MatchesNoneBelow}
+use Rattle.std.proofs.Common.{take}
+use Rattle.iam_index.specs.Elements.{TellSome}
 use Rattle.iam_index.proofs.elements.element_of.Given as goal
 
-abbrev pub invariant-loop-a : goal.invariant-loop-a
-invariant-loop-a l = record {
-  count : length l.acts.items ≡ l.a;
-  acts : TellActs l.world l.action l.acts.items;
-  idle : l.some ≡ false → MatchesNoneBelow l.world l.action l.a;
-}
+abbrev pub invariant-loop-pattern : goal.invariant-loop-pattern
+invariant-loop-pattern l = TellSome l.world l.acting (take l.pattern-index l.action.patterns) l.acts.items

@@ -1,13 +1,25 @@
-use Rattle.std.proofs.Common.{◌≡◌, length, arith}
-use Rattle.iam_index.proofs.ElementLemmas.{none_more, none_of_all}
+use Rattle.std.proofs.Common.{◌≤◌, ◌∙◌, List, length, sym, take, subst}
+use Rattle.std.proofs.lemmas.List.{take_all}
+use Rattle.iam_glob.specs.declared.sign.Sign.{Sign}
+use Rattle.iam_index.proofs.MarkLemmas.{MatchNone, no_more, none_at_all, one_done}
 use Rattle.iam_index.proofs.elements.some_matches.Goals as goal
 
-pub loop-a-preserved : goal.loop-a-preserved
-loop-a-preserved c =
-    none_more c.args.world.now c.args.action.now c.loop-a.a c.action_text.result.now c.action_text.ensures
-    (λ matched. let yes = c.action_matches.ensures.1 matched in let no = c.if-action_matches.false in let wrong : ⊥ = cc in wrong) c.loop-a.invariant
+pub loop-pattern-preserved : goal.loop-pattern-preserved
+loop-pattern-preserved c =
+    let world = c.args.world.now in
+    let patterns = c.args.action.now.patterns in
+    let i = c.loop-pattern.pattern-index in
+    let pattern = c.pattern-item.result in
+    let M : List (List Sign) → Type 0 = MatchNone world in
+    subst M (one_done patterns c.patterns-pattern-items.result.now i pattern c.patterns-pattern-items.ensures c.loop-pattern-test.true c.pattern-item.is)
+    (no_more world (take i patterns) pattern (c.some_tried.ensures c.if-some_tried.false) c.loop-pattern.invariant)
 
 pub returns : goal.returns
 returns c = λ _.
-    let long : length c.args.world.now.actions ≡ c.loop-a.a = omega (arith, c.actions-a-end.ensures, c.loop-a-test.false, c.loop-a.auto.a-end) in
-    none_of_all c.args.world.now c.args.action.now c.loop-a.a long c.loop-a.invariant
+    let world = c.args.world.now in
+    let element = c.args.action.now in
+    let L : List (List Sign) → Type 0 = λ ps. length ps ≤ c.loop-pattern.pattern-index in
+    let past : length element.patterns ≤ c.loop-pattern.pattern-index = subst L c.patterns-pattern-items.ensures c.loop-pattern-test.false in
+    let M : List (List Sign) → Type 0 = MatchNone world in
+    none_at_all world element (sym c.is_negated.ensures ∙ c.if-is_negated.false)
+    (subst M (take_all c.loop-pattern.pattern-index element.patterns past) c.loop-pattern.invariant)

@@ -1,4 +1,4 @@
-use Rattle.std.proofs.Common.{◌≡◌, ◌++◌, ◌∷◌, [], List, map, ap, sym, subst, ◌∙◌}
+use Rattle.std.proofs.Common.{◌++◌, ◌∷◌, [], List, map, ap, sym, subst, ◌∙◌}
 use Rattle.std.proofs.lemmas.List.{map-append}
 use Rattle.iam_decision.specs.Code.Scan.{placed_value}
 use Rattle.iam_decision.specs.Living.{AreCandidates}
@@ -7,20 +7,11 @@ use Rattle.iam_index.specs.Elements.{MatchesNone}
 use Rattle.iam_index.proofs.IndexLemmas.{candidates_more, candidates_skip}
 use Rattle.iam_index.proofs.lists.add_concerned.Goals as goal
 
-pub returns-then-not-concerns-clause-right : goal.returns-then-not-concerns-clause-right
-returns-then-not-concerns-clause-right c = c.concerns.ensures.right c.requires
-
-pub returns-in_err-push-clause-right : goal.returns-in_err-push-clause-right
-returns-in_err-push-clause-right c = c.concerns.ensures.right c.requires
-
-pub returns-clause-right : goal.returns-clause-right
-returns-clause-right c = c.concerns.ensures.right c.requires
-
 pub returns-then-not-concerns-clause-listed : goal.returns-then-not-concerns-clause-listed
 returns-then-not-concerns-clause-listed c = λ before are.
     let world = c.args.world.now in
     let old = c.args.listed.now.items in
-    let idle = c.concerns.ensures.idle c.requires c.if-not-concerns.true in
+    let idle = c.concerns.ensures.idle c.if-not-concerns.true in
     candidates_skip world.actions before (map placed_value old) (placed_value c.args.standing)
     (subst (MatchesNone world) c.action.ensures idle) are
 

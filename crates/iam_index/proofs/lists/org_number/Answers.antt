@@ -1,7 +1,6 @@
-use Rattle.std.proofs.Common.{◌≡◌, ◌++◌, ◌∷◌, [], ℕ, List, Some, length, ap, sym, ◌∙◌, subst, arith}
+use Rattle.std.proofs.Common.{◌≡◌, ◌++◌, ◌∷◌, [], ℕ, List, Some, length, sym, subst, arith}
 use Rattle.std.specs.List.{slice_get}
-use Rattle.iam_decision.specs.declared.scan.Standing.{Standing}
-use Rattle.iam_index.specs.Index.{AreOrgs, HasOrg, ListsOrg}
+use Rattle.iam_index.specs.Index.{AreOrgs, HasOrg}
 use Rattle.iam_index.specs.declared.lists.Org.{Org}
 use Rattle.iam_index.proofs.ListLemmas.{get_next}
 use Rattle.iam_index.proofs.ListedLemmas.{orgs_more}
