@@ -1,16 +1,17 @@
-// Where a verdict may be found again: tables of numbers by hashes, and by hints of callers. Each is a guess, and nothing is
+// Where an item may be found again: tables of numbers by hashes, and by hints of callers. Each is a guess, and nothing is
 // claimed of it.
 use iam_layers::Verdict;
 use iam_text::OutOfMemory;
 use std::alloc::Global;
+use std::mem;
 
-/// So many slots are looked at for one verdict.
+/// So many slots are looked at for one item.
 pub const STEPS: u64 = 16;
 
 const LEAST_SLOTS: usize = 16;
 
 /// A number mixed into a hash.
-fn mix(hash: u64, value: u64) -> u64 {
+pub fn mix(hash: u64, value: u64) -> u64 {
     (hash.rotate_left(5) ^ value).wrapping_mul(0x517c_c1b7_2722_0a95)
 }
 
@@ -33,16 +34,26 @@ pub fn hash_of(verdict: &Verdict) -> u64 {
     mix(hash, 0)
 }
 
-/// Numbers by hashes; 0 stands in a slot without one, and else the number and 1.
+/// A hash, and a number and 1; 0 stands where there is no number.
+#[derive(Clone, Copy, Debug)]
+struct Slot {
+    hash: u64,
+    number: u32,
+}
+
+/// Numbers by hashes.
 #[derive(Debug, Drop)]
 pub struct Guesses {
-    slots: Vec<u32>,
+    slots: Vec<Slot>,
+    // How many numbers were put.
+    count: usize,
 }
 
 impl Guesses {
     pub fn new(alloc: Global) -> Guesses {
         Guesses {
             slots: Vec::new(alloc),
+            count: 0,
         }
     }
 
@@ -55,24 +66,31 @@ impl Guesses {
     /// The number to look at in this step, where there is one.
     pub fn at(&self, hash: u64, step: u64) -> Option<u32> {
         let slot = *self.slots.get(self.slot(hash, step))?;
-        slot.checked_sub(1)
+        slot.number.checked_sub(1)
     }
 
-    /// Keeps the number of a verdict that was put behind these, and has room for as many again. Where there is no memory for
+    /// Keeps the number of an item that was put behind others, and has room for as many again. Where there is no memory for
     /// that, numbers that were kept may be forgotten.
-    pub fn keep(&mut self, alloc: Global, verdicts: &[Verdict], hash: u64, number: u32) {
-        if verdicts.len() <= self.slots.len() / 2 {
-            self.set(hash, number);
+    pub fn keep(&mut self, alloc: Global, hash: u64, number: u32) {
+        self.count = self.count.saturating_add(1);
+        if self.count > self.slots.len() / 2 {
+            self.widen(alloc);
+        }
+        self.set(hash, number.saturating_add(1));
+    }
+
+    /// Has twice as many slots, where there is memory for them.
+    fn widen(&mut self, alloc: Global) {
+        let count = self.slots.len().saturating_mul(2).max(LEAST_SLOTS);
+        let mut slots = Vec::new(alloc);
+        if slots.resize(count, Slot { hash: 0, number: 0 }).is_err() {
             return;
         }
-        let slots = self.slots.len().saturating_mul(2).max(LEAST_SLOTS);
-        let Ok(slots) = zeros(alloc, slots) else {
-            self.set(hash, number);
-            return;
-        };
-        self.slots = slots;
-        for (i, verdict) in (0..u32::MAX).zip(verdicts) {
-            self.set(hash_of(verdict), i);
+        let old = mem::replace(&mut self.slots, slots);
+        for slot in old.as_slice() {
+            if slot.number > 0 {
+                self.set(slot.hash, slot.number);
+            }
         }
     }
 
@@ -86,7 +104,7 @@ impl Guesses {
             }
         }
         if let Some(place) = self.slots.get_mut(slot) {
-            *place = number.saturating_add(1);
+            *place = Slot { hash, number };
         }
     }
 }

@@ -1,5 +1,5 @@
 // Numbers in as few bytes as serve.
-ghost use Rattle.std.specs.Prelude.{◌≡◌, ◌++◌, ◌∷◌, ◌<◌, [], IfOk, OnErr, OnOk, Some, length, slice_get};
+ghost use Rattle.std.specs.Prelude.{◌≡◌, ◌++◌, ◌∷◌, ◌<◌, ℕ, List, [], IfOk, OnErr, OnOk, Some, length, slice_get};
 
 use iam_text::OutOfMemory;
 use std::alloc::Global;
@@ -51,14 +51,6 @@ impl Numbers {
         self.wide[i - self.narrow.len()]
     }
 
-    /// The last, where there is one.
-    pub fn last(&self) -> Option<u32> {
-        match self.wide.last() {
-            Some(number) => Some(*number),
-            None => self.narrow.last().map(|number| u32::from(*number)),
-        }
-    }
-
     /// Puts a number behind the others.
     #[inline(always)]
     pub fn push(&mut self, number: u32) -> Result<(), OutOfMemory>
@@ -74,6 +66,15 @@ impl Numbers {
         };
         self.narrow.push(byte)?;
         Ok(())
+    }
+
+    /// Takes the last number away, where there is one.
+    pub fn pop(&mut self)
+        ensures { (numbers : List ℕ) (last : ℕ) → self.old ≡ numbers ++ last ∷ [] → self.new ≡ numbers }
+    {
+        if self.wide.pop().is_none() {
+            self.narrow.pop();
+        }
     }
 
     /// Puts the first number behind the others that may need four bytes, with room for as many as there was for bytes.

@@ -1,6 +1,6 @@
 // The tails of a tile's rows.
-ghost use Rattle.std.specs.Prelude.{◌≡◌, ◌<◌, get_or, length};
-ghost use Rattle.iam_report.specs.Code.Numbered.{no_tail};
+ghost use Rattle.std.specs.Prelude.{◌≡◌, ◌<◌, All, get_or, length};
+ghost use Rattle.iam_report.specs.Code.Numbered.{no_tail, picked};
 
 use crate::numbers::Numbers;
 use iam_row::Tail;
@@ -28,6 +28,14 @@ impl Model for Tile {
 }
 
 impl Tile {
+    /// Rows with these tails, by their numbers.
+    pub fn of(tails: Vec<Tail>, numbers: Numbers) -> Tile
+        requires { All (λ n. n < length tails.items) numbers }
+        ensures { result ≡ picked no_tail tails.items numbers }
+    {
+        Tile { tails, numbers }
+    }
+
     /// How many rows it has.
     pub fn len(&self) -> usize
         ensures { result ≡ length self.now }

@@ -9,4 +9,4 @@ decides : (a b : Layer) → Decides (the_impl.eq-value.it a b) (a ≡ b)
 decides a b = search rules
 
 pub returns : goal.returns
-returns c = (slice_eq-Decides decides c.args.a.now c.args.b.now c.eq.result c.eq.ensures).0
+returns c = slice_eq-Decides decides c.args.a.now c.args.b.now c.eq.result c.eq.ensures

@@ -8,8 +8,7 @@ use Rattle.iam_report.proofs.entries.Entries.tile.Goals as goal
 
 pub returns : goal.returns
 returns c =
-    let entries = c.self.inside in
     let f : Verdict → Tail = tail_of c.args.format c.args.brief in
-    ap (λ (tails : List Tail). picked no_tail tails entries.numbers) (c.in_ok-tails.ensures ∙ ap (map f) c.as_slice.ensures.value)
-    ∙ picked_images f no_verdict no_tail entries.distinct.items entries.numbers c.self.invariant.0
-    ∙ ap (map f) c.self.view_is
+    ap (λ (tails : List Tail). picked no_tail tails c.parts-distinct.result.1) (c.in_ok-tails.ensures ∙ ap (map f) c.as_slice.ensures.value)
+    ∙ picked_images f no_verdict no_tail c.parts-distinct.result.0.items c.parts-distinct.result.1 c.parts-distinct.ensures.known
+    ∙ ap (map f) (c.parts-distinct.ensures.items ∙ c.self.view_is)
