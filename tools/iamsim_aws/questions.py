@@ -128,4 +128,5 @@ def missing(scope: Scope, question: Question) -> str:
     found = scope.source.worlds(list(chosen))
     if not any(principals(it["principals"], question) for it in found):
         return f"no principal matches {question.principal}"
-    return f"no resource matches {question.resource}: name its ARN, resources by --resources, or ask with --kinds"
+    more = ", resources by --resources," if scope.source.estate else ""
+    return f"no resource matches {question.resource}: name its ARN{more} or ask with --kinds"

@@ -42,13 +42,14 @@ class Break(NamedTuple):
 
 
 class Outcome(NamedTuple):
-    """How a rule fares: the requests that it meets, those that break it, and why it meets none."""
+    """How a rule fares: the requests that it meets, those that break it, why it meets none, and what gives keys."""
 
     rule: Rule
     requests: int
     broken: List[Break]
     asked: List[Asked]
     empty: str
+    giver: str
 
     @property
     def state(self) -> str:
@@ -125,7 +126,7 @@ def check(scope: Scope, rules: List[Rule], as_given: bool = False) -> List[Outco
         broken = [it for found, cells in kept for it in breaks(rule, found, cells, as_given)]
         requests = sum(met(it, *found) for it, found in zip(of, kept)) or len(broken)
         why = "" if requests else missing(scope, rule.question) if not of else NOTHING_SPEAKS
-        outcomes.append(Outcome(rule, requests, broken, of, why))
+        outcomes.append(Outcome(rule, requests, broken, of, why, scope.source.giver))
     return outcomes
 
 

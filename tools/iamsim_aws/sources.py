@@ -133,6 +133,11 @@ class Source:
         made.change = change
         return made
 
+    @property
+    def giver(self) -> str:
+        """What gives requests a condition key, in words."""
+        return "--context" if self.estate else "the context of the world"
+
     def world(self, actions: List[str]) -> World:
         kind = has_service(actions, "sts"), has_service(actions, "iam")
         if kind not in self.made:

@@ -12,7 +12,8 @@ IF_YES = document(statement(action="s3:GetObject", Condition={"StringEquals": {"
 # Of `may` and `has` either could read with k=yes; `has` has k=no, and `may` has none.
 WORLD = {**small_world(), "principals": [{"user": f"{USER}has", "identity": [IF_YES], "context": {"k": "no"}},
                                          {"user": f"{USER}may", "identity": [IF_YES]}]}
-BROKEN = "{} may {} {} if `{}` is `{}`, which nothing gives (--context gives it)"
+BROKEN = "{} may {} {} if `{}` is `{}`, which nothing gives ({} gives it)"
+IN_WORLD = "the context of the world"
 
 
 def broken(rule, *words):
@@ -27,7 +28,7 @@ def hangs(*words, status=0):
 
 
 def test_a_wide_rule_is_broken_where_a_narrow_one_is():
-    found = [BROKEN.format(f"{USER}may", "s3:GetObject", it, "k", "yes") for it in (OBJECT, "*")]
+    found = [BROKEN.format(f"{USER}may", "s3:GetObject", it, "k", "yes", IN_WORLD) for it in (OBJECT, "*")]
     for who in ("*:user/may", "*", "*:user/*"):
         same(broken(f"never {who} s3:GetObject *", "--world", file(WORLD)), found, who)
     # What a request has it has: `has` may not.
@@ -52,7 +53,7 @@ def test_keys_of_resources():
     resources = [{"arn": f"arn:aws:s3:::{it}/k", "account": "111122223333", "policy": policy} for it in "ab"]
     resources[0]["context"] = {key: "no"}
     made = file(small_world(resources=resources))
-    found = BROKEN.format(f"{USER}ann", "s3:GetObject", "arn:aws:s3:::b/k", key, "yes")
+    found = BROKEN.format(f"{USER}ann", "s3:GetObject", "arn:aws:s3:::b/k", key, "yes", IN_WORLD)
     for what in ("arn:aws:s3:::b/k", "arn:aws:s3:::*/k", "*"):
         assert found in broken(f"never * s3:GetObject {what}", "--world", made), what
     same(hangs("who-can", "s3:GetObject", "*/k", "--world", made),
@@ -64,7 +65,7 @@ def test_who_is_outside_lacks_the_tags_of_the_exports():
     policy = document({"Effect": "Allow", "Principal": {"AWS": "777788889999"}, "Action": "s3:GetObject", "Resource": "*",
                        "Condition": {"StringEquals": {"aws:PrincipalTag/team": "red"}}})
     resources = file([{"arn": OBJECT, "account": "111122223333", "policy": policy}])
-    wanted = BROKEN.format("anyone outside: account 777788889999", "s3:GetObject", OBJECT, "aws:PrincipalTag/team", "red")
+    wanted = BROKEN.format("anyone outside: account 777788889999", "s3:GetObject", OBJECT, "aws:PrincipalTag/team", "red", "--context")
     # Others may by policies of their own.
     assert wanted in broken(f"never * s3:GetObject {OBJECT}", data("account.json"), "--resources", resources)
     same(broken("never arn:aws:iam::777788889999:* s3:GetObject *", data("account.json"), "--resources", resources)[0], wanted)

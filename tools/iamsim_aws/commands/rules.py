@@ -86,15 +86,14 @@ def notes(scope: Scope, outcomes: List[Outcome]) -> None:
         )
 
 
-def message(broken: Break) -> str:
+def message(broken: Break, giver: str) -> str:
     """Why a request is decided as it is."""
     answers, cell, turn = broken
     row = answers.row(cell)
     request = f"{row.action} {row.resource}"
     if turn is not None:
-        return (
-            f"{row.principal} may {request} if `{turn.key}` is `{turn.value}`, which nothing gives (--context gives it)"
-        )
+        what = f"`{turn.key}` is `{turn.value}`, which nothing gives ({giver} gives it)"
+        return f"{row.principal} may {request} if {what}"
     why = [f"{BY[row.answer.decision]} {it.words()}" for it in causes(answers, cell)]
     why += [f"lacks {it}: {LACKS[it]}" for it in row.answer.lacks]
     may = "may" if row.answer.decision == "allowed" else "may not"
@@ -106,7 +105,7 @@ def lines_of(outcome: Outcome, most: int) -> List[str]:
     if outcome.state == "empty":
         return [f"empty: {rule.name}: {rule.text}: {outcome.empty}"]
     lines = [f"{outcome.state}: {rule.name}: {rule.text} ({outcome.requests} requests)"]
-    lines += [f"  {message(it)}" for it in outcome.broken[:most]]
+    lines += [f"  {message(it, outcome.giver)}" for it in outcome.broken[:most]]
     more = len(outcome.broken) - most
     return [*lines, f"  and {more} more"] if more > 0 else lines
 
@@ -114,6 +113,6 @@ def lines_of(outcome: Outcome, most: int) -> List[str]:
 def case_of(outcome: Outcome, most: int, fails: Set[str]) -> Case:
     """An outcome as reports for pipelines have it."""
     rule, passes = outcome.rule, outcome.state not in fails
-    reasons = [message(it) for it in outcome.broken[:most]] or [outcome.empty]
+    reasons = [message(it, outcome.giver) for it in outcome.broken[:most]] or [outcome.empty]
     lines = lines_of(outcome, most)
     return Case(rule.file, rule.line, rule.text, outcome.state, [] if passes else lines, [] if passes else reasons)
