@@ -30,7 +30,17 @@ def plain():
         words = ["cargo", "build", "--release", "--offline", "--quiet"]
     elif shutil.which("rustc"):
         os.makedirs(os.path.dirname(built), exist_ok=True)
-        words = ["rustc", "--edition=2021", "-Copt-level=3", "-Clto=fat", "-Ccodegen-units=1", "-Cpanic=abort", "-o", built, "src/main.rs"]
+        words = [
+            "rustc",
+            "--edition=2021",
+            "-Copt-level=3",
+            "-Clto=fat",
+            "-Ccodegen-units=1",
+            "-Cpanic=abort",
+            "-o",
+            built,
+            "src/main.rs",
+        ]
     else:
         stop("left out: there is no cargo or rustc to build bench/plain with (Rust 1.82 or later)")
     if subprocess.run(words, cwd=folder).returncode != 0:

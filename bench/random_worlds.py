@@ -9,33 +9,139 @@ USERS = ["ann", "team/bob", 'a,b"c']
 ROLES = ["app/dev", "build", "x/y/z"]
 SESSIONS = ["s1", "run,2"]
 ACTIONS = ["s3:GetObject", "S3:getobject", "s3:PutObject", "sts:AssumeRole", "kms:Decrypt", "iam-x:List_All.v2"]
-ACTION_PATTERNS = ["*", "s3:*", "s3:Get*", "S3:get?bject", "s*:*Object", "*:*", "kms:Decrypt", "sts:Assume*", "i?m-x:List_*", "none:None"]
-RESOURCES = ["*", "arn:aws:s3:::b/k", "arn:aws:s3:::home/ann/x", "arn:aws:s3:::b/*", "arn:aws:kms:eu:111122223333:key/1",
-             "arn:aws:iam::111122223333:role/build", "arn:aws:s3:::b/é,\"q\"\n", "arn:aws:s3:::${aws:username}", "arn:a:b:c:d:e:f:g"]
-RESOURCE_PATTERNS = ["*", "arn:*", "arn:aws:s3:::b/*", "arn:aws:s3:::b/?", "arn:aws:s3:::home/${aws:username}/*", "arn:aws:*:*:*:*",
-                     "arn:aws:s3:::${k, 'b'}/k", "arn:aws:s3:::b/${*}", "arn:aws:s3:::${Tag}*", "arn:aws:s3:::b/é*", "arn:aws:s3:::*a*${r}?",
-                     "arn:aws:kms:*:*:key/${k, '1'}", "arn:aws:iam::111122223333:role/build", "arn:aws:s3:::$b", "arn:aws:s3:::${$}{k}"]
-WORLD_KEYS, PRINCIPAL_KEYS, RESOURCE_KEYS = ["k", "List", "aws:SourceIp", "when"], ["tag", "n", "many"], ["r", "aws:ResourceTag/a", "flag"]
-DERIVED = ["aws:PrincipalArn", "aws:username", "aws:PrincipalType", "aws:PrincipalAccount", "aws:ResourceAccount", "aws:CurrentTime", "aws:EpochTime"]
+ACTION_PATTERNS = [
+    "*",
+    "s3:*",
+    "s3:Get*",
+    "S3:get?bject",
+    "s*:*Object",
+    "*:*",
+    "kms:Decrypt",
+    "sts:Assume*",
+    "i?m-x:List_*",
+    "none:None",
+]
+RESOURCES = [
+    "*",
+    "arn:aws:s3:::b/k",
+    "arn:aws:s3:::home/ann/x",
+    "arn:aws:s3:::b/*",
+    "arn:aws:kms:eu:111122223333:key/1",
+    "arn:aws:iam::111122223333:role/build",
+    'arn:aws:s3:::b/é,"q"\n',
+    "arn:aws:s3:::${aws:username}",
+    "arn:a:b:c:d:e:f:g",
+]
+RESOURCE_PATTERNS = [
+    "*",
+    "arn:*",
+    "arn:aws:s3:::b/*",
+    "arn:aws:s3:::b/?",
+    "arn:aws:s3:::home/${aws:username}/*",
+    "arn:aws:*:*:*:*",
+    "arn:aws:s3:::${k, 'b'}/k",
+    "arn:aws:s3:::b/${*}",
+    "arn:aws:s3:::${Tag}*",
+    "arn:aws:s3:::b/é*",
+    "arn:aws:s3:::*a*${r}?",
+    "arn:aws:kms:*:*:key/${k, '1'}",
+    "arn:aws:iam::111122223333:role/build",
+    "arn:aws:s3:::$b",
+    "arn:aws:s3:::${$}{k}",
+]
+WORLD_KEYS, PRINCIPAL_KEYS, RESOURCE_KEYS = (
+    ["k", "List", "aws:SourceIp", "when"],
+    ["tag", "n", "many"],
+    ["r", "aws:ResourceTag/a", "flag"],
+)
+DERIVED = [
+    "aws:PrincipalArn",
+    "aws:username",
+    "aws:PrincipalType",
+    "aws:PrincipalAccount",
+    "aws:ResourceAccount",
+    "aws:CurrentTime",
+    "aws:EpochTime",
+]
 KEYS = WORLD_KEYS + PRINCIPAL_KEYS + RESOURCE_KEYS + DERIVED + ["TAG", "K", "absent"]
-TEXTS = ["a", "A", "ab", "b", "*", "?", "", "é", "a*b", "true", "TRUE", "false", "7", "007", "-1", "1.5", "2026-01-01", "2024-02-29T23:59:59.5Z",
-         "1767225600", "10.1.2.3", "10.0.0.0/8", "::1", "2001:db8::/32", "aGk=", "aGl=", "arn:aws:s3:::b:c", "arn:aws:iam::111122223333:user/ann",
-         "${tag}", "${k}x", "9223372036854775807", "x y"]
+TEXTS = [
+    "a",
+    "A",
+    "ab",
+    "b",
+    "*",
+    "?",
+    "",
+    "é",
+    "a*b",
+    "true",
+    "TRUE",
+    "false",
+    "7",
+    "007",
+    "-1",
+    "1.5",
+    "2026-01-01",
+    "2024-02-29T23:59:59.5Z",
+    "1767225600",
+    "10.1.2.3",
+    "10.0.0.0/8",
+    "::1",
+    "2001:db8::/32",
+    "aGk=",
+    "aGl=",
+    "arn:aws:s3:::b:c",
+    "arn:aws:iam::111122223333:user/ann",
+    "${tag}",
+    "${k}x",
+    "9223372036854775807",
+    "x y",
+]
 VALUES = {
-    "String": ["a", "A", "ab", "a*", "?", "${tag}", "${aws:username, 'ann'}", "${*}", "a${r}", "é", "${absent}", "${k, ''}b", "User", ""],
+    "String": [
+        "a",
+        "A",
+        "ab",
+        "a*",
+        "?",
+        "${tag}",
+        "${aws:username, 'ann'}",
+        "${*}",
+        "a${r}",
+        "é",
+        "${absent}",
+        "${k, ''}b",
+        "User",
+        "",
+    ],
     "Numeric": ["7", "007", "-1", "0", 7, -1, "9223372036854775807"],
     "Date": ["2026-01-01", "1767225600", "2024-02-29T23:59:59.5Z", "2026-01-01T01:00:00+01:00", 0],
     "Bool": ["true", "FALSE", True, False],
     "Null": ["true", "false", True],
     "Binary": ["aGk=", "", "AAAA"],
     "Ip": ["10.0.0.0/8", "10.1.2.3", "::1", "2001:db8::/32", "::/0", "0.0.0.0/0"],
-    "Arn": ["*", "arn:*", "arn:aws:s3:::b*", "arn:aws:iam::*:user/*", "arn:${k}:s3:::b", "arn:aws:*:*:*:?:c", "a", "arn:aws:iam::${aws:PrincipalAccount}:role/*"],
+    "Arn": [
+        "*",
+        "arn:*",
+        "arn:aws:s3:::b*",
+        "arn:aws:iam::*:user/*",
+        "arn:${k}:s3:::b",
+        "arn:aws:*:*:*:?:c",
+        "a",
+        "arn:aws:iam::${aws:PrincipalAccount}:role/*",
+    ],
 }
 COMPARED = ["Equals", "NotEquals", "LessThan", "LessThanEquals", "GreaterThan", "GreaterThanEquals"]
 BASES = {
-    "String": [f"String{it}" for it in ("Equals", "NotEquals", "EqualsIgnoreCase", "NotEqualsIgnoreCase", "Like", "NotLike")],
-    "Numeric": [f"Numeric{it}" for it in COMPARED], "Date": [f"Date{it}" for it in COMPARED], "Bool": ["Bool"], "Binary": ["BinaryEquals"],
-    "Ip": ["IpAddress", "NotIpAddress"], "Arn": ["ArnEquals", "ArnLike", "ArnNotEquals", "ArnNotLike"],
+    "String": [
+        f"String{it}" for it in ("Equals", "NotEquals", "EqualsIgnoreCase", "NotEqualsIgnoreCase", "Like", "NotLike")
+    ],
+    "Numeric": [f"Numeric{it}" for it in COMPARED],
+    "Date": [f"Date{it}" for it in COMPARED],
+    "Bool": ["Bool"],
+    "Binary": ["BinaryEquals"],
+    "Ip": ["IpAddress", "NotIpAddress"],
+    "Arn": ["ArnEquals", "ArnLike", "ArnNotEquals", "ArnNotLike"],
 }
 ODD = [None, True, 0, -1, 1.5, 10**20, "", "x", [], {}, ["x"], [[]], {"x": 1}, "*", "2012-10-17"]
 
@@ -69,8 +175,13 @@ class Maker:
 
     def context(self, keys):
         """Keys with their values; now and then one that another object may give too, or that none may."""
-        given = [it for it in keys if self.often(0.6)] + ([self.dice.choice(["K", "TAG", "r", "AWS:UserName"])] if self.often(0.02) else [])
-        return {it: self.scalar() if self.often(0.6) else [self.scalar() for _ in range(self.dice.randint(0, 3))] for it in given}
+        given = [it for it in keys if self.often(0.6)] + (
+            [self.dice.choice(["K", "TAG", "r", "AWS:UserName"])] if self.often(0.02) else []
+        )
+        return {
+            it: self.scalar() if self.often(0.6) else [self.scalar() for _ in range(self.dice.randint(0, 3))]
+            for it in given
+        }
 
     def operator(self):
         """The name of an operator, and its kind."""
@@ -90,9 +201,17 @@ class Maker:
     def principal_text(self):
         account = self.dice.choice(ACCOUNTS)
         role = self.dice.choice(ROLES)
-        return self.dice.choice(["*", account, f"arn:aws:iam::{account}:root", f"arn:aws:iam::{account}:user/{self.dice.choice(USERS)}",
-                                 f"arn:aws:iam::{account}:role/{role}", "AIDAEXAMPLE",
-                                 f"arn:aws:sts::{account}:assumed-role/{role.split('/')[-1]}/{self.dice.choice(SESSIONS)}"])
+        return self.dice.choice(
+            [
+                "*",
+                account,
+                f"arn:aws:iam::{account}:root",
+                f"arn:aws:iam::{account}:user/{self.dice.choice(USERS)}",
+                f"arn:aws:iam::{account}:role/{role}",
+                "AIDAEXAMPLE",
+                f"arn:aws:sts::{account}:assumed-role/{role.split('/')[-1]}/{self.dice.choice(SESSIONS)}",
+            ]
+        )
 
     def principal(self, kind):
         if kind == "control":
@@ -131,14 +250,19 @@ class Maker:
         everything = {"Version": "2012-10-17", "Statement": {"Effect": "Allow", "Action": "*", "Resource": "*"}}
         if kind == "control":
             everything["Statement"]["Principal"] = "*"
-        return [([everything] if self.often(0.8) else []) + self.documents(kind, 1) for _ in range(self.dice.randint(0, 3))]
+        return [
+            ([everything] if self.often(0.8) else []) + self.documents(kind, 1) for _ in range(self.dice.randint(0, 3))
+        ]
 
     def requester(self):
         account = self.dice.choice(ACCOUNTS[:2])
         if self.often(0.5):
             it = {"user": f"arn:aws:iam::{account}:user/{self.dice.choice(USERS)}"}
         else:
-            it = {"role": f"arn:aws:iam::{account}:role/{self.dice.choice(ROLES)}", "session": self.dice.choice(SESSIONS)}
+            it = {
+                "role": f"arn:aws:iam::{account}:role/{self.dice.choice(ROLES)}",
+                "session": self.dice.choice(SESSIONS),
+            }
             if self.often(0.3):
                 it["sessionPolicies"] = self.documents("identity")
         it["identity"] = self.documents("identity", 3)
@@ -157,13 +281,22 @@ class Maker:
         return {**it, "context": self.context(RESOURCE_KEYS)} if self.often(0.5) else it
 
     def lawful(self):
-        accounts = [{"id": it, **({"org": self.levels("org")} if self.often(0.4) else {}), **({"management": True} if self.often(0.15) else {})}
-                    for it in ACCOUNTS]
-        return {"moment": self.dice.choice([0, 1767225600, 253402300799]), "accounts": accounts,
-                "principals": [self.requester() for _ in range(self.dice.randint(self.often(0.9), 5))],
-                "actions": [self.dice.choice(ACTIONS) for _ in range(self.dice.randint(self.often(0.9), 5))],
-                "resources": [self.resource() for _ in range(self.dice.randint(self.often(0.9), 5))],
-                **({"context": self.context(WORLD_KEYS)} if self.often(0.6) else {})}
+        accounts = [
+            {
+                "id": it,
+                **({"org": self.levels("org")} if self.often(0.4) else {}),
+                **({"management": True} if self.often(0.15) else {}),
+            }
+            for it in ACCOUNTS
+        ]
+        return {
+            "moment": self.dice.choice([0, 1767225600, 253402300799]),
+            "accounts": accounts,
+            "principals": [self.requester() for _ in range(self.dice.randint(self.often(0.9), 5))],
+            "actions": [self.dice.choice(ACTIONS) for _ in range(self.dice.randint(self.often(0.9), 5))],
+            "resources": [self.resource() for _ in range(self.dice.randint(self.often(0.9), 5))],
+            **({"context": self.context(WORLD_KEYS)} if self.often(0.6) else {}),
+        }
 
     def spoiled(self, value):
         """The world with one value changed, taken away or added, somewhere."""
@@ -176,11 +309,37 @@ class Maker:
         if how == 0:
             del at[key]
         elif how == 1 and isinstance(at, dict):
-            new = self.dice.choice(["x", "Sid", "Principal", "NotResource", "NotAction", "Condition", "Effect", "session", "role", "context"])
-            at[new] = self.dice.choice([*ODD, "Allow", {"StringEquals": {"k": "${"}}, {"Nothing": {}}, {"Aws:UserName": "x"}, {"Bool": {"": "true"}}])
+            new = self.dice.choice(
+                [
+                    "x",
+                    "Sid",
+                    "Principal",
+                    "NotResource",
+                    "NotAction",
+                    "Condition",
+                    "Effect",
+                    "session",
+                    "role",
+                    "context",
+                ]
+            )
+            at[new] = self.dice.choice(
+                [
+                    *ODD,
+                    "Allow",
+                    {"StringEquals": {"k": "${"}},
+                    {"Nothing": {}},
+                    {"Aws:UserName": "x"},
+                    {"Bool": {"": "true"}},
+                ]
+            )
         elif how == 2 and isinstance(at[key], str):
             text, n = at[key], self.dice.randrange(len(at[key]) + 1)
-            at[key] = text[:n] + self.dice.choice(["${", "*", "?", ":", " ", "é", "", "}", "0"]) + text[n + self.dice.randrange(2):]
+            at[key] = (
+                text[:n]
+                + self.dice.choice(["${", "*", "?", ":", " ", "é", "", "}", "0"])
+                + text[n + self.dice.randrange(2) :]
+            )
         elif how == 3 and isinstance(at, list):
             at.append(copy.deepcopy(at[key]))
         else:
@@ -195,5 +354,5 @@ class Maker:
         text = json.dumps(value, ensure_ascii=self.often(0.5), indent=1 if self.often(0.2) else None).encode()
         if self.often(0.03):
             n = self.dice.randrange(len(text))
-            text = text[:n] if self.often(0.3) else text[:n] + bytes([self.dice.randrange(256)]) + text[n + 1:]
+            text = text[:n] if self.often(0.3) else text[:n] + bytes([self.dice.randrange(256)]) + text[n + 1 :]
         return text
