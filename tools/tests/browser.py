@@ -20,7 +20,14 @@ class Browser:
             os.dup2(low, 3)
             os.dup2(high, 4)
 
-        words = [program, "--headless=new", "--no-sandbox", "--disable-gpu", "--hide-scrollbars", "--remote-debugging-pipe"]
+        words = [
+            program,
+            "--headless=new",
+            "--no-sandbox",
+            "--disable-gpu",
+            "--hide-scrollbars",
+            "--remote-debugging-pipe",
+        ]
         words += [f"--user-data-dir={self.home}", "--window-size=1500,900", "about:blank"]
         silent = {"stdin": subprocess.DEVNULL, "stdout": subprocess.DEVNULL, "stderr": subprocess.DEVNULL}
         self.process = subprocess.Popen(words, preexec_fn=in_place, close_fds=False, **silent)

@@ -28,7 +28,9 @@ def file(value, suffix=""):
     """A file with a JSON value, a text or bytes; the run of the tests removes its folder."""
     number, path = tempfile.mkstemp(dir=os.environ["TOOLS_TEST_ROOM"], suffix=suffix)
     with os.fdopen(number, "wb") as it:
-        it.write(value if isinstance(value, bytes) else (value if isinstance(value, str) else json.dumps(value)).encode())
+        it.write(
+            value if isinstance(value, bytes) else (value if isinstance(value, str) else json.dumps(value)).encode()
+        )
     return path
 
 
@@ -40,7 +42,9 @@ def load(path):
 def run(words, given="", status=0, seconds=120):
     """What a command writes on both streams; its status has to be `status`."""
     ran = subprocess.run(words, input=given, capture_output=True, encoding="utf-8", timeout=seconds, cwd=TOOLS)
-    assert ran.returncode == status, f"{words[0]}: status {ran.returncode}, not {status}: {ran.stdout[-1000:]}{ran.stderr[:2000]}"
+    assert (
+        ran.returncode == status
+    ), f"{words[0]}: status {ran.returncode}, not {status}: {ran.stdout[-1000:]}{ran.stderr[:2000]}"
     return ran.stdout, ran.stderr
 
 
@@ -88,7 +92,13 @@ def small_world(*documents, context=None, resources=None, actions=("s3:GetObject
     """A world of one user with these identity policies."""
     user = {"user": "arn:aws:iam::111122223333:user/ann", "identity": list(documents)}
     resources = resources or [{"arn": "arn:aws:s3:::b/k", "account": "111122223333"}]
-    made = {"moment": 0, "accounts": [{"id": "111122223333"}], "principals": [user], "actions": list(actions), "resources": resources}
+    made = {
+        "moment": 0,
+        "accounts": [{"id": "111122223333"}],
+        "principals": [user],
+        "actions": list(actions),
+        "resources": resources,
+    }
     return {**made, "context": context} if context else made
 
 

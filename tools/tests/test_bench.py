@@ -35,7 +35,10 @@ def test_exports_to_measure_are_read():
     same([load(it) for it in write(tempfile.mkdtemp(dir=os.environ["TOOLS_TEST_ROOM"]), 2)], [load(it) for it in paths])
     world, _ = aws("world", *paths)
     status, said, _ = answer(["check"], world.encode())
-    same((status, said.decode().rsplit(" statements", 1)[0]), (0, "ok principals 200 actions 1 resources 120 cells 24000"))
+    same(
+        (status, said.decode().rsplit(" statements", 1)[0]),
+        (0, "ok principals 200 actions 1 resources 120 cells 24000"),
+    )
 
 
 def test_a_random_world_is_the_same_each_time():

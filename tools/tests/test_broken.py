@@ -14,7 +14,9 @@ PATH = r"(\.|[a-zA-Z]+(/(\d+|[a-zA-Z]+))*)"
 AT_A_PLACE = "2 BadShape|3 BadRequester|4 BadAction|5 BadResourceArn|6 UnknownAccount"
 CONTEXT = "1 KeyTwice|2 DerivedKeyGiven"
 DOCUMENT = r"(document|statement \d+): ([1-9]|1\d|2[01]) [A-Z][a-zA-Z]+"
-FAULT = re.compile(f"fault 2 World: (({AT_A_PLACE}) at {PATH}|7 Context at {PATH}: ({CONTEXT})|8 Policy at {PATH}: {DOCUMENT})\n")
+FAULT = re.compile(
+    f"fault 2 World: (({AT_A_PLACE}) at {PATH}|7 Context at {PATH}: ({CONTEXT})|8 Policy at {PATH}: {DOCUMENT})\n"
+)
 
 BYTES = b'"}0\\\xff'
 TOGETHER = 50
@@ -32,7 +34,7 @@ def answers(texts):
 
 def all_answers(texts):
     """The answer to each text."""
-    found = on_all_processors(answers, [texts[n:n + TOGETHER] for n in range(0, len(texts), TOGETHER)])
+    found = on_all_processors(answers, [texts[n : n + TOGETHER] for n in range(0, len(texts), TOGETHER)])
     return [it for several in found for it in several]
 
 
@@ -54,8 +56,15 @@ def value_of(text):
 def is_answer(out, value):
     """Whether it has the rows of the world's cells, in their order."""
     rows = list(csv.reader(io.StringIO(out.decode(), newline="")))
-    cells = [[action, resource["arn"]] for _ in value["principals"] for action in value["actions"] for resource in value["resources"]]
-    return [row[2:4] for row in rows[1:]] == cells and [row[0] for row in rows[1:]] == [str(n) for n in range(len(cells))]
+    cells = [
+        [action, resource["arn"]]
+        for _ in value["principals"]
+        for action in value["actions"]
+        for resource in value["resources"]
+    ]
+    return [row[2:4] for row in rows[1:]] == cells and [row[0] for row in rows[1:]] == [
+        str(n) for n in range(len(cells))
+    ]
 
 
 def is_right(text, found):
@@ -69,7 +78,12 @@ def is_right(text, found):
 
 
 def test_each_byte_changed():
-    changed = [world[:place] + bytes([byte]) + world[place + 1:] for world in small_worlds() for place in range(len(world)) for byte in BYTES]
+    changed = [
+        world[:place] + bytes([byte]) + world[place + 1 :]
+        for world in small_worlds()
+        for place in range(len(world))
+        for byte in BYTES
+    ]
     wrong = [(text, found) for text, found in zip(changed, all_answers(changed)) if not is_right(text, found)]
     print(f"worlds with a byte changed: {len(changed)} runs, {len(wrong)} findings", flush=True)
     same(wrong[:3], [])
@@ -83,18 +97,36 @@ def test_a_text_of_a_megabyte():
     ann, world = value["principals"][0]["user"], json.dumps(value, ensure_ascii=False).encode()
     quoted = text.replace('"', '""')
     same(answer(["first"], world), (0, b"cell,principal,action,resource,decision\n", b""))
-    same(answer(["matrix", "--brief"], world),
-         (0, f'cell,principal,action,resource,decision\n0,{ann},S3:getobject,"{quoted}",implicitDeny\n'.encode(), b""))
+    same(
+        answer(["matrix", "--brief"], world),
+        (0, f'cell,principal,action,resource,decision\n0,{ann},S3:getobject,"{quoted}",implicitDeny\n'.encode(), b""),
+    )
     escaped = text.replace('"', '\\"')
-    same(answer(["matrix", "--brief", "--format", "json"], world),
-         (0, f'[{{"action":"S3:getobject","cell":0,"decision":"implicitDeny","principal":"{ann}","resource":"{escaped}"}}]\n'.encode(), b""))
+    same(
+        answer(["matrix", "--brief", "--format", "json"], world),
+        (
+            0,
+            f'[{{"action":"S3:getobject","cell":0,"decision":"implicitDeny","principal":"{ann}","resource":"{escaped}"}}]\n'.encode(),
+            b"",
+        ),
+    )
 
 
 # Patterns of many wildcards, texts, and whether they match.
-PATTERNS = [("*" * 4000, "", True), ("?" * 4000, "a" * 3999, False), ("?" * 4000, "a" * 4000, True), ("?" * 4000, "a" * 4001, False),
-            ("a*" * 1000 + "b", "a" * 4000, False), ("a*" * 1000 + "b", "a" * 4000 + "b", True), ("*a" * 1000, "a" * 999, False),
-            ("*a" * 1000, "a" * 1000, True), ("*?" * 2000, "a" * 1999, False), ("?*" * 2000, "a" * 2000, True),
-            ("*a" * 1000 + "*b*" + "a*" * 1000, "a" * 4000, False), ("*a" * 1000 + "*b*" + "a*" * 1000, "a" * 1500 + "b" + "a" * 1000, True)]
+PATTERNS = [
+    ("*" * 4000, "", True),
+    ("?" * 4000, "a" * 3999, False),
+    ("?" * 4000, "a" * 4000, True),
+    ("?" * 4000, "a" * 4001, False),
+    ("a*" * 1000 + "b", "a" * 4000, False),
+    ("a*" * 1000 + "b", "a" * 4000 + "b", True),
+    ("*a" * 1000, "a" * 999, False),
+    ("*a" * 1000, "a" * 1000, True),
+    ("*?" * 2000, "a" * 1999, False),
+    ("?*" * 2000, "a" * 2000, True),
+    ("*a" * 1000 + "*b*" + "a*" * 1000, "a" * 4000, False),
+    ("*a" * 1000 + "*b*" + "a*" * 1000, "a" * 1500 + "b" + "a" * 1000, True),
+]
 
 
 def test_patterns_of_many_wildcards():
@@ -102,8 +134,29 @@ def test_patterns_of_many_wildcards():
         resources = [{"arn": f"arn:aws:s3:::{text}", "account": "111122223333"}]
         like = {"StringLike": {"k": pattern}, "StringLikeIfExists": {"K": [pattern, "x"]}}
         for version in ("2012-10-17", "2008-10-17"):
-            for what, it in [("resource", small_world({**document(statement(resource=f"arn:aws:s3:::{pattern}")), "Version": version}, resources=resources)),
-                             ("action", small_world({**document(statement(action=f"S3:get{pattern}")), "Version": version}, actions=[f"s3:Get{text.upper()}"])),
-                             ("value", small_world({**document(statement(Condition=like)), "Version": version}, context={"k": text}))]:
+            for what, it in [
+                (
+                    "resource",
+                    small_world(
+                        {**document(statement(resource=f"arn:aws:s3:::{pattern}")), "Version": version},
+                        resources=resources,
+                    ),
+                ),
+                (
+                    "action",
+                    small_world(
+                        {**document(statement(action=f"S3:get{pattern}")), "Version": version},
+                        actions=[f"s3:Get{text.upper()}"],
+                    ),
+                ),
+                (
+                    "value",
+                    small_world({**document(statement(Condition=like)), "Version": version}, context={"k": text}),
+                ),
+            ]:
                 [(decision, _, _)] = matrix(it).values()
-                same(decision, "allowed" if matches else "implicitDeny", f"{what}: {pattern[:20]}.. on {text[:20]}.., {version}")
+                same(
+                    decision,
+                    "allowed" if matches else "implicitDeny",
+                    f"{what}: {pattern[:20]}.. on {text[:20]}.., {version}",
+                )

@@ -22,11 +22,28 @@ def test_a_draft_of_a_managed_policy():
     draft = file(document(statement(action="s3:GetObject", resource="arn:aws:s3:::homes/*")))
     further = file([{"arn": f"arn:aws:s3:::{it}/x", "account": "111122223333"} for it in ("homes", "teams")])
     for name in ("ReadObjects", "arn:aws:iam::aws:policy/ReadObjects", "policy/ReadObjects"):
-        found = changes(EXPORT, "--resources", further, "--put", f"{name}={draft}", "--action", "s3:GetObject", "--resource", "arn:aws:s3:::*/x")
+        found = changes(
+            EXPORT,
+            "--resources",
+            further,
+            "--put",
+            f"{name}={draft}",
+            "--action",
+            "s3:GetObject",
+            "--resource",
+            "arn:aws:s3:::*/x",
+        )
         # alice and deploy read everything today; with the draft the homes alone: teams/x is lost, and whatever x/x stands for.
         # bob and worker read by policies of their own.
-        same(found, {("lost", it, "s3:GetObject", f"arn:aws:s3:::{of}/x"): ("allowed", "implicitDeny")
-                     for it in (ALICE, f"{SESSION}deploy/s1") for of in ("teams", "x")}, name)
+        same(
+            found,
+            {
+                ("lost", it, "s3:GetObject", f"arn:aws:s3:::{of}/x"): ("allowed", "implicitDeny")
+                for it in (ALICE, f"{SESSION}deploy/s1")
+                for of in ("teams", "x")
+            },
+            name,
+        )
 
 
 def test_actions_follow_from_what_changes():
@@ -46,15 +63,26 @@ def test_drafts_of_each_kind():
     # The role trusts the account now: alice may still (a policy of hers allows), bob's boundary has deploy alone.
     for name in (role, "audit", "role/app/audit", f"{role} trust policy", "audit trust policy"):
         same(changes(EXPORT, "--put", f"{name}={trust}"), {}, name)
-    same(changes(EXPORT, "--put", f"audit={nothing}"), {("lost", ALICE, "sts:AssumeRole", role): ("allowed", "implicitDeny")})
+    same(
+        changes(EXPORT, "--put", f"audit={nothing}"),
+        {("lost", ALICE, "sts:AssumeRole", role): ("allowed", "implicitDeny")},
+    )
     # An inline policy of a group, and a boundary that knows all roles under app/: those that are there do not trust bob, another
     # one, for which role/app/x stands, may.
-    same(set(changes(EXPORT, "--put", f"Homes={nothing}")), {
-        ("lost", ALICE, "s3:PutObject", "arn:aws:s3:::homes/alice/x"), ("lost", ALICE, "s3:PutObject", "arn:aws:s3:::teams/red/x")})
+    same(
+        set(changes(EXPORT, "--put", f"Homes={nothing}")),
+        {
+            ("lost", ALICE, "s3:PutObject", "arn:aws:s3:::homes/alice/x"),
+            ("lost", ALICE, "s3:PutObject", "arn:aws:s3:::teams/red/x"),
+        },
+    )
     boundary = file(document(statement(action="sts:AssumeRole", resource=f"{ACCOUNT}role/app/*")))
     found = changes(EXPORT, "--put", f"AtMost={boundary}", "--action", "sts:AssumeRole")
     same(set(found), {("gained", BOB, "sts:AssumeRole", f"{ACCOUNT}role/app/x")})
-    same(set(changes(EXPORT, "--put", f"AtMost={nothing}", "--action", "sts:AssumeRole")), {("lost", BOB, "sts:AssumeRole", f"{ACCOUNT}role/app/deploy")})
+    same(
+        set(changes(EXPORT, "--put", f"AtMost={nothing}", "--action", "sts:AssumeRole")),
+        {("lost", BOB, "sts:AssumeRole", f"{ACCOUNT}role/app/deploy")},
+    )
 
 
 def test_drafts_of_buckets_and_organisations():
@@ -67,19 +95,42 @@ def test_drafts_of_buckets_and_organisations():
     content = file(document(statement("Deny", "s3:DeleteBucket")))
     arn = "arn:aws:organizations::999900001111:policy/o-example0001/service_control_policy/p-00000001"
     for name in ("NoAudit", "p-00000001", arn):
-        found = changes(EXPORT, "--organization", data("organization.json"), "--put", f"{name}={content}", "--action", "sts:*")
-        same(found, {("gained", ALICE, "sts:AssumeRole", f"{ACCOUNT}role/app/audit"): ("explicitDeny", "allowed")}, name)
+        found = changes(
+            EXPORT, "--organization", data("organization.json"), "--put", f"{name}={content}", "--action", "sts:*"
+        )
+        same(
+            found, {("gained", ALICE, "sts:AssumeRole", f"{ACCOUNT}role/app/audit"): ("explicitDeny", "allowed")}, name
+        )
 
 
 def test_drafts_that_bind_what_is_not_named():
     """A resource control policy binds objects that no resource of the world is, before and after its draft."""
-    organization, allow = load(data("organization.json")), {"Effect": "Allow", "Principal": "*", "Action": "*", "Resource": "*"}
-    summary = {"Id": "p-10", "Name": "Edge", "Type": "RESOURCE_CONTROL_POLICY", "Arn": "arn:aws:organizations::999900001111:policy/o-example0001/resource_control_policy/p-10"}
-    organization["policies"] += [{"PolicySummary": summary, "Content": document(allow)},
-                                 {"PolicySummary": {**summary, "Id": "p-11", "Name": "Loose", "Arn": f"{summary['Arn'][:-2]}11"}, "Content": document(allow)}]
+    organization, allow = load(data("organization.json")), {
+        "Effect": "Allow",
+        "Principal": "*",
+        "Action": "*",
+        "Resource": "*",
+    }
+    summary = {
+        "Id": "p-10",
+        "Name": "Edge",
+        "Type": "RESOURCE_CONTROL_POLICY",
+        "Arn": "arn:aws:organizations::999900001111:policy/o-example0001/resource_control_policy/p-10",
+    }
+    organization["policies"] += [
+        {"PolicySummary": summary, "Content": document(allow)},
+        {
+            "PolicySummary": {**summary, "Id": "p-11", "Name": "Loose", "Arn": f"{summary['Arn'][:-2]}11"},
+            "Content": document(allow),
+        },
+    ]
     for items in organization["targets"].values():
         items.append(summary)
-    draft = file(document(allow, {"Effect": "Deny", "Principal": "*", "Action": "s3:GetObject", "Resource": "arn:aws:s3:::new/*"}))
+    draft = file(
+        document(
+            allow, {"Effect": "Deny", "Principal": "*", "Action": "s3:GetObject", "Resource": "arn:aws:s3:::new/*"}
+        )
+    )
     given = [EXPORT, "--organization", file({**organization, "controlled": ["s3"]})]
     rule = file("never * s3:GetObject arn:aws:s3:::new/x\n")
     aws("rules", rule, *given, status=3)
@@ -87,7 +138,13 @@ def test_drafts_that_bind_what_is_not_named():
         aws("rules", rule, *given, "--put", f"{name}={draft}")
     # alice, bob and deploy read any object.
     found = changes(*given, "--put", f"Edge={draft}", "--action", "s3:GetObject", "--resource", "arn:aws:s3:::new/*")
-    same(found, {("lost", it, "s3:GetObject", "arn:aws:s3:::new/x"): ("allowed", "explicitDeny") for it in (ALICE, BOB, f"{SESSION}deploy/s1")})
+    same(
+        found,
+        {
+            ("lost", it, "s3:GetObject", "arn:aws:s3:::new/x"): ("allowed", "explicitDeny")
+            for it in (ALICE, BOB, f"{SESSION}deploy/s1")
+        },
+    )
     _, said = aws("rules", rule, *given, "--put", f"Loose={draft}", status=1)
     same(said, "iamsim-aws: --put Loose: nobody has this policy, so the draft changes nothing\n")
 
@@ -102,15 +159,27 @@ def test_drafts_that_are_of_nothing():
     export["RoleDetailList"][0]["RolePolicyList"] = [{"PolicyName": "Inside", "PolicyDocument": document()}]
     _, said = aws("changes", file(export), "--put", f"Inside={draft}", status=1)
     assert "several policies are called so" in said, said
-    same(changes(file(export), "--put", f"worker inline Inside={draft}", "--action", "s3:GetObject", "--resource", "*homes*"),
-         {("lost", f"{SESSION}worker/s1", "s3:GetObject", "arn:aws:s3:::homes/alice/x"): ("allowed", "implicitDeny")})
+    same(
+        changes(
+            file(export), "--put", f"worker inline Inside={draft}", "--action", "s3:GetObject", "--resource", "*homes*"
+        ),
+        {("lost", f"{SESSION}worker/s1", "s3:GetObject", "arn:aws:s3:::homes/alice/x"): ("allowed", "implicitDeny")},
+    )
 
 
 def test_a_named_action_does_not_hide_the_rest_of_a_pattern():
     """The draft allows s3:Get*, of which another policy denies s3:GetObject: what else s3:Get* is, is gained."""
-    inline = [{"PolicyName": "Own", "PolicyDocument": document(statement(action="s3:ListBucket"))},
-              {"PolicyName": "Deny", "PolicyDocument": document(statement("Deny", "s3:GetObject"))}]
-    export = file({"UserDetailList": [{"UserName": "ann", "UserId": "AIDA0", "Arn": f"{ACCOUNT}user/ann", "UserPolicyList": inline}]})
+    inline = [
+        {"PolicyName": "Own", "PolicyDocument": document(statement(action="s3:ListBucket"))},
+        {"PolicyName": "Deny", "PolicyDocument": document(statement("Deny", "s3:GetObject"))},
+    ]
+    export = file(
+        {
+            "UserDetailList": [
+                {"UserName": "ann", "UserId": "AIDA0", "Arn": f"{ACCOUNT}user/ann", "UserPolicyList": inline}
+            ]
+        }
+    )
     draft = file(document(statement(action=["s3:Get*", "s3:ListBucket"])))
     gained = lambda *words: {(it[0], it[2]) for it in changes(export, "--put", *words)}
     same(gained(f"Own={draft}"), {("gained", "s3:Getx")})
@@ -120,7 +189,10 @@ def test_a_named_action_does_not_hide_the_rest_of_a_pattern():
     same(gained(f"Own={rest}", "--action", "kms:*"), {("gained", "kms:x")})
     # With the service reference of one service the actions of others are asked for too.
     both = file(document(statement(action=["s3:P*", "s3:ListBucket", "kms:Decrypt", "sqs:*"])))
-    same(gained(f"Own={both}", "--services", data("s3.json")), {("gained", it) for it in ("s3:PutObject", "kms:Decrypt", "sqs:x")})
+    same(
+        gained(f"Own={both}", "--services", data("s3.json")),
+        {("gained", it) for it in ("s3:PutObject", "kms:Decrypt", "sqs:x")},
+    )
 
 
 def test_given_actions_join_those_of_the_draft():
@@ -129,7 +201,18 @@ def test_given_actions_join_those_of_the_draft():
     found = changes(EXPORT, "--put", f"ReadObjects={draft}", "--actions", file("kms:Decrypt\n"))
     same(set(found), {("gained", it, "dynamodb:Query", "*") for it in both})
     # Of the given ones, too, those alone that are chosen.
-    out, _ = aws("changes", EXPORT, "--put", f"ReadObjects={draft}", "--actions", file("kms:Decrypt\n"), "--action", "kms:*", "--resource", "arn:aws:s3:::b/k")
+    out, _ = aws(
+        "changes",
+        EXPORT,
+        "--put",
+        f"ReadObjects={draft}",
+        "--actions",
+        file("kms:Decrypt\n"),
+        "--action",
+        "kms:*",
+        "--resource",
+        "arn:aws:s3:::b/k",
+    )
     same(out, "0 lost and 0 gained, of 8 requests\n")
 
 
@@ -141,12 +224,29 @@ def test_an_object_that_nothing_names():
         found = changes(EXPORT, "--resources", resources, "--put", f"homes={denying}", "--resource", what)
         same(found, {("lost", ALICE, "s3:GetObject", what): ("allowed", "explicitDeny")})
     nothing = file(document())
-    found = changes(EXPORT, "--put", f"ReadObjects={nothing}", "--action", "s3:GetObject", "--resource", "arn:aws:s3:::new/k")
+    found = changes(
+        EXPORT, "--put", f"ReadObjects={nothing}", "--action", "s3:GetObject", "--resource", "arn:aws:s3:::new/k"
+    )
     same(set(found), {("lost", it, "s3:GetObject", "arn:aws:s3:::new/k") for it in (ALICE, f"{SESSION}deploy/s1")})
     partner = [EXPORT, data("partner.json")]
     _, said = aws("changes", *partner, "--put", f"ReadObjects={nothing}", "--resource", "arn:aws:s3:::new/k", status=1)
     assert "which account is it of?" in said, said
-    same(len(changes(*partner, "--put", f"ReadObjects={nothing}", "--action", "s3:GetObject", "--resource", "arn:aws:s3:::new/k", "--account", "111122223333")), 2)
+    same(
+        len(
+            changes(
+                *partner,
+                "--put",
+                f"ReadObjects={nothing}",
+                "--action",
+                "s3:GetObject",
+                "--resource",
+                "arn:aws:s3:::new/k",
+                "--account",
+                "111122223333",
+            )
+        ),
+        2,
+    )
 
 
 def test_a_choice_that_meets_nothing():
@@ -155,7 +255,9 @@ def test_a_choice_that_meets_nothing():
     resources = file([{"arn": "arn:aws:s3:::homes", "account": "111122223333", "policy": document()}])
     words = ["changes", EXPORT, "--resources", resources, "--put", f"homes={draft}", "--exit-status"]
     _, said = aws(*words, "--resource", "arn:aws:s3:::hoems/*")
-    assert "nothing names a resource that arn:aws:s3:::hoems/* means, but policies for all: is it a slip?\n" in said, said
+    assert (
+        "nothing names a resource that arn:aws:s3:::hoems/* means, but policies for all: is it a slip?\n" in said
+    ), said
     _, said = aws(*words, "--action", "s3:PutObjekt")
     assert "names an action that s3:PutObjekt means, but for all of a service: is it a slip?\n" in said, said
     out, said = aws(*words, "--action", "kms:*", status=4)
@@ -168,8 +270,12 @@ def test_a_choice_that_meets_nothing():
 def test_two_drafts_of_one_policy():
     draft, organization = file(document()), ["--organization", data("organization.json")]
     arn = "arn:aws:iam::aws:policy/ReadObjects"
-    for first, second, more in [("ReadObjects", "ReadObjects", []), ("ReadObjects", arn, []), ("audit", "role/app/audit", []),
-                                ("NoAudit", "p-00000001", organization)]:
+    for first, second, more in [
+        ("ReadObjects", "ReadObjects", []),
+        ("ReadObjects", arn, []),
+        ("audit", "role/app/audit", []),
+        ("NoAudit", "p-00000001", organization),
+    ]:
         for words in (["changes", EXPORT], ["rules", file("never chain s3:PutObject *"), EXPORT]):
             _, said = aws(*words, *more, "--put", f"{first}={draft}", "--put", f"{second}={draft}", status=1)
             same(said.splitlines()[-1], f"iamsim-aws: --put {first} and --put {second}: both are drafts of one policy")
@@ -181,11 +287,22 @@ def test_exports_before_and_after():
     # bob goes, and zoe comes, who may read; alice leaves the developers, by whom she writes and assumes.
     del after["UserDetailList"][1]
     after["UserDetailList"][0]["GroupList"] = ["Readers"]
-    after["UserDetailList"].append({"UserName": "zoe", "UserId": "AIDA0", "Arn": f"{ACCOUNT}user/zoe", "GroupList": ["Readers"]})
-    found = changes("--before", EXPORT, "--after", file(after), "--action", "s3:GetObject", "--action", "sts:AssumeRole")
+    after["UserDetailList"].append(
+        {"UserName": "zoe", "UserId": "AIDA0", "Arn": f"{ACCOUNT}user/zoe", "GroupList": ["Readers"]}
+    )
+    found = changes(
+        "--before", EXPORT, "--after", file(after), "--action", "s3:GetObject", "--action", "sts:AssumeRole"
+    )
     kept = {(it[0], it[1], it[2]) for it in found}
-    same(kept, {("lost", BOB, "s3:GetObject"), ("lost", BOB, "sts:AssumeRole"), ("lost", ALICE, "sts:AssumeRole"),
-                ("gained", f"{ACCOUNT}user/zoe", "s3:GetObject")})
+    same(
+        kept,
+        {
+            ("lost", BOB, "s3:GetObject"),
+            ("lost", BOB, "sts:AssumeRole"),
+            ("lost", ALICE, "sts:AssumeRole"),
+            ("gained", f"{ACCOUNT}user/zoe", "s3:GetObject"),
+        },
+    )
     same(found["lost", ALICE, "sts:AssumeRole", f"{ACCOUNT}role/app/deploy"], ("allowed", "implicitDeny"))
     same({found[it] for it in found if it[1] == BOB}, {("allowed", "absent")})
     # audit trusts alice herself, so her own policies do not matter there.
@@ -195,18 +312,38 @@ def test_exports_before_and_after():
 def test_a_tag_changes_access_too():
     after = load(EXPORT)
     after["UserDetailList"][0]["Tags"] = [{"Key": "team", "Value": "blue"}]
-    found = changes("--before", EXPORT, "--after", file(after), "--resource", "arn:aws:s3:::teams/*", "--action", "s3:PutObject",
-                    "--resources", file([{"arn": f"arn:aws:s3:::teams/{it}/x", "account": "111122223333"} for it in ("red", "blue")]))
-    same(found, {("lost", ALICE, "s3:PutObject", "arn:aws:s3:::teams/red/x"): ("allowed", "implicitDeny"),
-                 ("gained", ALICE, "s3:PutObject", "arn:aws:s3:::teams/blue/x"): ("implicitDeny", "allowed")})
+    found = changes(
+        "--before",
+        EXPORT,
+        "--after",
+        file(after),
+        "--resource",
+        "arn:aws:s3:::teams/*",
+        "--action",
+        "s3:PutObject",
+        "--resources",
+        file([{"arn": f"arn:aws:s3:::teams/{it}/x", "account": "111122223333"} for it in ("red", "blue")]),
+    )
+    same(
+        found,
+        {
+            ("lost", ALICE, "s3:PutObject", "arn:aws:s3:::teams/red/x"): ("allowed", "implicitDeny"),
+            ("gained", ALICE, "s3:PutObject", "arn:aws:s3:::teams/blue/x"): ("implicitDeny", "allowed"),
+        },
+    )
 
 
 def test_worlds_before_and_after():
     before = small_world(document(statement(action="s3:GetObject")), actions=("s3:GetObject", "s3:PutObject"))
     after = small_world(document(statement(action="s3:PutObject")), actions=("s3:GetObject", "s3:PutObject"))
     ann, key = "arn:aws:iam::111122223333:user/ann", "arn:aws:s3:::b/k"
-    same(changes("--before", file(before), "--after", file(after)), {
-        ("lost", ann, "s3:GetObject", key): ("allowed", "implicitDeny"), ("gained", ann, "s3:PutObject", key): ("implicitDeny", "allowed")})
+    same(
+        changes("--before", file(before), "--after", file(after)),
+        {
+            ("lost", ann, "s3:GetObject", key): ("allowed", "implicitDeny"),
+            ("gained", ann, "s3:PutObject", key): ("implicitDeny", "allowed"),
+        },
+    )
     out, _ = aws("changes", "--before", file(before), "--after", file(before))
     same(out, "0 lost and 0 gained, of 2 requests\n")
     run([AWS, "changes", "--before", file(before), "--after", file(after), "--exit-status"], status=3)
@@ -220,37 +357,85 @@ def test_changes_in_words_and_for_a_review():
     before = small_world(document(statement(Sid="Old|`", action="s3:GetObject")))
     after = small_world(document(statement("Deny", Sid="<b>No", action="s3:GetObject")))
     out, _ = aws("changes", "--before", file(before), "--after", file(after))
-    same(out.splitlines(), ["1 lost and 0 gained, of 1 requests", "lost:", "- arn:aws:iam::111122223333:user/ann s3:GetObject arn:aws:s3:::b/k",
-                            "    denied by principals/0/identity/0, statement 0 <b>No (identity policy)",
-                            "    was allowed by principals/0/identity/0, statement 0 Old|` (identity policy)"])
+    same(
+        out.splitlines(),
+        [
+            "1 lost and 0 gained, of 1 requests",
+            "lost:",
+            "- arn:aws:iam::111122223333:user/ann s3:GetObject arn:aws:s3:::b/k",
+            "    denied by principals/0/identity/0, statement 0 <b>No (identity policy)",
+            "    was allowed by principals/0/identity/0, statement 0 Old|` (identity policy)",
+        ],
+    )
     out, _ = aws("changes", "--before", file(before), "--after", file(after), "--format", "markdown")
     lines = out.splitlines()
-    same(lines[:6], ["**1 lost and 0 gained, of 1 requests**", "", "### Lost", "", "| Principal | Action | Resource | Before | After | Why |", "|---|---|---|---|---|---|"])
+    same(
+        lines[:6],
+        [
+            "**1 lost and 0 gained, of 1 requests**",
+            "",
+            "### Lost",
+            "",
+            "| Principal | Action | Resource | Before | After | Why |",
+            "|---|---|---|---|---|---|",
+        ],
+    )
     same(lines[6].count("|"), 7)
     assert "&#60;b&#62;No" in lines[6] and "Old&#124;&#96;" in lines[6], lines[6]
 
 
 def test_a_review_has_the_warnings():
     """What stands on standard error stands in the Markdown too."""
-    plan = file({"resource_changes": [{"address": "aws_lambda_function.f", "mode": "managed", "type": "aws_lambda_function",
-                                       "change": {"before": None, "after": {"name": "`<f>"}, "after_unknown": {}}}]})
+    plan = file(
+        {
+            "resource_changes": [
+                {
+                    "address": "aws_lambda_function.f",
+                    "mode": "managed",
+                    "type": "aws_lambda_function",
+                    "change": {"before": None, "after": {"name": "`<f>"}, "after_unknown": {}},
+                }
+            ]
+        }
+    )
     out, said = aws("changes", EXPORT, "--terraform", plan, "--format", "markdown")
-    lines = [line[len("iamsim-aws: "):] for line in said.splitlines()]
-    same(lines, ["1 changes of aws_lambda_function are not read: they are taken to change no policy",
-                 "without --services an action pattern is taken over the actions of the world and of its policies",
-                 "no request was compared: the two sides differ in no policy, or no resource matches"])
-    same(out.splitlines(), ["**0 lost and 0 gained, of 0 requests**", "", "### Notes", "",
-                            "- <code>1 changes of aws&#95;lambda&#95;function are not read: they are taken to change no policy</code>",
-                            f"- <code>{lines[1].replace('`', '&#96;')}</code>", f"- <code>{lines[2]}</code>"])
+    lines = [line[len("iamsim-aws: ") :] for line in said.splitlines()]
+    same(
+        lines,
+        [
+            "1 changes of aws_lambda_function are not read: they are taken to change no policy",
+            "without --services an action pattern is taken over the actions of the world and of its policies",
+            "no request was compared: the two sides differ in no policy, or no resource matches",
+        ],
+    )
+    same(
+        out.splitlines(),
+        [
+            "**0 lost and 0 gained, of 0 requests**",
+            "",
+            "### Notes",
+            "",
+            "- <code>1 changes of aws&#95;lambda&#95;function are not read: they are taken to change no policy</code>",
+            f"- <code>{lines[1].replace('`', '&#96;')}</code>",
+            f"- <code>{lines[2]}</code>",
+        ],
+    )
     before = small_world(document(statement()))
-    out, said = aws("changes", "--before", file(before), "--after", file(before), "--action", "s3:GetObject", "--format", "markdown")
+    out, said = aws(
+        "changes", "--before", file(before), "--after", file(before), "--action", "s3:GetObject", "--format", "markdown"
+    )
     same((out, said), ("**0 lost and 0 gained, of 1 requests**\n", ""))
 
 
 def test_actions_without_the_service_reference():
     line = "without --services an action pattern is taken over the actions of the world and of its policies"
     draft = f"Homes={file(document())}"
-    for words, is_said in (([], True), (["--action", "s3:*"], True), (["--action", "s3:PutObject"], False), (["--services", data("s3.json")], False)):
+    for words, is_said in (
+        ([], True),
+        (["--action", "s3:*"], True),
+        (["--action", "s3:PutObject"], False),
+        (["--services", data("s3.json")], False),
+    ):
         _, said = aws("changes", EXPORT, "--put", draft, *words)
         same(line in said, is_said, words)
 
@@ -274,19 +459,32 @@ def test_rules_that_are_kept():
     out, said = rules(text)
     same(states(out), ["kept", "kept"])
     same(out.splitlines()[-1], "2 rules: 2 kept, 0 broken, 0 empty")
-    assert "without --services an action pattern is taken over the actions of the world and of its policies" in said, said
+    assert (
+        "without --services an action pattern is taken over the actions of the world and of its policies" in said
+    ), said
 
 
 def test_rules_that_are_broken():
-    out, _ = rules("never * s3:GetObject arn:aws:s3:::releases/*\nalways alice s3:PutObject arn:aws:s3:::releases/app.zip\n", status=3)
+    out, _ = rules(
+        "never * s3:GetObject arn:aws:s3:::releases/*\nalways alice s3:PutObject arn:aws:s3:::releases/app.zip\n",
+        status=3,
+    )
     same(states(out), ["broken", "broken"])
     lines = [line for line in out.splitlines() if line.startswith("  ")]
     # Each of the three may on app.zip, and on x, which stands for whatever else is there.
     people = [ALICE, BOB, f"{SESSION}deploy/session"]
-    same([line.split(": ")[0].strip() for line in lines[:6]],
-         [f"{who} may s3:GetObject arn:aws:s3:::releases/{it}" for who in people for it in ("app.zip", "x")])
-    same(lines[0], f"  {ALICE} may s3:GetObject arn:aws:s3:::releases/app.zip: allowed by arn:aws:iam::aws:policy/ReadObjects, statement 0 (identity policy)")
-    same(lines[6], f"  {ALICE} may not s3:PutObject arn:aws:s3:::releases/app.zip: lacks identity: no identity policy of the principal allows this")
+    same(
+        [line.split(": ")[0].strip() for line in lines[:6]],
+        [f"{who} may s3:GetObject arn:aws:s3:::releases/{it}" for who in people for it in ("app.zip", "x")],
+    )
+    same(
+        lines[0],
+        f"  {ALICE} may s3:GetObject arn:aws:s3:::releases/app.zip: allowed by arn:aws:iam::aws:policy/ReadObjects, statement 0 (identity policy)",
+    )
+    same(
+        lines[6],
+        f"  {ALICE} may not s3:PutObject arn:aws:s3:::releases/app.zip: lacks identity: no identity policy of the principal allows this",
+    )
     same(len(lines), 7)
 
 
@@ -303,7 +501,9 @@ def test_exceptions_by_name_mean_one():
     made["principals"].append({"user": "arn:aws:iam::111122223333:user/ops/ann", "identity": [document(statement())]})
     rule = "never * s3:GetObject arn:aws:s3:::b/k except"
     _, said = aws("rules", file(f"{rule} ann\n"), "--world", file(made), status=1)
-    assert "several principals are called ann, name one by its ARN: arn:aws:iam::111122223333:user/ann, arn" in said, said
+    assert (
+        "several principals are called ann, name one by its ARN: arn:aws:iam::111122223333:user/ann, arn" in said
+    ), said
     out, _ = aws("rules", file(f"{rule} *:user/ann\n"), "--world", file(made), status=3)
     assert "user/ops/ann may" in out and "user/ann may" not in out, out
     _, said = aws("rules", file(f"{rule} *ann none\n"), "--world", file(made), status=4)
@@ -329,9 +529,11 @@ def test_a_never_covers_the_patterns_of_policies():
 
 def test_what_is_named_does_not_hide_the_rest():
     """A deny on one object, or what NotAction and NotResource name, says nothing of the others."""
-    for statements in ([statement("Deny", "s3:*", "arn:aws:s3:::b/k"), statement(action="s3:*")],
-                       [statement(action="s3:*", resource=None, NotResource="arn:aws:s3:::b/k")],
-                       [{"Effect": "Allow", "NotAction": "s3:GetObject", "Resource": "*"}]):
+    for statements in (
+        [statement("Deny", "s3:*", "arn:aws:s3:::b/k"), statement(action="s3:*")],
+        [statement(action="s3:*", resource=None, NotResource="arn:aws:s3:::b/k")],
+        [{"Effect": "Allow", "NotAction": "s3:GetObject", "Resource": "*"}],
+    ):
         given = document(*[{key: it for key, it in one.items() if it is not None} for one in statements])
         made = file(small_world(given))
         out, _ = aws("rules", file("never * s3:* arn:aws:s3:::b/*\n"), "--world", made, status=3)
@@ -343,7 +545,9 @@ def test_never_holds_with_a_key_too():
     with_code = small_world(document(statement(Condition={"Bool": {"aws:MultiFactorAuthPresent": "true"}})))
     rule = file("never * s3:GetObject arn:aws:s3:::b/k\n")
     out, _ = aws("rules", rule, "--world", file(with_code), status=3)
-    assert "ann may s3:GetObject arn:aws:s3:::b/k if `aws:MultiFactorAuthPresent` is `true`, which nothing gives" in out, out
+    assert (
+        "ann may s3:GetObject arn:aws:s3:::b/k if `aws:MultiFactorAuthPresent` is `true`, which nothing gives" in out
+    ), out
     aws("rules", rule, "--world", file(with_code), "--as-given")
     aws("rules", rule, "--world", file({**with_code, "context": {"aws:MultiFactorAuthPresent": False}}))
     # What is always allowed is asked for as it is given.
@@ -352,10 +556,18 @@ def test_never_holds_with_a_key_too():
 
 
 def test_changes_with_a_key_alone():
-    before, after = small_world(document()), small_world(document(statement(Condition={"Bool": {"aws:MultiFactorAuthPresent": "true"}})))
+    before, after = small_world(document()), small_world(
+        document(statement(Condition={"Bool": {"aws:MultiFactorAuthPresent": "true"}}))
+    )
     out, _ = aws("changes", "--before", file(before), "--after", file(after))
-    same(out.splitlines()[:3], ["0 lost and 1 gained, of 1 requests", "gained:",
-                                "+ arn:aws:iam::111122223333:user/ann s3:GetObject arn:aws:s3:::b/k, if `aws:MultiFactorAuthPresent` is `true`"])
+    same(
+        out.splitlines()[:3],
+        [
+            "0 lost and 1 gained, of 1 requests",
+            "gained:",
+            "+ arn:aws:iam::111122223333:user/ann s3:GetObject arn:aws:s3:::b/k, if `aws:MultiFactorAuthPresent` is `true`",
+        ],
+    )
 
 
 def test_rules_that_meet_nothing():
@@ -366,7 +578,13 @@ def test_rules_that_meet_nothing():
     rules(text, "--allow-empty")
     # A slip in a pattern: nothing is named so, and no policy speaks of it. Where a policy would allow it all the same, it is broken.
     slip = small_world(document(statement(action="s3:GetObject", resource="arn:aws:s3:::b/*")))
-    out, _ = aws("rules", file("never * s3:GetObject arn:aws:s3:::bb/*\nnever * s4:* arn:aws:s3:::b/k\n"), "--world", file(slip), status=4)
+    out, _ = aws(
+        "rules",
+        file("never * s3:GetObject arn:aws:s3:::bb/*\nnever * s4:* arn:aws:s3:::b/k\n"),
+        "--world",
+        file(slip),
+        status=4,
+    )
     same(states(out), ["empty", "empty"])
     wide = small_world(document({"Effect": "Allow", "NotAction": "iam:*", "NotResource": "arn:aws:s3:::b/*"}))
     aws("rules", file("never * s3:GetObject arn:aws:s3:::bb/*\n"), "--world", file(wide), status=3)
@@ -376,9 +594,14 @@ def test_rules_that_meet_nothing():
 
 
 def test_faults_of_rules_are_no_answers():
-    for text, why in [("sometimes * s3:GetObject *\n", ":1: a rule begins with 'never' or 'always'"), ("\nnever * s3:GetObject\n", ":2: a rule is 'never PRINCIPAL"),
-                      ("never * s3:GetObject * but bob\n", ":1: behind the resource stands"), ("never * s3:GetObject * except\n", ":1: behind the resource"),
-                      ("never * GetObject *\n", ":1: GetObject: an action is written"), ("# none\n", "it has no rules")]:
+    for text, why in [
+        ("sometimes * s3:GetObject *\n", ":1: a rule begins with 'never' or 'always'"),
+        ("\nnever * s3:GetObject\n", ":2: a rule is 'never PRINCIPAL"),
+        ("never * s3:GetObject * but bob\n", ":1: behind the resource stands"),
+        ("never * s3:GetObject * except\n", ":1: behind the resource"),
+        ("never * GetObject *\n", ":1: GetObject: an action is written"),
+        ("# none\n", "it has no rules"),
+    ]:
         _, said = rules(text, status=1)
         assert why in said, said
     _, said = aws("rules", "no-such-file", EXPORT, status=1)
@@ -386,7 +609,12 @@ def test_faults_of_rules_are_no_answers():
     run([AWS, "rules"], status=2)
     broken = load(EXPORT)
     broken["Policies"][2]["PolicyVersionList"][0]["Document"] = {}
-    _, said = aws("rules", file("never nobody s3:GetObject *\nnever alice s3:GetObject arn:aws:s3:::b/k\n"), file(broken), status=1)
+    _, said = aws(
+        "rules",
+        file("never nobody s3:GetObject *\nnever alice s3:GetObject arn:aws:s3:::b/k\n"),
+        file(broken),
+        status=1,
+    )
     assert "iamsim refuses a policy: arn:aws:iam::aws:policy/ReadObjects" in said, said
 
 
@@ -411,7 +639,13 @@ def test_rules_over_what_changes():
 
 def test_spaces_and_signs_in_rules():
     made = small_world(document(statement()), resources=[{"arn": "arn:aws:s3:::b/a b#c", "account": "111122223333"}])
-    out, _ = aws("rules", file("always ann s3:GetObject arn:aws:s3:::b/a\\ b#c\nnever \\#x* s3:GetObject * # none\n"), "--world", file(made), status=4)
+    out, _ = aws(
+        "rules",
+        file("always ann s3:GetObject arn:aws:s3:::b/a\\ b#c\nnever \\#x* s3:GetObject * # none\n"),
+        "--world",
+        file(made),
+        status=4,
+    )
     same(states(out), ["kept", "empty"])
 
 
@@ -424,7 +658,10 @@ def test_reports_for_pipelines():
     same([[it.get("type") for it in case] for case in suite], [[], ["broken"], ["empty"]])
     assert "alice may s3:GetObject" in suite[1][0].text
     results = load(sarif)["runs"][0]["results"]
-    same([(it["ruleId"], it["locations"][0]["physicalLocation"]["region"]["startLine"]) for it in results], [("broken", 2), ("empty", 3)])
+    same(
+        [(it["ruleId"], it["locations"][0]["physicalLocation"]["region"]["startLine"]) for it in results],
+        [("broken", 2), ("empty", 3)],
+    )
     assert "ReadObjects" in results[0]["message"]["text"]
     rules(text, "--junit", junit, "--sarif", sarif, "--allow-empty", status=3)
     same(xml.etree.ElementTree.parse(junit).getroot().get("failures"), "1")

@@ -11,7 +11,10 @@ ANN = "arn:aws:iam::111122223333:user/ann"
 CELL = f"0,{ANN},S3:getobject,arn:aws:s3:::b/k,allowed,identity/0/0,\n"
 BRIEF = f"0,{ANN},S3:getobject,arn:aws:s3:::b/k,allowed\n"
 OBJECT = f'"principal":"{ANN}","resource":"arn:aws:s3:::b/k"'
-HEADER, BRIEF_HEADER = "cell,principal,action,resource,decision,statements,lacks\n", "cell,principal,action,resource,decision\n"
+HEADER, BRIEF_HEADER = (
+    "cell,principal,action,resource,decision,statements,lacks\n",
+    "cell,principal,action,resource,decision\n",
+)
 
 # Each command, and its answer on the smallest example.
 ANSWERS = {
@@ -79,13 +82,17 @@ def many_cells():
     """A world of 14,400 cells, whose reports are longer than a pipe."""
     actions = ",".join(f'"s3:Get{n}"' for n in range(120))
     resources = ",".join(f'{{"arn":"arn:aws:s3:::b/{n}","account":"111122223333"}}' for n in range(120))
-    return (f'{{"moment":0,"accounts":[{{"id":"111122223333"}}],"principals":[{{"user":"{ANN}"}}],'
-            f'"actions":[{actions}],"resources":[{resources}]}}').encode()
+    return (
+        f'{{"moment":0,"accounts":[{{"id":"111122223333"}}],"principals":[{{"user":"{ANN}"}}],'
+        f'"actions":[{actions}],"resources":[{resources}]}}'
+    ).encode()
 
 
 def leaves(words, world, wanted):
     """Reads so many bytes of the answer and goes away: what was read, the status, and what the program said."""
-    with subprocess.Popen([IAMSIM, *words.split()], stdin=subprocess.PIPE, stdout=subprocess.PIPE, stderr=subprocess.PIPE) as program:
+    with subprocess.Popen(
+        [IAMSIM, *words.split()], stdin=subprocess.PIPE, stdout=subprocess.PIPE, stderr=subprocess.PIPE
+    ) as program:
         if wanted == 0:
             program.stdout.close()
         program.stdin.write(world)
@@ -109,7 +116,9 @@ def test_a_reader_that_goes_away():
 
 
 def test_input_in_drips():
-    with subprocess.Popen([IAMSIM, "decide", "0", "0", "0"], stdin=subprocess.PIPE, stdout=subprocess.PIPE, stderr=subprocess.PIPE) as program:
+    with subprocess.Popen(
+        [IAMSIM, "decide", "0", "0", "0"], stdin=subprocess.PIPE, stdout=subprocess.PIPE, stderr=subprocess.PIPE
+    ) as program:
         for byte in SMALLEST:
             os.write(program.stdin.fileno(), bytes([byte]))
         same(program.communicate(timeout=60), (ANSWERS["decide 0 0 0"].encode(), b""))
@@ -128,21 +137,37 @@ def test_a_report_of_a_million_rows():
     """No contract says that a device on which nothing fails is never told to have failed: here a long report is whole."""
     actions, resources = [f"s3:A{i}" for i in range(1024)], [f"arn:aws:s3:::b{i}" for i in range(1100)]
     account = "111122223333"
-    world = json.dumps({
-        "moment": 0, "accounts": [{"id": account}], "principals": [{"user": ANN}], "actions": actions,
-        "resources": [{"arn": it, "account": account} for it in resources],
-    }).encode()
+    world = json.dumps(
+        {
+            "moment": 0,
+            "accounts": [{"id": account}],
+            "principals": [{"user": ANN}],
+            "actions": actions,
+            "resources": [{"arn": it, "account": account} for it in resources],
+        }
+    ).encode()
     pairs = enumerate(itertools.product(actions, resources))
-    text = BRIEF_HEADER + "".join(f"{cell},{ANN},{action},{resource},implicitDeny\n" for cell, (action, resource) in pairs)
+    text = BRIEF_HEADER + "".join(
+        f"{cell},{ANN},{action},{resource},implicitDeny\n" for cell, (action, resource) in pairs
+    )
     for workers in ("1", "4"):
         found = answer(["matrix", "--brief", "--workers", workers], world)
-        assert found == (0, text.encode(), b""), f"{workers} workers: status {found[0]}, {len(found[1])} bytes, {found[2]}"
+        assert found == (
+            0,
+            text.encode(),
+            b"",
+        ), f"{workers} workers: status {found[0]}, {len(found[1])} bytes, {found[2]}"
 
 
 def test_a_small_stack():
     # The deepest worlds that are read, and one a level deeper, in 256 KiB; what a shell gives is 32 times that.
-    for text, line in [(b"[" * 127 + b"]" * 127, "2 BadShape at ."), (b'{"a":' * 127 + b"0" + b"}" * 127, "2 BadShape at moment"),
-                       (b'[{"a":' * 63 + b"[]" + b"}]" * 63, "2 BadShape at ."), (b'{"a":' * 128, "1 NotJson"), (b"[" * 8_388_608, "1 NotJson")]:
+    for text, line in [
+        (b"[" * 127 + b"]" * 127, "2 BadShape at ."),
+        (b'{"a":' * 127 + b"0" + b"}" * 127, "2 BadShape at moment"),
+        (b'[{"a":' * 63 + b"[]" + b"}]" * 63, "2 BadShape at ."),
+        (b'{"a":' * 128, "1 NotJson"),
+        (b"[" * 8_388_608, "1 NotJson"),
+    ]:
         for words in EVERY:
             found = answer(["-c", f'ulimit -s 256; exec "$0" {words}', IAMSIM], text, program="bash")
             same(found, (1, b"", f"fault 2 World: {line}\n".encode()), words)
@@ -152,18 +177,33 @@ def test_many_elements_on_many_actions_take_little_memory():
     # 4,096 different patterns of actions, each tried on 4,096 actions: what is kept of them is bounded.
     statements = [{"Effect": "Allow", "Action": f"s3:Get{i}?", "Resource": "*"} for i in range(4096)]
     documents = [{"Version": "2012-10-17", "Statement": statements[at : at + 1024]} for at in range(0, 4096, 1024)]
-    world = {"moment": 0, "accounts": [{"id": "111122223333"}], "principals": [{"user": ANN, "identity": documents}],
-             "actions": [f"s3:Get{i}x" for i in range(4096)], "resources": [{"arn": "arn:aws:s3:::b/k", "account": "111122223333"}]}
+    world = {
+        "moment": 0,
+        "accounts": [{"id": "111122223333"}],
+        "principals": [{"user": ANN, "identity": documents}],
+        "actions": [f"s3:Get{i}x" for i in range(4096)],
+        "resources": [{"arn": "arn:aws:s3:::b/k", "account": "111122223333"}],
+    }
     wanted = BRIEF_HEADER + "".join(f"{i},{ANN},s3:Get{i}x,arn:aws:s3:::b/k,allowed\n" for i in range(4096))
-    found = answer(["-c", 'ulimit -d 49152; exec "$0" matrix --brief --workers 4', IAMSIM], json.dumps(world).encode(), program="bash")
+    found = answer(
+        ["-c", 'ulimit -d 49152; exec "$0" matrix --brief --workers 4', IAMSIM],
+        json.dumps(world).encode(),
+        program="bash",
+    )
     same(found, (0, wanted.encode(), b""))
 
 
 def test_refused_command_lines_go_to_standard_error():
-    for words, line in [("", "error: 'iamsim' requires a subcommand but one was not provided"),
-                        ("matrix --workers 4294967296", "error: invalid value '4294967296' for '--workers <N>': 4294967296 is not in 0..=4294967295"),
-                        ("first --tile -1", "error: unexpected argument '-1' found"), ("matrix --format xml", "error: invalid value 'xml' for '--format <FORMAT>'"),
-                        ("matrix --brief --brief", "error: the argument '--brief' cannot be used multiple times")]:
+    for words, line in [
+        ("", "error: 'iamsim' requires a subcommand but one was not provided"),
+        (
+            "matrix --workers 4294967296",
+            "error: invalid value '4294967296' for '--workers <N>': 4294967296 is not in 0..=4294967295",
+        ),
+        ("first --tile -1", "error: unexpected argument '-1' found"),
+        ("matrix --format xml", "error: invalid value 'xml' for '--format <FORMAT>'"),
+        ("matrix --brief --brief", "error: the argument '--brief' cannot be used multiple times"),
+    ]:
         # Standard input is closed: it is not looked at.
         status, out, said = shell(words, "<&-")
         same((status, out, said.decode().split("\n")[0]), (2, b"", line), words)

@@ -9,7 +9,13 @@ import shlex
 from harness import TOOLS, answer, same
 
 TOP = os.path.dirname(TOOLS)
-DOCUMENTS = ["README.md", "CONTRIBUTING.md", "CHANGELOG.md", "bench/README.md", *(f"docs/{it}" for it in os.listdir(f"{TOP}/docs") if it.endswith(".md"))]
+DOCUMENTS = [
+    "README.md",
+    "CONTRIBUTING.md",
+    "CHANGELOG.md",
+    "bench/README.md",
+    *(f"docs/{it}" for it in os.listdir(f"{TOP}/docs") if it.endswith(".md")),
+]
 
 
 def read(path):
@@ -52,11 +58,16 @@ def test_the_program_prints_what_the_documents_say():
 
 
 def test_readme_shows_the_example_that_it_names():
-    same(json.loads(re.search(r"```json\n(.*?)```", read("README.md"), re.S).group(1)), json.loads(read("examples/smallest.json")))
+    same(
+        json.loads(re.search(r"```json\n(.*?)```", read("README.md"), re.S).group(1)),
+        json.loads(read("examples/smallest.json")),
+    )
 
 
 def test_the_cells_of_the_company_are_as_the_guide_tells():
-    rows = re.findall(r"^\| `decide ([\d ]+)` \| `(\w+)` \| `([^`]*)` \| (?:`([^`]*)` )?\|", read("docs/guide.md"), re.M)
+    rows = re.findall(
+        r"^\| `decide ([\d ]+)` \| `(\w+)` \| `([^`]*)` \| (?:`([^`]*)` )?\|", read("docs/guide.md"), re.M
+    )
     same(len(rows), 5)
     for cell, *wanted in rows:
         _, out, _ = answer(["decide", *cell.split()], read("examples/company.json").encode())

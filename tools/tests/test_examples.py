@@ -15,12 +15,24 @@ def example(name):
 def test_who_may_assume_which_role_across_two_accounts():
     value = example("roles.json")
     rows = {
-        ANN: [("allowed", "resource/0/0 identity/0/0", ""), ("implicitDeny", "identity/0/0", "resource"),
-              ("allowed", "resource/0/0 identity/1/0", ""), ("implicitDeny", "", "resource identity")],
-        BOB: [("implicitDeny", "resource/0/0", "identity"), ("allowed", "resource/0/0", ""),
-              ("implicitDeny", "resource/0/0", "identity"), ("implicitDeny", "", "resource identity")],
-        BUILD: [("allowed", "resource/0/0 identity/0/0", ""), ("implicitDeny", "identity/0/0", "resource"),
-                ("allowed", "resource/0/0 identity/0/0", ""), ("implicitDeny", "identity/0/0", "resource")],
+        ANN: [
+            ("allowed", "resource/0/0 identity/0/0", ""),
+            ("implicitDeny", "identity/0/0", "resource"),
+            ("allowed", "resource/0/0 identity/1/0", ""),
+            ("implicitDeny", "", "resource identity"),
+        ],
+        BOB: [
+            ("implicitDeny", "resource/0/0", "identity"),
+            ("allowed", "resource/0/0", ""),
+            ("implicitDeny", "resource/0/0", "identity"),
+            ("implicitDeny", "", "resource identity"),
+        ],
+        BUILD: [
+            ("allowed", "resource/0/0 identity/0/0", ""),
+            ("implicitDeny", "identity/0/0", "resource"),
+            ("allowed", "resource/0/0 identity/0/0", ""),
+            ("implicitDeny", "identity/0/0", "resource"),
+        ],
     }
     arns = [it["arn"] for it in value["resources"]]
     same(matrix(value), {(who, "sts:AssumeRole", arn): it for who, row in rows.items() for arn, it in zip(arns, row)})
@@ -41,9 +53,17 @@ def test_a_bucket_shared_across_accounts():
         # dee is of the bucket's account, and needs nothing of its policy; ann may read by it, and not write; eve is
         # named by it too, and of another organisation.
         "arn:aws:iam::111122223333:user/dee": [("allowed", f"{allows} identity/0/0", "")] * 2,
-        "arn:aws:iam::444455556666:user/ann": [("allowed", f"{allows} resource/0/0 identity/0/0", ""),
-                                               ("implicitDeny", f"{allows} identity/0/0", "resource")],
+        "arn:aws:iam::444455556666:user/ann": [
+            ("allowed", f"{allows} resource/0/0 identity/0/0", ""),
+            ("implicitDeny", f"{allows} identity/0/0", "resource"),
+        ],
         "arn:aws:iam::777788889999:user/eve": [("explicitDeny", "control/1/1/0", "")] * 2,
     }
-    same(found, {(who, action, "arn:aws:s3:::shared/data.csv"): it
-                 for who, row in rows.items() for action, it in zip(("s3:GetObject", "s3:PutObject"), row)})
+    same(
+        found,
+        {
+            (who, action, "arn:aws:s3:::shared/data.csv"): it
+            for who, row in rows.items()
+            for action, it in zip(("s3:GetObject", "s3:PutObject"), row)
+        },
+    )

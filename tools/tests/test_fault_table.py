@@ -61,7 +61,9 @@ def test_no_text_names_a_fault_that_is_none():
 
 def test_the_tools_tell_each_fault_of_a_document():
     wanted = [it for it in table("Of a document") if it != "OutOfMemory"]
-    paths = [it for it in glob.glob(f"{TOOLS}/**/*", recursive=True) if re.search(r"\.(py|tsv)$", it) and "/tests/" not in it]
+    paths = [
+        it for it in glob.glob(f"{TOOLS}/**/*", recursive=True) if re.search(r"\.(py|tsv)$", it) and "/tests/" not in it
+    ]
     telling = [read(it) for it in paths if "PrincipalMisplaced" in read(it)]
     assert telling, "no tool has the faults in words"
     for text in telling:

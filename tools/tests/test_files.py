@@ -96,14 +96,26 @@ def test_a_name_stands_on_one_line():
     missing = "No such file or directory"
     for name in ("a b.json", "it's", "é.json", "a: b", "a,b", "fault 1 Read", "*", "%s{}"):
         not_read(name, missing)
-    for name, told in (("a\nb", '"a\\nb"'), ("\n", '"\\n"'), ("a\rb\t", '"a\\rb\\t"'), ("\x1b[31m", '"\\u{1b}[31m"'), ("a\u2028b", '"a\\u{2028}b"'),
-                       ("a\u202eb", '"a\\u{202e}b"'), ('a"b', '"a\\"b"'), ("a\\nb", '"a\\\\nb"')):
+    for name, told in (
+        ("a\nb", '"a\\nb"'),
+        ("\n", '"\\n"'),
+        ("a\rb\t", '"a\\rb\\t"'),
+        ("\x1b[31m", '"\\u{1b}[31m"'),
+        ("a\u2028b", '"a\\u{2028}b"'),
+        ("a\u202eb", '"a\\u{202e}b"'),
+        ('a"b', '"a\\"b"'),
+        ("a\\nb", '"a\\\\nb"'),
+    ):
         not_read(name, missing, told)
 
 
 def test_what_a_file_holds_is_told_as_of_standard_input():
-    for text, line in ((b"", b"fault 2 World: 1 NotJson\n"), (b"{}", b"fault 2 World: 2 BadShape at moment\n"), (SMALLEST[:-9], b"fault 2 World: 1 NotJson\n"),
-                       (SMALLEST.ljust(8_388_609), b"fault 2 World: 9 TooLarge\n")):
+    for text, line in (
+        (b"", b"fault 2 World: 1 NotJson\n"),
+        (b"{}", b"fault 2 World: 2 BadShape at moment\n"),
+        (SMALLEST[:-9], b"fault 2 World: 1 NotJson\n"),
+        (SMALLEST.ljust(8_388_609), b"fault 2 World: 9 TooLarge\n"),
+    ):
         for words in EVERY:
             same(answer([*words.split(), file(text)]), (1, b"", line), words)
     with open(FAULTY, "rb") as it:
@@ -114,7 +126,10 @@ def test_what_a_file_holds_is_told_as_of_standard_input():
     same(answer(["decide", "0", "1", "0", file(SMALLEST)]), (1, b"", b"fault 5 NoSuchCell\n"))
     same(answer(["matrix", "--tile", "0", file(SMALLEST)]), (1, b"", b"fault 6 Cut: 1 ZeroTile\n"))
     # What is wrong with the workers is told behind what is wrong with the file.
-    same(answer(["matrix", "--workers", "0", "no-such-file"]), (1, b"", b"fault 1 Read: no-such-file: No such file or directory\n"))
+    same(
+        answer(["matrix", "--workers", "0", "no-such-file"]),
+        (1, b"", b"fault 1 Read: no-such-file: No such file or directory\n"),
+    )
 
 
 def test_pipes_and_devices_are_files():
@@ -141,8 +156,17 @@ def test_streams_that_fail():
 
 def test_command_lines_that_are_refused():
     path = file(SMALLEST)
-    for words in (["check", path, path], ["check", "-", "-"], ["decide", "0", "0", path], ["decide", "0", "0", "0", path, path], ["matrix", path, path],
-                  ["first", path, "x"], [path], ["check", ""], ["matrix", "", "--brief"]):
+    for words in (
+        ["check", path, path],
+        ["check", "-", "-"],
+        ["decide", "0", "0", path],
+        ["decide", "0", "0", "0", path, path],
+        ["matrix", path, path],
+        ["first", path, "x"],
+        [path],
+        ["check", ""],
+        ["matrix", "", "--brief"],
+    ):
         status, out, said = answer(words, SMALLEST)
         same((status, out, said.startswith(b"error: ")), (2, b"", True), words)
     same(answer([b"check", b"\xff"]), (2, b"", b"error: a word of the command line is not UTF-8\n"))

@@ -48,11 +48,18 @@ def test_the_loop_makes_resources():
         raise Skipped("there is no jq")
     with open(GUIDE, encoding="utf-8") as it:
         loop = re.search(r"^  for b in .*?resources.json$", it.read(), re.M | re.S).group(0)
-    room, answer = tempfile.mkdtemp(dir=os.environ["TOOLS_TEST_ROOM"]), json.dumps({"Policy": json.dumps(document(statement()))})
+    room, answer = tempfile.mkdtemp(dir=os.environ["TOOLS_TEST_ROOM"]), json.dumps(
+        {"Policy": json.dumps(document(statement()))}
+    )
     with open(os.path.join(room, "aws"), "w") as it:
-        it.write(f"#!/bin/sh\ncase \"$*\" in\n*list-buckets*) echo one two;;\n*'--bucket one') cat <<'E'\n{answer}\nE\n;;\n*) exit 254;;\nesac\n")
+        it.write(
+            f"#!/bin/sh\ncase \"$*\" in\n*list-buckets*) echo one two;;\n*'--bucket one') cat <<'E'\n{answer}\nE\n;;\n*) exit 254;;\nesac\n"
+        )
     os.chmod(it.name, 0o755)
     path = f"{room}{os.pathsep}{os.environ['PATH']}"
     subprocess.run(["sh", "-c", loop], cwd=room, env={**os.environ, "PATH": path}, check=True)
     made = load(os.path.join(room, "resources.json"))
-    same([{**it, "policy": json.loads(it["policy"])} for it in made], [{"arn": "arn:aws:s3:::one", "account": "111122223333", "policy": document(statement())}])
+    same(
+        [{**it, "policy": json.loads(it["policy"])} for it in made],
+        [{"arn": "arn:aws:s3:::one", "account": "111122223333", "policy": document(statement())}],
+    )

@@ -46,7 +46,9 @@ def company():
 
 def words(browser):
     """{cell: decision} of what the grid shows."""
-    found = browser.evaluate("[...document.querySelectorAll('.cell')].map((it) => [it.dataset.cell, it.getAttribute('aria-label'), it.className])")
+    found = browser.evaluate(
+        "[...document.querySelectorAll('.cell')].map((it) => [it.dataset.cell, it.getAttribute('aria-label'), it.className])"
+    )
     return {int(cell): (label.split(": ")[-1], kind.split()[1]) for cell, label, kind in found}
 
 
@@ -80,21 +82,42 @@ def test_each_cell_is_that_of_the_report():
         same(browser.faults(), [])
         # By hand, as docs/guide.md has them: ann 3 of 3 on the object, bob 1 and 1 denied, the session 2.
         browser.evaluate("setView(0); setFixed(0)")
-        same(browser.evaluate("[...document.querySelectorAll('.row .counts')].map((it) => it.innerText.split(/\\s+/).join(' '))"), ["3 0 0", "1 1 1", "2 0 1"])
-        same(browser.evaluate("[...document.querySelectorAll('.column .counts')].map((it) => it.innerText.split(/\\s+/).join(' '))"), ["3 0 0", "1 1 1", "2 0 1"])
+        same(
+            browser.evaluate(
+                "[...document.querySelectorAll('.row .counts')].map((it) => it.innerText.split(/\\s+/).join(' '))"
+            ),
+            ["3 0 0", "1 1 1", "2 0 1"],
+        )
+        same(
+            browser.evaluate(
+                "[...document.querySelectorAll('.column .counts')].map((it) => it.innerText.split(/\\s+/).join(' '))"
+            ),
+            ["3 0 0", "1 1 1", "2 0 1"],
+        )
 
 
 def test_a_cell_in_words():
     with Opened(page_of(company(), "company")) as browser:
         browser.evaluate("choose(1, 1)")
         text = detail(browser)
-        for wanted in ("explicitDeny", "HomesAreTheirs", "the resource's policy, statement 1 (resource/0/1)",
-                       '"Action": "s3:PutObject"', "iamsim decide 1 1 0"):
+        for wanted in (
+            "explicitDeny",
+            "HomesAreTheirs",
+            "the resource's policy, statement 1 (resource/0/1)",
+            '"Action": "s3:PutObject"',
+            "iamsim decide 1 1 0",
+        ):
             assert wanted in text, f"{wanted} is not in {text}"
         browser.evaluate("choose(2, 1)")
         text = detail(browser)
-        for wanted in ("Everything", "organisation policy 0 of level 1, statement 0 (org/1/0/0)", "Reports", "identity policy 0, statement 0",
-                       "boundary: The principal's permissions boundary does not allow this.", "did not suffice"):
+        for wanted in (
+            "Everything",
+            "organisation policy 0 of level 1, statement 0 (org/1/0/0)",
+            "Reports",
+            "identity policy 0, statement 0",
+            "boundary: The principal's permissions boundary does not allow this.",
+            "did not suffice",
+        ):
             assert wanted in text, f"{wanted} is not in {text}"
         screenshot(browser, "company.png")
     with Opened(page_of(company(), "brief", "--brief")) as browser:
@@ -121,8 +144,11 @@ def test_filters():
 
 def test_with_allowed_alone_something_is_shown():
     # Nobody may anything on the first resource.
-    value = small_world(document(statement(resource="arn:aws:s3:::b/2")), actions=("s3:GetObject", "s3:PutObject"),
-                        resources=[{"arn": f"arn:aws:s3:::b/{n}", "account": "111122223333"} for n in range(3)])
+    value = small_world(
+        document(statement(resource="arn:aws:s3:::b/2")),
+        actions=("s3:GetObject", "s3:PutObject"),
+        resources=[{"arn": f"arn:aws:s3:::b/{n}", "account": "111122223333"} for n in range(3)],
+    )
     value["principals"].append({"user": "arn:aws:iam::111122223333:user/bob"})
     with Opened(page_of(value, "allowed")) as browser:
         browser.evaluate("at('show-explicitDeny').click(); at('show-implicitDeny').click()")
@@ -142,7 +168,16 @@ def test_a_list_of_requests():
         browser.evaluate("at('show-explicitDeny').click(); at('show-implicitDeny').click(); setView(LIST)")
         same(sorted(map(int, lines(browser))), allowed)
         # By resource, then the other way round; of equal ones the lower cell stays first.
-        by_resource = lambda sign: [str(n) for n in sorted(allowed, key=lambda n: (sign * sorted(it["arn"] for it in value["resources"]).index(value["resources"][n % 3]["arn"]), n))]
+        by_resource = lambda sign: [
+            str(n)
+            for n in sorted(
+                allowed,
+                key=lambda n: (
+                    sign * sorted(it["arn"] for it in value["resources"]).index(value["resources"][n % 3]["arn"]),
+                    n,
+                ),
+            )
+        ]
         browser.evaluate("document.querySelectorAll('#titles button')[2].click()")
         same(lines(browser), by_resource(1))
         browser.evaluate("document.querySelectorAll('#titles button')[2].click()")
@@ -165,8 +200,11 @@ def test_the_list_as_csv():
     value = small_world(document(statement()), resources=[{"arn": hostile, "account": "111122223333"}])
     with Opened(page_of(value, "csv")) as browser:
         browser.evaluate("setView(LIST)")
-        same(browser.evaluate("listCsv()"), "principal,action,resource,decision\n"
-             'arn:aws:iam::111122223333:user/ann,s3:GetObject,"arn:aws:s3:::b/a,""b""\nc",allowed\n')
+        same(
+            browser.evaluate("listCsv()"),
+            "principal,action,resource,decision\n"
+            'arn:aws:iam::111122223333:user/ann,s3:GetObject,"arn:aws:s3:::b/a,""b""\nc",allowed\n',
+        )
 
 
 def test_names_of_policies_and_what_an_answer_hangs_on():
@@ -189,15 +227,22 @@ def test_names_of_policies_and_what_an_answer_hangs_on():
 def test_what_changes_on_a_page():
     before = small_world(document(statement(action="s3:GetObject")), actions=("s3:GetObject", "s3:PutObject"))
     after = small_world(document(statement(action="s3:PutObject", Sid="New")), actions=("s3:GetObject", "s3:PutObject"))
-    after["principals"].append({"user": "arn:aws:iam::111122223333:user/bob", "identity": [document(statement(action="s3:GetObject"))]})
+    after["principals"].append(
+        {"user": "arn:aws:iam::111122223333:user/bob", "identity": [document(statement(action="s3:GetObject"))]}
+    )
     path = os.path.join(ROOM, "changes.html")
     with open(path, "w") as it:
         it.write(aws("changes", "--before", file(before), "--after", file(after), "--format", "page")[0])
     with Opened(path) as browser:
         assert "2 gained, 1 lost" in browser.evaluate("at('summary').innerText")
         browser.evaluate("at('only-changes').click()")
-        signs = browser.evaluate("[...document.querySelectorAll('.cell')].map((it) => [it.getAttribute('aria-label').split(': ').pop(), it.innerText])")
-        same(sorted(signs), [["gained, allowed", "+"], ["gained, allowed", "+"], ["implicitDeny", ""], ["lost, implicitDeny", "−"]])
+        signs = browser.evaluate(
+            "[...document.querySelectorAll('.cell')].map((it) => [it.getAttribute('aria-label').split(': ').pop(), it.innerText])"
+        )
+        same(
+            sorted(signs),
+            [["gained, allowed", "+"], ["gained, allowed", "+"], ["implicitDeny", ""], ["lost, implicitDeny", "−"]],
+        )
         browser.evaluate("setView(LIST)")
         same(len(lines(browser)), 3)
         browser.evaluate("chooseLine(state.found.findIndex((n) => changeOf(n) === 2))")
@@ -212,24 +257,50 @@ def test_what_changes_on_a_page():
 
 def sessions_alike():
     """Sessions of roles whose names differ at the end alone."""
-    value = small_world(document(statement()), actions=[f"s3:Action{n}" for n in range(12)],
-                        resources=[{"arn": f"arn:aws:s3:::bucket-of-the-team-of-data-{n}/a/long/way/to/an/object-{n}", "account": "111122223333"} for n in range(3)])
-    value["principals"] = [{"role": f"arn:aws:iam::111122223333:role/data-platform-production-ingestion-{it}", "session": f"session-{it}"} for it in ("reader", "writer")]
+    value = small_world(
+        document(statement()),
+        actions=[f"s3:Action{n}" for n in range(12)],
+        resources=[
+            {
+                "arn": f"arn:aws:s3:::bucket-of-the-team-of-data-{n}/a/long/way/to/an/object-{n}",
+                "account": "111122223333",
+            }
+            for n in range(3)
+        ],
+    )
+    value["principals"] = [
+        {"role": f"arn:aws:iam::111122223333:role/data-platform-production-ingestion-{it}", "session": f"session-{it}"}
+        for it in ("reader", "writer")
+    ]
     return value
 
 
 def test_headings_on_small_screens():
     with Opened(page_of(sessions_alike(), "small")) as browser:
-        for width, height, scheme in ((1400, 800, "light"), (1400, 800, "dark"), (800, 600, "light"), (390, 800, "light"), (390, 800, "dark")):
-            browser.call("Emulation.setDeviceMetricsOverride", width=width, height=height, deviceScaleFactor=1, mobile=False)
+        for width, height, scheme in (
+            (1400, 800, "light"),
+            (1400, 800, "dark"),
+            (800, 600, "light"),
+            (390, 800, "light"),
+            (390, 800, "dark"),
+        ):
+            browser.call(
+                "Emulation.setDeviceMetricsOverride", width=width, height=height, deviceScaleFactor=1, mobile=False
+            )
             browser.call("Emulation.setEmulatedMedia", features=[{"name": "prefers-color-scheme", "value": scheme}])
             browser.evaluate("window.onresize()")
             names = browser.evaluate("[...document.querySelectorAll('.row .name')].map((it) => it.innerText)")
             same(len(set(names)), 2, f"{width} x {height}: {names}")
             clipped = "[...document.querySelectorAll('.row .name, .row .counts, .column .counts')].filter((it) => it.scrollWidth > it.clientWidth + 1).length"
             same(browser.evaluate(clipped), 0, f"{width} x {height}: clipped")
-            same(browser.evaluate("at('controls').scrollWidth <= at('controls').clientWidth"), True, f"{width}: controls")
-            same(browser.evaluate("document.documentElement.scrollWidth <= window.innerWidth"), True, f"{width}: wider than the screen")
+            same(
+                browser.evaluate("at('controls').scrollWidth <= at('controls').clientWidth"), True, f"{width}: controls"
+            )
+            same(
+                browser.evaluate("document.documentElement.scrollWidth <= window.innerWidth"),
+                True,
+                f"{width}: wider than the screen",
+            )
             screenshot(browser, f"small-{width}-{scheme}.png")
         same(browser.faults(), [])
 
@@ -238,7 +309,17 @@ def test_keys():
     with Opened(page_of(company(), "company")) as browser:
         chosen = lambda: int(browser.evaluate("document.querySelector('.cell.chosen').dataset.cell"))
         same(chosen(), 0)
-        for key, cell in [("ArrowRight", 3), ("ArrowDown", 12), ("End", 15), ("ArrowRight", 15), ("PageDown", 24), ("Home", 18), ("]", 19), ("ArrowUp", 10), ("[", 9)]:
+        for key, cell in [
+            ("ArrowRight", 3),
+            ("ArrowDown", 12),
+            ("End", 15),
+            ("ArrowRight", 15),
+            ("PageDown", 24),
+            ("Home", 18),
+            ("]", 19),
+            ("ArrowUp", 10),
+            ("[", 9),
+        ]:
             browser.key(key)
             same(chosen(), cell, key)
         same(browser.evaluate("at('pane').getAttribute('aria-activedescendant')"), "cell-9")
@@ -249,9 +330,16 @@ def test_keys():
 
 
 def test_texts_of_a_world_stay_texts():
-    hostile = ["</script><script>document.title='owned'</script>", "<img src=x onerror=\"document.title='owned'\">", "<!--<script>", "</title>\u2028'\"&amp;"]
-    value = small_world(document(*[statement(Sid=f"{it}", resource="*") for it in hostile]),
-                        resources=[{"arn": f"arn:aws:s3:::b/{it}", "account": "111122223333"} for it in hostile])
+    hostile = [
+        "</script><script>document.title='owned'</script>",
+        "<img src=x onerror=\"document.title='owned'\">",
+        "<!--<script>",
+        "</title>\u2028'\"&amp;",
+    ]
+    value = small_world(
+        document(*[statement(Sid=f"{it}", resource="*") for it in hostile]),
+        resources=[{"arn": f"arn:aws:s3:::b/{it}", "account": "111122223333"} for it in hostile],
+    )
     value["principals"].append({"user": "arn:aws:iam::111122223333:user/<img:src=x:onerror=alert(1)>"})
     with Opened(page_of(value, "hostile")) as browser:
         # With one action, principals by resources come first.
@@ -260,13 +348,18 @@ def test_texts_of_a_world_stay_texts():
         for fixed in range(len(hostile)):
             browser.evaluate(f"setFixed({fixed})")
             text = detail(browser)
-            assert f"arn:aws:s3:::b/{hostile[fixed]}".replace("\u2028", "") in text.replace("\u2028", "").replace("\n", ""), text
+            assert f"arn:aws:s3:::b/{hostile[fixed]}".replace("\u2028", "") in text.replace("\u2028", "").replace(
+                "\n", ""
+            ), text
         browser.evaluate("setView(1)")
         same(browser.evaluate("document.querySelectorAll('img, #detail script, header script').length"), 0)
         same(browser.evaluate("document.scripts.length"), 2)
         same(browser.evaluate("document.title"), "Access matrix")
         same(browser.evaluate("[...document.querySelectorAll('article h4')].map((it) => it.firstChild.data)"), hostile)
-        same(browser.evaluate("document.querySelectorAll('.row .name')[1].title"), "arn:aws:iam::111122223333:user/<img:src=x:onerror=alert(1)>")
+        same(
+            browser.evaluate("document.querySelectorAll('.row .name')[1].title"),
+            "arn:aws:iam::111122223333:user/<img:src=x:onerror=alert(1)>",
+        )
         same(browser.faults(), [])
         screenshot(browser, "hostile.png")
 
@@ -274,15 +367,31 @@ def test_texts_of_a_world_stay_texts():
 def test_control_policies_in_words():
     value = load(os.path.join(EXAMPLES, "shared.json"))
     # A report of the form that docs/LOGIC.md states, by hand.
-    rows = [{"action": action, "cell": 2 * p + a, "decision": "explicitDeny", "lacks": [], "principal": principal["user"],
-             "resource": "arn:aws:s3:::shared/data.csv", "statements": ["control/1/1/0"]}
-            for p, principal in enumerate(value["principals"]) for a, action in enumerate(value["actions"])]
+    rows = [
+        {
+            "action": action,
+            "cell": 2 * p + a,
+            "decision": "explicitDeny",
+            "lacks": [],
+            "principal": principal["user"],
+            "resource": "arn:aws:s3:::shared/data.csv",
+            "statements": ["control/1/1/0"],
+        }
+        for p, principal in enumerate(value["principals"])
+        for a, action in enumerate(value["actions"])
+    ]
     path = os.path.join(ROOM, "shared.html")
     with open(path, "w") as it:
-        it.write(aws("page", "--world", os.path.join(EXAMPLES, "shared.json"), "--report", "-", given=json.dumps(rows))[0])
+        it.write(
+            aws("page", "--world", os.path.join(EXAMPLES, "shared.json"), "--report", "-", given=json.dumps(rows))[0]
+        )
     with Opened(path) as browser:
         text = detail(browser)
-        for wanted in ("OurOrganisation", "resource control policy 1 of level 1, statement 0 (control/1/1/0)", '"StringNotEquals"'):
+        for wanted in (
+            "OurOrganisation",
+            "resource control policy 1 of level 1, statement 0 (control/1/1/0)",
+            '"StringNotEquals"',
+        ):
             assert wanted in text, f"{wanted} is not in {text}"
 
 
@@ -297,7 +406,11 @@ def test_nothing_from_outside():
 def test_a_report_of_another_world_is_refused():
     value = company()
     report, _ = run([IAMSIM, "matrix", "--format", "json"], json.dumps(value))
-    for change in (lambda it: it["actions"].append("s3:ListBucket"), lambda it: it["principals"].pop(), lambda it: it["resources"].reverse()):
+    for change in (
+        lambda it: it["actions"].append("s3:ListBucket"),
+        lambda it: it["principals"].pop(),
+        lambda it: it["resources"].reverse(),
+    ):
         other = company()
         change(other)
         path = os.path.join(ROOM, "other.json")
@@ -305,7 +418,12 @@ def test_a_report_of_another_world_is_refused():
             json.dump(other, it)
         _, said = aws("page", "--world", path, "--report", "-", given=report, status=1)
         assert "make both of the same world" in said, said
-    for cut, why in (("", "the report is none of"), (report[:-5], "cut off"), (report[:200], "cut off"), ("[]\n", "fewer cells")):
+    for cut, why in (
+        ("", "the report is none of"),
+        (report[:-5], "cut off"),
+        (report[:200], "cut off"),
+        ("[]\n", "fewer cells"),
+    ):
         _, said = aws("page", "--world", os.path.join(EXAMPLES, "company.json"), "--report", "-", given=cut, status=1)
         assert why in said, said
 
@@ -313,7 +431,9 @@ def test_a_report_of_another_world_is_refused():
 def large_report():
     """A world of 1,000,000 cells, and a report of its form: made here, and not what the program would say of it."""
     users = [f"arn:aws:iam::111122223333:user/team{n % 10}/user{n}" for n in range(100)]
-    actions, resources = [f"s3:Action{n}" for n in range(100)], [f"arn:aws:s3:::bucket{n % 7}/key{n}" for n in range(100)]
+    actions, resources = [f"s3:Action{n}" for n in range(100)], [
+        f"arn:aws:s3:::bucket{n % 7}/key{n}" for n in range(100)
+    ]
     world = small_world(actions=actions, resources=[{"arn": it, "account": "111122223333"} for it in resources])
     own = document(*[statement(Sid=f"Number{n}", effect="Deny" if n % 4 == 3 else "Allow") for n in range(400)])
     world["principals"] = [{"user": it, "identity": [own]} for it in users]
@@ -324,7 +444,9 @@ def large_report():
             for r, resource in enumerate(resources):
                 kind = (p * 7 + a * 3 + r * 5) % 11 % 3
                 places = f'"identity/0/{(p + a + r) % 400}"' if kind < 2 else ""
-                rows.append(f'{{"action":"{action}","cell":{cell},"decision":{answers[kind]},"principal":"{user}","resource":"{resource}","statements":[{places}]}}')
+                rows.append(
+                    f'{{"action":"{action}","cell":{cell},"decision":{answers[kind]},"principal":"{user}","resource":"{resource}","statements":[{places}]}}'
+                )
                 cell += 1
     return world, "[" + ",".join(rows) + "]\n"
 
@@ -336,7 +458,13 @@ def test_a_million_cells():
         json.dump(world, it)
     started = time.monotonic()
     with open(f"{path}.html", "wb") as it:
-        subprocess.run([sys.executable, AWS, "page", "--world", f"{path}.json", "--report", "-"], input=report.encode(), stdout=it, check=True, timeout=120)
+        subprocess.run(
+            [sys.executable, AWS, "page", "--world", f"{path}.json", "--report", "-"],
+            input=report.encode(),
+            stdout=it,
+            check=True,
+            timeout=120,
+        )
     made, size = time.monotonic() - started, os.path.getsize(f"{path}.html")
     browser = Browser(CHROMIUM)
     try:
@@ -356,5 +484,7 @@ def test_a_million_cells():
         screenshot(browser, "large.png")
     finally:
         browser.close()
-    print(f"a page of 1,000,000 cells: {size / 1e6:.1f} MB, made in {made:.1f} s, opened in {opened:.1f} s, turned in {moved:.1f} s")
+    print(
+        f"a page of 1,000,000 cells: {size / 1e6:.1f} MB, made in {made:.1f} s, opened in {opened:.1f} s, turned in {moved:.1f} s"
+    )
     assert opened < 20, f"it opened in {opened} s"

@@ -39,7 +39,10 @@ def test_no_answer_leaves_no_report_of_an_earlier_run():
     refused = load(EXPORT)
     refused["Policies"][2]["PolicyVersionList"][0]["Document"] = {}
     whole = file(refused)
-    for words, why in (([whole], "iamsim refuses a policy: arn:aws:iam::aws:policy/ReadObjects"), (["no-such-file"], "no-such-file: No such file")):
+    for words, why in (
+        ([whole], "iamsim refuses a policy: arn:aws:iam::aws:policy/ReadObjects"),
+        (["no-such-file"], "no-such-file: No such file"),
+    ):
         said = rules("rules.txt", *words, *reports, status=1, folder=folder)
         assert why in said, said
         suite = xml.etree.ElementTree.parse(os.path.join(folder, "r.xml")).getroot()
@@ -66,8 +69,11 @@ def test_files_are_named_from_the_top():
     folder = room()
     inside = written(folder, "policies/our rules.txt", BROKEN)
     other = file(BROKEN)
-    for name, wanted in ((os.path.join("policies", "our rules.txt"), {"uri": "policies/our%20rules.txt", "uriBaseId": "%SRCROOT%"}),
-                         (inside, {"uri": "policies/our%20rules.txt", "uriBaseId": "%SRCROOT%"}), (other, {"uri": f"file://{other}"})):
+    for name, wanted in (
+        (os.path.join("policies", "our rules.txt"), {"uri": "policies/our%20rules.txt", "uriBaseId": "%SRCROOT%"}),
+        (inside, {"uri": "policies/our%20rules.txt", "uriBaseId": "%SRCROOT%"}),
+        (other, {"uri": f"file://{other}"}),
+    ):
         rules(name, EXPORT, "--sarif", "r.sarif", status=3, folder=folder)
         [result] = load(os.path.join(folder, "r.sarif"))["runs"][0]["results"]
         same(result["locations"][0]["physicalLocation"]["artifactLocation"], wanted, name)
@@ -86,11 +92,19 @@ def slips(rule, *words):
 
 def test_rules_that_are_likely_a_slip():
     # The policies name s3:GetObject, s3:PutObject, s3:Get*, s3:List*, sts:AssumeRole, s3:* and *; of resources homes, teams and roles.
-    cases = [("never chain s3:PutObject arn:aws:s3:::homes/*", None, None), ("never chain s3:PutObjekt arn:aws:s3:::homes/*", "s3:PutObjekt", None),
-             ("never chain s3:Put* arn:aws:s3:::homes/alice/*", None, None), ("never chain s3:GetObject arn:aws:s3:::hoems/*", None, "arn:aws:s3:::hoems/*"),
-             ("never chain s3:* arn:aws:s3:::teams/*", None, None), ("never chain S3:getobject *", None, None), ("never chain kms:* *", "kms:*", None),
-             ("never chain * homes/*", None, None), ("never chain s3:Putt* hoems/*", "s3:Putt*", "hoems/*"), ("never chain sts:AssumeRole *:role/app/d*", None, None),
-             ("never chain iam:PassRole *:role/work*", "iam:PassRole", None)]
+    cases = [
+        ("never chain s3:PutObject arn:aws:s3:::homes/*", None, None),
+        ("never chain s3:PutObjekt arn:aws:s3:::homes/*", "s3:PutObjekt", None),
+        ("never chain s3:Put* arn:aws:s3:::homes/alice/*", None, None),
+        ("never chain s3:GetObject arn:aws:s3:::hoems/*", None, "arn:aws:s3:::hoems/*"),
+        ("never chain s3:* arn:aws:s3:::teams/*", None, None),
+        ("never chain S3:getobject *", None, None),
+        ("never chain kms:* *", "kms:*", None),
+        ("never chain * homes/*", None, None),
+        ("never chain s3:Putt* hoems/*", "s3:Putt*", "hoems/*"),
+        ("never chain sts:AssumeRole *:role/app/d*", None, None),
+        ("never chain iam:PassRole *:role/work*", "iam:PassRole", None),
+    ]
     for rule, action, resource in cases:
         found = slips(rule)
         wanted = [text.format(it) for text, it in ((ACTION, action), (RESOURCE, resource)) if it]
@@ -102,14 +116,24 @@ def test_rules_that_are_likely_a_slip():
     _, said = aws("rules", file("never bob s3:DeleteObjekt arn:aws:s3:::hoems/x\n"), EXPORT, status=3)
     assert "slip" not in said, said
     # An action that its service does not have is met by no request.
-    out, _ = aws("rules", file("never chain s3:PutObjekt arn:aws:s3:::homes/x\n"), EXPORT, "--services", data("s3.json"), status=4)
+    out, _ = aws(
+        "rules",
+        file("never chain s3:PutObjekt arn:aws:s3:::homes/x\n"),
+        EXPORT,
+        "--services",
+        data("s3.json"),
+        status=4,
+    )
     assert out.startswith("empty: "), out
 
 
 def test_refused_principals_are_named():
     """By an answer and by check, also where the world is asked in several parts."""
     made = small_world(document(statement()))
-    made["principals"] += [{"user": "arn:aws:iam::111122223333:user/zoe"}, {"user": "arn:aws:iam::111122223333:user/b*d"}]
+    made["principals"] += [
+        {"user": "arn:aws:iam::111122223333:user/zoe"},
+        {"user": "arn:aws:iam::111122223333:user/b*d"},
+    ]
     line = "fault 2 World: 3 BadRequester at principals/2"
     name = " (arn:aws:iam::111122223333:user/b*d)\n"
     for words in (["can", "*", "s3:GetObject", "*"], ["who-can", "s3:GetObject", "*"]):
@@ -118,7 +142,17 @@ def test_refused_principals_are_named():
     _, said = aws("check", file(made), status=1)
     assert line in said and said.endswith(name), said
     # The number of a part is not that of the world: the name tells who it is.
-    many = {**made, "principals": [{**made["principals"][0], "user": f"arn:aws:iam::111122223333:user/u{n}", "identity": [
-        document(*[statement(action=f"ec2:Run{n}x{it}") for it in range(3000)])]} for n in range(2)] + made["principals"][2:]}
+    many = {
+        **made,
+        "principals": [
+            {
+                **made["principals"][0],
+                "user": f"arn:aws:iam::111122223333:user/u{n}",
+                "identity": [document(*[statement(action=f"ec2:Run{n}x{it}") for it in range(3000)])],
+            }
+            for n in range(2)
+        ]
+        + made["principals"][2:],
+    }
     _, said = aws("can", "*", "s3:GetObject", "*", "--world", file(many), status=1)
     assert "BadRequester" in said and said.endswith(name), said

@@ -24,25 +24,41 @@ def decided(found):
 
 def test_one_request_in_words():
     out, _ = aws("can", "alice", "s3:PutObject", "arn:aws:s3:::homes/alice/x", EXPORT)
-    same(out.splitlines(), [
-        "allowed: arn:aws:iam::111122223333:user/alice s3:PutObject arn:aws:s3:::homes/alice/x",
-        "  allowed by arn:aws:iam::111122223333:group/Developers inline Homes, statement 0 OwnHome (identity policy)",
-        "    {",
-        '      "Sid": "OwnHome",',
-        '      "Effect": "Allow",',
-        '      "Action": "s3:PutObject",',
-        '      "Resource": "arn:aws:s3:::homes/${aws:username}/*"',
-        "    }",
-        "arn:aws:s3:::homes/alice/x is not in the world: it is asked for without a policy of its own"])
+    same(
+        out.splitlines(),
+        [
+            "allowed: arn:aws:iam::111122223333:user/alice s3:PutObject arn:aws:s3:::homes/alice/x",
+            "  allowed by arn:aws:iam::111122223333:group/Developers inline Homes, statement 0 OwnHome (identity policy)",
+            "    {",
+            '      "Sid": "OwnHome",',
+            '      "Effect": "Allow",',
+            '      "Action": "s3:PutObject",',
+            '      "Resource": "arn:aws:s3:::homes/${aws:username}/*"',
+            "    }",
+            "arn:aws:s3:::homes/alice/x is not in the world: it is asked for without a policy of its own",
+        ],
+    )
     out, _ = aws("can", "alice", "s3:PutObject", "arn:aws:s3:::homes/bob/x", EXPORT, status=3)
-    same(out.splitlines()[:2], [
-        "implicitDeny: arn:aws:iam::111122223333:user/alice s3:PutObject arn:aws:s3:::homes/bob/x",
-        "  lacks identity: no identity policy of the principal allows this"])
+    same(
+        out.splitlines()[:2],
+        [
+            "implicitDeny: arn:aws:iam::111122223333:user/alice s3:PutObject arn:aws:s3:::homes/bob/x",
+            "  lacks identity: no identity policy of the principal allows this",
+        ],
+    )
 
 
 def test_names_arns_and_patterns():
     role = f"{SESSION}deploy/s1"
-    for who in ("deploy", "role/app/deploy", "*:role/app/deploy", f"{ACCOUNT}role/app/deploy", role, "*:role/*/deploy", "*assumed-role/deploy/*"):
+    for who in (
+        "deploy",
+        "role/app/deploy",
+        "*:role/app/deploy",
+        f"{ACCOUNT}role/app/deploy",
+        role,
+        "*:role/*/deploy",
+        "*assumed-role/deploy/*",
+    ):
         found = rows("can", who, "s3:GetObject", "arn:aws:s3:::homes/alice/x", EXPORT)
         same(decided(found), {(role, "s3:GetObject", "arn:aws:s3:::homes/alice/x"): "allowed"}, who)
     # A resource by its name, of what the world has.
@@ -59,8 +75,10 @@ def test_who_can_read_an_object():
     same(len(found), 8)
     same([it["principal"] for it in found if it["decision"] == "allowed"], allowed)
     bob = found[1]["statements"]
-    same([(it["policy"], it["sid"]) for it in bob], [
-        (f"{ACCOUNT}user/ops/bob inline Anything", "Anything"), (f"{ACCOUNT}policy/limits/AtMost", "Storage")])
+    same(
+        [(it["policy"], it["sid"]) for it in bob],
+        [(f"{ACCOUNT}user/ops/bob inline Anything", "Anything"), (f"{ACCOUNT}policy/limits/AtMost", "Storage")],
+    )
     out, _ = aws("who-can", "s3:GetObject", "arn:aws:s3:::homes/alice/x", EXPORT)
     same(out.splitlines()[0], "4 of 8 principals are allowed, by 4 of 8 requests")
 
@@ -72,18 +90,29 @@ def test_a_policy_beside_the_question():
     same(found[0]["statements"][0]["policy"], denying)
     # A KMS key's policy must grant: it grants to alice alone, and bob's own policy allows everything, his boundary nothing of kms.
     key = "arn:aws:kms:eu-west-1:111122223333:key/7c1d"
-    granting = file(document({"Effect": "Allow", "Principal": {"AWS": f"{ACCOUNT}user/alice"}, "Action": "kms:Decrypt", "Resource": "*"}))
+    granting = file(
+        document(
+            {"Effect": "Allow", "Principal": {"AWS": f"{ACCOUNT}user/alice"}, "Action": "kms:Decrypt", "Resource": "*"}
+        )
+    )
     found = rows("who-can", "kms:Decrypt", key, EXPORT, "--policy", granting, "--sealed")
     same([it["principal"] for it in found if it["decision"] == "allowed"], [f"{ACCOUNT}user/alice"])
 
 
 def test_a_bucket_has_one_policy():
     """An object that the world does not name has the policy of one that it names."""
-    denying = document({"Effect": "Deny", "Principal": {"AWS": f"{ACCOUNT}user/alice"}, "Action": "s3:*", "Resource": "*"})
+    denying = document(
+        {"Effect": "Deny", "Principal": {"AWS": f"{ACCOUNT}user/alice"}, "Action": "s3:*", "Resource": "*"}
+    )
     further = file([{"arn": "arn:aws:s3:::homes/alice/x", "account": "111122223333", "policy": denying}])
     found = rows("can", "alice", "s3:GetObject", "arn:aws:s3:::homes/other", EXPORT, "--resources", further, status=3)
     same(found[0]["decision"], "explicitDeny")
-    same(rows("can", "alice", "s3:GetObject", "arn:aws:s3:::another/other", EXPORT, "--resources", further)[0]["decision"], "allowed")
+    same(
+        rows("can", "alice", "s3:GetObject", "arn:aws:s3:::another/other", EXPORT, "--resources", further)[0][
+            "decision"
+        ],
+        "allowed",
+    )
 
 
 def test_what_an_answer_hangs_on():
@@ -122,7 +151,9 @@ def test_each_kind_of_condition_turns():
 
 
 def test_an_allow_may_hang_on_a_key_too():
-    made = file(small_world(document(statement(), statement("Deny", Condition={"Bool": {"aws:SecureTransport": "false"}}))))
+    made = file(
+        small_world(document(statement(), statement("Deny", Condition={"Bool": {"aws:SecureTransport": "false"}})))
+    )
     out, _ = aws("can", "ann", "s3:GetObject", "*", "--world", made)
     assert "  denied if `aws:SecureTransport` is `false`\n" in out, out
     # What a context gives, nothing hangs on.
@@ -132,14 +163,24 @@ def test_an_allow_may_hang_on_a_key_too():
 
 def test_texts_that_stand_for_patterns():
     key = "arn:aws:kms:eu-west-1:111122223333:key/7c1d"
-    made = small_world(document(statement(action="kms:*", resource=[key, "arn:aws:kms:*:111122223333:key/a*", "arn:aws:kms:*:*:key/${aws:username}"]),
-                                statement(action="s3:*")),
-                       actions=("kms:Decrypt",), resources=[{"arn": key, "account": "111122223333"}])
+    made = small_world(
+        document(
+            statement(
+                action="kms:*",
+                resource=[key, "arn:aws:kms:*:111122223333:key/a*", "arn:aws:kms:*:*:key/${aws:username}"],
+            ),
+            statement(action="s3:*"),
+        ),
+        actions=("kms:Decrypt",),
+        resources=[{"arn": key, "account": "111122223333"}],
+    )
     found = rows("who-can", "kms:Decrypt", "*", "--world", file(made), "--kinds")
     # The key that is named is the first pattern; a text stands for each of the two others, and `*` for what is asked, which none
     # of them meets. Of s3 nothing is asked.
     wanted = [key, "arn:aws:kms:us-east-1:111122223333:key/ax", "arn:aws:kms:us-east-1:111122223333:key/ann"]
-    same([(it["resource"], it["decision"]) for it in found if it["resource"] != "*"], [(it, "allowed") for it in wanted])
+    same(
+        [(it["resource"], it["decision"]) for it in found if it["resource"] != "*"], [(it, "allowed") for it in wanted]
+    )
     same([it["decision"] for it in found if it["resource"] == "*"], ["implicitDeny"])
     out, _ = aws("who-can", "kms:Decrypt", "*", "--world", file(made), "--kinds")
     assert f"{wanted[1]} stands for arn:aws:kms:*:111122223333:key/a* of a policy\n" in out, out
@@ -147,7 +188,10 @@ def test_texts_that_stand_for_patterns():
     # Without --kinds the resources of the world alone are asked for.
     same(len(rows("who-can", "kms:Decrypt", "*", "--world", file(made))), 1)
     # An action pattern takes the actions that policies name, and with --kinds a text for each pattern.
-    same({it["action"] for it in rows("who-can", "kms:*", key, "--world", file(made), "--kinds")}, {"kms:Decrypt", "kms:x"})
+    same(
+        {it["action"] for it in rows("who-can", "kms:*", key, "--world", file(made), "--kinds")},
+        {"kms:Decrypt", "kms:x"},
+    )
     same({it["action"] for it in rows("who-can", "kms:*", key, "--world", file(made))}, {"kms:Decrypt"})
 
 
@@ -159,21 +203,44 @@ def chained():
     before = ["arn:aws:iam::111122223333:user/ann", role("a"), role("b"), role("c")]
     assume = lambda it: document(statement(action="sts:AssumeRole", resource=role(it)))
     users = [{"user": before[0], "identity": [assume("a")]}, {"user": "arn:aws:iam::111122223333:user/bob"}]
-    roles = [{"role": role(it), "session": "s", "identity": [assume(names[n + 1])] if n < 3 else [document(statement(action="s3:*"))]}
-             for n, it in enumerate(names)]
-    resources = [{"arn": role(it), "account": "111122223333", "sealed": True, "policy": trust(before[n])} for n, it in enumerate(names)]
-    return {"moment": 0, "accounts": [{"id": "111122223333"}], "principals": [*users, *roles], "actions": ["s3:GetObject"],
-            "resources": [*resources, {"arn": "arn:aws:s3:::b/k", "account": "111122223333"}]}
+    roles = [
+        {
+            "role": role(it),
+            "session": "s",
+            "identity": [assume(names[n + 1])] if n < 3 else [document(statement(action="s3:*"))],
+        }
+        for n, it in enumerate(names)
+    ]
+    resources = [
+        {"arn": role(it), "account": "111122223333", "sealed": True, "policy": trust(before[n])}
+        for n, it in enumerate(names)
+    ]
+    return {
+        "moment": 0,
+        "accounts": [{"id": "111122223333"}],
+        "principals": [*users, *roles],
+        "actions": ["s3:GetObject"],
+        "resources": [*resources, {"arn": "arn:aws:s3:::b/k", "account": "111122223333"}],
+    }
 
 
 def test_who_may_come_to_it_by_roles():
     made = file(chained())
-    ann, a, b, c, d = "arn:aws:iam::111122223333:user/ann", *(f"arn:aws:sts::111122223333:assumed-role/{it}/s" for it in "abcd")
+    ann, a, b, c, d = "arn:aws:iam::111122223333:user/ann", *(
+        f"arn:aws:sts::111122223333:assumed-role/{it}/s" for it in "abcd"
+    )
     out, _ = aws("who-can", "s3:GetObject", "b/k", "--world", made, "--chains")
     lines = out.splitlines()
     same(lines[0], "1 of 6 principals are allowed, by 1 of 6 requests")
-    same(lines[3:], ["3 more may come to it by assuming at most 3 roles one after the other:",
-                     f"  {c} -> {d}", f"  {b} -> {c} -> {d}", f"  {a} -> {b} -> {c} -> {d}"])
+    same(
+        lines[3:],
+        [
+            "3 more may come to it by assuming at most 3 roles one after the other:",
+            f"  {c} -> {d}",
+            f"  {b} -> {c} -> {d}",
+            f"  {a} -> {b} -> {c} -> {d}",
+        ],
+    )
     out, _ = aws("who-can", "s3:GetObject", "b/k", "--world", made, "--chains", "--depth", "4")
     same(out.splitlines()[-1], f"  {ann} -> {a} -> {b} -> {c} -> {d}")
     out, _ = aws("who-can", "s3:PutObject", "b/k", "--world", made, "--chains", "--depth", "1")
@@ -185,28 +252,54 @@ def past_the_limits():
     users, policies = [], []
     for n in range(60):
         arn = f"arn:aws:iam::111122223333:policy/p{n}"
-        statements = [statement(action="s3:GetObject", resource=f"arn:aws:s3:::b/{n}")] + [statement(action=f"ec2:Run{it}") for it in range(99)]
-        policies.append({"PolicyName": f"p{n}", "Arn": arn, "PolicyVersionList": [{"IsDefaultVersion": True, "Document": document(*statements)}]})
-        users.append({"UserName": f"u{n}", "UserId": f"AIDA{n}", "Arn": f"{ACCOUNT}user/u{n}", "AttachedManagedPolicies": [{"PolicyArn": arn}]})
+        statements = [statement(action="s3:GetObject", resource=f"arn:aws:s3:::b/{n}")] + [
+            statement(action=f"ec2:Run{it}") for it in range(99)
+        ]
+        policies.append(
+            {
+                "PolicyName": f"p{n}",
+                "Arn": arn,
+                "PolicyVersionList": [{"IsDefaultVersion": True, "Document": document(*statements)}],
+            }
+        )
+        users.append(
+            {
+                "UserName": f"u{n}",
+                "UserId": f"AIDA{n}",
+                "Arn": f"{ACCOUNT}user/u{n}",
+                "AttachedManagedPolicies": [{"PolicyArn": arn}],
+            }
+        )
     return {"UserDetailList": users, "Policies": policies}
 
 
 def test_an_account_past_the_limits_of_a_world():
     export = file(past_the_limits())
     found = rows("who-can", "s3:GetObject", "arn:aws:s3:::b/57", export)
-    same([(it["principal"], it["decision"]) for it in found],
-         [(f"{ACCOUNT}user/u{n}", "allowed" if n == 57 else "implicitDeny") for n in range(60)])
+    same(
+        [(it["principal"], it["decision"]) for it in found],
+        [(f"{ACCOUNT}user/u{n}", "allowed" if n == 57 else "implicitDeny") for n in range(60)],
+    )
     same(found[57]["statements"][0]["policy"], "arn:aws:iam::111122223333:policy/p57")
     resources = file([{"arn": f"arn:aws:s3:::b/{n}", "account": "111122223333"} for n in range(3)])
     actions = file("s3:GetObject")
     _, said = aws("world", export, "--resources", resources, "--actions", actions)
     assert "the world has 6000 statements, and at most 4096 are read" in said, said
-    out, _ = aws("rules", file("always u2 s3:GetObject *b/2\nnever * s3:GetObject *b/2 except u2"), export, "--resources", resources)
+    out, _ = aws(
+        "rules",
+        file("always u2 s3:GetObject *b/2\nnever * s3:GetObject *b/2 except u2"),
+        export,
+        "--resources",
+        resources,
+    )
     assert out.endswith("2 rules: 2 kept, 0 broken, 0 empty\n"), out
 
 
 def test_decimals_need_no_word():
-    made = small_world(document(statement(Condition={"NumericGreaterThanEquals": {"s3:TlsVersion": "1.2"}})), context={"s3:TlsVersion": "1.3"})
+    made = small_world(
+        document(statement(Condition={"NumericGreaterThanEquals": {"s3:TlsVersion": "1.2"}})),
+        context={"s3:TlsVersion": "1.3"},
+    )
     same(rows("can", "ann", "s3:GetObject", "*", "--world", file(made))[0]["decision"], "allowed")
     made["context"] = {"s3:TlsVersion": "1.1"}
     same(rows("can", "ann", "s3:GetObject", "*", "--world", file(made), status=3)[0]["decision"], "implicitDeny")
@@ -215,7 +308,10 @@ def test_decimals_need_no_word():
 def test_iam_and_sts_actions_at_once():
     found = rows("who-can", "*:*Role", "*/audit", EXPORT, "--actions", file("iam:PassRole\nsts:AssumeRole\n"))
     # bob's boundary has nothing of iam and, of roles, deploy alone; audit trusts alice.
-    same(decided([it for it in found if it["decision"] == "allowed"]), {(f"{ACCOUNT}user/alice", "sts:AssumeRole", f"{ACCOUNT}role/app/audit"): "allowed"})
+    same(
+        decided([it for it in found if it["decision"] == "allowed"]),
+        {(f"{ACCOUNT}user/alice", "sts:AssumeRole", f"{ACCOUNT}role/app/audit"): "allowed"},
+    )
     same(len(found), 16)
 
 
@@ -238,16 +334,30 @@ def test_a_refused_policy_is_named():
     export = load(EXPORT)
     export["Policies"][2]["PolicyVersionList"][0]["Document"] = document(statement("allow"))
     _, said = aws("can", "alice", "s3:GetObject", "arn:aws:s3:::b/k", file(export), status=1)
-    assert "iamsim refuses a policy: arn:aws:iam::aws:policy/ReadObjects: statement 0: the Effect is neither" in said, said
+    assert (
+        "iamsim refuses a policy: arn:aws:iam::aws:policy/ReadObjects: statement 0: the Effect is neither" in said
+    ), said
 
 
 def test_answers_as_csv():
     out, _ = aws("can", "alice", "sts:AssumeRole", "*/audit", EXPORT, "--format", "csv")
     found = list(csv.reader(io.StringIO(out)))
-    same(found, [["principal", "action", "resource", "decision", "policies", "lacks", "hangs on"],
-                 [f"{ACCOUNT}user/alice", "sts:AssumeRole", f"{ACCOUNT}role/app/audit", "allowed",
-                  f"{ACCOUNT}role/app/audit trust policy, statement 0 (the resource's policy); "
-                  f"{ACCOUNT}policy/AssumeRoles, statement 0 AppRoles (identity policy)", "", ""]])
+    same(
+        found,
+        [
+            ["principal", "action", "resource", "decision", "policies", "lacks", "hangs on"],
+            [
+                f"{ACCOUNT}user/alice",
+                "sts:AssumeRole",
+                f"{ACCOUNT}role/app/audit",
+                "allowed",
+                f"{ACCOUNT}role/app/audit trust policy, statement 0 (the resource's policy); "
+                f"{ACCOUNT}policy/AssumeRoles, statement 0 AppRoles (identity policy)",
+                "",
+                "",
+            ],
+        ],
+    )
 
 
 def test_options_that_stand_twice():
@@ -273,7 +383,11 @@ def test_options_that_stand_twice():
 
 
 def test_options_are_written_in_full():
-    for words in (["can", "alice", "s3:GetObject", "b", EXPORT, "--polic", "x"], ["rules", "r", EXPORT, "--as"], ["changes", EXPORT, "--exit"]):
+    for words in (
+        ["can", "alice", "s3:GetObject", "b", EXPORT, "--polic", "x"],
+        ["rules", "r", EXPORT, "--as"],
+        ["changes", EXPORT, "--exit"],
+    ):
         _, said = aws(*words, status=2)
         assert "unrecognized arguments: --" in said, said
 
@@ -282,15 +396,25 @@ def test_roles_with_a_key():
     """The role a may be assumed with sts:ExternalId alone, which nothing gives; its session may assume b, and so on."""
     made = chained()
     made["resources"][0]["policy"]["Statement"][0]["Condition"] = {"StringEquals": {"sts:ExternalId": "e-1"}}
-    ann, a, b, c, d = "arn:aws:iam::111122223333:user/ann", *(f"arn:aws:sts::111122223333:assumed-role/{it}/s" for it in "abcd")
+    ann, a, b, c, d = "arn:aws:iam::111122223333:user/ann", *(
+        f"arn:aws:sts::111122223333:assumed-role/{it}/s" for it in "abcd"
+    )
     for depth in ("4", "9" * 30):
         out, _ = aws("who-can", "s3:GetObject", "b/k", "--world", file(made), "--chains", "--depth", depth)
-        same(out.splitlines()[-2:], ["1 more may come to it by assuming roles, with keys that nothing gives:",
-                                     f"  {ann} -> {a} -> {b} -> {c} -> {d}, if `sts:ExternalId` is `e-1`"])
+        same(
+            out.splitlines()[-2:],
+            [
+                "1 more may come to it by assuming roles, with keys that nothing gives:",
+                f"  {ann} -> {a} -> {b} -> {c} -> {d}, if `sts:ExternalId` is `e-1`",
+            ],
+        )
     # Where the request itself wants a key, nobody comes to it without.
     made["principals"][5]["identity"][0]["Statement"][0]["Condition"] = {"Bool": {"k": "true"}}
     out, _ = aws("who-can", "s3:GetObject", "b/k", "--world", file(made), "--chains", "--depth", "1")
-    same(out.splitlines()[-2:], ["1 more may come to it by assuming roles, with keys that nothing gives:", f"  {c} -> {d}, if `k` is `true`"])
+    same(
+        out.splitlines()[-2:],
+        ["1 more may come to it by assuming roles, with keys that nothing gives:", f"  {c} -> {d}, if `k` is `true`"],
+    )
 
 
 def test_a_name_stands_behind_the_parts_of_a_pattern():

@@ -9,20 +9,46 @@ import shutil
 import subprocess
 import tempfile
 
-from harness import (EXAMPLES, IAMSIM, Skipped, TOOLS, answer, data, document, matrix, on_all_processors, row_world, run, same, small_world,
-                     statement)
+from harness import (
+    EXAMPLES,
+    IAMSIM,
+    Skipped,
+    TOOLS,
+    answer,
+    data,
+    document,
+    matrix,
+    on_all_processors,
+    row_world,
+    run,
+    same,
+    small_world,
+    statement,
+)
 
 HERE = os.path.dirname(os.path.abspath(__file__))
 
 # What may stand on standard error where memory was refused.
-LINES = [b"", b"fault 2 World: 10 OutOfMemory\n", b"fault 3 Matrix: 2 OutOfMemory\n", b"fault 6 Cut: 4 OutOfMemory\n", b"fault 7 OutOfMemory\n"]
+LINES = [
+    b"",
+    b"fault 2 World: 10 OutOfMemory\n",
+    b"fault 3 Matrix: 2 OutOfMemory\n",
+    b"fault 6 Cut: 4 OutOfMemory\n",
+    b"fault 7 OutOfMemory\n",
+]
 
 FORMS = [form.split() for form in ("--format csv", "--format csv --brief", "--format json", "--format json --brief")]
 MATRICES = [["matrix", "--workers", workers, *form] for workers in ("1", "4") for form in FORMS]
 FIRSTS = [["first", "--workers", workers] for workers in ("1", "4")]
 ASKED = ["--principal", "*", "--action", "S3:*"]
-SELECTED = [*(["matrix", "--workers", workers, *form, *ASKED, "--decision", "allowed"] for workers in ("1", "4") for form in (FORMS[0], FORMS[3])),
-            ["first", "--workers", "4", *ASKED]]
+SELECTED = [
+    *(
+        ["matrix", "--workers", workers, *form, *ASKED, "--decision", "allowed"]
+        for workers in ("1", "4")
+        for form in (FORMS[0], FORMS[3])
+    ),
+    ["first", "--workers", "4", *ASKED],
+]
 COMMANDS = [["check"], ["decide", "0", "0", "0"], *MATRICES, *FIRSTS, *SELECTED]
 
 # The ways of the allocator that refuse.c knows, and those that it does not.
@@ -104,19 +130,31 @@ def test_answers_where_nothing_is_refused():
 
 
 def test_refused_memory():
-    jobs = [("REFUSE_CALL", later, words, world) for world in worlds().values() for words in COMMANDS for later in (0, 1)]
+    jobs = [
+        ("REFUSE_CALL", later, words, world) for world in worlds().values() for words in COMMANDS for later in (0, 1)
+    ]
     tell("refused memory", *refused(IAMSIM, jobs))
 
 
 def test_memory_refused_where_the_world_is_a_file():
     files = [*(os.path.join(EXAMPLES, f"{name}.json") for name in ("smallest", "faulty")), "no-such-file", "/", "a\nb"]
-    jobs = [("REFUSE_CALL", later, [*words, path], b"") for path in files for words in (["check"], ["matrix"], ["matrix", *ASKED]) for later in (0, 1)]
+    jobs = [
+        ("REFUSE_CALL", later, [*words, path], b"")
+        for path in files
+        for words in (["check"], ["matrix"], ["matrix", *ASKED])
+        for later in (0, 1)
+    ]
     tell("memory refused where the world is a file", *refused(IAMSIM, jobs))
 
 
 def test_refused_threads():
     many = [["matrix", "--workers", "64", "--tile", "1"], ["first", "--workers", "64", "--tile", "1"]]
-    jobs = [("REFUSE_THREAD", later, words, world) for world in worlds().values() for words in [*MATRICES, *FIRSTS, *SELECTED, *many] for later in (0, 1)]
+    jobs = [
+        ("REFUSE_THREAD", later, words, world)
+        for world in worlds().values()
+        for words in [*MATRICES, *FIRSTS, *SELECTED, *many]
+        for later in (0, 1)
+    ]
     tell("refused threads", *refused(IAMSIM, jobs))
 
 
@@ -133,7 +171,11 @@ def test_a_survey_that_is_refused():
     for count, threads in [(181, 3), (182, 6)]:
         met, findings = refused(IAMSIM, [("REFUSE_THREAD", 0, ["matrix"], lone(count))])
         same((met - 1, findings), (threads, []), count)
-    jobs = [("REFUSE_CALL", later, ["matrix", *more], lone(182)) for more in ([], ["--format", "json", "--tile", "50"]) for later in (0, 1)]
+    jobs = [
+        ("REFUSE_CALL", later, ["matrix", *more], lone(182))
+        for more in ([], ["--format", "json", "--tile", "50"])
+        for later in (0, 1)
+    ]
     tell("a survey that was refused", *refused(IAMSIM, jobs, step=11))
 
 
@@ -149,12 +191,20 @@ def met(words, world, **setting):
 def test_what_only_saves_work_refuses_no_answer():
     # What an action element matches takes as many bytes as there are actions, what a resource element matches as there are
     # resources; no other block of the program has such a size. Refused all of them, it answers as it does with them.
-    allowed = document(statement(action=["s3:Get*", "ec2:*"]), statement(action="s3:*1?"), statement(resource="arn:aws:s3:::b/*"))
+    allowed = document(
+        statement(action=["s3:Get*", "ec2:*"]), statement(action="s3:*1?"), statement(resource="arn:aws:s3:::b/*")
+    )
     actions = small_world(allowed, actions=[f"s3:Get{n}" for n in range(1013)])
-    resources = small_world(allowed, resources=[{"arn": f"arn:aws:s3:::b/{n}", "account": "111122223333"} for n in range(977)])
+    resources = small_world(
+        allowed, resources=[{"arn": f"arn:aws:s3:::b/{n}", "account": "111122223333"} for n in range(977)]
+    )
     for world, size, least in [(actions, 1013, 3), (resources, 977, 2)]:
         text = json.dumps(world).encode()
-        for words in (["matrix", "--workers", "1"], ["matrix", "--workers", "4", "--brief"], ["matrix", "--format", "json"]):
+        for words in (
+            ["matrix", "--workers", "1"],
+            ["matrix", "--workers", "4", "--brief"],
+            ["matrix", "--format", "json"],
+        ):
             count, found = met(words, text, REFUSE_SIZE=str(size))
             same(found, answer(words, text))
             assert count >= least, f"{words}: {count} blocks of {size} bytes refused"
@@ -186,13 +236,19 @@ def test_an_engine_that_was_refused():
 
 def test_a_small_machine():
     accounts = ",".join(f'{{"id":"{n:012}"}}' for n in range(200_000))
-    world = (f'{{"moment":0,"accounts":[{accounts}],"principals":[{{"user":"arn:aws:iam::000000000007:user/ann"}}],'
-             '"actions":["s3:GetObject"],"resources":[{"arn":"*","account":"000000000007"}]}').encode()
+    world = (
+        f'{{"moment":0,"accounts":[{accounts}],"principals":[{{"user":"arn:aws:iam::000000000007:user/ann"}}],'
+        '"actions":["s3:GetObject"],"resources":[{"arn":"*","account":"000000000007"}]}'
+    ).encode()
     row = b"0,arn:aws:iam::000000000007:user/ann,s3:GetObject,*,implicitDeny,,identity\n"
-    for words, text in [("check", b"ok principals 1 actions 1 resources 1 cells 1 statements 0\n"),
-                        ("matrix --workers 64", b"cell,principal,action,resource,decision,statements,lacks\n" + row)]:
+    for words, text in [
+        ("check", b"ok principals 1 actions 1 resources 1 cells 1 statements 0\n"),
+        ("matrix --workers 64", b"cell,principal,action,resource,decision,statements,lacks\n" + row),
+    ]:
         # So many KiB of address space: from what the C library alone fills nearly, to where nothing is refused.
-        found = [answer(["-c", f'ulimit -v {8000 << n}; exec "$0" {words}', IAMSIM], world, program="bash") for n in range(9)]
+        found = [
+            answer(["-c", f'ulimit -v {8000 << n}; exec "$0" {words}', IAMSIM], world, program="bash") for n in range(9)
+        ]
         right = [(0, text, b""), *((1, b"", line) for line in LINES[1:])]
         same([it for it in found if it not in right], [], words)
         same((found[0] in right[1:], found[-1]), (True, right[0]), words)
@@ -229,8 +285,15 @@ int main(void)
 
 
 def test_what_is_wrong_is_found():
-    for otherwise, is_wrong in [("", False), ("*(volatile char *)block = 1", True), ('write(1, "who", 3)', True), ("for (;;)", True),
-                                ('write(2, "?", 1)', True), ("_exit(0)", True), ("_exit(1)", False)]:
+    for otherwise, is_wrong in [
+        ("", False),
+        ("*(volatile char *)block = 1", True),
+        ('write(1, "who", 3)', True),
+        ("for (;;)", True),
+        ('write(2, "?", 1)', True),
+        ("_exit(0)", True),
+        ("_exit(1)", False),
+    ]:
         program = built(CARELESS.replace("OTHERWISE", otherwise), "-w")
         for later in (0, 1):
             _, findings = refused(program, [("REFUSE_CALL", later, [], b"")], seconds=1)
@@ -247,12 +310,16 @@ def test_every_kind_of_element_takes_part():
     ann, dev = "arn:aws:iam::111122223333:user/ann", "arn:aws:sts::444455556666:assumed-role/dev/s1"
     get, put, plain, sealed = "s3:GetObject", "s3:PutObject", "arn:aws:s3:::ann/k", 'arn:aws:s3:::ann/\u00e9,"k"'
     org, control = "org/0/0/0 org/1/0/0", "control/0/0/0 control/1/0/0"
-    same(found, {
-        (ann, get, plain): ("allowed", f"{org} {control} identity/0/0", ""),
-        (ann, get, sealed): ("implicitDeny", f"{org} identity/0/0", "resource"),
-        (ann, put, plain): ("implicitDeny", f"{org} control/0/0/0", "control identity"),
-        (ann, put, sealed): ("implicitDeny", org, "resource identity"),
-        (dev, get, plain): ("allowed", f"{control} resource/0/0 identity/0/0 boundary/0/0 session/0/0", ""),
-        (dev, get, sealed): ("implicitDeny", "identity/0/0 boundary/0/0 session/0/0", "resource"),
-        (dev, put, plain): ("implicitDeny", "control/0/0/0 boundary/0/0", "control resource identity session"),
-        (dev, put, sealed): ("implicitDeny", "boundary/0/0", "resource identity session")})
+    same(
+        found,
+        {
+            (ann, get, plain): ("allowed", f"{org} {control} identity/0/0", ""),
+            (ann, get, sealed): ("implicitDeny", f"{org} identity/0/0", "resource"),
+            (ann, put, plain): ("implicitDeny", f"{org} control/0/0/0", "control identity"),
+            (ann, put, sealed): ("implicitDeny", org, "resource identity"),
+            (dev, get, plain): ("allowed", f"{control} resource/0/0 identity/0/0 boundary/0/0 session/0/0", ""),
+            (dev, get, sealed): ("implicitDeny", "identity/0/0 boundary/0/0 session/0/0", "resource"),
+            (dev, put, plain): ("implicitDeny", "control/0/0/0 boundary/0/0", "control resource identity session"),
+            (dev, put, sealed): ("implicitDeny", "boundary/0/0", "resource identity session"),
+        },
+    )

@@ -35,12 +35,18 @@ def claims():
         for crate, names in re.findall(r"`(iam_\w+)`: ([^.]*)\.", said):
             # Of a crate whose definitions stand in one below it, functions alone are named.
             definitions, _, functions = names.rpartition("; ")
-            found.setdefault(section, []).append((crate, re.findall(r"`(\w+)`", definitions), re.findall(r"`(\w+)\(\)`", functions)))
+            found.setdefault(section, []).append(
+                (crate, re.findall(r"`(\w+)`", definitions), re.findall(r"`(\w+)\(\)`", functions))
+            )
     return found
 
 
 def specs(crate="*"):
-    return [it for it in glob.glob(f"{TOP}/crates/{crate}/specs/*.antt") if os.path.basename(it) not in ("Lib.antt", "Code.antt")]
+    return [
+        it
+        for it in glob.glob(f"{TOP}/crates/{crate}/specs/*.antt")
+        if os.path.basename(it) not in ("Lib.antt", "Code.antt")
+    ]
 
 
 def cited(path):

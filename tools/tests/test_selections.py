@@ -11,10 +11,14 @@ GET, PUT, DECRYPT = "s3:GetObject", "S3:PutObject", "kms:Decrypt"
 K, Q = "arn:aws:s3:::b/k", "arn:aws:s3:::b/q"
 
 WORLD = {
-    "moment": 0, "accounts": [{"id": "111122223333"}],
-    "principals": [{"user": ANN, "identity": [document(statement(action="s3:*"), statement("Deny", "s3:PutObject", K))]},
-                   {"user": BOB, "identity": [document(statement(action=GET, resource=K))]}],
-    "actions": [GET, PUT, DECRYPT], "resources": [{"arn": it, "account": "111122223333"} for it in (K, Q)],
+    "moment": 0,
+    "accounts": [{"id": "111122223333"}],
+    "principals": [
+        {"user": ANN, "identity": [document(statement(action="s3:*"), statement("Deny", "s3:PutObject", K))]},
+        {"user": BOB, "identity": [document(statement(action=GET, resource=K))]},
+    ],
+    "actions": [GET, PUT, DECRYPT],
+    "resources": [{"arn": it, "account": "111122223333"} for it in (K, Q)],
 }
 TEXT = json.dumps(WORLD).encode()
 
@@ -84,9 +88,17 @@ SELECTIONS = [
 
 # What is asked for, and the first cell of those that is allowed.
 FIRSTS = [
-    ("--principal *", 0), ("--principal *bob", 6), ("--action *:put*", 3), ("--action kms:*", None), ("--resource *q", 1), ("--resource *q --action s3:p*", 3),
-    ("--principal *bob --resource *q", None), ("--principal nobody", None), ("--principal *bob --principal *ann", 0),
-    (f"--principal {BOB} --action S3:getOBJECT --resource {K}", 6), (f"--principal {ANN} --action {PUT} --resource {K}", None),
+    ("--principal *", 0),
+    ("--principal *bob", 6),
+    ("--action *:put*", 3),
+    ("--action kms:*", None),
+    ("--resource *q", 1),
+    ("--resource *q --action s3:p*", 3),
+    ("--principal *bob --resource *q", None),
+    ("--principal nobody", None),
+    ("--principal *bob --principal *ann", 0),
+    (f"--principal {BOB} --action S3:getOBJECT --resource {K}", 6),
+    (f"--principal {ANN} --action {PUT} --resource {K}", None),
 ]
 
 
@@ -104,7 +116,10 @@ def made(row, is_brief):
 def reports(cells):
     """The reports of these cells, under the words that ask for each."""
     rows = [ROWS[cell] for cell in cells]
-    texts = {"": HEADER + "".join(line(row, 7) for row in rows), "--brief": BRIEF_HEADER + "".join(line(row, 5) for row in rows)}
+    texts = {
+        "": HEADER + "".join(line(row, 7) for row in rows),
+        "--brief": BRIEF_HEADER + "".join(line(row, 5) for row in rows),
+    }
     for words, is_brief in (("--format json", False), ("--format json --brief", True)):
         texts[words] = json.dumps([made(row, is_brief) for row in rows], separators=(",", ":"), sort_keys=True) + "\n"
     return {words: (0, text.encode(), b"") for words, text in texts.items()}
@@ -164,9 +179,25 @@ def test_a_world_without_cells():
 
 def test_texts_with_signs_of_patterns_and_of_csv():
     arns = ["*", "arn:aws:s3:::b/?", 'arn:aws:s3:::a,"b"', "arn:aws:s3:::b/${aws:username}", "arn:aws:s3:::é"]
-    text = json.dumps({**WORLD, "principals": WORLD["principals"][1:], "actions": [GET], "resources": [{"arn": it, "account": "111122223333"} for it in arns]}).encode()
+    text = json.dumps(
+        {
+            **WORLD,
+            "principals": WORLD["principals"][1:],
+            "actions": [GET],
+            "resources": [{"arn": it, "account": "111122223333"} for it in arns],
+        }
+    ).encode()
     fields = ["*", "arn:aws:s3:::b/?", '"arn:aws:s3:::a,""b"""', "arn:aws:s3:::b/${aws:username}", "arn:aws:s3:::é"]
-    for pattern, cells in (("?", [0]), ("*", [0, 1, 2, 3, 4]), ("arn:aws:s3:::b/?", [1]), ('*,"b"', [2]), ("*,*", [2]), ("*${aws:username}", [3]), ("*:::?", [4]), ("*\\*", [])):
+    for pattern, cells in (
+        ("?", [0]),
+        ("*", [0, 1, 2, 3, 4]),
+        ("arn:aws:s3:::b/?", [1]),
+        ('*,"b"', [2]),
+        ("*,*", [2]),
+        ("*${aws:username}", [3]),
+        ("*:::?", [4]),
+        ("*\\*", []),
+    ):
         lines = "".join(f"{cell},{BOB},{GET},{fields[cell]},implicitDeny,,identity\n" for cell in cells)
         same(answer(["matrix", "--resource", pattern], text), (0, (HEADER + lines).encode(), b""), pattern)
 
@@ -177,7 +208,10 @@ def test_a_session_is_asked_for_by_its_own_name():
     _, whole, _ = answer(["matrix", "--brief", roles])
     rows = [it for it in whole.decode().splitlines(True) if f",{build}," in it]
     same(len(rows), 4)
-    same(answer(["matrix", "--brief", roles, "--principal", "*:assumed-role/build/*"]), (0, (BRIEF_HEADER + "".join(rows)).encode(), b""))
+    same(
+        answer(["matrix", "--brief", roles, "--principal", "*:assumed-role/build/*"]),
+        (0, (BRIEF_HEADER + "".join(rows)).encode(), b""),
+    )
     same(answer(["matrix", "--brief", roles, "--principal", "*:role/build"]), (0, BRIEF_HEADER.encode(), b""))
 
 
@@ -185,24 +219,51 @@ def test_many_cells():
     # Of 120 actions the eleven that are 7 or begin with it, of 120 resources the eleven that end with 3 below 110.
     actions, resources = [7, *range(70, 80)], [n for n in range(3, 104, 10)]
     user = "arn:aws:iam::111122223333:user/ann"
-    rows = "".join(f"{120 * a + r},{user},s3:Get{a},arn:aws:s3:::b/{r},implicitDeny\n" for a in actions for r in resources)
-    asked = ["--action", "s3:get7", "--action", "S3:GET7?", "--resource", "*/3", "--resource", "*/?3", "--resource", "*/103"]
+    rows = "".join(
+        f"{120 * a + r},{user},s3:Get{a},arn:aws:s3:::b/{r},implicitDeny\n" for a in actions for r in resources
+    )
+    asked = [
+        "--action",
+        "s3:get7",
+        "--action",
+        "S3:GET7?",
+        "--resource",
+        "*/3",
+        "--resource",
+        "*/?3",
+        "--resource",
+        "*/103",
+    ]
     world = many_cells()
     for workers in ("1", "4", "64"):
         for more in ([], ["--tile", "7"], ["--tile", "14400"], ["--decision", "implicitDeny"]):
             found = answer(["matrix", "--brief", "--workers", workers, *more, *asked], world)
             same(found, (0, (BRIEF_HEADER + rows).encode(), b""), f"{workers} {more}")
-        same(answer(["matrix", "--brief", "--workers", workers, "--decision", "allowed"], world), (0, BRIEF_HEADER.encode(), b""))
+        same(
+            answer(["matrix", "--brief", "--workers", workers, "--decision", "allowed"], world),
+            (0, BRIEF_HEADER.encode(), b""),
+        )
         same(answer(["first", "--workers", workers, *asked], world), (0, BRIEF_HEADER.encode(), b""))
 
 
 def test_faults_are_those_of_the_matrix():
-    for words, fault in (("--workers 0", "3 Matrix: 1 Workers"), ("--workers 65", "3 Matrix: 1 Workers"), ("--tile 0", "6 Cut: 1 ZeroTile"), ("--tile 0 --workers 0", "6 Cut: 1 ZeroTile")):
+    for words, fault in (
+        ("--workers 0", "3 Matrix: 1 Workers"),
+        ("--workers 65", "3 Matrix: 1 Workers"),
+        ("--tile 0", "6 Cut: 1 ZeroTile"),
+        ("--tile 0 --workers 0", "6 Cut: 1 ZeroTile"),
+    ):
         for command in ("matrix", "first"):
             for asked in ("--principal *", "--principal nobody"):
-                same(answer([command, *words.split(), *asked.split()], TEXT), (1, b"", f"fault {fault}\n".encode()), f"{command} {words} {asked}")
+                same(
+                    answer([command, *words.split(), *asked.split()], TEXT),
+                    (1, b"", f"fault {fault}\n".encode()),
+                    f"{command} {words} {asked}",
+                )
     # What is not asked for is read too.
-    bad = json.dumps({**WORLD, "principals": [{"user": ANN, "identity": [{"Version": "2012-10-17"}]}, *WORLD["principals"][1:]]}).encode()
+    bad = json.dumps(
+        {**WORLD, "principals": [{"user": ANN, "identity": [{"Version": "2012-10-17"}]}, *WORLD["principals"][1:]]}
+    ).encode()
     whole = answer(["matrix"], bad)
     same((whole[0], whole[2].startswith(b"fault 2 World: 8 Policy at principals/0/identity/0: ")), (1, True), whole)
     same(answer(["matrix", "--principal", BOB], bad), whole)
@@ -210,10 +271,27 @@ def test_faults_are_those_of_the_matrix():
 
 
 def test_words_that_are_refused():
-    for words in ("matrix --decision Allowed", "matrix --decision deny", "matrix --decision explicitdeny", "matrix --decision allowed,explicitDeny", "matrix --decision",
-                  "matrix --principal", "matrix --action", "matrix --resource", "matrix --principal --brief", "matrix --principal=", "matrix --action -x",
-                  "first --decision allowed", "check --principal *", "check --decision allowed", "decide 0 0 0 --action *", "decide 0 0 0 --resource *",
-                  "matrix --principals *", "matrix --statement *", "first --brief --action *"):
+    for words in (
+        "matrix --decision Allowed",
+        "matrix --decision deny",
+        "matrix --decision explicitdeny",
+        "matrix --decision allowed,explicitDeny",
+        "matrix --decision",
+        "matrix --principal",
+        "matrix --action",
+        "matrix --resource",
+        "matrix --principal --brief",
+        "matrix --principal=",
+        "matrix --action -x",
+        "first --decision allowed",
+        "check --principal *",
+        "check --decision allowed",
+        "decide 0 0 0 --action *",
+        "decide 0 0 0 --resource *",
+        "matrix --principals *",
+        "matrix --statement *",
+        "first --brief --action *",
+    ):
         status, out, said = answer(words.split(), TEXT)
         same((status, out, said.startswith(b"error: ")), (2, b"", True), f"{words}: {said}")
     for option in ("--principal", "--action", "--resource", "--decision"):

@@ -24,23 +24,43 @@ def bucket(*statements, arn=BUCKET, account="111122223333"):
 
 def outside(action, resources, *words, exports=(EXPORT,), resource=BUCKET):
     """{stand-in: whether it is allowed} of who-can."""
-    out, _ = aws("who-can", action, resource, *exports, "--resources", resources, *words, "--format", "json", "--session", "s1")
+    out, _ = aws(
+        "who-can", action, resource, *exports, "--resources", resources, *words, "--format", "json", "--session", "s1"
+    )
     return {it["principal"]: it["decision"] == "allowed" for it in json.loads(out) if it["outside"]}
 
 
 def test_whom_a_policy_names():
     """Who is of an account without an export, as the policy names them; nobody of an account that has one."""
     role, user = "arn:aws:iam::999988887777:role/team/r", "arn:aws:iam::999988887777:user/u"
-    cases = [(grant("999988887777"), {OUT: True}), (grant("arn:aws:iam::999988887777:root"), {OUT: True}), (grant(role), {SESSION_R: True}),
-             (grant("arn:aws:sts::999988887777:assumed-role/r/s"), {SESSION_S: True}), (grant(user), {f"outside: {user}": True}),
-             (grant("*"), {ANY: True}), ({**grant(), "Principal": "*"}, {ANY: True}), (grant("999988887777", user, "*"), {OUT: True, f"outside: {user}": True, ANY: True}),
-             (grant("999988887777", action="s3:PutObject"), {OUT: False}),
-             (grant(f"{ACCOUNT}user/alice"), {}), (grant("999988887777", effect="Deny"), {}), ({**grant(), "Principal": {"Service": "s3.amazonaws.com"}}, {}),
-             (grant("AIDAALICEALICEALICE00"), {})]
+    cases = [
+        (grant("999988887777"), {OUT: True}),
+        (grant("arn:aws:iam::999988887777:root"), {OUT: True}),
+        (grant(role), {SESSION_R: True}),
+        (grant("arn:aws:sts::999988887777:assumed-role/r/s"), {SESSION_S: True}),
+        (grant(user), {f"outside: {user}": True}),
+        (grant("*"), {ANY: True}),
+        ({**grant(), "Principal": "*"}, {ANY: True}),
+        (grant("999988887777", user, "*"), {OUT: True, f"outside: {user}": True, ANY: True}),
+        (grant("999988887777", action="s3:PutObject"), {OUT: False}),
+        (grant(f"{ACCOUNT}user/alice"), {}),
+        (grant("999988887777", effect="Deny"), {}),
+        ({**grant(), "Principal": {"Service": "s3.amazonaws.com"}}, {}),
+        (grant("AIDAALICEALICEALICE00"), {}),
+    ]
     for one, wanted in cases:
         same(outside("s3:GetObject", bucket(one)), wanted, one)
     # A deny reaches them, and the policy that grants is another statement.
-    same(outside("s3:GetObject", bucket(grant("*"), grant("*", effect="Deny", Condition={"StringNotEquals": {"aws:PrincipalAccount": "111122223333"}}))), {ANY: False})
+    same(
+        outside(
+            "s3:GetObject",
+            bucket(
+                grant("*"),
+                grant("*", effect="Deny", Condition={"StringNotEquals": {"aws:PrincipalAccount": "111122223333"}}),
+            ),
+        ),
+        {ANY: False},
+    )
     # With its export an account is asked as it is: carol and tool may nothing of s3.
     carol = grant("444455556666")
     same(outside("s3:GetObject", bucket(carol)), {"anyone outside: account 444455556666": True})
@@ -50,10 +70,12 @@ def test_whom_a_policy_names():
 def test_who_is_chosen_by_a_condition():
     where = lambda operator, key, value: grant("*", Condition={operator: {key: value}})
     deploy = "outside: arn:aws:sts::999988887777:assumed-role/deploy-x/s1"
-    cases = [(where("StringEquals", "aws:PrincipalAccount", "999988887777"), {ANY: False, OUT: True}),
-             (where("ArnLike", "AWS:principalarn", "arn:aws:iam::999988887777:role/deploy-*"), {ANY: False, deploy: True}),
-             (where("StringNotEquals", "aws:PrincipalAccount", "111122223333"), {ANY: True}),
-             (where("StringEquals", "aws:PrincipalAccount", "111122223333"), {ANY: False})]
+    cases = [
+        (where("StringEquals", "aws:PrincipalAccount", "999988887777"), {ANY: False, OUT: True}),
+        (where("ArnLike", "AWS:principalarn", "arn:aws:iam::999988887777:role/deploy-*"), {ANY: False, deploy: True}),
+        (where("StringNotEquals", "aws:PrincipalAccount", "111122223333"), {ANY: True}),
+        (where("StringEquals", "aws:PrincipalAccount", "111122223333"), {ANY: False}),
+    ]
     for one, wanted in cases:
         same(outside("s3:GetObject", bucket(one)), wanted, one)
 
@@ -76,19 +98,43 @@ def test_who_can_names_them_apart():
     lines = out.splitlines()
     # alice, bob and deploy read by policies of their own.
     same(lines[0], "3 of 8 principals are allowed, by 3 of 8 requests")
-    same(lines[-4:], ["1 of 1 stand-ins for who is outside the exports are allowed, where their own accounts let them",
-                      f"allowed: {OUT} s3:GetObject {BUCKET}", f"  allowed by {BUCKET} policy, statement 0 (the resource's policy)",
-                      "  allowed by what its own account may allow (assumed), statement 0 (identity policy)"])
-    out, _ = aws("who-can", "s3:GetObject", BUCKET, EXPORT, "--resources", bucket(grant("999988887777")), "--format", "csv")
+    same(
+        lines[-4:],
+        [
+            "1 of 1 stand-ins for who is outside the exports are allowed, where their own accounts let them",
+            f"allowed: {OUT} s3:GetObject {BUCKET}",
+            f"  allowed by {BUCKET} policy, statement 0 (the resource's policy)",
+            "  allowed by what its own account may allow (assumed), statement 0 (identity policy)",
+        ],
+    )
+    out, _ = aws(
+        "who-can", "s3:GetObject", BUCKET, EXPORT, "--resources", bucket(grant("999988887777")), "--format", "csv"
+    )
     same([row[0] for row in csv.reader(io.StringIO(out))][-1], OUT)
     # The role trusts 444455556666 with a key that nothing gives.
     out, _ = aws("who-can", "sts:AssumeRole", "role/app/partner", EXPORT)
-    same(out.splitlines()[-6:-3], ["0 of 1 stand-ins for who is outside the exports are allowed, where their own accounts let them",
-                                   "1 more would be, with a key that nothing gives:",
-                                   f"implicitDeny: anyone outside: account 444455556666 sts:AssumeRole {ACCOUNT}role/app/partner"])
+    same(
+        out.splitlines()[-6:-3],
+        [
+            "0 of 1 stand-ins for who is outside the exports are allowed, where their own accounts let them",
+            "1 more would be, with a key that nothing gives:",
+            f"implicitDeny: anyone outside: account 444455556666 sts:AssumeRole {ACCOUNT}role/app/partner",
+        ],
+    )
     assert "  allowed if `sts:ExternalId` is `e-1`\n" in out, out
     # `can` asks for those who are named, of the exports.
-    out, _ = aws("can", "*", "s3:GetObject", BUCKET, EXPORT, "--resources", bucket(grant("999988887777")), "--format", "json", status=3)
+    out, _ = aws(
+        "can",
+        "*",
+        "s3:GetObject",
+        BUCKET,
+        EXPORT,
+        "--resources",
+        bucket(grant("999988887777")),
+        "--format",
+        "json",
+        status=3,
+    )
     same((len(json.loads(out)), any(it["outside"] for it in json.loads(out))), (8, False))
 
 
@@ -96,11 +142,21 @@ def test_they_may_come_by_roles():
     """Whoever of 999988887777 may assume the role that reads."""
     role = "arn:aws:iam::111122223333:role/reader"
     trust = document({"Effect": "Allow", "Principal": {"AWS": "999988887777"}, "Action": "sts:AssumeRole"})
-    made = small_world(resources=[{"arn": BUCKET, "account": "111122223333"}, {"arn": role, "account": "111122223333", "sealed": True, "policy": trust}])
+    made = small_world(
+        resources=[
+            {"arn": BUCKET, "account": "111122223333"},
+            {"arn": role, "account": "111122223333", "sealed": True, "policy": trust},
+        ]
+    )
     made["principals"].append({"role": role, "session": "s", "identity": [document(statement(action="s3:*"))]})
     out, _ = aws("who-can", "s3:GetObject", BUCKET, "--world", file(made), "--chains")
-    same(out.splitlines()[-2:], ["1 more may come to it by assuming at most 3 roles one after the other:",
-                                 f"  {OUT} -> arn:aws:sts::111122223333:assumed-role/reader/s"])
+    same(
+        out.splitlines()[-2:],
+        [
+            "1 more may come to it by assuming at most 3 roles one after the other:",
+            f"  {OUT} -> arn:aws:sts::111122223333:assumed-role/reader/s",
+        ],
+    )
 
 
 def rules(text, resources, status, *words):
@@ -111,10 +167,17 @@ def rules(text, resources, status, *words):
 def test_a_never_is_broken_by_them():
     rule, own = f"never * s3:GetObject {BUCKET} except alice bob deploy", bucket(grant(f"{ACCOUNT}user/alice"))
     rules(f"{rule}\n", own, 0)
-    for who, name in (("999988887777", OUT), ("*", ANY), ("arn:aws:iam::999988887777:role/r", SESSION_R.replace("/s1", "/session"))):
+    for who, name in (
+        ("999988887777", OUT),
+        ("*", ANY),
+        ("arn:aws:iam::999988887777:role/r", SESSION_R.replace("/s1", "/session")),
+    ):
         out, _ = rules(f"{rule}\n", bucket(grant(f"{ACCOUNT}user/alice"), grant(who)), 3)
         # With everybody the other five of the account come in too.
-        assert f"  {name} may s3:GetObject {BUCKET}: allowed by {BUCKET} policy, statement 1 (the resource's policy)" in out, out
+        assert (
+            f"  {name} may s3:GetObject {BUCKET}: allowed by {BUCKET} policy, statement 1 (the resource's policy)"
+            in out
+        ), out
     rules(f"never * s3:PutObject {BUCKET} except bob\n", bucket(grant("*")), 0)
     # `always` asks for the principals of the exports.
     rules(f"always alice s3:GetObject {BUCKET}\nalways * s3:GetObject {BUCKET}\n", bucket(grant("*")), 0)
@@ -122,14 +185,26 @@ def test_a_never_is_broken_by_them():
 
 def test_exceptions_mean_all_of_an_account():
     rule, given = f"never * s3:GetObject {BUCKET} except alice bob deploy", bucket(grant("999988887777"))
-    for pattern, status in (("arn:aws:iam::999988887777:*", 0), ("*", 4), ("*:user/*", 3), ("*:role/*", 3), ("arn:aws:iam::123412341234:*", 3)):
+    for pattern, status in (
+        ("arn:aws:iam::999988887777:*", 0),
+        ("*", 4),
+        ("*:user/*", 3),
+        ("*:role/*", 3),
+        ("arn:aws:iam::123412341234:*", 3),
+    ):
         _, said = rules(f"{rule} {pattern}\n", given, status)
         same("matches no principal" in said, pattern == "arn:aws:iam::123412341234:*", pattern)
     rules(f"{rule} *:user/* *:role/*\n", given, 4)
     # Who is named by an ARN is excepted by it.
     rules(f"{rule} *:role/r\n", bucket(grant("arn:aws:iam::999988887777:role/r")), 0)
     # A rule may be of users or of roles alone, and of an account that no policy names.
-    for pattern, status in (("*:user/*", 3), ("*:role/*", 3), ("arn:aws:iam::999988887777:*", 3), ("*:role/worker", 0), ("arn:aws:iam::444455556666:*", 0)):
+    for pattern, status in (
+        ("*:user/*", 3),
+        ("*:role/*", 3),
+        ("arn:aws:iam::999988887777:*", 3),
+        ("*:role/worker", 0),
+        ("arn:aws:iam::444455556666:*", 0),
+    ):
         rules(f"never {pattern} s3:GetObject {BUCKET} except alice bob\n", given, status)
 
 
@@ -137,17 +212,28 @@ def test_changes_show_what_they_gain():
     nothing, open_to = bucket(), file(document(grant("999988887777")))
     words = ["--resources", nothing, "--put", f"releases={open_to}", "--action", "s3:GetObject", "--resource", BUCKET]
     out, _ = aws("changes", EXPORT, *words)
-    same(out.splitlines(), ["0 lost and 1 gained, of 9 requests", "gained:", f"+ {OUT} s3:GetObject {BUCKET}",
-                            "    allowed by arn:aws:s3:::releases policy, statement 0 (the resource's policy)",
-                            "    allowed by what its own account may allow (assumed), statement 0 (identity policy)"])
+    same(
+        out.splitlines(),
+        [
+            "0 lost and 1 gained, of 9 requests",
+            "gained:",
+            f"+ {OUT} s3:GetObject {BUCKET}",
+            "    allowed by arn:aws:s3:::releases policy, statement 0 (the resource's policy)",
+            "    allowed by what its own account may allow (assumed), statement 0 (identity policy)",
+        ],
+    )
     out, _ = aws("changes", EXPORT, *words, "--format", "csv")
     same(list(csv.reader(io.StringIO(out)))[1][:6], ["gained", OUT, "s3:GetObject", BUCKET, "implicitDeny", "allowed"])
     out, _ = aws("changes", EXPORT, *words, "--format", "page")
     assert "arn:aws:iam::999988887777:user/(anyone)" in out and "what its own account may allow (assumed)" in out
     # A trust policy, and back.
     role = f"{ACCOUNT}role/app/audit"
-    trust = lambda *who: file(document({"Effect": "Allow", "Principal": {"AWS": list(who)}, "Action": "sts:AssumeRole"}))
-    changed = lambda given: [line for line in aws("changes", EXPORT, "--put", f"audit={given}")[0].splitlines() if line[0] in "+-"]
+    trust = lambda *who: file(
+        document({"Effect": "Allow", "Principal": {"AWS": list(who)}, "Action": "sts:AssumeRole"})
+    )
+    changed = lambda given: [
+        line for line in aws("changes", EXPORT, "--put", f"audit={given}")[0].splitlines() if line[0] in "+-"
+    ]
     same(changed(trust("999988887777", f"{ACCOUNT}user/alice")), [f"+ {OUT} sts:AssumeRole {role}"])
     same(changed(trust("arn:aws:iam::111122223333:user/alice")), [])
 
@@ -165,7 +251,10 @@ def test_members_of_the_organisation():
     # 444455556666 may not do this by its organisation's policies.
     bound = load(data("organization.json"))
     bound["targets"]["444455556666"] = [{"Id": "p-00000001", "Type": "SERVICE_CONTROL_POLICY"}]
-    same(outside("s3:PutObject", given, "--organization", file(bound)), {"anyone outside: account 444455556666": False, ANY: False})
+    same(
+        outside("s3:PutObject", given, "--organization", file(bound)),
+        {"anyone outside: account 444455556666": False, ANY: False},
+    )
 
 
 def test_who_is_not_asked():
@@ -179,7 +268,11 @@ def test_who_is_not_asked():
 
 def test_a_world_has_them_too():
     """Of a world that was made before those are outside whose accounts have no principal there."""
-    made = small_world(resources=[{"arn": BUCKET, "account": "111122223333", "policy": document(grant("999988887777", "111122223333"))}])
+    made = small_world(
+        resources=[
+            {"arn": BUCKET, "account": "111122223333", "policy": document(grant("999988887777", "111122223333"))}
+        ]
+    )
     out, _ = aws("rules", file(f"never * s3:GetObject {BUCKET}\n"), "--world", file(made), status=3)
     same([line.split(" may ")[0].strip() for line in out.splitlines()[1:-1]], [OUT])
     made["principals"].append({"user": "arn:aws:iam::999988887777:user/x"})

@@ -9,7 +9,15 @@ from harness import IAMSIM, AWS, aws, data, document, file, load, matrix, run, s
 ACCOUNT = "arn:aws:iam::111122223333:"
 SESSION = "arn:aws:sts::111122223333:assumed-role/"
 SUPPORT = "role/aws-service-role/support.amazonaws.com/AWSServiceRoleForSupport"
-ROLES = ["role/app/deploy", "role/app/audit", "role/app/partner", "role/worker", "role/people", "role/app/chain", SUPPORT]
+ROLES = [
+    "role/app/deploy",
+    "role/app/audit",
+    "role/app/partner",
+    "role/worker",
+    "role/people",
+    "role/app/chain",
+    SUPPORT,
+]
 
 # Who may assume which role of account.json, in the order of ROLES: '+' allowed, else the lacks, r resource,
 # i identity, b boundary.
@@ -51,8 +59,10 @@ def test_who_may_assume_which_role():
 
 def test_policies_of_groups_versions_and_paths():
     made = world(data("account.json"))
-    same([it.get("user") or it["role"] for it in made["principals"]][:3],
-         [f"{ACCOUNT}user/alice", f"{ACCOUNT}user/ops/bob", f"{ACCOUNT}role/app/deploy"])
+    same(
+        [it.get("user") or it["role"] for it in made["principals"]][:3],
+        [f"{ACCOUNT}user/alice", f"{ACCOUNT}user/ops/bob", f"{ACCOUNT}role/app/deploy"],
+    )
     alice, bob, deploy = made["principals"][:3]
     # ReadObjects comes by the user and by the group Readers, and stands once; of AssumeRoles the default version stands.
     sids = [it.get("Sid") for policy in alice["identity"] for it in policy["Statement"]]
@@ -67,12 +77,25 @@ def test_policies_of_groups_versions_and_paths():
 def test_objects_of_buckets():
     resources = [
         {"arn": "arn:aws:s3:::homes/alice/x", "account": "111122223333"},
-        {"arn": "arn:aws:s3:::homes/bob/x", "account": "111122223333", "policy": json.dumps(document(
-            {"Effect": "Allow", "Principal": {"AWS": f"{ACCOUNT}role/app/deploy"}, "Action": "s3:PutObject",
-             "Resource": "arn:aws:s3:::homes/*"}))},
+        {
+            "arn": "arn:aws:s3:::homes/bob/x",
+            "account": "111122223333",
+            "policy": json.dumps(
+                document(
+                    {
+                        "Effect": "Allow",
+                        "Principal": {"AWS": f"{ACCOUNT}role/app/deploy"},
+                        "Action": "s3:PutObject",
+                        "Resource": "arn:aws:s3:::homes/*",
+                    }
+                )
+            ),
+        },
         {"arn": "arn:aws:s3:::teams/red/x", "account": "111122223333"},
     ]
-    made = world("--actions", file("s3:GetObject # read\n\ns3:PutObject\n"), "--resources", file(resources), data("account.json"))
+    made = world(
+        "--actions", file("s3:GetObject # read\n\ns3:PutObject\n"), "--resources", file(resources), data("account.json")
+    )
     # Get and Put on each of the three objects: alice reads all and writes her home and her team's files; bob all; deploy
     # reads all, and the bucket's policy grants to the role; worker reads alice's home alone; the others have nothing.
     wanted = {
@@ -85,12 +108,15 @@ def test_objects_of_buckets():
         f"{SESSION}people/s1": ("i i i", "i i i"),
         f"{SESSION}chain/s1": ("i i i", "i i i"),
     }
-    same(cells(made), {
-        (who, action, it["arn"]): answer(word)
-        for who, rows in wanted.items()
-        for action, words in zip(("s3:GetObject", "s3:PutObject"), rows)
-        for it, word in zip(resources, words.split())
-    })
+    same(
+        cells(made),
+        {
+            (who, action, it["arn"]): answer(word)
+            for who, rows in wanted.items()
+            for action, words in zip(("s3:GetObject", "s3:PutObject"), rows)
+            for it, word in zip(resources, words.split())
+        },
+    )
 
 
 def test_two_accounts_under_an_organisation():
@@ -103,10 +129,15 @@ def test_two_accounts_under_an_organisation():
     same(cell(carol, role("role/app/partner")), ("allowed", "org/0/0/0 org/1/0/0 resource/0/0 identity/0/0", ""))
     same(cell(carol, role("role/app/audit")), ("implicitDeny", "org/0/0/0 org/1/0/0 identity/0/0", "resource"))
     same(cell(tool, role("role/app/partner")), ("implicitDeny", "org/0/0/0 org/1/0/0 resource/0/0", "identity"))
-    same(cell(tool, "arn:aws:iam::444455556666:role/tool"), ("implicitDeny", "org/0/0/0 org/1/0/0 resource/0/0", "identity"))
+    same(
+        cell(tool, "arn:aws:iam::444455556666:role/tool"),
+        ("implicitDeny", "org/0/0/0 org/1/0/0 resource/0/0", "identity"),
+    )
     same(cell(f"{ACCOUNT}user/alice", role("role/app/audit")), ("explicitDeny", "org/1/1/0", ""))
-    same(cell(f"{ACCOUNT}user/alice", role("role/app/deploy")),
-         ("allowed", "org/0/0/0 org/1/0/0 org/2/0/0 resource/0/0 identity/2/0", ""))
+    same(
+        cell(f"{ACCOUNT}user/alice", role("role/app/deploy")),
+        ("allowed", "org/0/0/0 org/1/0/0 org/2/0/0 resource/0/0 identity/2/0", ""),
+    )
     # Without the key the trust policy of partner does not match.
     found = matrix(world(*words[:2], data("account.json"), data("partner.json")))
     same(cell(carol, role("role/app/partner")), ("implicitDeny", "org/0/0/0 org/1/0/0 identity/0/0", "resource"))
@@ -118,8 +149,13 @@ def test_keys_of_the_organisation():
     same(alice["aws:PrincipalOrgID"], "o-example0001")
     same(alice["aws:PrincipalOrgPaths"], ["o-example0001/r-ab12/ou-ab12-11111111/"])
     same(made["resources"][0]["context"]["aws:ResourceOrgID"], "o-example0001")
-    made = world("--organization", data("organization.json"), "--context", file({"AWS:PrincipalOrgId": "o-other"}),
-                 data("account.json"))
+    made = world(
+        "--organization",
+        data("organization.json"),
+        "--context",
+        file({"AWS:PrincipalOrgId": "o-other"}),
+        data("account.json"),
+    )
     assert "aws:PrincipalOrgID" not in made["principals"][0]["context"], "the file's key stands alone"
 
 
@@ -150,13 +186,19 @@ def test_actions_of_iam_take_no_trust_policy():
     found = cells(made)
     same(found[f"{ACCOUNT}user/ops/bob", "iam:PassRole", ACCOUNT + "role/worker"], answer("b"))
     same(found[f"{ACCOUNT}user/alice", "iam:PassRole", ACCOUNT + "role/worker"], answer("i"))
-    assert "make a world of each" in world("--actions", file("iam:PassRole\nsts:AssumeRole\n"), data("account.json"), status=1)
+    assert "make a world of each" in world(
+        "--actions", file("iam:PassRole\nsts:AssumeRole\n"), data("account.json"), status=1
+    )
 
 
 def test_principals_and_resources_by_pattern():
-    made = world("--principal", "*:user/*", "--principal", "*/chain", "--resource", "*:role/app/?udit", data("account.json"))
-    same([it.get("user") or it["role"] for it in made["principals"]],
-         [f"{ACCOUNT}user/alice", f"{ACCOUNT}user/ops/bob", f"{ACCOUNT}role/app/chain"])
+    made = world(
+        "--principal", "*:user/*", "--principal", "*/chain", "--resource", "*:role/app/?udit", data("account.json")
+    )
+    same(
+        [it.get("user") or it["role"] for it in made["principals"]],
+        [f"{ACCOUNT}user/alice", f"{ACCOUNT}user/ops/bob", f"{ACCOUNT}role/app/chain"],
+    )
     same([it["arn"] for it in made["resources"]], [f"{ACCOUNT}role/app/audit"])
     said = world("--resource", "*:role/app/????it", data("account.json"), status=1)
     assert "the world has no resources" in said, said
@@ -187,14 +229,27 @@ def test_an_export_without_its_end_is_refused():
     for more in ({"NextToken": "eyJ"}, {"IsTruncated": True, "Marker": "x"}):
         part = file({**whole, **more})
         assert "the end of the export is missing" in world(part, status=1)
-        rest = file({"UserDetailList": [{"UserName": "zoe", "UserId": "AIDA0", "Arn": ACCOUNT + "user/zoe"}], "IsTruncated": False})
-        same([it.get("user") for it in world(part, rest)["principals"]][-1:] + [it.get("user") for it in world(rest, part)["principals"]][:1],
-             [None, ACCOUNT + "user/zoe"])
+        rest = file(
+            {
+                "UserDetailList": [{"UserName": "zoe", "UserId": "AIDA0", "Arn": ACCOUNT + "user/zoe"}],
+                "IsTruncated": False,
+            }
+        )
+        same(
+            [it.get("user") for it in world(part, rest)["principals"]][-1:]
+            + [it.get("user") for it in world(rest, part)["principals"]][:1],
+            [None, ACCOUNT + "user/zoe"],
+        )
 
 
 def test_a_policy_as_aws_answers_it():
     policy = document(statement("Allow", "s3:GetObject", "*", Principal="*"))
-    for given in (policy, json.dumps(policy), {"Policy": json.dumps(policy)}, {"Policy": json.dumps(policy), "PolicyName": "default"}):
+    for given in (
+        policy,
+        json.dumps(policy),
+        {"Policy": json.dumps(policy)},
+        {"Policy": json.dumps(policy), "PolicyName": "default"},
+    ):
         further = [{"arn": "arn:aws:s3:::b/k", "account": "111122223333", "policy": given}]
         made = world("--actions", file("s3:GetObject\n"), "--resources", file(further), data("account.json"))
         same(made["resources"][0]["policy"], policy)
@@ -213,9 +268,12 @@ def test_resource_control_policies_stand_with_resources():
         list_of_target.append(full)
     content = document({"Effect": "Allow", "Principal": "*", "Action": "*", "Resource": "*"})
     organization["policies"].append({"PolicySummary": full, "Content": json.dumps(content)})
-    resources = [{"arn": arn, "account": "111122223333"} for arn in ("arn:aws:s3:::b/k", "arn:aws:ec2:eu-west-1:111122223333:instance/i")]
+    resources = [
+        {"arn": arn, "account": "111122223333"}
+        for arn in ("arn:aws:s3:::b/k", "arn:aws:ec2:eu-west-1:111122223333:instance/i")
+    ]
     words = ["--actions", file("s3:GetObject"), "--resources", file(resources)]
-    assert "\"controlled\"" in world(*words, "--organization", file(organization), data("account.json"), status=1)
+    assert '"controlled"' in world(*words, "--organization", file(organization), data("account.json"), status=1)
     organization["controlled"] = ["s3", "sts"]
     made = world(*words, "--organization", file(organization), data("account.json"))
     same([it.get("control") for it in made["resources"]], [[[content]] * 3, None])
@@ -224,10 +282,27 @@ def test_resource_control_policies_stand_with_resources():
 
 
 def test_worlds_with_control_are_read():
-    resources = [{"arn": "arn:aws:s3:::b/k", "account": "111122223333", "control": [
-        [document({"Effect": "Allow", "Principal": "*", "Action": "*", "Resource": "*"}),
-         document({"Effect": "Deny", "Principal": "*", "Action": "s3:PutObject", "Resource": "*"})]]}]
-    made = world("--actions", file("s3:GetObject\ns3:PutObject"), "--resources", file(resources), "--principal", "*/bob", data("account.json"))
+    resources = [
+        {
+            "arn": "arn:aws:s3:::b/k",
+            "account": "111122223333",
+            "control": [
+                [
+                    document({"Effect": "Allow", "Principal": "*", "Action": "*", "Resource": "*"}),
+                    document({"Effect": "Deny", "Principal": "*", "Action": "s3:PutObject", "Resource": "*"}),
+                ]
+            ],
+        }
+    ]
+    made = world(
+        "--actions",
+        file("s3:GetObject\ns3:PutObject"),
+        "--resources",
+        file(resources),
+        "--principal",
+        "*/bob",
+        data("account.json"),
+    )
     found = matrix(made)
     bob = f"{ACCOUNT}user/ops/bob"
     same(found[bob, "s3:PutObject", "arn:aws:s3:::b/k"], ("explicitDeny", "control/0/1/0", ""))
@@ -236,23 +311,31 @@ def test_worlds_with_control_are_read():
 
 def test_documents_that_are_refused():
     bad = document(statement(), statement(Condition={"NumericLessThan": {"s3:TlsVersion": "1.2"}}))
-    resources = [{"arn": "arn:aws:s3:::b/k", "account": "111122223333"},
-                 {"arn": "arn:aws:s3:::c/k", "account": "111122223333", "policy": document(statement())}]
+    resources = [
+        {"arn": "arn:aws:s3:::b/k", "account": "111122223333"},
+        {"arn": "arn:aws:s3:::c/k", "account": "111122223333", "policy": document(statement())},
+    ]
     with open(data("account.json")) as it:
         export = json.load(it)
     export["Policies"][2]["PolicyVersionList"][0]["Document"] = bad
     names = file("")
     made = world("--actions", file("s3:GetObject"), "--resources", file(resources), "--names", names, file(export))
     _, said = aws("check", "--names", names, given=json.dumps(made), status=1)
-    lines = sorted(line[len("iamsim-aws: "):] for line in said.splitlines())
+    lines = sorted(line[len("iamsim-aws: ") :] for line in said.splitlines())
     same(len(lines), 2, said)
     assert lines[0].startswith("arn:aws:iam::aws:policy/ReadObjects: statement 1: a value of a condition"), lines[0]
-    assert lines[0].endswith("(fault 20 BadValue); of arn:aws:iam::111122223333:user/alice, arn:aws:sts::111122223333:assumed-role/deploy/s1"), lines[0]
-    assert lines[1].startswith("arn:aws:s3:::c/k policy: statement 0: a resource's policy has to name a Principal (fault 12"), lines[1]
+    assert lines[0].endswith(
+        "(fault 20 BadValue); of arn:aws:iam::111122223333:user/alice, arn:aws:sts::111122223333:assumed-role/deploy/s1"
+    ), lines[0]
+    assert lines[1].startswith(
+        "arn:aws:s3:::c/k policy: statement 0: a resource's policy has to name a Principal (fault 12"
+    ), lines[1]
     out, said = aws("check", "--leave-out", given=json.dumps(made))
     rest = json.loads(out)
-    same([it.get("user") or it["role"].split("/")[-1] for it in rest["principals"]],
-         [f"{ACCOUNT}user/ops/bob", "audit", "partner", "worker", "people", "chain"])
+    same(
+        [it.get("user") or it["role"].split("/")[-1] for it in rest["principals"]],
+        [f"{ACCOUNT}user/ops/bob", "audit", "partner", "worker", "people", "chain"],
+    )
     same([it["arn"] for it in rest["resources"]], ["arn:aws:s3:::b/k"])
     same(sum(line.startswith("iamsim-aws: left out: ") for line in said.splitlines()), 3, said)
     run([IAMSIM, "check"], out)
@@ -269,7 +352,8 @@ def test_the_organisation_is_collected():
     room = tempfile.mkdtemp(dir=os.environ["TOOLS_TEST_ROOM"])
     stand_in = os.path.join(room, "aws")
     with open(stand_in, "w") as it:
-        it.write(f"""#!/usr/bin/env python3
+        it.write(
+            f"""#!/usr/bin/env python3
 import json, sys
 with open({data('organization.json')!r}) as it:
     given = json.load(it)
@@ -284,7 +368,8 @@ else:
     [policy] = [it for it in given["policies"] if it["PolicySummary"]["Id"] == words["--policy-id"]]
     found = {{"Policy": policy}}
 print(json.dumps(found))
-""")
+"""
+        )
     os.chmod(stand_in, 0o755)
     path = f"{room}:{os.environ['PATH']}"
     out, _ = run(["env", f"PATH={path}", AWS, "organization", "111122223333", "444455556666", "999900001111"])
