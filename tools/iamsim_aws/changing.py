@@ -107,9 +107,9 @@ def spoken_actions(before: Source, after: Source, patterns: List[str]) -> Dict[s
                 found.setdefault(action.lower(), action)
         for pattern in filter(is_pattern, spoken):
             text = common(pattern, asked, True)
-            action = kinds.action_text(text) if text else None
-            if action and not references.has_file(action):
-                found.setdefault(action.lower(), action)
+            asked_for = kinds.action_text(text) if text else None
+            if asked_for and not references.has_file(asked_for):
+                found.setdefault(asked_for.lower(), asked_for)
     return found
 
 
@@ -121,9 +121,12 @@ def compared(first: Answers, second: Answers, given: str = "") -> Changes:
         axes = keys_of(one.world)
         found = []
         for cell in one.allowed():
-            p, a, r = (numbers[axis].get(axes[axis][n]) for axis, n in enumerate(one.place(cell)))
-            there = None not in (p, a, r)
-            if not there or other.at((p * other.shape[1] + a) * other.shape[2] + r).decision != "allowed":
+            there = [numbers[axis].get(axes[axis][n]) for axis, n in enumerate(one.place(cell))]
+            place = [n for n in there if n is not None]
+            if (
+                len(place) < 3
+                or other.at((place[0] * other.shape[1] + place[1]) * other.shape[2] + place[2]).decision != "allowed"
+            ):
                 found.append(cell)
         return found
 
@@ -203,11 +206,11 @@ def changes_of(
         pair = [with_strangers(source, world, some) for source, world in zip((before, after), pair)]
         keyed = with_keys(*pair)
         answers = ask_all([*pair, *(it for _, *two in keyed for it in two)])
-        first = compared(*answers[:2])
+        first = compared(answers[0], answers[1])
         lost, gained = set(first.lost), set(first.gained)
         found.append(first)
         for n, (words, _, _) in enumerate(keyed, 1):
-            more = compared(*answers[2 * n : 2 * n + 2], words)
+            more = compared(answers[2 * n], answers[2 * n + 1], words)
             new = more._replace(
                 lost=[it for it in more.lost if it not in lost], gained=[it for it in more.gained if it not in gained]
             )

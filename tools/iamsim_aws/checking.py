@@ -97,7 +97,8 @@ def batches(some: List[Place]) -> List[List[Place]]:
 
 def faults_in(batch: List[Place]) -> Dict[int, str]:
     """The fault of each document of a batch that iamsim refuses, by its number there."""
-    left, found = list(batch), {}
+    left = list(batch)
+    found: Dict[int, str] = {}
     while True:
         world, numbers = world_of(left)
         line = refusal(world)
@@ -117,7 +118,7 @@ def refused_documents(world: World) -> List[Finding]:
     every = places(world)
     for it in every:
         alike.setdefault((it.kind, compact(it.policy.document)), []).append(it)
-    found = {}
+    found: Dict[str, str] = {}
     for batch in batches([of[0] for of in alike.values()]):
         for n, fault in faults_in(batch).items():
             it = batch[n]

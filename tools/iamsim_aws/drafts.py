@@ -51,8 +51,8 @@ def side(options: argparse.Namespace, paths: List[str]) -> Source:
     worlds = [it for it in paths if is_world(it)]
     if worlds and len(paths) > 1:
         raise Fault("one world is compared with one world, and exports with exports")
-    given = {"world": worlds[0], "exports": []} if worlds else {"world": None, "exports": paths}
-    return source_of(argparse.Namespace(**{**vars(options), **given}))
+    world, exports = (worlds[0], []) if worlds else (None, paths)
+    return source_of(argparse.Namespace(**{**vars(options), "world": world, "exports": exports}))
 
 
 def both(options: argparse.Namespace) -> Tuple[Source, Source]:

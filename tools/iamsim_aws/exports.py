@@ -161,7 +161,7 @@ def account_in(export: Any, file: str) -> str:
 def read_exports(paths: List[str]) -> List[Account]:
     """The accounts of the exports; one may come in several files, one of which is its end."""
     found: Dict[str, Account] = {}
-    ended = {}
+    ended: Dict[str, str] = {}
     for path in paths:
         export, file = files.read_json(path), files.name_of(path)
         account = account_in(export, file)

@@ -84,9 +84,10 @@ def lacks(world: World, given: Givers, path: str, key: str) -> bool:
 
 def with_key(world: World, key: str, value: Any) -> World:
     """The world with a value of a key for each request that lacks it."""
-    by, numbers = givers(world).get(key.lower(), (None, set()))
-    if by is None:
+    given = givers(world).get(key.lower())
+    if given is None:
         return {**world, "context": {**context_of(world), key: value}}
+    by, numbers = given
     if by == "":
         return world
     some = [it if n in numbers else {**it, "context": {**context_of(it), key: value}} for n, it in enumerate(world[by])]
@@ -95,8 +96,9 @@ def with_key(world: World, key: str, value: Any) -> World:
 
 def lacking(world: World) -> Dict[str, List[str]]:
     """The keys that policies ask for and requests lack, sorted without regard to case, each with the places that ask."""
-    given, found = givers(world), {}
+    given = givers(world)
     names: Dict[str, str] = {}
+    found: Dict[str, Set[str]] = {}
     for key, path, place in asked(world):
         if lacks(world, given, path, key):
             names.setdefault(key.lower(), key)

@@ -91,7 +91,7 @@ def roles_as_resources(estate: Estate, account: Account, actions: List[str]) -> 
     for it in account.roles:
         arn = text(it, "Arn", f"account {account.account}")
         context = {**tags(it, "aws:ResourceTag/"), **tags(it, "iam:ResourceTag/")}
-        one = {"arn": arn, "account": account.account, "context": context}
+        one: Dict[str, Any] = {"arn": arn, "account": account.account, "context": context}
         if is_assumed:
             one.update(sealed=True, policy=policy(f"{arn} trust policy", it.get("AssumeRolePolicyDocument")))
             one.update(estate.organization.control(account.account, "sts"))

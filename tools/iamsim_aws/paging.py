@@ -104,8 +104,10 @@ def spread(answers: Answers, axes: List[List[Any]], table: Table) -> Any:
     for p in places[0]:
         for a in places[1]:
             for r in places[2]:
-                there = p is not None and a is not None and r is not None
-                made.append(new[answers.numbers[(p * actions + a) * resources + r]] if there else absent)
+                if p is None or a is None or r is None:
+                    made.append(absent)
+                else:
+                    made.append(new[answers.numbers[(p * actions + a) * resources + r]])
     return made
 
 

@@ -22,7 +22,7 @@ def program() -> str:
     """The path of iamsim: $IAMSIM, the one at the top of the repository or beside this command, or one on the PATH."""
     beside = os.path.dirname(os.path.realpath(sys.argv[0]))
     built = [os.path.join(it, "iamsim") for it in (TOP, beside)]
-    found = os.environ.get("IAMSIM") or next(filter(os.path.exists, built), None) or shutil.which("iamsim")
+    found = os.environ.get("IAMSIM") or next((it for it in built if os.path.exists(it)), None) or shutil.which("iamsim")
     if not found:
         raise Fault("there is no iamsim: 'make build' leaves it at the top of the repository, or $IAMSIM names one")
     return found

@@ -3,7 +3,7 @@
 import functools
 import os
 import re
-from typing import Any, Dict, Iterable, List, Set, Tuple
+from typing import Any, Callable, Dict, Iterable, List, Set, Tuple
 
 from . import files
 from .faults import Fault, tell
@@ -60,7 +60,7 @@ class References:
         for path in [file for it in paths for file in files_in(it)]:
             service = read_service(path)
             self.services[service.name.lower()] = service
-        self.keeps = functools.lru_cache(maxsize=None)(self.keeps)  # type: ignore[method-assign]
+        self.keeps: Callable[[str, str], bool] = functools.lru_cache(maxsize=None)(self.is_kept)
 
     def actions(self) -> List[str]:
         return [f"{it.name}:{name}" for it in self.services.values() for name in it.names]
@@ -73,7 +73,7 @@ class References:
         service, _, name = action.lower().partition(":")
         return service not in self.services or name in self.services[service].actions
 
-    def keeps(self, action: str, resource: str) -> bool:
+    def is_kept(self, action: str, resource: str) -> bool:
         """Whether the service has such a request; where it has no file here, yes."""
         service, _, name = action.lower().partition(":")
         if service in self.services:

@@ -18,7 +18,7 @@ ASSUME = "sts:AssumeRole"
 def add_options(parser: argparse.ArgumentParser) -> None:
     """What exports are joined with."""
     add = parser.add_argument
-    files_of = {"action": "append", "default": [], "metavar": "FILE"}
+    files_of: Dict[str, Any] = {"action": "append", "default": [], "metavar": "FILE"}
     add("--resources", **files_of, help="further resources, a JSON list of {arn, account, policy, sealed, context}")
     add("--organization", metavar="FILE", help="the organisation's policies, as iamsim-aws organization collects them")
     add("--context", **files_of, help="the condition keys of all requests, a JSON object")

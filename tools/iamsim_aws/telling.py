@@ -1,7 +1,7 @@
 """Answers in words: statements by their policies' names, what lacks, and what an answer hangs on."""
 
 import json
-from typing import Any, Dict, List, NamedTuple
+from typing import Any, Dict, List, NamedTuple, Tuple
 
 from .arns import account_of, principal_arn
 from .documents import Policy, World, statements_of
@@ -74,7 +74,7 @@ def cause_of(world: World, p: int, r: int, place: str) -> Cause:
 def causes(answers: Answers, cell: int) -> List[Cause]:
     """The statements that decide; one that stands at several levels once."""
     p, _, r = answers.place(cell)
-    found = {}
+    found: Dict[Tuple[str, str, int], Cause] = {}
     for it in answers.at(cell).statements:
         cause = cause_of(answers.world, p, r, it)
         found.setdefault((cause.layer, cause.policy, cause.number), cause)

@@ -92,7 +92,7 @@ class Database:
         if reason not in self.known:
             command = "SELECT layer, policy, statement, sid, json FROM causes WHERE reason = ? ORDER BY number"
             rows = self.base.execute(command, (reason,)).fetchall()
-            self.known[reason] = [Cause(*it[:3], it[3] or "", json.loads(it[4])) for it in rows]
+            self.known[reason] = [Cause(layer, name, n, sid or "", json.loads(it)) for layer, name, n, sid, it in rows]
         return self.known[reason]
 
     def told(self, it: Request, is_long: bool) -> List[str]:

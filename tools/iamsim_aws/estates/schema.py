@@ -2,7 +2,7 @@
 
 import os
 import sqlite3
-from typing import Any, List, Tuple
+from typing import Any, List, Sequence, Tuple
 
 from ..faults import Fault
 
@@ -94,7 +94,7 @@ def asked(base: sqlite3.Connection, name: str) -> str:
     return str(found[0]) if found else ""
 
 
-def fill(base: sqlite3.Connection, table: str, rows: List[Tuple[Any, ...]]) -> None:
+def fill(base: sqlite3.Connection, table: str, rows: Sequence[Tuple[Any, ...]]) -> None:
     if rows:
         base.executemany(f"INSERT INTO {table} VALUES ({', '.join('?' * len(rows[0]))})", rows)
 
