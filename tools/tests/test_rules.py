@@ -10,9 +10,11 @@ from harness import ROWS, TOOLS, run
 
 TOP = os.path.dirname(TOOLS)
 # What is left out.
-WITHOUT_ROWS = {"1.2"}
-# The same, and the examples of other sections.
-WITHOUT_DEFINITIONS = WITHOUT_ROWS | {"6.11", "11.5"}
+LEFT_OUT = {"1.2"}
+# The same, and what no command asks for.
+WITHOUT_ROWS = LEFT_OUT | {"13.7"}
+# What is left out, and the examples of other sections.
+WITHOUT_DEFINITIONS = LEFT_OUT | {"6.11", "11.5"}
 
 
 def read(path):

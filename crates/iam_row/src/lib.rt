@@ -19,5 +19,6 @@ pub use iam_text::{Items, OutOfMemory, Text};
 pub use laws::{brief_texts, full_texts, one_row, one_text};
 pub use piece::{closing, comma_before, opening};
 pub use position::Position;
-pub use quoted::{Format, Quoted, text_at};
+pub use quoted::{Format, Quoted, principals, quote, resources, text_at};
 pub use tail::{Tail, bare};
+pub use words::{Layers, Places, decision_word};

@@ -76,7 +76,7 @@ fn json_string(alloc: Global, text: &str) -> Result<String, OutOfMemory>
 }
 
 /// A text as it stands in a row. `OutOfMemory` comes where it finds no memory.
-fn quote(alloc: Global, format: Format, text: &str) -> Result<String, OutOfMemory>
+pub fn quote(alloc: Global, format: Format, text: &str) -> Result<String, OutOfMemory>
     ensures { IfOk result (λ quoted. string_bytes quoted ≡ quote_of format text.now) }
 {
     match format {
@@ -121,7 +121,8 @@ pub fn resource_piece(alloc: Global, format: Format, text: &str) -> Result<Text,
     Ok(Text::from_string(piece))
 }
 
-fn principals(alloc: Global, world: &World, format: Format) -> Result<Items<Text>, OutOfMemory>
+/// The texts of all principals, each with what stands beside it in each row.
+pub fn principals(alloc: Global, world: &World, format: Format) -> Result<Items<Text>, OutOfMemory>
     ensures { IfOk result (λ texts. texts ≡ map (λ principal. principal_piece format (principal_text principal)) world.now.principals) }
 {
     let mut texts = Vec::new(alloc);
@@ -141,7 +142,8 @@ fn actions(alloc: Global, world: &World, format: Format) -> Result<Items<Text>, 
     Ok(Items::from_vec(texts))
 }
 
-fn resources(alloc: Global, world: &World, format: Format) -> Result<Items<Text>, OutOfMemory>
+/// The texts of all resources, each with what stands beside it in each row.
+pub fn resources(alloc: Global, world: &World, format: Format) -> Result<Items<Text>, OutOfMemory>
     ensures { IfOk result (λ texts. texts ≡ map (λ resource. resource_piece format resource.arn) world.now.resources) }
 {
     let mut texts = Vec::new(alloc);

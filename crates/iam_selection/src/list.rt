@@ -47,7 +47,7 @@ fn lead_in(tiles: &[Found]) -> u64
 }
 
 /// The position of a cell, by how many texts there are.
-fn position_in(quoted: &Quoted, cell: u64) -> Position
+pub fn position_in(quoted: &Quoted, cell: u64) -> Position
     ensures { result ≡ position_in quoted.now cell }
 {
     let actions = (quoted.actions.as_slice().len() as u64).max(1);
@@ -62,7 +62,7 @@ fn position_in(quoted: &Quoted, cell: u64) -> Position
 }
 
 /// The comma that stands before the object of a cell, unless it is the first.
-fn comma_of(lead: u64, cell: u64) -> &'static str
+pub fn comma_of(lead: u64, cell: u64) -> &'static str
     ensures { result.now ≡ comma_of lead cell }
 {
     if cell == lead { "" } else { "," }

@@ -53,7 +53,11 @@ pub fn selected_report<R: Threads + Sync, G: Gate + Sync>(
 }
 
 /// The index of a world; with the rows of resource elements, which cost time at first, where many pairs are looked at.
-fn index_of<'a>(alloc: Global, world: &'a World, is_broad: bool) -> Result<Index<'a>, OutOfMemory>
+pub fn index_of<'a>(
+    alloc: Global,
+    world: &'a World,
+    is_broad: bool,
+) -> Result<Index<'a>, OutOfMemory>
     ensures { IfOk result (λ index. index ≡ world.entry.now) }
 {
     if is_broad {

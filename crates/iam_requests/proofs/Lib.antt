@@ -1,0 +1,4 @@
+pub mod Counts
+pub mod Ones
+pub mod Places
+mod Texts

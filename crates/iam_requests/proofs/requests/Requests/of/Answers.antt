@@ -1,0 +1,14 @@
+use Rattle.std.proofs.Common.{◌+◌, ap, subst}
+use Rattle.iam_world.specs.World.{WorldValue}
+use Rattle.iam_requests.specs.Code.Found.{IsLeftCount}
+use Rattle.iam_requests.proofs.Counts.{linked}
+use Rattle.iam_requests.proofs.requests.Requests.of.Goals as goal
+
+pub invariant_of-result : goal.invariant_of-result
+invariant_of-result c =
+    let before = c.args.before.now in
+    let after = c.args.after.now in
+    let left = subst (λ (other : WorldValue). IsLeftCount before other c.count_left.result) c.in_ok-to_after.ensures.other c.count_left.ensures.count in
+    linked c.one_triple.ensures.some before after c.count_left.result (c.cells.result + c.count_left.result) c.in_ok-to_before.to_before c.in_ok-to_after.to_after
+    c.in_ok-to_before.ensures.world c.in_ok-to_before.ensures.other c.in_ok-to_after.ensures.world c.in_ok-to_after.ensures.other left
+    (ap (λ n. n + c.count_left.result) c.cells.ensures.value)
