@@ -1,5 +1,5 @@
 -- What is kept of action elements stays right where more is kept.
-use Rattle.std.proofs.Common.{◌≡◌, ◌↔◌, ◌⊎◌, ◌+◌, ◌<◌, inl, inr, ℕ, zero, suc, Bool, IsTrue, get_or, refl, arith, List, [], ◌∷◌, ◌++◌, length, Option, Some, IfSome, sym, ap, subst, ◌∙◌}
+use Rattle.std.proofs.Common.{◌≡◌, ◌⊎◌, ◌+◌, ◌<◌, inl, inr, ℕ, zero, suc, get_or, refl, arith, List, [], ◌∷◌, ◌++◌, length, Option, Some, IfSome, sym, ap, subst, ◌∙◌}
 use Rattle.std.proofs.lemmas.Option.{slice_get-get_or}
 use Rattle.std.specs.List.{slice_get}
 use Rattle.iam_element.specs.Reading.{ActionElement}
@@ -7,22 +7,9 @@ use Rattle.iam_match.specs.Statement.{ActionMatches}
 use Rattle.iam_decision.specs.Living.{LivingValue}
 use Rattle.iam_layers.specs.Cell.{IsAction}
 use Rattle.iam_world.specs.World.{WorldValue}
-use Rattle.iam_index.specs.Elements.{AreElements, AreElementNumbers, HasElement, IsElement, MatchesNone, TellActs}
+use Rattle.iam_index.specs.Elements.{AreElements, AreElementNumbers, HasElement, IsElement, MatchesNone}
 use Rattle.iam_index.specs.declared.elements.Element.{Element}
 use Rattle.iam_index.proofs.ListLemmas.{get_back, some_same}
-
--- one more action of the world
-pub tell_more : (world : WorldValue) (action : ActionElement) (acts : List Bool) (act : Bool) (text : List ℕ) → IsAction world (length acts) text
-    → (IsTrue act ↔ ActionMatches action text) → TellActs world action acts → TellActs world action (acts ++ act ∷ [])
-tell_more world action acts act text at is all a other named here asked =
-    elim (get_back acts act a other here) [
-      | inl before ↦ all a other named before asked
-      | inr (last, same) ↦
-          let own : text ≡ named = some_same text named (sym at ∙ ap (slice_get world.actions) (sym last) ∙ asked) in
-          let A : List ℕ → Type 0 = λ t. IsTrue act ↔ ActionMatches action t in
-          let B : Bool → Type 0 = λ b. IsTrue b ↔ ActionMatches action named in
-          subst B (sym same) (subst A own is)
-    ]
 
 -- none of the first actions of the world is matched
 abbrev pub MatchesNoneBelow : WorldValue → ActionElement → ℕ → Type 0

@@ -1,4 +1,3 @@
 pub mod Buffered
 mod Fronts
-mod Picks
 mod Whole

@@ -5,25 +5,16 @@
 //! report, as the laws of `iam_row` say, and is written without taking memory.
 #![tactic(auto)]
 
-mod entries;
 mod front;
-mod guess;
-mod kept;
 mod line;
 mod matrix;
-mod numbers;
 mod output;
 mod text;
-mod tile;
 
-pub use entries::{Entries, is_bare, is_same};
-pub use guess::{hash_of, mix};
 pub use iam_layers::{Decision, Verdict, World};
 pub use iam_row::{Format, Quoted};
 pub use iam_text::OutOfMemory;
-pub use kept::{Form, Item, Kept};
+pub use iam_tiles::{Entries, Tile};
 pub use matrix::{MatrixText, put_pieces};
-pub use numbers::Numbers;
 pub use output::{OutputFault, buffer, put, put_all, write_kept, write_text};
 pub use text::{csv_brief, csv_text, json_brief, json_text};
-pub use tile::Tile;

@@ -4,16 +4,15 @@ ghost use Rattle.std.specs.Io.KnownBytes.{Appends};
 ghost use Rattle.std.specs.List.{flat_map};
 ghost use Rattle.iam_report.specs.Code.Buffer.{IsWithin, PutsRows, Passes};
 ghost use Rattle.iam_report.specs.Code.Line.{row_behind, tail_at};
-ghost use Rattle.iam_report.specs.Code.Numbered.{no_tail, picked};
+ghost use Rattle.iam_tiles.specs.Code.Numbered.{no_tail, picked};
 ghost use Rattle.iam_row.specs.Piece.{first_position, row_at, rows_text, text_of};
 ghost use Rattle.iam_report.specs.Streams.{AppendsBeginning};
 ghost use Rattle.iam_row.specs.declared.tail.Tail.{Tail};
 
 use crate::line::Line;
-use crate::numbers::Numbers;
 use crate::output::{OutputFault, put, put_all, write_kept};
-use crate::tile::Tile;
 use iam_row::{Format, Position, Quoted, Tail, closing, comma_before, opening, text_at};
+use iam_tiles::{Numbers, Tile};
 use itoa::Buffer;
 use std::io::Write;
 use std::marker::Model;

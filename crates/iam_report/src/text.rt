@@ -4,12 +4,12 @@ ghost use Rattle.iam_world.specs.World.{world_cells};
 ghost use Rattle.iam_row.specs.Piece.{IsBriefReport, IsReport, IsTextOf, bare, text_of};
 ghost use Rattle.iam_row.specs.Report.{IsBriefCsvReport, IsBriefJsonReport, IsCsvReport, IsJsonReport};
 
-use crate::entries::Entries;
 use crate::matrix::MatrixText;
 use crate::output::buffer;
 use iam_layers::{Decision, Verdict, World};
 use iam_row::{Format, Quoted, brief_texts, full_texts};
 use iam_text::OutOfMemory;
+use iam_tiles::Entries;
 use std::alloc::Global;
 
 /// The text of a report.

@@ -1,7 +1,7 @@
 mod Cells
 mod Fields
 mod OneText
-mod Plain
+pub mod Plain
 pub mod Rendered
 mod Reports
 pub mod Rows

@@ -25,7 +25,7 @@ all_marked word mark between first shown rest all i f e h =
     ∙ ap (λ xs. (mark ++ (word first ++ mark)) ++ flat_map (λ x. between ++ (mark ++ (word x ++ mark))) xs) (take_all i rest h) ∙ ap (marked word mark between) (sym e)
 
 -- empty marks change nothing
-unmarked : {A : Type 0} (word : A → List ℕ) (between : List ℕ) (xs : List A) → marked word (codes "") between xs ≡ join_by word between xs
+pub unmarked : {A : Type 0} (word : A → List ℕ) (between : List ℕ) (xs : List A) → marked word (codes "") between xs ≡ join_by word between xs
 unfolding marked
 unmarked word between [] = refl
 unmarked word between (x ∷ xs) = simp append-nil
@@ -83,7 +83,7 @@ more_words word plain (x ∷ xs) =
     ∙ ap (λ t. 44 ∷ 34 ∷ ((word x ++ 34 ∷ []) ++ t)) tail
     ∙ simp append_assoc
 
-words_text : {A : Type 0} (word : A → List ℕ) → ((x : A) → are_plain (word x) ≡ true) → (xs : List A)
+pub words_text : {A : Type 0} (word : A → List ℕ) → ((x : A) → are_plain (word x) ≡ true) → (xs : List A)
     → compact_text (words_of word xs) ≡ codes "[" ++ (marked word (codes "\"") (codes ",") xs ++ codes "]")
 unfolding marked
 words_text word plain [] = refl
@@ -95,11 +95,11 @@ words_text word plain (x ∷ xs) =
     ∙ simp append_assoc
 
 -- a word in quotes
-word_text : (s : List ℕ) → are_plain s ≡ true → compact_text (string s) ≡ codes "\"" ++ (s ++ codes "\"")
+pub word_text : (s : List ℕ) → are_plain s ≡ true → compact_text (string s) ≡ codes "\"" ++ (s ++ codes "\"")
 word_text s h = ap (λ t. 34 ∷ (t ++ 34 ∷ [])) (escape_plain s h)
 
 -- what stands behind an enclosed text
-enclosed : (text inside : List ℕ) (first last : ℕ) (rest other : List ℕ) → text ≡ first ∷ (inside ++ last ∷ []) → rest ≡ other → text ++ rest ≡ first ∷ (inside ++ last ∷ other)
+pub enclosed : (text inside : List ℕ) (first last : ℕ) (rest other : List ℕ) → text ≡ first ∷ (inside ++ last ∷ []) → rest ≡ other → text ++ rest ≡ first ∷ (inside ++ last ∷ other)
 enclosed text inside first last rest other e f =
     ap (λ t. t ++ rest) e ∙ ap (λ t. first ∷ t) (append_assoc inside (last ∷ []) rest) ∙ ap (λ t. first ∷ (inside ++ last ∷ t)) f
 

@@ -1,7 +1,7 @@
 -- Rows that share what stands beside the number of their cells.
 use Rattle.std.specs.Prelude.{◌≡◌, ℕ, Bool, List, [], ◌++◌, codes, decimal, get_or}
 use Rattle.iam_report.specs.Code.Front.{FrontValue}
-use Rattle.iam_report.specs.Code.Numbered.{no_tail}
+use Rattle.iam_tiles.specs.Code.Numbered.{no_tail}
 use Rattle.iam_row.specs.Piece.{pieces_at}
 use Rattle.iam_row.specs.Report.{CellTexts}
 use Rattle.iam_row.specs.declared.position.Position.{Position}

@@ -14,7 +14,7 @@ use Rattle.iam_row.specs.declared.quoted.Format.{Format}
 use Rattle.iam_row.specs.declared.quoted.Quoted.{Quoted}
 use Rattle.iam_row.specs.declared.tail.Tail.{Tail}
 use Rattle.iam_report.specs.Code.Line.{row_behind}
-use Rattle.iam_report.specs.Code.Numbered.{no_tail}
+use Rattle.iam_tiles.specs.Code.Numbered.{no_tail}
 use Rattle.iam_matrix.specs.Matrix.{IsNotAllowed}
 use Rattle.iam_matrix.specs.Code.Tiles.{IsTileOf}
 use Rattle.iam_selection.specs.Report.{AreAsked}

@@ -1,13 +1,13 @@
 use Rattle.std.proofs.Common.{◌≡◌, ◌<◌, List, ℕ, Some, length, ap, slice_get, ◌++◌, ◌∙◌, arith, subst, sym}
 use Rattle.iam_report.specs.Code.Buffer.{Passes}
 use Rattle.iam_report.specs.Code.Line.{tail_at}
-use Rattle.iam_report.specs.Code.Numbered.{no_tail, picked}
+use Rattle.iam_tiles.specs.Code.Numbered.{no_tail, picked}
 use Rattle.iam_row.specs.Piece.{next_of, row_at}
 use Rattle.iam_report.specs.Streams.{AppendsBeginning}
 use Rattle.iam_row.specs.declared.quoted.Quoted.{Quoted}
 use Rattle.iam_row.specs.declared.tail.Tail.{Tail}
 use Rattle.iam_report.proofs.Buffered.{cell_next, puts_none, row_fails, row_more, within_next}
-use Rattle.iam_report.proofs.Picks.{picked_at, within_at}
+use Rattle.iam_tiles.proofs.Picks.{picked_at, within_at}
 use Rattle.iam_report.proofs.matrix.put_rows.Goals as goal
 
 pub loop-i-init : goal.loop-i-init

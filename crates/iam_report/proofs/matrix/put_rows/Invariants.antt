@@ -1,6 +1,6 @@
 use Rattle.std.proofs.Common.{◌≡◌, ◌+◌, take}
 use Rattle.iam_report.specs.Code.Buffer.{IsWithin, PutsRows}
-use Rattle.iam_report.specs.Code.Numbered.{no_tail, picked}
+use Rattle.iam_tiles.specs.Code.Numbered.{no_tail, picked}
 use Rattle.iam_report.proofs.matrix.put_rows.Given as goal
 
 -- the rows so far

@@ -1,5 +1,5 @@
 use Rattle.std.proofs.Common.{List, ◌++◌, ◌∙◌, ap, subst}
-use Rattle.iam_report.specs.Code.Numbered.{no_tail, picked}
+use Rattle.iam_tiles.specs.Code.Numbered.{no_tail, picked}
 use Rattle.iam_row.specs.Piece.{rows_text}
 use Rattle.iam_report.specs.Streams.{AppendsBeginning}
 use Rattle.iam_row.specs.declared.tail.Tail.{Tail}

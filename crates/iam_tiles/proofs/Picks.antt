@@ -4,7 +4,7 @@ use Rattle.std.proofs.lemmas.List.{get_or-map, get_or_append_left, length-append
 use Rattle.std.proofs.lemmas.List.Elements.{All-get_or, All-head, All-push, All-tail, All-weaker}
 use Rattle.std.proofs.lemmas.Option.{get_or_from_slice_get, slice_get-map, slice_get_within}
 use Rattle.std.specs.List.{slice_get}
-use Rattle.iam_report.specs.Code.Numbered.{picked, IsPut}
+use Rattle.iam_tiles.specs.Code.Numbered.{picked, IsPut}
 
 -- numbers that have an item
 abbrev pub Within : {A : Type 0} → List A → List ℕ → Type 0

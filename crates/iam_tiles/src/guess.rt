@@ -1,6 +1,5 @@
 // Where an item may be found again: tables of numbers by hashes, and by hints of callers. Each is a guess, and nothing is
 // claimed of it.
-use iam_layers::Verdict;
 use iam_text::OutOfMemory;
 use std::alloc::Global;
 use std::mem;
@@ -13,25 +12,6 @@ const LEAST_SLOTS: usize = 16;
 /// A number mixed into a hash.
 pub fn mix(hash: u64, value: u64) -> u64 {
     (hash.rotate_left(5) ^ value).wrapping_mul(0x517c_c1b7_2722_0a95)
-}
-
-/// The hash of a verdict.
-pub fn hash_of(verdict: &Verdict) -> u64 {
-    let mut hash = verdict.decision as u64;
-    for place in verdict.statements.as_slice() {
-        hash = mix(
-            hash,
-            place.layer as u64 ^ u64::from(place.level).rotate_left(8),
-        );
-        hash = mix(
-            hash,
-            u64::from(place.policy).rotate_left(32) ^ u64::from(place.statement),
-        );
-    }
-    for layer in verdict.lacks.as_slice() {
-        hash = mix(hash, *layer as u64);
-    }
-    mix(hash, 0)
 }
 
 /// A hash, and a number and 1; 0 stands where there is no number.

@@ -2,7 +2,7 @@
 ghost use Rattle.std.specs.Prelude.{◌≡◌, ◌↔◌, ◌<◌, ◌^◌, ◌++◌, ◌∷◌, [], IfOk, IsTrue, OnOk, length, map};
 ghost use Rattle.iam_row.specs.Piece.{bare, tail_of};
 
-use crate::guess::hash_of;
+use crate::guess::mix;
 use crate::kept::{Form, Item, Kept};
 use crate::tile::Tile;
 use iam_layers::{Decision, Layer, Place, Verdict};
@@ -28,7 +28,7 @@ impl Model for Entries {
 }
 
 impl Item for Verdict {
-    ghost use Rattle.iam_report.specs.Code.Numbered.{no_verdict};
+    ghost use Rattle.iam_tiles.specs.Code.Numbered.{no_verdict};
 
     ghost none = { no_verdict };
 }
@@ -165,4 +165,23 @@ fn same_layers(a: &[Layer], b: &[Layer]) -> bool
     ensures { IsTrue result ↔ (a.now ≡ b.now) }
 {
     a == b
+}
+
+/// The hash of a verdict.
+pub fn hash_of(verdict: &Verdict) -> u64 {
+    let mut hash = verdict.decision as u64;
+    for place in verdict.statements.as_slice() {
+        hash = mix(
+            hash,
+            place.layer as u64 ^ u64::from(place.level).rotate_left(8),
+        );
+        hash = mix(
+            hash,
+            u64::from(place.policy).rotate_left(32) ^ u64::from(place.statement),
+        );
+    }
+    for layer in verdict.lacks.as_slice() {
+        hash = mix(hash, *layer as u64);
+    }
+    mix(hash, 0)
 }

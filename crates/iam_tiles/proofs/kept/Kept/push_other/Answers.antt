@@ -1,6 +1,6 @@
 use Rattle.std.proofs.Common.{◌++◌, ◌∷◌, [], ◌^◌, ◌∙◌, List, ap}
-use Rattle.iam_report.proofs.Picks.{few_items, picked_put}
-use Rattle.iam_report.proofs.kept.Kept.push_other.Goals as goal
+use Rattle.iam_tiles.proofs.Picks.{few_items, picked_put}
+use Rattle.iam_tiles.proofs.kept.Kept.push_other.Goals as goal
 
 pub put-requires : goal.put-requires
 put-requires g c =

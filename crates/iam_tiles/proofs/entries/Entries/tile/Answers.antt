@@ -1,10 +1,10 @@
 use Rattle.std.proofs.Common.{List, ◌∙◌, ap, map}
 use Rattle.iam_decision.specs.declared.verdict.Verdict.{Verdict}
-use Rattle.iam_report.specs.Code.Numbered.{no_tail, no_verdict, picked}
+use Rattle.iam_tiles.specs.Code.Numbered.{no_tail, no_verdict, picked}
 use Rattle.iam_row.specs.Piece.{tail_of}
 use Rattle.iam_row.specs.declared.tail.Tail.{Tail}
-use Rattle.iam_report.proofs.Picks.{picked_images}
-use Rattle.iam_report.proofs.entries.Entries.tile.Goals as goal
+use Rattle.iam_tiles.proofs.Picks.{picked_images}
+use Rattle.iam_tiles.proofs.entries.Entries.tile.Goals as goal
 
 pub returns : goal.returns
 returns c =

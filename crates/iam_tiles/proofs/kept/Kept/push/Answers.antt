@@ -1,8 +1,8 @@
 use Rattle.std.proofs.Common.{◌≡◌, ◌++◌, ◌∷◌, [], ◌∙◌, List, Result, Ok, Err, OnOk, Some, ap, sym, subst, append-nil, arith}
 use Rattle.std.specs.List.{slice_get}
-use Rattle.iam_report.specs.Code.Numbered.{IsPut}
-use Rattle.iam_report.proofs.Picks.{picked_put}
-use Rattle.iam_report.proofs.kept.Kept.push.Goals as goal
+use Rattle.iam_tiles.specs.Code.Numbered.{IsPut}
+use Rattle.iam_tiles.proofs.Picks.{picked_put}
+use Rattle.iam_tiles.proofs.kept.Kept.push.Goals as goal
 
 at_ok : {T E P Q : Type 0} (r : Result T E) → (P → Q) → OnOk r P → OnOk r Q
 at_ok (Ok x) f p = f p

@@ -1,6 +1,6 @@
 // Items one behind the other, of which equal ones are kept once.
 ghost use Rattle.std.specs.Prelude.{◌≡◌, ◌<◌, ◌^◌, ◌++◌, ◌∷◌, [], All, IfOk, IfSome, IsTrue, OnErr, OnOk, Some, length, slice_get};
-ghost use Rattle.iam_report.specs.Code.Numbered.{IsPut, picked};
+ghost use Rattle.iam_tiles.specs.Code.Numbered.{IsPut, picked};
 
 use crate::guess::{Guesses, Hints, STEPS};
 use crate::numbers::Numbers;
@@ -46,7 +46,7 @@ pub struct Kept<T: Item> {
 
 impl<T: Item> Model for Kept<T> {
     ghost use Rattle.std.specs.Prelude.{◌<◌, ◌≤◌, All, List, length};
-    ghost use Rattle.iam_report.specs.Code.Numbered.{picked};
+    ghost use Rattle.iam_tiles.specs.Code.Numbered.{picked};
 
     ghost Value = { List T };
 

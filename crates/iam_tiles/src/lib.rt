@@ -1,0 +1,19 @@
+//! Verdicts of cells that follow one another, of which equal ones are kept once, and the tails of their rows.
+//!
+//! `Kept` keeps items of any kind so, `Entries` keeps verdicts, and a `Tile` is what `Entries` are made for a report.
+#![tactic(auto)]
+
+mod entries;
+mod guess;
+mod kept;
+mod numbers;
+mod tile;
+
+pub use entries::{Entries, hash_of, is_bare, is_same};
+pub use guess::mix;
+pub use iam_layers::{Decision, Verdict};
+pub use iam_row::{Format, Tail};
+pub use iam_text::OutOfMemory;
+pub use kept::{Form, Item, Kept};
+pub use numbers::Numbers;
+pub use tile::Tile;
