@@ -1,0 +1,80 @@
+-- The text of a report of changes, in parts, and the kinds of changes in it.
+use Rattle.std.proofs.Common.{◌≡◌, ℕ, zero, suc, ◌+◌, ◌<◌, ◌||◌, Bool, true, false, List, [], ◌∷◌, ◌++◌, drop, get_or, length, take, refl, sym, ap, subst, ◌∙◌, arith}
+use Rattle.std.specs.List.{flat_map}
+use Rattle.std.proofs.lemmas.Grind.{flat_map-append}
+use Rattle.std.proofs.lemmas.List.{drop_more}
+use Rattle.std.proofs.lemmas.List.Concat.{flat_map-cons}
+use Rattle.iam_row.specs.Piece.{closing_text}
+use Rattle.iam_row.specs.declared.tail.Tail.{Tail}
+use Rattle.iam_report.proofs.Buffered.{flat_map_at}
+use Rattle.iam_tiles.specs.Code.Numbered.{no_tail}
+use Rattle.iam_changes.specs.Code.Kept.{cell_behind, joined_kinds, kinds_in, no_kinds, row_at}
+use Rattle.iam_changes.specs.Code.Pieces.{PartValue, ReportValue, lead_of, opening_text, report_text, row_text, rows_in, rows_text}
+use Rattle.iam_changes.specs.declared.change.Kinds.{Kinds}
+use Rattle.iam_changes.specs.declared.text.Pieces.{Pieces}
+
+-- the text of all rows is that of each part, one behind the other
+pub parts_text : (pieces : Pieces) (parts : List PartValue) → flat_map (λ (part : PartValue). rows_text pieces part.rows) parts ≡ rows_text pieces (rows_in parts)
+parts_text pieces [] = refl
+parts_text pieces (part ∷ parts) =
+    flat_map-cons (λ (p : PartValue). rows_text pieces p.rows) part parts ∙ ap (λ t. rows_text pieces part.rows ++ t) (parts_text pieces parts)
+    ∙ sym (flat_map-append (row_text pieces) part.rows (rows_in parts)) ∙ ap (rows_text pieces) (sym (flat_map-cons (λ (p : PartValue). p.rows) part parts))
+
+pub text_parts : (report : ReportValue) (rows : List (ℕ × Tail)) (front back : List ℕ) → report.rows ≡ rows
+    → front ≡ opening_text report.pieces.after.format report.brief → back ≡ closing_text report.pieces.after.format
+    → report_text report ≡ front ++ (rows_text report.pieces rows ++ back)
+text_parts report rows front back same opens closes =
+    ap (λ t. t ++ (rows_text report.pieces report.rows ++ closing_text report.pieces.after.format)) (sym opens)
+    ∙ ap (λ t. front ++ (rows_text report.pieces report.rows ++ t)) (sym closes)
+    ∙ ap (λ rs. front ++ (rows_text report.pieces rs ++ back)) same
+
+-- the cell of the first row, where the parts before this one have none
+pub lead_at : (parts : List PartValue) (i : ℕ) (part : PartValue) → i < length parts → part ≡ get_or parts i part → rows_in (take i parts) ≡ []
+    → 0 < length part.rows → (row_at part 0).0 ≡ lead_of (rows_in parts)
+lead_at parts i part inside is none some =
+    let rest = rows_in (drop (i + 1) parts) in
+    let whole : rows_in parts ≡ part.rows ++ rest =
+    flat_map_at (λ (p : PartValue). p.rows) parts i part inside ∙ ap (λ rows. rows ++ ((get_or parts i part).rows ++ rest)) none
+    ∙ ap (λ (p : PartValue). p.rows ++ rest) (sym is) in
+    first_of part.rows rest some ∙ ap lead_of (sym whole)
+  where
+    first_of : (rows rest : List (ℕ × Tail)) → 0 < length rows → (get_or rows 0 (0, no_tail)).0 ≡ lead_of (rows ++ rest)
+    first_of [] rest h = absurd (omega (arith, h))
+    first_of (row ∷ rows) rest h = refl
+
+-- the cell behind a row
+pub behind_row : (part : PartValue) (i n : ℕ) → n ≡ suc i → cell_behind part n ≡ (row_at part i).0 + 1
+behind_row part i n e = ap (cell_behind part) e
+
+-- ---- kinds
+
+same_kinds : (a b c x y z : Bool) → a ≡ x → b ≡ y → c ≡ z → ◌≡◌ {A = Kinds} (record { gained = a; lost = b; differs = c }) (record { gained = x; lost = y; differs = z })
+same_kinds a b c x y z e f g =
+    let kinds : Bool → Bool → Bool → Kinds = λ p q r. record { gained = p; lost = q; differs = r } in
+    ap (λ p. kinds p b c) e ∙ ap (λ q. kinds x q c) f ∙ ap (kinds x y) g
+
+either_both : (a b c : Bool) → ((a || b) || c) ≡ (a || (b || c))
+either_both true b c = refl
+either_both false b c = refl
+
+either_none : (a : Bool) → (a || false) ≡ a
+either_none true = refl
+either_none false = refl
+
+pub joined_both : (a b c : Kinds) → joined_kinds (joined_kinds a b) c ≡ joined_kinds a (joined_kinds b c)
+joined_both a b c =
+    same_kinds _ _ _ _ _ _ (either_both a.gained b.gained c.gained) (either_both a.lost b.lost c.lost) (either_both a.differs b.differs c.differs)
+
+pub joined_none : (a : Kinds) → joined_kinds a no_kinds ≡ a
+joined_none a = same_kinds _ _ _ _ _ _ (either_none a.gained) (either_none a.lost) (either_none a.differs)
+
+kinds_from : (parts : List PartValue) (i : ℕ) (d : PartValue) → i < length parts → kinds_in (drop i parts) ≡ joined_kinds (get_or parts i d).kinds (kinds_in (drop (i + 1) parts))
+kinds_from parts i d h = ap kinds_in (drop_more parts i d h)
+
+-- the kinds of the parts so far, and of those that are left
+pub kinds_more : (parts : List PartValue) (i : ℕ) (part : PartValue) (kinds : Kinds) → i < length parts → part ≡ get_or parts i part
+    → joined_kinds kinds (kinds_in (drop i parts)) ≡ kinds_in parts → joined_kinds (joined_kinds kinds part.kinds) (kinds_in (drop (i + 1) parts)) ≡ kinds_in parts
+kinds_more parts i part kinds inside is so_far =
+    joined_both kinds part.kinds (kinds_in (drop (i + 1) parts))
+    ∙ ap (λ (p : PartValue). joined_kinds kinds (joined_kinds p.kinds (kinds_in (drop (i + 1) parts)))) is
+    ∙ ap (joined_kinds kinds) (sym (kinds_from parts i part inside)) ∙ so_far

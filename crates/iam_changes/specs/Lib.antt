@@ -1,0 +1,4 @@
+pub mod Change
+pub mod Code
+pub mod Laws
+pub mod Report

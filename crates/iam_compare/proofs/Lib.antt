@@ -1,0 +1,3 @@
+mod Reaches
+mod Walks
+mod Wholes

@@ -1,0 +1,379 @@
+// The rows of changes among the requests of each tile.
+ghost use Rattle.std.specs.Prelude.{◌≡◌, ◌+◌, ◌<◌, ◌≤◌, ◌^◌, ℕ, IfOk, IsTrue, None, OnOk, Some, length, option_map};
+ghost use Rattle.iam_decision.specs.declared.verdict.Verdict.{Verdict};
+ghost use Rattle.iam_layers.specs.Cell.{IsCell};
+ghost use Rattle.iam_row.specs.Report.{CellTexts, IsCellTexts};
+ghost use Rattle.iam_world.specs.World.{world_cells};
+ghost use Rattle.iam_requests.specs.Requests.{Has};
+ghost use Rattle.iam_compare.specs.Code.Walk.{AddsChange, AddsSaid, AreToolsOf, Gathers, IsCrew, IsLeftRow, IsPartOf, all_cells, asked_of, with_row};
+
+use iam_changes::{Change, Decisions, Gathered, Part, Verdicts, change_of};
+use iam_classes::{ClassEngine, Survey};
+use iam_crew::{Bound, Crew};
+use iam_layers::{Decision, Verdict, one_triple};
+use iam_matrix::Cut;
+use iam_requests::Requests;
+use iam_row::{Format, Position};
+use iam_selection::{Picker, past_row};
+use iam_text::OutOfMemory;
+use std::alloc::Global;
+
+/// What is asked of a report: whether for all changes, by how many workers it is made, and what its rows are.
+#[derive(Clone, Copy)]
+pub struct Asked {
+    pub all: bool,
+    pub workers: u32,
+    pub format: Format,
+    pub brief: bool,
+}
+
+/// Those who make the rows of changes: of the requests of two worlds, by what was found of each world.
+#[derive(Clone, Copy)]
+pub struct Workers<'a> {
+    pub requests: &'a Requests<'a>,
+    pub before: &'a Survey<'a>,
+    pub after: &'a Survey<'a>,
+    pub pick_before: &'a Picker<'a>,
+    pub pick_after: &'a Picker<'a>,
+    pub cut: &'a Cut,
+    pub asked: Asked,
+}
+
+/// The engines of two worlds.
+#[derive(Drop)]
+pub struct Engines<'a> {
+    pub before: ClassEngine<'a>,
+    pub after: ClassEngine<'a>,
+}
+
+impl<'a> Crew for Workers<'a> {
+    ghost use Rattle.std.specs.Prelude.{◌≡◌, ◌+◌, slice_index};
+    ghost use Rattle.iam_matrix.specs.Cut.{start_of};
+    ghost use Rattle.iam_compare.specs.Code.Walk.{AreToolsOf, IsPartOf, IsTileOf, asked_of, reached};
+
+    type Output = Part;
+
+    type Tools = Engines<'a>;
+
+    ghost fits = { λ crew engines. AreToolsOf crew engines };
+
+    ghost takes = { λ crew tile. IsTileOf crew tile };
+
+    ghost offers = { λ _ _. ⊥ };
+
+    ghost gives = { λ crew tile output _. IsPartOf (asked_of crew) crew.requests.now crew.asked.format crew.asked.brief
+        (reached crew.requests.now (start_of crew.cut.now tile)) (reached crew.requests.now (start_of crew.cut.now tile + slice_index crew.cut.now tile)) output };
+
+    fn tools(&self, alloc: Global) -> Result<Engines<'a>, OutOfMemory> {
+        // The engines of both worlds share the bounds on what is kept.
+        let engines = self.asked.workers.saturating_mul(2);
+        Ok(Engines {
+            before: ClassEngine::surveyed(alloc, self.before, engines)?,
+            after: ClassEngine::surveyed(alloc, self.after, engines)?,
+        })
+    }
+
+    fn skip(&self, _bound: &mut Bound<'_>, _tile: u64) -> Option<Part> {
+        None
+    }
+
+    fn work(
+        &self,
+        alloc: Global,
+        engines: &mut Engines<'a>,
+        _bound: &mut Bound<'_>,
+        tile: u64,
+    ) -> Result<Part, OutOfMemory> {
+        let tile = self.cut.cells(tile);
+        let from = self.requests.reach(tile.from);
+        let to = self.requests.reach(tile.from + tile.count);
+        part_of(alloc, self, engines, from, to)
+    }
+
+    ghost lasts = { λ _ _ _ _ _ _ given. given };
+}
+
+/// The rows among the cells of the world AFTER and of the world BEFORE behind it, from one up to another.
+fn part_of(
+    alloc: Global,
+    crew: &Workers<'_>,
+    engines: &mut Engines<'_>,
+    from: u64,
+    to: u64,
+) -> Result<Part, OutOfMemory>
+    requires crew { IsCrew crew.now }
+    requires tools { AreToolsOf crew.now engines.old }
+    requires order { from ≤ to }
+    requires cells { to ≤ all_cells crew.now.requests.now }
+    ensures part { IfOk result (IsPartOf (asked_of crew.now) crew.now.requests.now crew.now.asked.format crew.now.asked.brief from to) }
+    ensures tools { AreToolsOf crew.now engines.new }
+{
+    // A world has at most 16,777,216 cells, so the numbers fit.
+    let first = crew.requests.after().cells();
+    let _last = crew.requests.before().cells();
+    let mut rows = Gathered::new(alloc, from)?;
+    if to <= first {
+        walk_after(alloc, crew, engines, from, to, &mut rows)?;
+        return rows.part(alloc, crew.asked.format, crew.asked.brief);
+    }
+    if from >= first {
+        walk_before(alloc, crew, engines, from - first, to - first, &mut rows)?;
+        return rows.part(alloc, crew.asked.format, crew.asked.brief);
+    }
+    walk_after(alloc, crew, engines, from, first, &mut rows)?;
+    walk_before(alloc, crew, engines, 0, to - first, &mut rows)?;
+    rows.part(alloc, crew.asked.format, crew.asked.brief)
+}
+
+/// Adds the rows of cells of AFTER, from one up to another.
+fn walk_after(
+    alloc: Global,
+    crew: &Workers<'_>,
+    engines: &mut Engines<'_>,
+    from: u64,
+    end: u64,
+    rows: &mut Gathered,
+) -> Result<(), OutOfMemory>
+    requires crew { IsCrew crew.now }
+    requires tools { AreToolsOf crew.now engines.old }
+    requires order { from ≤ end }
+    requires end { end ≤ world_cells crew.now.requests.now.after }
+    requires rows { rows.old.end ≤ from }
+    requires few { length rows.old.rows ≤ from }
+    ensures rows { OnOk result (Gathers (asked_of crew.now) crew.now.requests.now crew.now.asked.brief from end rows.old rows.new) }
+    ensures tools { AreToolsOf crew.now engines.new }
+{
+    let world = crew.requests.after();
+    let _cells = world.cells();
+    let mut at = Position::of(world, from);
+    while at.cell < end {
+        if !crew.pick_after.asks_row(at) {
+            at = past_row(world, at, end);
+            continue;
+        }
+        visit_after(alloc, crew, engines, at, rows)?;
+        at = at.next_in(world);
+    }
+    Ok(())
+}
+
+/// Adds the rows of cells of BEFORE whose requests AFTER does not have, from one up to another.
+fn walk_before(
+    alloc: Global,
+    crew: &Workers<'_>,
+    engines: &mut Engines<'_>,
+    from: u64,
+    end: u64,
+    rows: &mut Gathered,
+) -> Result<(), OutOfMemory>
+    requires crew { IsCrew crew.now }
+    requires tools { AreToolsOf crew.now engines.old }
+    requires order { from ≤ end }
+    requires end { end ≤ world_cells crew.now.requests.now.before }
+    requires rows { rows.old.end ≤ world_cells crew.now.requests.now.after + from }
+    requires few { length rows.old.rows ≤ world_cells crew.now.requests.now.after + from }
+    ensures rows { OnOk result (Gathers (asked_of crew.now) crew.now.requests.now crew.now.asked.brief
+        (world_cells crew.now.requests.now.after + from) (world_cells crew.now.requests.now.after + end) rows.old rows.new) }
+    ensures tools { AreToolsOf crew.now engines.new }
+{
+    one_triple();
+    let world = crew.requests.before();
+    let _cells = (world.cells(), crew.requests.after().cells());
+    if crew.requests.to_after().finds_all() {
+        return Ok(());
+    }
+    let mut at = Position::of(world, from);
+    while at.cell < end {
+        if skips_row(crew, at) {
+            at = past_row(world, at, end);
+            continue;
+        }
+        visit_before(alloc, crew, engines, at, rows)?;
+        at = at.next_in(world);
+    }
+    Ok(())
+}
+
+/// `true` only where no request of a cell's principal in BEFORE for its action has a row there, whatever the resource.
+#[inline(always)]
+fn skips_row(crew: &Workers<'_>, at: Position) -> bool
+    requires crew { IsCrew crew.now }
+    requires cell { IsCell crew.now.requests.now.before at.cell at.principal at.action at.resource }
+    ensures { IsTrue result → (cell r : ℕ) (texts : CellTexts) → IsCell crew.now.requests.now.before cell at.principal at.action r
+        → IsCellTexts crew.now.requests.now.before cell texts
+        → IsLeftRow (asked_of crew.now) crew.now.requests.now.before crew.now.requests.now.after texts None }
+{
+    if !crew.pick_before.asks_row(at) {
+        return true;
+    }
+    crew.requests.to_after().finds_row(at)
+}
+
+/// Adds the row of a cell of AFTER, where its request is selected and has changed.
+#[inline(always)]
+fn visit_after(
+    alloc: Global,
+    crew: &Workers<'_>,
+    engines: &mut Engines<'_>,
+    at: Position,
+    rows: &mut Gathered,
+) -> Result<(), OutOfMemory>
+    requires crew { IsCrew crew.now }
+    requires tools { AreToolsOf crew.now engines.old }
+    requires cell { IsCell crew.now.requests.now.after at.cell at.principal at.action at.resource }
+    requires small { at.cell < 2 ^ 32 }
+    requires rows { rows.old.end ≤ at.cell }
+    requires few { length rows.old.rows ≤ at.cell }
+    ensures rows { OnOk result (Gathers (asked_of crew.now) crew.now.requests.now crew.now.asked.brief at.cell (at.cell + 1) rows.old rows.new) }
+    ensures tools { AreToolsOf crew.now engines.new }
+{
+    if !crew.pick_after.asks(at) {
+        return Ok(());
+    }
+    add_after(alloc, crew, engines, at, rows)
+}
+
+/// Adds the row of a cell of BEFORE whose request AFTER does not have, where it is selected and has changed.
+#[inline(always)]
+fn visit_before(
+    alloc: Global,
+    crew: &Workers<'_>,
+    engines: &mut Engines<'_>,
+    at: Position,
+    rows: &mut Gathered,
+) -> Result<(), OutOfMemory>
+    requires crew { IsCrew crew.now }
+    requires tools { AreToolsOf crew.now engines.old }
+    requires cell { IsCell crew.now.requests.now.before at.cell at.principal at.action at.resource }
+    requires small { world_cells crew.now.requests.now.after + at.cell < 2 ^ 32 }
+    requires rows { rows.old.end ≤ world_cells crew.now.requests.now.after + at.cell }
+    requires few { length rows.old.rows ≤ world_cells crew.now.requests.now.after + at.cell }
+    ensures rows { OnOk result (Gathers (asked_of crew.now) crew.now.requests.now crew.now.asked.brief
+        (world_cells crew.now.requests.now.after + at.cell) (world_cells crew.now.requests.now.after + at.cell + 1) rows.old rows.new) }
+    ensures tools { AreToolsOf crew.now engines.new }
+{
+    if !crew.pick_before.asks(at) {
+        return Ok(());
+    }
+    if crew.requests.to_after().find(at).is_some() {
+        return Ok(());
+    }
+    add_before(alloc, crew, engines, at, rows)
+}
+
+/// Adds the row of a cell of AFTER, where its request has changed.
+#[inline(always)]
+fn add_after(
+    alloc: Global,
+    crew: &Workers<'_>,
+    engines: &mut Engines<'_>,
+    at: Position,
+    rows: &mut Gathered,
+) -> Result<(), OutOfMemory>
+    requires crew { IsCrew crew.now }
+    requires tools { AreToolsOf crew.now engines.old }
+    requires cell { IsCell crew.now.requests.now.after at.cell at.principal at.action at.resource }
+    requires small { at.cell < 2 ^ 32 }
+    requires rows { rows.old.end ≤ at.cell }
+    requires few { length rows.old.rows ≤ at.cell }
+    ensures rows { OnOk result ((texts : CellTexts) → IsCellTexts crew.now.requests.now.after at.cell texts
+        → AddsChange crew.now.requests.now crew.now.asked.all crew.now.asked.brief at.cell texts rows.old rows.new) }
+    ensures tools { AreToolsOf crew.now engines.new }
+{
+    let number = engines
+        .after
+        .find(alloc, at.principal, at.action, at.resource)?;
+    let Some((p, a, r)) = crew.requests.to_before().find(at) else {
+        let after = Some(engines.after.verdict(number));
+        return add_said(alloc, crew.asked, at.cell, number, None, after, rows);
+    };
+    let other = engines.before.find(alloc, p, a, r)?;
+    let hint = number ^ other.rotate_left(5);
+    let before = Some(engines.before.verdict(other));
+    let after = Some(engines.after.verdict(number));
+    add_said(alloc, crew.asked, at.cell, hint, before, after, rows)
+}
+
+/// Adds the row of a cell of BEFORE whose request AFTER does not have, where it has changed.
+fn add_before(
+    alloc: Global,
+    crew: &Workers<'_>,
+    engines: &mut Engines<'_>,
+    at: Position,
+    rows: &mut Gathered,
+) -> Result<(), OutOfMemory>
+    requires crew { IsCrew crew.now }
+    requires tools { AreToolsOf crew.now engines.old }
+    requires cell { IsCell crew.now.requests.now.before at.cell at.principal at.action at.resource }
+    requires small { world_cells crew.now.requests.now.after + at.cell < 2 ^ 32 }
+    requires rows { rows.old.end ≤ world_cells crew.now.requests.now.after + at.cell }
+    requires few { length rows.old.rows ≤ world_cells crew.now.requests.now.after + at.cell }
+    ensures rows { OnOk result ((texts : CellTexts) → IsCellTexts crew.now.requests.now.before at.cell texts → ¬ Has crew.now.requests.now.after texts
+        → AddsChange crew.now.requests.now crew.now.asked.all crew.now.asked.brief (world_cells crew.now.requests.now.after + at.cell) texts rows.old rows.new) }
+    ensures tools { AreToolsOf crew.now engines.new }
+{
+    let cell = crew.requests.after().cells() + at.cell;
+    let number = engines
+        .before
+        .find(alloc, at.principal, at.action, at.resource)?;
+    let before = Some(engines.before.verdict(number));
+    add_said(alloc, crew.asked, cell, number, before, None, rows)
+}
+
+/// Adds the row of a cell, where what is said of its request before and after is a change.
+#[inline(always)]
+fn add_said(
+    alloc: Global,
+    asked: Asked,
+    cell: u64,
+    hint: usize,
+    before: Option<&Verdict>,
+    after: Option<&Verdict>,
+    rows: &mut Gathered,
+) -> Result<(), OutOfMemory>
+    requires rows { rows.old.end ≤ cell }
+    requires few { length rows.old.rows ≤ cell }
+    requires cell { cell < 2 ^ 32 }
+    ensures { OnOk result (AddsSaid asked.all asked.brief cell (option_map (λ verdict. verdict.now) before.entry) (option_map (λ verdict. verdict.now) after.entry) rows.old rows.new) }
+{
+    match change_of(asked.all, before, after) {
+        Some(change) => add(alloc, asked.brief, cell, change, hint, before, after, rows),
+        None => Ok(()),
+    }
+}
+
+/// Adds the row of a cell.
+#[inline(never)]
+fn add(
+    alloc: Global,
+    brief: bool,
+    cell: u64,
+    change: Change,
+    hint: usize,
+    before: Option<&Verdict>,
+    after: Option<&Verdict>,
+    rows: &mut Gathered,
+) -> Result<(), OutOfMemory>
+    requires rows { rows.old.end ≤ cell }
+    requires few { length rows.old.rows ≤ cell }
+    requires cell { cell < 2 ^ 32 }
+    ensures { OnOk result (rows.new ≡ with_row brief cell (option_map (λ verdict. verdict.now) before.entry) (option_map (λ verdict. verdict.now) after.entry) change rows.old) }
+{
+    if brief {
+        let before = decision_of(before);
+        let after = decision_of(after);
+        rows.add(alloc, cell, change, hint, &Decisions { before, after })
+    } else {
+        rows.add(alloc, cell, change, hint, &Verdicts { before, after })
+    }
+}
+
+/// The decision of what is said.
+fn decision_of(said: Option<&Verdict>) -> Option<Decision>
+    ensures { result ≡ option_map (λ verdict. verdict.now.decision) said.entry }
+{
+    match said {
+        Some(verdict) => Some(verdict.decision),
+        None => None,
+    }
+}
