@@ -173,8 +173,8 @@ fn put_tile<W: Write>(
     ensures within { OnOk result (IsWithin at.new) }
     ensures cell { OnOk result (at.new.cell ≡ at.old.cell + length tile.now) }
 {
-    let tails = tile.tails.as_slice();
-    if let Err(fault) = put_rows(writer, kept, quoted, tails, &tile.numbers, at) {
+    let (tails, numbers) = tile.parts();
+    if let Err(fault) = put_rows(writer, kept, quoted, tails, numbers, at) {
         return Err(fault);
     }
     Ok(())

@@ -10,9 +10,9 @@ use std::marker::Model;
 /// and a small number for each cell.
 #[derive(Debug, Drop)]
 pub struct Tile {
-    pub(crate) tails: Vec<Tail>,
+    tails: Vec<Tail>,
     // The number of each in `tails`.
-    pub(crate) numbers: Numbers,
+    numbers: Numbers,
 }
 
 impl Model for Tile {
@@ -34,6 +34,14 @@ impl Tile {
         ensures { result ≡ picked no_tail tails.items numbers }
     {
         Tile { tails, numbers }
+    }
+
+    /// The different tails, and the number of each row's among them.
+    pub fn parts(&self) -> (&[Tail], &Numbers)
+        ensures rows { picked no_tail result.0.now result.1.now ≡ self.now }
+        ensures known { All (λ n. n < length result.0.now) result.1.now }
+    {
+        (self.tails.as_slice(), &self.numbers)
     }
 
     /// How many rows it has.
