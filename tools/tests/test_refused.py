@@ -35,6 +35,7 @@ LINES = [
     b"fault 3 Matrix: 2 OutOfMemory\n",
     b"fault 6 Cut: 4 OutOfMemory\n",
     b"fault 7 OutOfMemory\n",
+    b"fault 9 Before: 10 OutOfMemory\n",
 ]
 
 FORMS = [form.split() for form in ("--format csv", "--format csv --brief", "--format json", "--format json --brief")]
@@ -145,6 +146,32 @@ def test_memory_refused_where_the_world_is_a_file():
         for later in (0, 1)
     ]
     tell("memory refused where the world is a file", *refused(IAMSIM, jobs))
+
+
+def two_worlds():
+    """Commands that hold a world against the one that is given, and this one."""
+    company, every = os.path.join(EXAMPLES, "company.json"), data("every.json")
+    home = row_world("home").replace(b"home/bob", b"home/eve")
+    path = os.path.join(os.environ["TOOLS_TEST_ROOM"], "home-before.json")
+    with open(path, "wb") as it:
+        it.write(row_world("home"))
+    forms = [[], ["--all", "--brief", "--format", "json"], ["--workers", "1", "--tile", "1", "--principal", "*"]]
+    for before, after in [(path, home), (company, file(every)), (every, file(company)), ("no-such-file", home)]:
+        for form in forms:
+            yield ["changes", *form, before], after
+    yield ["changes", path], b"{}"
+    yield ["changes", os.path.join(EXAMPLES, "faulty.json")], home
+    yield ["changes", path], home.replace(b"home/eve", b"home/ann")
+
+
+def test_memory_refused_where_worlds_are_compared():
+    jobs = [("REFUSE_CALL", later, words, world) for words, world in two_worlds() for later in (0, 1)]
+    tell("memory refused where worlds are compared", *refused(IAMSIM, jobs))
+
+
+def test_threads_refused_where_worlds_are_compared():
+    jobs = [("REFUSE_THREAD", later, words, world) for words, world in two_worlds() for later in (0, 1)]
+    tell("threads refused where worlds are compared", *refused(IAMSIM, jobs))
 
 
 def test_refused_threads():
