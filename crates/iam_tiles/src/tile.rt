@@ -10,9 +10,9 @@ use std::marker::Model;
 /// and a small number for each cell.
 #[derive(Debug, Drop)]
 pub struct Tile {
-    tails: Vec<Tail>,
+    pub(crate) tails: Vec<Tail>,
     // The number of each in `tails`.
-    numbers: Numbers,
+    pub(crate) numbers: Numbers,
 }
 
 impl Model for Tile {
