@@ -11,9 +11,7 @@ from harness import EXAMPLES, IAMSIM, answer, document, file, same, statement
 from test_devices import FAULTY, many_cells, shell
 from test_selections import ANN, BOB, DECRYPT, GET, K, PUT, Q, WORLD
 
-HEADER = (
-    b"change,principal,action,resource,before,after,statements_before,lacks_before,statements_after,lacks_after\n"
-)
+HEADER = b"change,principal,action,resource,before,after,statements_before,lacks_before,statements_after,lacks_after\n"
 BRIEF_HEADER = b"change,principal,action,resource,before,after\n"
 MISSING = "No such file or directory"
 
@@ -75,7 +73,12 @@ def test_each_form():
         ("--format json --principal nobody", b"[]\n"),
     ]:
         done = (0, text, b"")
-        for places, given in (([before, after], b"{}"), ([before], AFTER), ([before, "-"], AFTER), (["-", after], BEFORE)):
+        for places, given in (
+            ([before, after], b"{}"),
+            ([before], AFTER),
+            ([before, "-"], AFTER),
+            (["-", after], BEFORE),
+        ):
             same(answer(["changes", *words.split(), *places], given), done, f"{words} {places}")
         same(shell(f"changes {words} {before} {after}", "<&-"), done, words)
 
@@ -222,7 +225,14 @@ def test_many_cells_in_every_cut():
         for text in texts
     )
     wanted += "".join(f"lost,{ANN},ec2:RunInstances,{text},allowed,\n" for text in texts)
-    for words in ("", "--tile 4 --workers 64", "--tile 1000 --workers 1", "--tile 14400 --workers 4", "--tile 14520", "--tile 99999"):
+    for words in (
+        "",
+        "--tile 4 --workers 64",
+        "--tile 1000 --workers 1",
+        "--tile 14400 --workers 4",
+        "--tile 14520",
+        "--tile 99999",
+    ):
         same(answer(["changes", "--brief", *words.split(), *places]), (0, wanted.encode(), b""), words)
     same(answer(["changes", "--tile", "3", *places]), (1, b"", b"fault 6 Cut: 3 TooMany\n"))
 
