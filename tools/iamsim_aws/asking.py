@@ -1,14 +1,16 @@
 """Answers to all requests of worlds, which may be past the limits of one."""
 
 import array
-from typing import List
+import os
+import tempfile
+from typing import Any, Dict, Iterator, List, Tuple
 
 from . import decimals
 from .checking import lines, refused_documents, with_name
 from .documents import World
 from .faults import Fault
-from .program import Refused, side_by_side, world_bytes
-from .reports import Answers, read_report
+from .program import Refused, each_of, side_by_side, world_bytes
+from .reports import Answers, read_report, rows_of
 from .splitting import parts
 
 
@@ -60,3 +62,17 @@ def ask_all(worlds: List[World], brief: bool = False) -> List[Answers]:
 
 def ask(world: World, brief: bool = False) -> Answers:
     return ask_all([world], brief)[0]
+
+
+def ask_changes(pairs: List[Tuple[World, World]]) -> List[List[Dict[str, Any]]]:
+    """The rows of what has changed from the one world of each pair to the other, both within the limits of a world."""
+    with tempfile.TemporaryDirectory() as room:
+
+        def jobs() -> Iterator[Tuple[List[str], bytes]]:
+            for n, (before, after) in enumerate(pairs):
+                path = os.path.join(room, str(n))
+                with open(path, "wb") as it:
+                    it.write(world_bytes(whole(before)))
+                yield ["changes", "--format", "json", path], world_bytes(whole(after))
+
+        return [list(rows_of(it.decode())) for it in each_of(jobs(), len(pairs))]

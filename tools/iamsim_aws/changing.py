@@ -4,7 +4,7 @@ from typing import Any, Dict, List, NamedTuple, Optional, Sequence, Tuple
 
 from . import hanging, kinds
 from .arns import principal_text
-from .asking import ask_all
+from .asking import ask_all, ask_changes, whole
 from .checking import NOTHING
 from .documents import World, bare, mapped, places, statements_of
 from .faults import tell
@@ -13,8 +13,10 @@ from .keys import with_key
 from .making import bound
 from .patterns import common, is_pattern, matcher
 from .questions import ARN, Scope, account_for, with_account
-from .reports import Answers, keys_of
+from .program import Refused
+from .reports import Answer, Answers, axes_of, keys_of
 from .sources import ASSUME, Source
+from .splitting import parts
 from .strangers import strangers, with_strangers
 
 
@@ -133,6 +135,46 @@ def compared(first: Answers, second: Answers, given: str = "") -> Changes:
     return Changes(first, second, only(first, second), only(second, first), given)
 
 
+def is_held(before: World, after: World) -> bool:
+    """Whether the program holds the worlds against each other: each is within its limits, no text stands twice in one, and
+    no ARN is of one account before and of another after."""
+    accounts = {it["arn"]: it["account"] for it in before["resources"]}
+    is_moved = any(accounts.get(it["arn"], it["account"]) != it["account"] for it in after["resources"])
+    is_twice = any(len(set(axis)) < len(axis) for world in (before, after) for axis in axes_of(world))
+    return not is_moved and not is_twice and all(len(parts(whole(it))) == 1 for it in (before, after))
+
+
+def listed(before: World, after: World, rows: List[Dict[str, Any]], given: str) -> Changes:
+    """The changes of the program's rows; nothing is known of other cells."""
+    sides = []
+    for world, side in ((before, "before"), (after, "after")):
+        numbers = [{text: n for n, text in enumerate(axis)} for axis in axes_of(world)]
+        answers = Answers(world, len(world["principals"]) * len(world["actions"]) * len(world["resources"]))
+        answers.number("", lambda: Answer("", (), ()))
+        cells: Dict[str, List[int]] = {"lost": [], "gained": []}
+        for row in (it for it in rows if it[side]):
+            p, a, r = (of[row[name]] for of, name in zip(numbers, ("principal", "action", "resource")))
+            cell = (p * answers.shape[1] + a) * answers.shape[2] + r
+            answer = Answer(row[side], tuple(row[f"statements_{side}"]), tuple(row[f"lacks_{side}"]))
+            answers.numbers[cell] = answers.number(answer, lambda it=answer: it)
+            cells[row["change"]].append(cell)
+        sides.append((answers, cells))
+    (first, of_first), (second, of_second) = sides
+    return Changes(first, second, sorted(of_first["lost"]), sorted(of_second["gained"]), given)
+
+
+def compared_all(pairs: List[Tuple[World, World]], given: List[str], is_page: bool) -> List[Changes]:
+    """What changes between the worlds of each pair; a page has all their cells."""
+    if not is_page and all(is_held(*it) for it in pairs):
+        try:
+            return [listed(*pair, rows, words) for pair, rows, words in zip(pairs, ask_changes(pairs), given)]
+        except Refused:
+            # Which world was refused, and by which policy, is told by asking each alone.
+            pass
+    answers = ask_all([it for pair in pairs for it in pair])
+    return [compared(*of, words) for of, words in zip(zip(answers[::2], answers[1::2]), given)]
+
+
 def same_cell(changes: Changes, cell: int, is_before: bool) -> Any:
     """The cell of the other world for the same request; None where it has none."""
     one, other = (changes.before, changes.after) if is_before else (changes.after, changes.before)
@@ -195,7 +237,12 @@ def with_keys(before: World, after: World) -> List[Tuple[str, World, World]]:
 
 
 def changes_of(
-    before: Source, after: Source, patterns: List[str], resource: str, account: Optional[str] = None
+    before: Source,
+    after: Source,
+    patterns: List[str],
+    resource: str,
+    account: Optional[str] = None,
+    is_page: bool = False,
 ) -> List[Changes]:
     """What changes, by worlds of actions: as it is, and what changes with a key alone that nothing gives."""
     scopes = [Scope(it, account=account) for it in (before, after)]
@@ -203,14 +250,13 @@ def changes_of(
     for worlds in zip(before.worlds(actions), after.worlds(actions)):
         pair = with_witnesses(scopes, worlds, resource)
         some = strangers(after, pair)
-        pair = [with_strangers(source, world, some) for source, world in zip((before, after), pair)]
-        keyed = with_keys(*pair)
-        answers = ask_all([*pair, *(it for _, *two in keyed for it in two)])
-        first = compared(answers[0], answers[1])
+        one, other = (with_strangers(source, world, some) for source, world in zip((before, after), pair))
+        keyed = with_keys(one, other)
+        pairs = [(one, other), *((first, second) for _, first, second in keyed)]
+        first, *others = compared_all(pairs, ["", *(words for words, _, _ in keyed)], is_page)
         lost, gained = set(first.lost), set(first.gained)
         found.append(first)
-        for n, (words, _, _) in enumerate(keyed, 1):
-            more = compared(answers[2 * n], answers[2 * n + 1], words)
+        for more in others:
             new = more._replace(
                 lost=[it for it in more.lost if it not in lost], gained=[it for it in more.gained if it not in gained]
             )

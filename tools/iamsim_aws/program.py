@@ -5,7 +5,7 @@ import os
 import shutil
 import subprocess
 import sys
-from typing import Iterable, Iterator, List
+from typing import Iterable, Iterator, List, Tuple
 
 from .documents import World, bare
 from .faults import Fault
@@ -49,13 +49,19 @@ def processors() -> int:
 
 
 def side_by_side(words: List[str], worlds: Iterable[bytes], count: int) -> Iterator[bytes]:
-    """What iamsim writes of each world, in their order; each has its share of the processors."""
+    """What iamsim writes of each world, in their order."""
+    return each_of(((words, it) for it in worlds), count)
+
+
+def each_of(jobs: Iterable[Tuple[List[str], bytes]], count: int) -> Iterator[bytes]:
+    """What iamsim writes under some words of each world, in their order; each has its share of the processors."""
     together = max(1, min(count, processors()))
-    more = (
-        [] if any(it.startswith("--workers") for it in words) else ["--workers", str(max(1, processors() // together))]
-    )
+    share = ["--workers", str(max(1, processors() // together))]
     with concurrent.futures.ThreadPoolExecutor(together) as pool:
-        waiting = [pool.submit(run, [*words, *more], it) for it in worlds]
+        waiting = []
+        for words, world in jobs:
+            more = [] if any(it.startswith("--workers") for it in words) else share
+            waiting.append(pool.submit(run, [*words, *more], world))
         try:
             for it in waiting:
                 yield it.result()

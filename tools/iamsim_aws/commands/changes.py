@@ -54,7 +54,7 @@ def run(options: argparse.Namespace) -> int:
         options.moment = int(time.time())
     before, after = drafts.both(options)
     patterns = options.action or ["*"]
-    found = changes_of(before, after, patterns, options.resource, options.account)
+    found = changes_of(before, after, patterns, options.resource, options.account, options.format == "page")
     tell_actions(after, patterns)
     tell_strangers(after, [world for it in found if not it.given for world in changed(it)])
     lines = [line for it in found for line in lines_of(it)]
