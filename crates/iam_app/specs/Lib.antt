@@ -1,3 +1,6 @@
+pub mod Changes
+pub mod ChangesFault
+pub mod ChangesLaws
 pub mod Code
 pub mod FaultLine
 pub mod Laws

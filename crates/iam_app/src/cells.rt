@@ -18,11 +18,11 @@ use std::thread::Threads;
 /// Where the options say no length, there are at most so many tiles.
 const TILES: u64 = 256;
 
-/// The length of a tile.
-fn tile_length(options: &Options, cells: u64) -> u64
-    ensures { result ≡ tile_or_default options.now.tile cells }
+/// The length of a tile, where this one or none is asked for.
+pub fn tile_length(tile: Option<u64>, cells: u64) -> u64
+    ensures { result ≡ tile_or_default tile cells }
 {
-    match options.tile {
+    match tile {
         Some(tile) => tile,
         None => cells.div_ceil(TILES).max(1),
     }
@@ -35,7 +35,7 @@ pub fn cut_cells(alloc: Global, options: &Options, world: &World) -> Result<Cut,
     ensures fault { IfErr result (λ fault. fault ≢ c.OutOfMemory → HasCutFault options.now world.now fault) }
 {
     let cells = world.cells();
-    Cut::even(alloc, tile_length(options, cells), cells)
+    Cut::even(alloc, tile_length(options.tile, cells), cells)
 }
 
 pub fn format_in(options: &Options) -> Format

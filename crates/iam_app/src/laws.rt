@@ -1,6 +1,8 @@
 // That what a run writes is determined by its input and by what the options ask for.
+ghost use Rattle.iam_app.specs.ChangesLaws.{OneChangesOutput};
 ghost use Rattle.iam_app.specs.Laws.{OneBeginning, OneEnd, OneOutput, OneSelectedOutput};
 
+use iam_changes::one_changes;
 use iam_layers::one_verdict_at;
 use iam_matrix::one_report;
 use iam_row::one_row;
@@ -23,4 +25,13 @@ pub fn one_output()
     one_row();
     one_selected_report();
     one_report()
+}
+
+/// Of the bytes of two worlds there is one report, and one answer which kinds of changes it has, whatever the tile and the number
+/// of workers.
+pub fn one_changes_output()
+    ensures text { OneChangesOutput }
+{
+    one_world();
+    one_changes()
 }

@@ -2,6 +2,8 @@
 #![tactic(auto)]
 
 mod cells;
+mod changes;
+mod changes_fault;
 mod fault;
 mod input;
 mod laws;
@@ -9,12 +11,19 @@ mod output;
 mod program;
 mod selected;
 
+pub use changes::{changes_status, run_changes};
+pub use changes_fault::{ChangesFault, Side, changes_fault_line};
 pub use fault::{RunFault, fault_line, status};
+pub use iam_changes::Kinds;
 pub use iam_layers::WorldFault;
 pub use iam_matrix::{CutFault, MatrixFault};
-pub use iam_options::{Asked, Command, Options, Task, Usage, command_of, options_of};
+pub use iam_options::{
+    Asked, ChangesCommand, ChangesOptions, Command, FailOn, Options, Task, Usage, WorldCommand,
+    command_of, options_of,
+};
+pub use iam_requests::{Axis, Twice};
 pub use iam_selection::Selection;
 pub use iam_text::OutOfMemory;
-pub use laws::one_output;
+pub use laws::{one_changes_output, one_output};
 pub use program::run;
 pub use selected::{run_selected, selection_of};

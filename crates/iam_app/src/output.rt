@@ -4,6 +4,7 @@ ghost use Rattle.std.specs.Io.KnownBytes.{Appends, Keeps};
 ghost use Rattle.iam_report.specs.Streams.{AppendsBeginning};
 ghost use Rattle.iam_app.specs.Code.Pieces.{report_text};
 
+use iam_changes::ChangesText;
 use iam_report::{MatrixText, OutputFault, write_text};
 use iam_selection::ListText;
 use std::io::Write;
@@ -17,6 +18,8 @@ pub enum Report {
     Matrix(MatrixText),
     /// Of the rows that are asked for.
     Rows(ListText),
+    /// Of what has changed.
+    Changes(ChangesText),
 }
 
 /// Writes the whole report by way of an empty buffer, without a flush.
@@ -33,6 +36,7 @@ fn write_unflushed<W: Write>(
         Report::Whole(text) => write_text(writer, text.as_slice()),
         Report::Matrix(matrix) => matrix.write_to(writer, kept),
         Report::Rows(rows) => rows.write_to(writer, kept),
+        Report::Changes(changes) => changes.write_to(writer, kept),
     }
 }
 

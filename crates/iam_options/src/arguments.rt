@@ -76,7 +76,7 @@ pub fn first<'a>(alloc: Global) -> Result<Parser<'a>, AllocError> {
 }
 
 /// A command that decides many requests.
-fn run<'a>(
+pub fn run<'a>(
     alloc: Global,
     name: &'static str,
     about: &'static str,
@@ -103,7 +103,7 @@ fn tile<'a>(alloc: Global) -> Arg<'a> {
         .help("How many requests a thread takes at once [default: 1/256 of all, rounded up]")
 }
 
-fn format<'a>(alloc: Global) -> Arg<'a> {
+pub fn format<'a>(alloc: Global) -> Arg<'a> {
     Arg::new(alloc, "format")
         .long("format")
         .value_name("FORMAT")
@@ -112,7 +112,7 @@ fn format<'a>(alloc: Global) -> Arg<'a> {
         .help("The format of the report")
 }
 
-fn brief<'a>(alloc: Global) -> Arg<'a> {
+pub fn brief<'a>(alloc: Global) -> Arg<'a> {
     Arg::new(alloc, "brief")
         .long("brief")
         .action(ArgAction::SetTrue)

@@ -3,6 +3,7 @@ ghost use Rattle.std.specs.Prelude.{◌≡◌, ◌↔◌, IsTrue, IfOk, codes, l
 ghost use Rattle.iam_options.specs.Words.{HasAsked, IsFileAt, texts_at};
 
 use crate::arguments::{check, decide, first, matrix, named, with};
+use crate::changes::{ChangesCommand, changes, changes_in};
 use crate::options::{Options, Usage, options_in, usage_of};
 use clap::builder::ValueParser;
 use clap::{Arg, ArgAction, ArgMatches, Command as Parser};
@@ -25,9 +26,18 @@ An option with PATTERN or WORD may be given several times; then one of its value
 /// The decisions that `--decision` takes.
 static DECISIONS: [&str; 3] = ["allowed", "explicitDeny", "implicitDeny"];
 
-/// What a command line asks for: the options, where the world comes from, and which rows are asked for.
+/// What a command line asks for.
 #[derive(Debug, Drop)]
-pub struct Command {
+pub enum Command {
+    /// A command about one world.
+    World(WorldCommand),
+    /// The changes between two worlds.
+    Changes(ChangesCommand),
+}
+
+/// What a command line asks for of one world: the options, where the world comes from, and which rows are asked for.
+#[derive(Debug, Drop)]
+pub struct WorldCommand {
     /// The command with its options.
     pub options: Options,
     /// The name of the file with the world; standard input where there is none.
@@ -77,22 +87,25 @@ fn command_or_usage(
     matches: &ArgMatches<'_>,
 ) -> Result<Command, Usage> {
     match (matches.subcommand(), options_in(matches)) {
-        (Some((_, command)), Some(options)) => Ok(command_in(alloc, options, command)?),
+        (Some(("changes", command)), _) => Ok(Command::Changes(changes_in(alloc, command)?)),
+        (Some((_, command)), Some(options)) => {
+            Ok(Command::World(world_in(alloc, options, command)?))
+        }
         _ => Err(Usage::Refused(parser.render_usage()?)),
     }
 }
 
-/// A command that was read, with all that stands behind it.
-fn command_in(
+/// A command about one world that was read, with all that stands behind it.
+fn world_in(
     alloc: Global,
     options: Options,
     command: &ArgMatches<'_>,
-) -> Result<Command, AllocError>
+) -> Result<WorldCommand, AllocError>
     ensures options { IfOk result (λ read. read.options ≡ options) }
     ensures world { IfOk result (λ read. IsFileAt command.now (codes "WORLD") read.world) }
     ensures asked { IfOk result (λ read. HasAsked command.now read.asked) }
 {
-    Ok(Command {
+    Ok(WorldCommand {
         options,
         world: file_at(alloc, command, "WORLD")?,
         asked: asked_in(alloc, command)?,
@@ -100,7 +113,7 @@ fn command_in(
 }
 
 /// The file that is named, if not standard input.
-fn file_at(
+pub fn file_at(
     alloc: Global,
     command: &ArgMatches<'_>,
     name: &str,
@@ -114,7 +127,8 @@ fn file_at(
     }
 }
 
-fn asked_in(alloc: Global, command: &ArgMatches<'_>) -> Result<Asked, AllocError>
+/// What is asked for; nothing of what a command does not take.
+pub fn asked_in(alloc: Global, command: &ArgMatches<'_>) -> Result<Asked, AllocError>
     ensures { IfOk result (λ asked. HasAsked command.now asked) }
 {
     Ok(Asked {
@@ -153,7 +167,8 @@ fn iamsim<'a>(alloc: Global) -> Result<Parser<'a>, AllocError> {
         parser,
         selecting_rows(alloc, of_world(alloc, matrix(alloc))),
     );
-    with(parser, selecting(alloc, of_world(alloc, first(alloc))))
+    let parser = with(parser, selecting(alloc, of_world(alloc, first(alloc))));
+    with(parser, changes(alloc))
 }
 
 /// A command of a world that may be named.
@@ -161,7 +176,12 @@ fn of_world<'a>(
     alloc: Global,
     command: Result<Parser<'a>, AllocError>,
 ) -> Result<Parser<'a>, AllocError> {
-    command?.after_help(INPUT).arg(world(alloc))
+    let world = file(
+        alloc,
+        "WORLD",
+        "The file with the world [default: standard input]",
+    );
+    command?.after_help(INPUT).arg(world)
 }
 
 /// A command for some requests.
@@ -169,8 +189,12 @@ fn selecting<'a>(
     alloc: Global,
     command: Result<Parser<'a>, AllocError>,
 ) -> Result<Parser<'a>, AllocError> {
-    command?
-        .after_help(SELECTION)
+    with_patterns(alloc, command?.after_help(SELECTION))
+}
+
+/// A command with the patterns of requests.
+pub fn with_patterns<'a>(alloc: Global, command: Parser<'a>) -> Result<Parser<'a>, AllocError> {
+    command
         .arg(pattern(alloc, "principal", "Only requests of principals that match"))?
         .arg(pattern(
             alloc,
@@ -188,10 +212,10 @@ fn selecting_rows<'a>(
     selecting(alloc, command)?.arg(decision(alloc))
 }
 
-fn world<'a>(alloc: Global) -> Arg<'a> {
-    Arg::new(alloc, "WORLD")
+pub fn file<'a>(alloc: Global, name: &'static str, help: &'static str) -> Arg<'a> {
+    Arg::new(alloc, name)
         .value_parser(ValueParser::NonEmptyString)
-        .help("The file with the world [default: standard input]")
+        .help(help)
 }
 
 fn pattern<'a>(alloc: Global, name: &'static str, help: &'static str) -> Arg<'a> {

@@ -2,8 +2,10 @@
 #![tactic(auto)]
 
 mod arguments;
+mod changes;
 mod command;
 mod options;
 
-pub use command::{Asked, Command, command_of};
+pub use changes::{ChangesCommand, ChangesOptions, FailOn};
+pub use command::{Asked, Command, WorldCommand, command_of};
 pub use options::{Options, Task, Usage, options_of};

@@ -9,7 +9,7 @@ use clap::{ArgMatches, Command as Parser, Error};
 use std::alloc::{AllocError, Global};
 
 /// How many workers there are where the command line does not say.
-const WORKERS: u32 = 4;
+pub const WORKERS: u32 = 4;
 
 /// What the command line asks for.
 #[derive(Clone, Copy, Debug, PartialEq, Eq)]

@@ -1,10 +1,13 @@
 // A row is an object: its name, the section of LOGIC.md that it tries (`rule`), an input, words, and what has to come of
 // them: `output`, or `row` for the full header and that row, else nothing; `fault`, the line of the fault, else none;
 // `status`, else 0 without a fault and 1 with one. Where it has `runs`, each of these has words and an answer of its own.
+// Of two worlds `before` is the input of the one before, and `input` that of the one after, whatever files the words name.
 use crate::input::{input_of, number_at, text_at};
 use crate::problem::Problem;
 use iam_app::{
-    Command, RunFault, Usage, command_of, fault_line, run, run_selected, selection_of, status,
+    ChangesCommand, ChangesFault, Command, Kinds, RunFault, Usage, WorldCommand,
+    changes_fault_line, changes_status, command_of, fault_line, run, run_changes, run_selected,
+    selection_of, status,
 };
 use serde_json::Value;
 use std::alloc::Global;
@@ -28,6 +31,13 @@ impl Tally {
     }
 }
 
+/// What a run reads: its world, and that before where there are two.
+#[derive(Drop)]
+struct Inputs {
+    before: Vec<u8>,
+    world: Vec<u8>,
+}
+
 /// What comes of a run: its exit status, what is written on standard output, and the line of a fault.
 #[derive(Drop)]
 struct Answer {
@@ -46,7 +56,7 @@ pub fn try_rows<R: AllocGlobal + Print + Threads + Sync>(
     let rows = rows.as_array().ok_or(Problem::Form)?;
     for row in rows.as_slice() {
         let name = text_at(row, "name").ok_or(Problem::Form)?;
-        let Ok(input) = input_of(rt.alloc(), worlds, row.get("input").ok_or(Problem::Form)?) else {
+        let Ok(inputs) = inputs_of(rt.alloc(), worlds, row) else {
             count(tally, false);
             println!(rt; "{name}: its input can't be built")?;
             continue;
@@ -54,13 +64,23 @@ pub fn try_rows<R: AllocGlobal + Print + Threads + Sync>(
         match row.get("runs").and_then(Value::as_array) {
             Some(runs) => {
                 for answer in runs.as_slice() {
-                    try_run(rt, name, input.as_slice(), answer, tally)?;
+                    try_run(rt, name, &inputs, answer, tally)?;
                 }
             }
-            None => try_run(rt, name, input.as_slice(), row, tally)?,
+            None => try_run(rt, name, &inputs, row, tally)?,
         }
     }
     Ok(())
+}
+
+/// What a row's runs read.
+fn inputs_of(alloc: Global, worlds: &Value, row: &Value) -> Result<Inputs, Problem> {
+    let before = match row.get("before") {
+        Some(before) => input_of(alloc, worlds, before)?,
+        None => Vec::new(alloc),
+    };
+    let world = input_of(alloc, worlds, row.get("input").ok_or(Problem::Form)?)?;
+    Ok(Inputs { before, world })
 }
 
 fn count(tally: &mut Tally, same: bool) {
@@ -73,14 +93,14 @@ fn count(tally: &mut Tally, same: bool) {
 fn try_run<R: AllocGlobal + Print + Threads + Sync>(
     rt: &R,
     name: &str,
-    input: &[u8],
+    inputs: &Inputs,
     want: &Value,
     tally: &mut Tally,
 ) -> Result<(), Problem> {
     let alloc = rt.alloc();
     let words = text_at(want, "words").ok_or(Problem::Form)?;
     let split: Vec<&str> = words.split_ascii_whitespace().collect(alloc)?;
-    let answer = answer_to(rt, split.as_slice(), input)?;
+    let answer = answer_to(rt, split.as_slice(), inputs)?;
     let want = wanted(alloc, want)?;
     let same = is_same(&answer, &want);
     count(tally, same);
@@ -118,19 +138,28 @@ fn wanted(alloc: Global, want: &Value) -> Result<Answer, Problem> {
     })
 }
 
-/// What comes of these words on this input.
+/// What comes of these words on these inputs.
 fn answer_to<R: AllocGlobal + Threads + Sync>(
     rt: &R,
     words: &[&str],
+    inputs: &Inputs,
+) -> Result<Answer, Problem> {
+    match command_of(rt.alloc(), words) {
+        Ok(Command::World(command)) => world_answer(rt, &command, inputs.world.as_slice()),
+        Ok(Command::Changes(command)) => changes_answer(rt, &command, inputs),
+        Err(usage) => usage_answer(rt.alloc(), usage),
+    }
+}
+
+/// What comes of a command about one world.
+fn world_answer<R: AllocGlobal + Threads + Sync>(
+    rt: &R,
+    command: &WorldCommand,
     input: &[u8],
 ) -> Result<Answer, Problem> {
     let alloc = rt.alloc();
-    let command = match command_of(alloc, words) {
-        Ok(command) => command,
-        Err(usage) => return usage_answer(alloc, usage),
-    };
     let mut output = Vec::new(alloc);
-    let outcome = outcome_of(rt, &command, input, &mut output);
+    let outcome = outcome_of(rt, command, input, &mut output);
     let fault = match &outcome {
         Ok(()) => String::new(alloc),
         Err(fault) => fault_line(alloc, fault)?,
@@ -145,7 +174,7 @@ fn answer_to<R: AllocGlobal + Threads + Sync>(
 /// How the run that a command asks for ends.
 fn outcome_of<R: AllocGlobal + Threads + Sync>(
     rt: &R,
-    command: &Command,
+    command: &WorldCommand,
     input: &[u8],
     output: &mut Vec<u8>,
 ) -> Result<(), RunFault> {
@@ -156,6 +185,48 @@ fn outcome_of<R: AllocGlobal + Threads + Sync>(
     }
     let selection = selection_of(alloc, &command.asked)?;
     run_selected(rt, alloc, &command.options, &selection, &mut reader, output)
+}
+
+/// What comes of a command about two worlds.
+fn changes_answer<R: AllocGlobal + Threads + Sync>(
+    rt: &R,
+    command: &ChangesCommand,
+    inputs: &Inputs,
+) -> Result<Answer, Problem> {
+    let alloc = rt.alloc();
+    let mut output = Vec::new(alloc);
+    let outcome = changes_of(rt, command, inputs, &mut output);
+    let fault = match &outcome {
+        Ok(_) => String::new(alloc),
+        Err(fault) => changes_fault_line(alloc, fault)?,
+    };
+    Ok(Answer {
+        status: u64::from(changes_status(&outcome, command.fail_on)),
+        output,
+        fault,
+    })
+}
+
+/// How the run of a command about two worlds ends.
+fn changes_of<R: AllocGlobal + Threads + Sync>(
+    rt: &R,
+    command: &ChangesCommand,
+    inputs: &Inputs,
+    output: &mut Vec<u8>,
+) -> Result<Kinds, ChangesFault> {
+    let alloc = rt.alloc();
+    let mut before = inputs.before.as_slice();
+    let mut after = inputs.world.as_slice();
+    let selection = selection_of(alloc, &command.asked)?;
+    run_changes(
+        rt,
+        alloc,
+        &command.options,
+        &selection,
+        &mut before,
+        &mut after,
+        output,
+    )
 }
 
 /// What comes of words that ask for no run. Of a refused command line the first line of its text is the fault.

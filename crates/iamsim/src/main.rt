@@ -4,36 +4,36 @@
 mod source;
 
 use iam_app::{
-    Command, OutOfMemory, RunFault, Usage, command_of, fault_line, run, run_selected, selection_of,
-    status,
+    ChangesCommand, ChangesFault, Command, Kinds, OutOfMemory, RunFault, Usage, WorldCommand,
+    changes_fault_line, changes_status, command_of, fault_line, run, run_changes, run_selected,
+    selection_of, status,
 };
-use source::{Source, line_of_file};
+use source::{Input, NotRead, Source, line_of_file};
 use std::alloc::Global;
-use std::io::{self, ErrorKind, Read, Write};
+use std::env;
+use std::io::{ErrorKind, Read, Write};
 use std::process::ExitCode;
 use std::rt::{Env, Files};
 use std::thread::Threads;
-use std::{env, fs};
 
 const NOT_TEXT: &str = "error: a word of the command line is not UTF-8\n";
 
 fn main(rt: HostRuntime) -> ExitCode {
     let alloc = rt.alloc();
-    let command = match asked(&rt, alloc) {
-        Ok(command) => command,
-        Err(usage) => return ExitCode::from(tell_usage(&rt, &usage)),
-    };
-    let (outcome, reason) = match &command.world {
-        Some(name) => answer_file(&rt, alloc, &command, name.as_str(), &mut rt.stdout()),
-        None => {
-            let outcome = answer(&rt, alloc, &command, &mut rt.stdin(), &mut rt.stdout());
-            (outcome, None)
+    match asked(&rt, alloc) {
+        Ok(Command::World(command)) => {
+            let status = world(&rt, alloc, &command, &mut rt.stdin(), &mut rt.stdout());
+            ExitCode::from(status)
         }
-    };
-    if let Err(fault) = &outcome {
-        tell_fault(&rt, alloc, &command, fault, &reason);
+        Ok(Command::Changes(command)) => {
+            let mut before = Input::of(&rt, &command.before, rt.stdin());
+            let mut after = Input::of(&rt, &command.after, rt.stdin());
+            let mut stdout = rt.stdout();
+            let status = changes(&rt, alloc, &command, &mut before, &mut after, &mut stdout);
+            ExitCode::from(status)
+        }
+        Err(usage) => ExitCode::from(tell_usage(&rt, &usage)),
     }
-    ExitCode::from(status(&outcome))
 }
 
 /// What the command line asks for.
@@ -48,11 +48,33 @@ fn asked<R: Env + AllocGlobal>(rt: &R, alloc: Global) -> Result<Command, Usage> 
     command_of(alloc, texts.as_slice())
 }
 
+/// Answers a command about one world, which comes from its file or from standard input; the exit status.
+fn world<T: Threads + Sync + Files + Eprint, R: Read, W: Write>(
+    rt: &T,
+    alloc: Global,
+    command: &WorldCommand,
+    stdin: &mut R,
+    stdout: &mut W,
+) -> u8 {
+    let (outcome, not_read) = match &command.world {
+        Some(name) => {
+            let mut source = Source::of(rt, name.as_str());
+            let outcome = answer(rt, alloc, command, &mut source, stdout);
+            (outcome, source.not_read())
+        }
+        None => (answer(rt, alloc, command, stdin, stdout), None),
+    };
+    if let Err(fault) = &outcome {
+        tell_fault(rt, alloc, fault_line(alloc, fault), not_read);
+    }
+    status(&outcome)
+}
+
 /// Reads a world, and writes the report that the command asks for.
 fn answer<T: Threads + Sync, R: Read, W: Write>(
     rt: &T,
     alloc: Global,
-    command: &Command,
+    command: &WorldCommand,
     reader: &mut R,
     writer: &mut W,
 ) -> Result<(), RunFault> {
@@ -63,22 +85,43 @@ fn answer<T: Threads + Sync, R: Read, W: Write>(
     run_selected(rt, alloc, &command.options, &selection, reader, writer)
 }
 
-/// The same of the world in a file. Where this can't be read, the reason stands beside the fault.
-fn answer_file<T: Threads + Sync + Files, W: Write>(
+/// Answers what has changed from one world to another; the exit status.
+fn changes<T: Threads + Sync + Files + Eprint, R: Read + Drop, W: Write>(
     rt: &T,
     alloc: Global,
-    command: &Command,
-    name: &str,
-    writer: &mut W,
-) -> (Result<(), RunFault>, Option<io::Error>) {
-    match fs::open(rt, name) {
-        Ok(file) => {
-            let mut source = Source::of(file);
-            let outcome = answer(rt, alloc, command, &mut source, writer);
-            (outcome, source.reason())
-        }
-        Err(reason) => (Err(RunFault::Read), Some(reason)),
+    command: &ChangesCommand,
+    before: &mut Input<'_, R, T>,
+    after: &mut Input<'_, R, T>,
+    stdout: &mut W,
+) -> u8 {
+    let outcome = compare(rt, alloc, command, before, after, stdout);
+    if let Err(fault) = &outcome {
+        // Where BEFORE can't be read, AFTER was not.
+        let not_read = before.not_read().or(after.not_read());
+        tell_fault(rt, alloc, changes_fault_line(alloc, fault), not_read);
     }
+    changes_status(&outcome, command.fail_on)
+}
+
+/// Reads two worlds, and writes what has changed.
+fn compare<T: Threads + Sync, R: Read, S: Read, W: Write>(
+    rt: &T,
+    alloc: Global,
+    command: &ChangesCommand,
+    before: &mut R,
+    after: &mut S,
+    writer: &mut W,
+) -> Result<Kinds, ChangesFault> {
+    let selection = selection_of(alloc, &command.asked)?;
+    run_changes(
+        rt,
+        alloc,
+        &command.options,
+        &selection,
+        before,
+        after,
+        writer,
+    )
 }
 
 /// Prints what a command line without options is answered, and gives the exit status.
@@ -97,25 +140,23 @@ fn tell_usage(rt: &(impl Print + Eprint), usage: &Usage) -> u8 {
 fn tell_fault(
     rt: &impl Eprint,
     alloc: Global,
-    command: &Command,
-    fault: &RunFault,
-    reason: &Option<io::Error>,
+    line: Result<String, OutOfMemory>,
+    not_read: Option<NotRead<'_>>,
 ) {
-    if let Ok(line) = line_of(alloc, command, fault, reason) {
+    if let Ok(line) = whole_line(alloc, line, not_read) {
         let _told = rt.eprintln(line);
     }
 }
 
 /// The line of a fault; of a file that can't be read, with its name and the reason.
-fn line_of(
+fn whole_line(
     alloc: Global,
-    command: &Command,
-    fault: &RunFault,
-    reason: &Option<io::Error>,
+    line: Result<String, OutOfMemory>,
+    not_read: Option<NotRead<'_>>,
 ) -> Result<String, OutOfMemory> {
-    let line = fault_line(alloc, fault)?;
-    match (&command.world, reason) {
-        (Some(name), Some(reason)) => line_of_file(alloc, line.as_str(), name.as_str(), reason),
-        _ => Ok(line),
+    let line = line?;
+    match not_read {
+        Some(file) => line_of_file(alloc, line.as_str(), file),
+        None => Ok(line),
     }
 }

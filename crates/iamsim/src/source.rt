@@ -1,34 +1,68 @@
-// A file that is read, and what is said where it can't be.
+// Where worlds come from, and what is said of a file that can't be read.
 use std::alloc::{AllocError, Global};
+use std::fs;
 use std::io::{self, Read};
+use std::rt::Files;
 
-/// A reader that keeps why it failed.
+/// Why a file can't be read.
+#[derive(Clone, Copy)]
+pub struct NotRead<'a> {
+    /// The file's name.
+    pub name: &'a str,
+    /// What the system says.
+    pub reason: io::Error,
+}
+
+/// The file of a name. It is opened when it is first read, and keeps why it can't be.
 #[derive(Drop)]
-pub struct Source<R> {
-    reader: R,
+pub struct Source<'a, T: Files> {
+    rt: &'a T,
+    name: &'a str,
+    file: Option<T::File>,
     reason: Option<io::Error>,
 }
 
-impl<R> Source<R> {
-    /// A reader that has not failed.
-    pub fn of(reader: R) -> Source<R> {
+impl<'a, T: Files> Source<'a, T> {
+    /// The file of this name.
+    pub fn of(rt: &'a T, name: &'a str) -> Source<'a, T> {
         Source {
-            reader,
+            rt,
+            name,
+            file: None,
             reason: None,
         }
     }
 
-    /// Why the last read that failed did so.
-    pub fn reason(&self) -> Option<io::Error> {
-        self.reason
+    /// Why the file can't be read, where opening or reading it failed.
+    pub fn not_read(&self) -> Option<NotRead<'a>> {
+        match self.reason {
+            Some(reason) => Some(NotRead {
+                name: self.name,
+                reason,
+            }),
+            None => None,
+        }
+    }
+
+    /// Reads the file, which is opened first where it is not yet open.
+    fn read_open(&mut self, buf: &mut [u8]) -> io::Result<usize> {
+        let mut file = match self.file.take() {
+            Some(file) => file,
+            None => fs::open(self.rt, self.name)?,
+        };
+        let count = file.read(buf);
+        self.file = Some(file);
+        count
     }
 }
 
-impl<R: Read> Read for Source<R> {
-    ghost remaining = { λ source. R.remaining source.reader };
+impl<'a, T: Files> Read for Source<'a, T> {
+    ghost use Rattle.std.specs.Prelude.{None};
+
+    ghost remaining = { λ _. None };
 
     fn read(&mut self, buf: &mut [u8]) -> io::Result<usize> {
-        let count = self.reader.read(buf);
+        let count = self.read_open(buf);
         if let Err(error) = &count {
             self.reason = Some(*error);
         }
@@ -36,15 +70,48 @@ impl<R: Read> Read for Source<R> {
     }
 }
 
+/// A world's input: standard input, or a file.
+#[derive(Drop)]
+pub enum Input<'a, R, T: Files> {
+    Standard(R),
+    File(Source<'a, T>),
+}
+
+impl<'a, R: Read + Drop, T: Files> Input<'a, R, T> {
+    /// The file of this name; standard input where there is none.
+    pub fn of(rt: &'a T, name: &'a Option<String>, standard: R) -> Input<'a, R, T> {
+        match name {
+            Some(name) => Input::File(Source::of(rt, name.as_str())),
+            None => Input::Standard(standard),
+        }
+    }
+
+    /// Why the file can't be read, where this failed; of standard input nothing.
+    pub fn not_read(&self) -> Option<NotRead<'a>> {
+        match self {
+            Input::Standard(_) => None,
+            Input::File(source) => source.not_read(),
+        }
+    }
+}
+
+impl<'a, R: Read, T: Files> Read for Input<'a, R, T> {
+    ghost use Rattle.std.specs.Prelude.{None};
+
+    ghost remaining = { λ _. None };
+
+    fn read(&mut self, buf: &mut [u8]) -> io::Result<usize> {
+        match self {
+            Input::Standard(standard) => standard.read(buf),
+            Input::File(source) => source.read(buf),
+        }
+    }
+}
+
 /// The line of a fault, with the file that can't be read and the system's reason.
-pub fn line_of_file(
-    alloc: Global,
-    line: &str,
-    name: &str,
-    reason: &io::Error,
-) -> Result<String, AllocError> {
-    let name = on_a_line(alloc, name)?;
-    let reason = reason.to_string(alloc)?;
+pub fn line_of_file(alloc: Global, line: &str, file: NotRead<'_>) -> Result<String, AllocError> {
+    let name = on_a_line(alloc, file.name)?;
+    let reason = file.reason.to_string(alloc)?;
     let words = without_number(reason.as_str());
     format!(in alloc; "{line}: {name}: {words}")
 }

@@ -1,0 +1,220 @@
+// A run of two worlds: what has changed from one to the other.
+ghost use Rattle.std.specs.Prelude.{◌≡◌, ◌≢◌, IfErr, IfOk, MatchResult, OnOk, if◌then◌else◌, sum};
+ghost use Rattle.std.specs.Io.KnownBytes.{Appends};
+ghost use Rattle.iam_app.specs.Changes.{EndsChangesBy, HasCutOf, HasNoCutOf, HasSide, IsComparison, IsNoComparison, WritesChanges, changes_format};
+ghost use Rattle.iam_app.specs.ChangesFault.{fails_on};
+ghost use Rattle.iam_app.specs.Code.Sides.{IsNoSide, IsNotWritten, fault_after, fault_before};
+ghost use Rattle.iam_app.specs.Streams.{ConsumesAtMost};
+ghost use Rattle.iam_changes.specs.Code.Pieces.{report_text};
+ghost use Rattle.iam_matrix.specs.declared.cut.CutFault.TheVariants as c;
+
+use crate::OutOfMemory;
+use crate::cells::tile_length;
+use crate::changes_fault::{ChangesFault, Side};
+use crate::fault::RunFault;
+use crate::input::{InputFault, read_input};
+use crate::output::{Report, write_report};
+use iam_changes::{ChangesText, Kinds};
+use iam_compare::changes_report;
+use iam_layers::{World, WorldFault};
+use iam_matrix::{Cut, CutFault, Format, Open};
+use iam_options::{ChangesOptions, FailOn};
+use iam_report::buffer;
+use iam_requests::{Requests, Twice, first_twice};
+use iam_selection::Selection;
+use std::alloc::Global;
+use std::io::{Read, Write};
+use std::mem;
+use std::thread::Threads;
+
+/// Why an input is not taken as one of two worlds.
+enum SideFault {
+    Read,
+    World(WorldFault),
+    Twice(Twice),
+    OutOfMemory,
+}
+
+impl From<OutOfMemory> for SideFault {
+    ghost use Rattle.std.specs.Prelude.{◌≡◌};
+    ghost use Rattle.iam_app.specs.declared.changes.SideFault.TheVariants as s;
+
+    ghost from_gives = { λ _ fault. fault ≡ s.OutOfMemory };
+
+    fn from(_: OutOfMemory) -> SideFault {
+        SideFault::OutOfMemory
+    }
+}
+
+/// Reads one of two worlds, whose requests have to be told apart.
+fn read_side<R: Read>(alloc: Global, reader: &mut R) -> Result<World, SideFault>
+    ensures most { ConsumesAtMost (R.remaining reader.old) (R.remaining reader.new) 8388609 }
+    ensures ok { IfOk result (λ world. HasSide (R.remaining reader.old) world) }
+    ensures fault { IfErr result (λ fault. IsNoSide (R.remaining reader.old) fault) }
+{
+    let bytes = match read_input(alloc, reader) {
+        Ok(bytes) => bytes,
+        Err(InputFault::Read) => return Err(SideFault::Read),
+        Err(InputFault::TooLarge) => return Err(SideFault::World(WorldFault::TooLarge)),
+        Err(InputFault::OutOfMemory) => return Err(SideFault::OutOfMemory),
+    };
+    let world = match World::from_vec(alloc, bytes) {
+        Ok(world) => world,
+        Err(fault) => return Err(SideFault::World(fault)),
+    };
+    match first_twice(alloc, &world)? {
+        None => Ok(world),
+        Some(twice) => Err(SideFault::Twice(twice)),
+    }
+}
+
+/// The fault of the world before.
+fn fault_before(fault: SideFault) -> ChangesFault
+    ensures { result ≡ fault_before fault }
+{
+    match fault {
+        SideFault::Read => ChangesFault::Run(RunFault::Read),
+        SideFault::World(fault) => ChangesFault::Before(fault),
+        SideFault::Twice(twice) => ChangesFault::Twice(Side::Before, twice),
+        SideFault::OutOfMemory => ChangesFault::Run(RunFault::OutOfMemory),
+    }
+}
+
+/// The fault of the world after.
+fn fault_after(fault: SideFault) -> ChangesFault
+    ensures { result ≡ fault_after fault }
+{
+    match fault {
+        SideFault::Read => ChangesFault::Run(RunFault::Read),
+        SideFault::World(fault) => ChangesFault::Run(RunFault::World(fault)),
+        SideFault::Twice(twice) => ChangesFault::Twice(Side::After, twice),
+        SideFault::OutOfMemory => ChangesFault::Run(RunFault::OutOfMemory),
+    }
+}
+
+/// The requests of two worlds in tiles of the asked length.
+fn cut_requests(
+    alloc: Global,
+    options: &ChangesOptions,
+    requests: &Requests<'_>,
+) -> Result<Cut, CutFault>
+    ensures whole { IfOk result (λ cut. sum cut ≡ requests.now.count) }
+    ensures cut { OnOk result (HasCutOf options.now requests.now.before requests.now.after) }
+    ensures fault { IfErr result (λ fault. fault ≢ c.OutOfMemory → HasNoCutOf options.now requests.now.before requests.now.after fault) }
+{
+    let count = requests.count();
+    Cut::even(alloc, tile_length(options.tile, count), count)
+}
+
+fn changes_format(options: &ChangesOptions) -> Format
+    ensures { result ≡ changes_format options.now }
+{
+    if options.json {
+        Format::Json
+    } else {
+        Format::Csv
+    }
+}
+
+/// The report of two worlds.
+fn compare<T: Threads + Sync>(
+    rt: &T,
+    alloc: Global,
+    options: &ChangesOptions,
+    selection: &Selection,
+    before: &World,
+    after: &World,
+) -> Result<ChangesText, RunFault>
+    ensures ok { IfOk result (λ report. IsComparison options.now selection.now before.now after.now (report_text report) report.kinds) }
+    ensures fault { IfErr result (λ fault. IsNoComparison options.now before.now after.now fault) }
+{
+    let requests = Requests::of(alloc, before, after)?;
+    let cut = cut_requests(alloc, options, &requests)?;
+    let report = changes_report(
+        rt,
+        alloc,
+        &requests,
+        selection,
+        options.all,
+        &cut,
+        options.workers,
+        &Open,
+        changes_format(options),
+        options.brief,
+    )?;
+    Ok(report)
+}
+
+/// Reads two worlds, and writes what has changed from the first to the second; the kinds of changes that were written. The whole
+/// report is made before its first byte is written. At most 8,388,609 bytes are read of each. The first fault in this order
+/// ends the run: of the world before `Read`, `Before`, `Twice`; of the world after `Read`, `World`, `Twice`; then `Cut`,
+/// `Matrix`, `Write`. That there is no memory can come at any point before the writing, as in [`crate::run`]. After every
+/// fault except `Write` nothing was written; after `Write` a beginning of the report.
+pub fn run_changes<T: Threads + Sync, R: Read, S: Read, W: Write>(
+    rt: &T,
+    alloc: Global,
+    options: &ChangesOptions,
+    selection: &Selection,
+    before: &mut R,
+    after: &mut S,
+    writer: &mut W,
+) -> Result<Kinds, ChangesFault>
+    ensures most_before { ConsumesAtMost (R.remaining before.old) (R.remaining before.new) 8388609 }
+    ensures most_after { ConsumesAtMost (S.remaining after.old) (S.remaining after.new) 8388609 }
+    ensures done { IfOk result (λ kinds. WritesChanges options.now selection.now (R.remaining before.old) (S.remaining after.old) (W.contents writer.old) (W.contents writer.new) kinds) }
+    ensures fault { IfErr result (λ fault. EndsChangesBy options.now selection.now (R.remaining before.old) (S.remaining after.old) (W.contents writer.old) (W.contents writer.new) fault) }
+{
+    let before = match read_side(alloc, before) {
+        Ok(world) => world,
+        Err(fault) => return Err(fault_before(fault)),
+    };
+    let after = match read_side(alloc, after) {
+        Ok(world) => world,
+        Err(fault) => return Err(fault_after(fault)),
+    };
+    let report = compare(rt, alloc, options, selection, &before, &after);
+    // The run ends soon, as one of a single world.
+    mem::forget(before);
+    mem::forget(after);
+    write_changes(alloc, report?, writer)
+}
+
+/// Writes the whole report, and flushes behind its last byte; the kinds of changes that it has.
+fn write_changes<W: Write>(
+    alloc: Global,
+    report: ChangesText,
+    writer: &mut W,
+) -> Result<Kinds, ChangesFault>
+    ensures done { IfOk result (λ kinds. (kinds ≡ report.entry.kinds) × Appends (W.contents writer.old) (W.contents writer.new) (report_text report.entry)) }
+    ensures fault { IfErr result (λ fault. IsNotWritten (W.contents writer.old) (W.contents writer.new) (report_text report.entry) fault) }
+{
+    let kinds = report.kinds();
+    let mut kept = buffer(alloc)?;
+    match write_report(writer, &mut kept, &Report::Changes(report)) {
+        Ok(()) => Ok(kinds),
+        Err(_) => Err(ChangesFault::Run(RunFault::Write)),
+    }
+}
+
+/// Whether changes of these kinds end a run with a status of its own.
+fn fails_on(fail_on: Option<FailOn>, kinds: Kinds) -> bool
+    ensures { result ≡ fails_on fail_on kinds }
+{
+    match fail_on {
+        None => false,
+        Some(FailOn::Gained) => kinds.gained,
+        Some(FailOn::Lost) => kinds.lost,
+        Some(FailOn::Any) => kinds.gained || kinds.lost || kinds.differs,
+    }
+}
+
+/// The exit status of a run of two worlds: 0 done, 1 a fault, 3 done with a row of the kind that is asked about.
+pub fn changes_status(outcome: &Result<Kinds, ChangesFault>, fail_on: Option<FailOn>) -> u8
+    ensures { MatchResult outcome.now (λ kinds. result ≡ (if fails_on fail_on kinds then 3 else 0)) (λ _. result ≡ 1) }
+{
+    match outcome {
+        Ok(kinds) if fails_on(fail_on, *kinds) => 3,
+        Ok(_) => 0,
+        Err(_) => 1,
+    }
+}

@@ -1,0 +1,142 @@
+// The command line of `changes`.
+ghost use Rattle.std.specs.Prelude.{IfOk, codes};
+ghost use Rattle.iam_options.specs.Words.{HasAsked, IsFileAt};
+
+use crate::arguments::{brief, format, run};
+use crate::command::{Asked, asked_in, file, file_at, with_patterns};
+use crate::options::{Usage, WORKERS, usage_of};
+use clap::error::ErrorKind;
+use clap::{Arg, ArgAction, ArgMatches, Command as Parser};
+use std::alloc::{AllocError, Global};
+
+const ABOUT: &str =
+    "Compare two worlds, and report each request that is allowed in one of them alone";
+
+const INPUT: &str =
+    "Requests are the same where the texts of principal, action and resource are. A world is read from
+its file, or from standard input for -, which AFTER is where it is not named.
+
+In a PATTERN * and ? are wild; given several times, one of them has to match.";
+
+const BOTH: &str = "BEFORE and AFTER cannot both come from standard input";
+
+/// What `--fail-on` takes.
+static CHANGES: [&str; 3] = ["gained", "lost", "any"];
+
+/// What a command line asks for of the changes between two worlds.
+#[derive(Debug, Drop)]
+pub struct ChangesCommand {
+    /// The name of the file with the world before; standard input where there is none.
+    pub before: Option<String>,
+    /// The name of the file with the world after; standard input where there is none.
+    pub after: Option<String>,
+    /// Which requests are asked for; of decisions nothing is said.
+    pub asked: Asked,
+    /// How the report is made.
+    pub options: ChangesOptions,
+    /// Which rows end the run with a status of its own.
+    pub fail_on: Option<FailOn>,
+}
+
+/// How a report of changes is made.
+#[derive(Clone, Copy, Debug, PartialEq, Eq)]
+pub struct ChangesOptions {
+    /// How many workers decide the cells; 4 where nothing is said.
+    pub workers: u32,
+    /// How many cells a worker takes at once, where this is said.
+    pub tile: Option<u64>,
+    /// Whether the report is JSON, in place of CSV.
+    pub json: bool,
+    /// Whether the report has the decisions alone, without statements and lacks.
+    pub brief: bool,
+    /// Whether requests that are decided otherwise with the same access have rows too.
+    pub all: bool,
+}
+
+/// Rows that end a run with a status of its own.
+#[derive(Clone, Copy, Debug, PartialEq, Eq)]
+pub enum FailOn {
+    /// A request that is allowed newly.
+    Gained,
+    /// A request that is allowed no longer.
+    Lost,
+    /// A row of any kind.
+    Any,
+}
+
+/// The command that was read, with all that stands behind it; refused where both worlds come from standard input.
+pub fn changes_in(alloc: Global, command: &ArgMatches<'_>) -> Result<ChangesCommand, Usage>
+    ensures before { IfOk result (λ read. IsFileAt command.now (codes "BEFORE") read.before) }
+    ensures after { IfOk result (λ read. IsFileAt command.now (codes "AFTER") read.after) }
+    ensures asked { IfOk result (λ read. HasAsked command.now read.asked) }
+{
+    let before = file_at(alloc, command, "BEFORE")?;
+    let after = file_at(alloc, command, "AFTER")?;
+    if before.is_none() && after.is_none() {
+        return Err(refused(alloc, BOTH)?);
+    }
+    Ok(ChangesCommand {
+        before,
+        after,
+        asked: asked_in(alloc, command)?,
+        options: options_at(command),
+        fail_on: fail_on_of(command),
+    })
+}
+
+/// The command is refused with this message.
+fn refused(alloc: Global, message: &str) -> Result<Usage, AllocError> {
+    let mut parser = changes(alloc)?.bin_name("iamsim changes")?;
+    let error = parser.error(ErrorKind::ArgumentConflict, message)?;
+    Ok(usage_of(alloc, &error))
+}
+
+fn options_at(command: &ArgMatches<'_>) -> ChangesOptions {
+    ChangesOptions {
+        workers: command.get_one("workers").unwrap_or(WORKERS),
+        tile: command.get_one("tile"),
+        json: command.get_str("format") == Some("json"),
+        brief: command.get_flag("brief"),
+        all: command.get_flag("all"),
+    }
+}
+
+fn fail_on_of(command: &ArgMatches<'_>) -> Option<FailOn> {
+    match command.get_str("fail-on")? {
+        "gained" => Some(FailOn::Gained),
+        "lost" => Some(FailOn::Lost),
+        _ => Some(FailOn::Any),
+    }
+}
+
+/// The parser of the command.
+pub fn changes<'a>(alloc: Global) -> Result<Parser<'a>, AllocError> {
+    let parser = run(alloc, "changes", ABOUT)?
+        .after_help(INPUT)
+        .arg(file(alloc, "BEFORE", "The file with the world before").required(true))?
+        .arg(file(
+            alloc,
+            "AFTER",
+            "The file with the world after [default: standard input]",
+        ))?
+        .arg(format(alloc))?
+        .arg(brief(alloc))?
+        .arg(all(alloc))?
+        .arg(fail_on(alloc))?;
+    with_patterns(alloc, parser)
+}
+
+fn all<'a>(alloc: Global) -> Arg<'a> {
+    Arg::new(alloc, "all")
+        .long("all")
+        .action(ArgAction::SetTrue)
+        .help("Report also requests that are decided otherwise with the same access")
+}
+
+fn fail_on<'a>(alloc: Global) -> Arg<'a> {
+    Arg::new(alloc, "fail-on")
+        .long("fail-on")
+        .value_name("CHANGE")
+        .value_parser(CHANGES.as_slice())
+        .help("End with status 3 where such a request was reported")
+}
