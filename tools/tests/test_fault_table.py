@@ -7,7 +7,7 @@ import re
 from harness import TOOLS, same
 
 TOP = os.path.dirname(TOOLS)
-# For each table the enum that has its faults, and the section of LOGIC.md that states them.
+# For each table the enum that has its faults, and the section of LOGIC.md that states them. A run of two worlds has two more.
 TABLES = {
     "Of the run": ("iam_app/src/fault.rt", "RunFault", "14"),
     "Of the matrix": ("iam_matrix/src/fault.rt", "MatrixFault", "11.7"),
@@ -35,10 +35,16 @@ def table(name):
     return [fault for _, fault in rows]
 
 
+def variants(path, enum):
+    body = re.search(rf"^pub enum {enum} \{{$(.*?)^\}}$", read(f"crates/{path}"), re.M | re.S).group(1)
+    return re.findall(r"^    (\w+)\b", body, re.M)
+
+
 def test_the_code_has_the_faults_of_the_table():
+    run, *of_two = variants("iam_app/src/changes_fault.rt", "ChangesFault")
+    same(run, "Run")
     for name, (path, enum, _) in TABLES.items():
-        body = re.search(rf"^pub enum {enum} \{{$(.*?)^\}}$", read(f"crates/{path}"), re.M | re.S).group(1)
-        same(re.findall(r"^    (\w+)\b", body, re.M), table(name), enum)
+        same(variants(path, enum) + (of_two if enum == "RunFault" else []), table(name), enum)
 
 
 def test_logic_has_the_faults_of_the_table():

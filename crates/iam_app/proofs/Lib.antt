@@ -1,3 +1,4 @@
+mod Comparing
 pub mod OneOutput
 pub mod Refusals
 mod Selecting
