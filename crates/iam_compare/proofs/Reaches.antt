@@ -45,3 +45,8 @@ reach_up first last count m n up few =
         let own = reach_first first last count m (omega (arith, up, below)) (omega (arith, up, early)) in
         omega (arith, value, own, up))
         (cases_lt first n)
+
+-- so too of the cells that were counted
+pub counted_up : (first last count m n from to : ℕ) → from ≡ reach first last count m → to ≡ reach first last count n → m ≤ n → from ≤ first + last → from ≤ to
+counted_up first last count m n from to e f up few =
+    subst (λ k. from ≤ k) (sym f) (subst (λ k. k ≤ reach first last count n) (sym e) (reach_up first last count m n up (subst (λ k. k ≤ first + last) e few)))

@@ -10,11 +10,12 @@ use Rattle.iam_classes.specs.Engine.{EngineValue, IsNumberAt}
 use Rattle.iam_layers.specs.Cell.{IsCell, IsVerdictAt}
 use Rattle.iam_world.specs.World.{WorldValue, world_cells}
 use Rattle.iam_row.specs.Report.{CellTexts, HasTexts, IsCellTexts}
-use Rattle.iam_selection.specs.Selection.{Selects}
+use Rattle.iam_selection.specs.Selection.{IsSelected, Selects}
 use Rattle.iam_matrix.specs.Matrix.{AreEntriesFrom}
 use Rattle.iam_requests.specs.Code.Found.{RequestsValue}
 use Rattle.iam_requests.specs.Lists.{somes}
 use Rattle.iam_requests.specs.Requests.{Has}
+use Rattle.iam_requests.proofs.Counts.{cell_texts}
 use Rattle.iam_requests.proofs.Places.{has_found}
 use Rattle.iam_changes.specs.Change.{AskedValue, ChangeValue, Changes, IsRow, Says}
 use Rattle.iam_row.specs.Piece.{bare}
@@ -52,10 +53,10 @@ pub numbered_join : (from : ℕ) (xs ys : List (Option ChangeValue)) → numbere
 numbered_join from [] ys = ap (λ n. numbered n ys) (let same : from ≡ from + 0 = omega arith in same)
 numbered_join from (None ∷ xs) ys =
     numbered_join (from + 1) xs ys
-    ∙ ap (λ n. numbered (from + 1) xs ++ numbered n ys) (let same : from + 1 + length xs ≡ from + length (None {A = ChangeValue} ∷ xs) = omega arith in same)
+    ∙ ap (λ n. numbered (from + 1) xs ++ numbered n ys) (let same : from + 1 + length xs ≡ from + suc (length xs) = omega arith in same)
 numbered_join from (Some change ∷ xs) ys =
     ap (λ rows. (from, change) ∷ rows) (numbered_join (from + 1) xs ys
-    ∙ ap (λ n. numbered (from + 1) xs ++ numbered n ys) (let same : from + 1 + length xs ≡ from + length (Some change ∷ xs) = omega arith in same))
+    ∙ ap (λ n. numbered (from + 1) xs ++ numbered n ys) (let same : from + 1 + length xs ≡ from + suc (length xs) = omega arith in same))
 
 pub few_numbered : (from : ℕ) (xs : List (Option ChangeValue)) → length (numbered from xs) ≤ length xs
 few_numbered from [] = omega arith
@@ -187,6 +188,33 @@ pub left_nothing : (asked : AskedValue) (requests : RequestsValue) (cell : ℕ) 
     → IsLeftRow asked requests.before requests.after texts None → IsRowAt asked requests (world_cells requests.after + cell) None
 left_nothing asked requests cell texts of is = (texts, inr (cell, refl, of, is))
 
+-- a cell of AFTER that is not selected
+pub off_after : (asked : AskedValue) (requests : RequestsValue) (cell p a r : ℕ) → IsCell requests.after cell p a r → ¬ IsSelected asked.selection requests.after cell
+    → IsRowAt asked requests cell None
+off_after asked requests cell p a r is not =
+    let (texts, of) = cell_texts requests.after cell p a r is in
+    (texts, inl (of, inl (λ selects. not (texts, of, selects))))
+
+-- a cell of BEFORE that is left out, whatever its texts
+pub off_before : (asked : AskedValue) (requests : RequestsValue) (cell p a r : ℕ) → IsCell requests.before cell p a r
+    → ((texts : CellTexts) → IsCellTexts requests.before cell texts → IsLeftRow asked requests.before requests.after texts None)
+    → IsRowAt asked requests (world_cells requests.after + cell) None
+off_before asked requests cell p a r is left =
+    let (texts, of) = cell_texts requests.before cell p a r is in
+    left_nothing asked requests cell texts of (left texts of)
+
+-- cells of BEFORE without rows
+pub gathers_behind : (asked : AskedValue) (requests : RequestsValue) (brief : Bool) (here next : ℕ) (old : GatheredValue) → here ≤ next
+    → old.end ≤ world_cells requests.after + here
+    → ((cell : ℕ) → here ≤ cell → cell < next → IsRowAt asked requests (world_cells requests.after + cell) None)
+    → Gathers asked requests brief (world_cells requests.after + here) (world_cells requests.after + next) old old
+gathers_behind asked requests brief here next old up end none =
+    let first = world_cells requests.after in
+    gathers_up asked requests brief (first + here) (first + next) old (omega (arith, up)) end
+    (λ cell above below.
+    let same : first + (cell - first) ≡ cell = omega (arith, above) in
+    subst (λ k. IsRowAt asked requests k None) same (none (cell - first) (omega (arith, above)) (omega (arith, above, below))))
+
 -- ---- what was found of a request
 
 pub has_of_found : (world : WorldValue) (texts : CellTexts) (found : Option (ℕ × ℕ × ℕ)) → MatchOption found (¬ Has world texts) (λ f. HasTexts world f.0 f.1 f.2 texts) → is_some found ≡ true
@@ -262,6 +290,18 @@ within_found world p a r texts has =
       action = slice_get_within world.actions a texts.action has.action;
       resource = slice_get_within world.resources r resource r_at;
     }
+
+pub found_within : (after before world other same : WorldValue) (cell p a r q b s : ℕ) → world ≡ after → other ≡ before → same ≡ before → IsCell after cell p a r
+    → ((texts : CellTexts) → IsCellTexts world cell texts → HasTexts other q b s texts) → AreWithin same q b s
+found_within after before world other same cell p a r q b s e f g is found =
+    let (texts, of) = cell_texts after cell p a r is in
+    let has = found texts (subst (λ w. IsCellTexts w cell texts) (sym e) of) in
+    within_found same q b s texts (subst (λ w. HasTexts w q b s texts) (f ∙ sym g) has)
+
+-- and so are those of a cell, in each world that is the same
+pub within_cell : (world other : WorldValue) (cell p a r : ℕ) → other ≡ world → IsCell world cell p a r → AreWithin other p a r
+within_cell world other cell p a r e is =
+    subst (λ w. AreWithin w p a r) (sym e) (record { principal = is.principal; action = is.action; resource = is.resource })
 
 -- a number of a verdict is one of those that are kept
 pub number_within : (engine : EngineValue) (p a r number : ℕ) → IsNumberAt engine p a r number → number < length engine.rulings
