@@ -84,7 +84,7 @@ impl<'a> Crew for Workers<'a> {
         _bound: &mut Bound<'_>,
         tile: u64,
     ) -> Result<Part, OutOfMemory> {
-        // The number of requests fits, and so does that of each.
+        // There are at most 33,554,432 requests, so the numbers fit.
         let _count = self.requests.count();
         let tile = self.cut.cells(tile);
         let from = self.requests.reach(tile.from);

@@ -1,10 +1,10 @@
-use Rattle.std.proofs.Common.{◌≡◌, ℕ, Some, None, sym, subst, ◌∙◌}
-use Rattle.iam_decision.specs.declared.verdict.Verdict.{Verdict}
+use Rattle.std.proofs.Common.{Some, None, sym, subst, ◌∙◌}
+use Rattle.std.proofs.lemmas.Result.{on_ok_weaker}
 use Rattle.iam_layers.specs.Cell.{IsVerdictAt}
 use Rattle.iam_world.specs.World.{WorldValue}
 use Rattle.iam_row.specs.Report.{CellTexts, HasTexts, IsCellTexts}
 use Rattle.iam_requests.specs.Requests.{Has}
-use Rattle.iam_compare.proofs.Walks.{at_ok, found_within, number_within, says_at, says_found}
+use Rattle.iam_compare.proofs.Walks.{found_within, number_within, says_at, says_found}
 use Rattle.iam_compare.proofs.walk.add_after.Goals as goal
 
 pub returns-in_default-clause-rows : goal.returns-in_default-clause-rows
@@ -18,7 +18,7 @@ returns-in_default-clause-rows c =
     let H : CellTexts → WorldValue → Type 0 = λ texts w. ¬ Has w texts in
     let told = subst V (c.in_ok-number.ensures.same ∙ c.requires.tools.1 ∙ c.requires.crew.survey_after)
     (c.verdict.ensures at.principal at.action at.resource c.in_ok-number.ensures.number) in
-    at_ok c.add_said.result
+    on_ok_weaker c.add_said.result
     (λ added texts of. (
       None,
       Some verdict,
@@ -62,7 +62,7 @@ returns-clause-rows c =
     let said = subst B (c.in_ok-other.ensures.same ∙ c.requires.tools.0 ∙ c.requires.crew.survey_before) (c.verdict-2.ensures p a r c.in_ok-other.ensures.number) in
     let told = subst A (c.in_ok-number.ensures.same ∙ c.requires.tools.1 ∙ c.requires.crew.survey_after)
     (c.verdict-3.ensures at.principal at.action at.resource c.in_ok-number.ensures.number) in
-    at_ok c.add_said-2.result
+    on_ok_weaker c.add_said-2.result
     (λ added texts of. (
       Some before,
       Some after,

@@ -1,9 +1,9 @@
-use Rattle.std.proofs.Common.{◌≡◌, ◌+◌, Some, None, sym, ap, subst, ◌∙◌}
-use Rattle.iam_decision.specs.declared.verdict.Verdict.{Verdict}
+use Rattle.std.proofs.Common.{◌+◌, Some, None, ap, subst, ◌∙◌}
+use Rattle.std.proofs.lemmas.Result.{on_ok_weaker}
 use Rattle.iam_layers.specs.Cell.{IsVerdictAt}
 use Rattle.iam_world.specs.World.{WorldValue, world_cells}
 use Rattle.iam_compare.specs.Code.Walk.{AddsSaid}
-use Rattle.iam_compare.proofs.Walks.{at_ok, number_within, says_at, within_cell}
+use Rattle.iam_compare.proofs.Walks.{number_within, says_at, within_cell}
 use Rattle.iam_compare.proofs.walk.add_before.Goals as goal
 
 pub find-requires : goal.find-requires
@@ -31,7 +31,7 @@ returns-clause-rows c =
     let told = subst V (c.in_ok-number.ensures.same ∙ c.requires.tools.0 ∙ c.requires.crew.survey_before)
     (c.verdict.ensures at.principal at.action at.resource c.in_ok-number.ensures.number) in
     let cell = ap (λ n. n + at.cell) (c.cells.ensures.value ∙ ap (λ (w : WorldValue). world_cells w) c.after.ensures) in
-    at_ok c.add_said.result
+    on_ok_weaker c.add_said.result
     (λ added texts of absent. (
       Some verdict,
       None,

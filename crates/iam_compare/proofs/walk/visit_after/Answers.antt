@@ -1,9 +1,10 @@
 use Rattle.std.proofs.Common.{sym, subst}
+use Rattle.std.proofs.lemmas.Result.{on_ok_weaker}
 use Rattle.iam_layers.specs.Cell.{IsCell}
 use Rattle.iam_world.specs.World.{WorldValue}
 use Rattle.iam_selection.specs.Selection.{IsSelected}
 use Rattle.iam_compare.specs.Code.Walk.{asked_of}
-use Rattle.iam_compare.proofs.Walks.{at_ok, gathers_nothing, gathers_said, off_after, place_after}
+use Rattle.iam_compare.proofs.Walks.{gathers_nothing, gathers_said, off_after, place_after}
 use Rattle.iam_compare.proofs.walk.visit_after.Goals as goal
 
 pub asks-requires : goal.asks-requires
@@ -34,7 +35,7 @@ returns-clause-rows c =
     let at = c.args.at in
     let S : WorldValue → Type 0 = λ w. IsSelected asked.selection w at.cell in
     let (texts, of, selects) = subst S c.requires.crew.picker_after (c.asks.ensures.0 c.if-not-asks.false) in
-    at_ok c.add_after.result
+    on_ok_weaker c.add_after.result
     (λ added. gathers_said asked requests crew.asked.brief at.cell texts c.args.rows.now c.add_after.new.rows
     (place_after asked requests at.cell texts of) selects (added texts of) c.requires.rows)
     c.add_after.ensures.rows

@@ -1,5 +1,6 @@
 use Rattle.std.proofs.Common.{◌≡◌, ◌+◌, true, false, inl, inr, sym, subst}
 use Rattle.std.specs.Option.{is_some}
+use Rattle.std.proofs.lemmas.Result.{on_ok_weaker}
 use Rattle.iam_layers.specs.Cell.{IsCell}
 use Rattle.iam_world.specs.World.{WorldValue, world_cells}
 use Rattle.iam_row.specs.Report.{CellTexts, IsCellTexts}
@@ -7,7 +8,7 @@ use Rattle.iam_selection.specs.Code.Listing.{PickerValue}
 use Rattle.iam_selection.specs.Selection.{IsSelected}
 use Rattle.iam_requests.specs.Requests.{Has}
 use Rattle.iam_compare.specs.Code.Walk.{asked_of}
-use Rattle.iam_compare.proofs.Walks.{at_ok, gathers_nothing, gathers_said, has_of_found, none_of_found, off_before, place_before}
+use Rattle.iam_compare.proofs.Walks.{gathers_nothing, gathers_said, has_of_found, none_of_found, off_before, place_before}
 use Rattle.iam_compare.proofs.walk.visit_before.Goals as goal
 
 pub asks-requires : goal.asks-requires
@@ -64,7 +65,7 @@ returns-clause-rows c =
     let absent : ¬ Has requests.after texts = subst (H texts) c.to_after.ensures.other
     (none_of_found c.to_after.result.now.other texts c.find.result (c.find.ensures texts (subst (T texts) (sym c.to_after.ensures.world) of))
     (let off : is_some c.find.result ≡ false = cc in off)) in
-    at_ok c.add_before.result
+    on_ok_weaker c.add_before.result
     (λ added. gathers_said asked requests crew.asked.brief (world_cells requests.after + at.cell) texts c.args.rows.now c.add_before.new.rows
     (place_before asked requests at.cell texts of absent) selects (added texts of absent) c.requires.rows)
     c.add_before.ensures.rows

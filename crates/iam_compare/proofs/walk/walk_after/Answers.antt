@@ -1,8 +1,7 @@
-use Rattle.std.proofs.Common.{◌≡◌, ◌+◌, ◌-◌, ◌<◌, ◌≤◌, ℕ, Ok, Err, refl, sym, ap, subst, ◌∙◌, arith}
+use Rattle.std.proofs.Common.{◌≡◌, ◌+◌, ◌-◌, ℕ, sym, ap, subst, ◌∙◌, arith}
 use Rattle.iam_layers.specs.Cell.{IsCell}
 use Rattle.iam_world.specs.World.{WorldValue, world_cells}
 use Rattle.iam_selection.specs.Selection.{IsSelected}
-use Rattle.iam_changes.specs.Code.Kept.{GatheredValue}
 use Rattle.iam_compare.specs.Code.Walk.{Gathers, asked_of}
 use Rattle.iam_compare.proofs.Walks.{few_rows, gathers_join, gathers_none, gathers_up, off_after}
 use Rattle.iam_compare.proofs.walk.walk_after.Goals as goal

@@ -1,4 +1,4 @@
-use Rattle.std.proofs.Common.{◌≡◌, ◌+◌, ◌-◌, ◌<◌, ◌≤◌, ℕ, inl, refl, sym, ap, subst, ◌∙◌, arith}
+use Rattle.std.proofs.Common.{◌≡◌, ◌+◌, ◌-◌, inl, sym, ap, subst, arith}
 use Rattle.iam_layers.specs.Cell.{IsCell}
 use Rattle.iam_world.specs.World.{WorldValue, world_cells}
 use Rattle.iam_row.specs.Report.{CellTexts, IsCellTexts}

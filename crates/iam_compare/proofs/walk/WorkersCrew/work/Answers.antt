@@ -1,4 +1,4 @@
-use Rattle.std.proofs.Common.{◌≡◌, ◌+◌, ℕ, IfOk, sym, ap, subst, ◌∙◌, arith, sum, slice_index}
+use Rattle.std.proofs.Common.{◌≡◌, ◌+◌, ℕ, IfOk, ap, subst, ◌∙◌, arith, slice_index}
 use Rattle.iam_world.specs.World.{world_cells}
 use Rattle.iam_matrix.specs.Cut.{start_of}
 use Rattle.iam_compare.specs.Code.Walk.{IsPartOf, asked_of, reached}
