@@ -168,8 +168,8 @@ def compared_all(pairs: List[Tuple[World, World]], given: List[str], is_page: bo
     if not is_page and all(is_held(*it) for it in pairs):
         try:
             return [listed(*pair, rows, words) for pair, rows, words in zip(pairs, ask_changes(pairs), given)]
-        except Refused:
-            # Which world was refused, and by which policy, is told by asking each alone.
+        except (Refused, OSError):
+            # Which world was refused, and by which policy, is told by asking each alone; that wants no file.
             pass
     answers = ask_all([it for pair in pairs for it in pair])
     return [compared(*of, words) for of, words in zip(zip(answers[::2], answers[1::2]), given)]
