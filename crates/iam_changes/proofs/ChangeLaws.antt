@@ -1,5 +1,5 @@
 -- The laws of changes, of two worlds whose requests can be told apart.
-use Rattle.std.proofs.Common.{◌≡◌, ◌↔◌, ℕ, Bool, true, false, Contains, List, [], Option, Some, None, refl, sym, ap, subst, ◌∙◌, inl, inr}
+use Rattle.std.proofs.Common.{◌≡◌, ◌↔◌, ℕ, true, Contains, List, Option, Some, None, refl, sym, ap, subst, ◌∙◌, inl, inr}
 use Rattle.std.specs.List.{AllZip, slice_get}
 use Rattle.std.proofs.lemmas.Option.{get_or_from_slice_get, slice_get-get_or, slice_get_within}
 use Rattle.iam_decision.specs.declared.verdict.Decision.TheVariants.{Allowed}
@@ -13,7 +13,7 @@ use Rattle.iam_requests.specs.Laws.{OneRequests}
 use Rattle.iam_requests.specs.Lists.{somes}
 use Rattle.iam_requests.specs.Requests.{AreRequests, Has}
 use Rattle.iam_requests.specs.Twice.{IsApart}
-use Rattle.iam_changes.specs.Change.{AreChanges, AskedValue, ChangeValue, Changes, IsChange, IsRow, Says, allows, is_allowed}
+use Rattle.iam_changes.specs.Change.{AskedValue, ChangeValue, Changes, IsChange, IsRow, Says, allows, is_allowed}
 use Rattle.iam_changes.specs.Laws
 use Rattle.iam_changes.specs.Laws.{Allows, turned, turned_kind}
 use Rattle.iam_changes.specs.Report.{HasKinds, changes_text}
@@ -36,7 +36,7 @@ clash verdicts asked before after apart also texts c h (selects, same, is) = eli
       none c.change (subst (λ x. Changes asked.all x says c.change) (sym first) (subst (λ y. Changes asked.all c.before y c.change) (sym second) is.is))
 ]
 
-change_of : CellTexts → Change → Option Verdict → Option Verdict → ChangeValue
+abbrev change_of : CellTexts → Change → Option Verdict → Option Verdict → ChangeValue
 change_of texts change before after = record { texts = texts; change = change; before = before; after = after }
 
 -- and a request has one change

@@ -1,10 +1,10 @@
 -- What a change is: one at most, none where nothing else is said, and the turned one the other way.
-use Rattle.std.proofs.Common.{◌≡◌, Bool, true, false, List, Option, Some, None, refl, sym, ap, subst, ◌∙◌, inl, inr, ◌⊎◌}
+use Rattle.std.proofs.Common.{◌≡◌, Bool, true, false, List, Option, Some, None, refl, sym, ap, ◌∙◌, inl, inr, ◌⊎◌}
 use Rattle.std.specs.Bool.{one_answer}
 use Rattle.iam_decision.specs.declared.verdict.Decision.{Decision}
 use Rattle.iam_decision.specs.declared.verdict.Decision.TheVariants.{Allowed, ExplicitDeny, ImplicitDeny}
 use Rattle.iam_decision.specs.declared.verdict.Verdict.{Verdict}
-use Rattle.iam_changes.specs.Change.{ChangeValue, Changes, allows, is_allowed}
+use Rattle.iam_changes.specs.Change.{ChangeValue, Changes, allows}
 use Rattle.iam_changes.specs.Laws.{turned_kind}
 use Rattle.iam_changes.specs.Report.{HasKinds}
 use Rattle.iam_changes.specs.declared.change.Change.{Change}
@@ -13,19 +13,19 @@ use Rattle.iam_changes.specs.declared.change.Kinds.{Kinds}
 
 pub one_kind : (all : Bool) (x y : Option Verdict) (c d : Change) → Changes all x y c → Changes all x y d → c ≡ d
 one_kind all x y Gained Gained h k = refl
-one_kind all x y Gained Lost (off, on) (yes, no) = absurd (let wrong : ⊥ = cc in wrong)
+one_kind all x y Gained Lost (off, on) (held, gone) = absurd (let wrong : ⊥ = cc in wrong)
 one_kind all x y Gained Differs (off, on) (every, same, more) = absurd (let wrong : ⊥ = cc in wrong)
-one_kind all x y Lost Gained (yes, no) (off, on) = absurd (let wrong : ⊥ = cc in wrong)
+one_kind all x y Lost Gained (held, gone) (off, on) = absurd (let wrong : ⊥ = cc in wrong)
 one_kind all x y Lost Lost h k = refl
-one_kind all x y Lost Differs (yes, no) (every, same, more) = absurd (let wrong : ⊥ = cc in wrong)
+one_kind all x y Lost Differs (held, gone) (every, same, more) = absurd (let wrong : ⊥ = cc in wrong)
 one_kind all x y Differs Gained (every, same, more) (off, on) = absurd (let wrong : ⊥ = cc in wrong)
-one_kind all x y Differs Lost (every, same, more) (yes, no) = absurd (let wrong : ⊥ = cc in wrong)
+one_kind all x y Differs Lost (every, same, more) (held, gone) = absurd (let wrong : ⊥ = cc in wrong)
 one_kind all x y Differs Differs h k = refl
 
 -- where the same is said, nothing has changed
 pub no_change : (all : Bool) (x y : Option Verdict) (c : Change) → x ≡ y → ¬ Changes all x y c
 no_change all x y Gained e (off, on) = let wrong : ⊥ = cc in wrong
-no_change all x y Lost e (yes, no) = let wrong : ⊥ = cc in wrong
+no_change all x y Lost e (held, gone) = let wrong : ⊥ = cc in wrong
 no_change all x y Differs e (every, same, (v, w, is, are, other)) = other (let one : v ≡ w = cc in one)
 
 -- a change is of a request that one of the worlds has
@@ -33,16 +33,16 @@ pub some_side : (all : Bool) (x y : Option Verdict) (c : Change) → Changes all
 some_side all (Some v) y c h = inl (v, refl)
 some_side all None (Some w) c h = inr (w, refl)
 some_side all None None Gained (off, on) = absurd (let wrong : ⊥ = cc in wrong)
-some_side all None None Lost (yes, no) = absurd (let wrong : ⊥ = cc in wrong)
+some_side all None None Lost (held, gone) = absurd (let wrong : ⊥ = cc in wrong)
 some_side all None None Differs (every, same, (v, w, is, are, other)) = absurd (let wrong : ⊥ = cc in wrong)
 
 pub turn : (all : Bool) (x y : Option Verdict) (c : Change) → Changes all x y c → Changes all y x (turned_kind c)
 turn all x y Gained (off, on) = (on, off)
-turn all x y Lost (yes, no) = (no, yes)
+turn all x y Lost (held, gone) = (gone, held)
 turn all x y Differs (every, same, (v, w, is, are, other)) = (every, sym same, (w, v, are, is, λ e. other (sym e)))
 
 pub turn_back : (all : Bool) (x y : Option Verdict) (c : Change) → Changes all y x (turned_kind c) → Changes all x y c
-turn_back all x y Gained (yes, no) = (no, yes)
+turn_back all x y Gained (held, gone) = (gone, held)
 turn_back all x y Lost (off, on) = (on, off)
 turn_back all x y Differs (every, same, (v, w, is, are, other)) = (every, sym same, (w, v, are, is, λ e. other (sym e)))
 
@@ -59,7 +59,7 @@ must false h = absurd (h refl)
 
 -- ---- which kinds there are
 
-kinds_of : Bool → Bool → Bool → Kinds
+abbrev kinds_of : Bool → Bool → Bool → Kinds
 kinds_of gained lost differs = record { gained = gained; lost = lost; differs = differs }
 
 pub one_kinds : (changes : List ChangeValue) (k l : Kinds) → HasKinds changes k → HasKinds changes l → k ≡ l

@@ -2,7 +2,7 @@
 -- each change once and nothing else, a world has not changed against itself, what is gained one way is lost the other way, and
 -- who stands in no row has the same access in both. Requests have to be told apart, as a text that stands twice is a fault.
 -- LOGIC 13.7.
-use Rattle.std.specs.Prelude.{◌≡◌, ◌≢◌, ◌↔◌, ◌<◌, ℕ, Bool, Contains, List, [], Some}
+use Rattle.std.specs.Prelude.{◌≡◌, ◌≢◌, ◌↔◌, ℕ, Bool, Contains, List, [], Some}
 use Rattle.std.specs.List.{slice_get}
 use Rattle.iam_decision.specs.declared.verdict.Decision.TheVariants.{Allowed}
 use Rattle.iam_layers.specs.Cell.{IsDecisionOf}

@@ -1,6 +1,6 @@
 // The tails of rows of changes, and the header.
 ghost use Rattle.std.specs.Prelude.{◌≡◌, IfOk, false, string_bytes};
-ghost use Rattle.iam_changes.specs.Code.Pieces.{pair_back, pair_front, pair_tail, quoted_said};
+ghost use Rattle.iam_changes.specs.Code.Pieces.{lists_in, pair_back, pair_front, pair_tail, quoted_said};
 ghost use Rattle.iam_changes.specs.Code.Pieces as pieces;
 ghost use Rattle.iam_changes.specs.Report.{lacks_of, said_word, statements_of};
 ghost use Rattle.iam_row.specs.declared.quoted.Format.TheVariants as format;
@@ -153,6 +153,15 @@ fn back(alloc: Global, format: Format, brief: bool, pair: &Pair) -> Result<Strin
     }
 }
 
+/// The statements and the lacks of what is said, as two fields of a line.
+fn lists(alloc: Global, said: &Option<Verdict>) -> Result<String, OutOfMemory>
+    ensures { IfOk result (λ text. string_bytes text ≡ lists_in said.now) }
+{
+    let statements = places_of(said, "", " ");
+    let lacks = layers_of(said, "", " ");
+    format!(in alloc; "{statements},{lacks}")
+}
+
 /// What stands behind the resource in a full line.
 #[tactic(auto, unfolding(crate::specs::Code::Pieces::pair_back))]
 fn full_line(alloc: Global, pair: &Pair) -> Result<String, OutOfMemory>
@@ -160,29 +169,9 @@ fn full_line(alloc: Global, pair: &Pair) -> Result<String, OutOfMemory>
 {
     let before = word_of(&pair.before);
     let after = word_of(&pair.after);
-    let places_before = Places {
-        places: statements(&pair.before),
-        mark: "",
-        between: " ",
-    };
-    let lacks_before = Layers {
-        layers: lacks(&pair.before),
-        mark: "",
-        between: " ",
-    };
-    let places_after = Places {
-        places: statements(&pair.after),
-        mark: "",
-        between: " ",
-    };
-    let lacks_after = Layers {
-        layers: lacks(&pair.after),
-        mark: "",
-        between: " ",
-    };
-    format!(in alloc;
-        ",{before},{after},{places_before},{lacks_before},{places_after},{lacks_after}\n"
-    )
+    let lists_before = lists(alloc, &pair.before)?;
+    let lists_after = lists(alloc, &pair.after)?;
+    format!(in alloc; ",{before},{after},{lists_before},{lists_after}\n")
 }
 
 /// The tail of the row of a change with this pair, or in brief of its decisions alone.

@@ -1,11 +1,10 @@
 -- Rows of changes as they are kept: the cells without a row before each, and what is said before and after.
-use Rattle.std.specs.Prelude.{◌≡◌, ℕ, zero, suc, ◌+◌, ◌-◌, List, [], ◌∷◌, ◌++◌, Option, Some, None, Bool, true, false, get_or, map, option_map, ◌||◌}
+use Rattle.std.specs.Prelude.{ℕ, zero, suc, ◌+◌, List, [], ◌∷◌, Option, None, Bool, true, false, get_or, option_map, ◌||◌}
 use Rattle.iam_decision.specs.declared.verdict.Verdict.{Verdict}
 use Rattle.iam_row.specs.Piece.{bare}
 use Rattle.iam_row.specs.declared.quoted.Format.{Format}
 use Rattle.iam_row.specs.declared.tail.Tail.{Tail}
 use Rattle.iam_tiles.specs.Code.Numbered.{no_tail}
-use Rattle.iam_changes.specs.Change.{ChangeValue}
 use Rattle.iam_changes.specs.Code.Pieces.{PartValue, pair_tail}
 use Rattle.iam_changes.specs.declared.change.Change.{Change}
 use Rattle.iam_changes.specs.declared.change.Change.TheVariants.{Gained, Lost, Differs}

@@ -1,5 +1,5 @@
 -- A report of changes that is put together from pieces.
-use Rattle.std.specs.Prelude.{◌≡◌, ℕ, ◌-◌, List, [], ◌∷◌, ◌++◌, Option, Some, None, Bool, true, false, codes, if◌then◌else◌, get_or, map, nat_lt}
+use Rattle.std.specs.Prelude.{◌≡◌, ℕ, ◌-◌, List, [], ◌∷◌, ◌++◌, Option, Some, None, Bool, true, false, codes, if◌then◌else◌, map, nat_lt}
 use Rattle.std.specs.List.{flat_map}
 use Rattle.iam_decision.specs.declared.verdict.Verdict.{Verdict}
 use Rattle.iam_layers.specs.Cell.{principal_text}
@@ -68,6 +68,10 @@ places_in mark between said = marked place_text mark between (statements_of said
 abbrev pub layers_in : List ℕ → List ℕ → Option Verdict → List ℕ
 layers_in mark between said = marked layer_word mark between (lacks_of said)
 
+-- both as two fields of a line
+abbrev pub lists_in : Option Verdict → List ℕ
+lists_in said = places_in (codes "") (codes " ") said ++ (codes "," ++ layers_in (codes "") (codes " ") said)
+
 -- what stands before the principal
 unfoldable pub pair_front : Format → Bool → Pair → List ℕ
 pair_front Csv brief pair = change_word (pair_kind pair)
@@ -85,9 +89,7 @@ unfoldable pub pair_back : Format → Bool → Pair → List ℕ
 pair_back Csv true pair = codes "," ++ (said_word pair.before ++ (codes "," ++ (said_word pair.after ++ codes "\n")))
 pair_back Csv false pair =
     codes "," ++ (said_word pair.before ++ (codes "," ++ (said_word pair.after
-    ++ (codes "," ++ (places_in (codes "") (codes " ") pair.before ++ (codes "," ++ (layers_in (codes "") (codes " ") pair.before
-    ++ (codes "," ++ (places_in (codes "") (codes " ") pair.after ++ (codes "," ++ (layers_in (codes "") (codes " ") pair.after
-    ++ codes "\n")))))))))))
+    ++ (codes "," ++ (lists_in pair.before ++ (codes "," ++ (lists_in pair.after ++ codes "\n")))))))
 pair_back Json true pair = codes "}"
 pair_back Json false pair =
     codes ",\"statements_after\":[" ++ (places_in (codes "\"") (codes ",") pair.after

@@ -1,4 +1,4 @@
-use Rattle.std.proofs.Common.{◌≡◌, ◌++◌, ◌+◌, List, ℕ, suc, get_or, ap, ◌∙◌, sym, subst, arith}
+use Rattle.std.proofs.Common.{◌≡◌, ◌++◌, ◌+◌, List, ℕ, ap, ◌∙◌, sym, subst, arith}
 use Rattle.iam_report.specs.Code.Buffer.{Passes}
 use Rattle.iam_tiles.specs.Code.Numbered.{no_tail}
 use Rattle.iam_report.specs.Streams.{AppendsBeginning}

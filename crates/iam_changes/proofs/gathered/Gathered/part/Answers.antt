@@ -1,4 +1,4 @@
-use Rattle.std.proofs.Common.{◌≡◌, ℕ, List, map, sym, ap, ◌∙◌}
+use Rattle.std.proofs.Common.{◌≡◌, List, map, ap, ◌∙◌}
 use Rattle.iam_tiles.specs.Code.Numbered.{no_tail, picked}
 use Rattle.iam_changes.proofs.Placed.{picked_images}
 use Rattle.iam_row.specs.declared.tail.Tail.{Tail}

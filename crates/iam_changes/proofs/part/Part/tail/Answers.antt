@@ -1,4 +1,4 @@
-use Rattle.std.proofs.Common.{◌≡◌, ◌<◌, ◌∙◌, length, ap, sym, arith}
+use Rattle.std.proofs.Common.{◌<◌, ◌∙◌, length, ap, sym, arith}
 use Rattle.iam_tiles.specs.Code.Numbered.{no_tail}
 use Rattle.iam_changes.specs.Code.Kept.{row_at}
 use Rattle.iam_changes.specs.Code.Pieces.{PartValue}
