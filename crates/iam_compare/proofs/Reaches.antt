@@ -1,5 +1,5 @@
 -- How the cells of two worlds are dealt out among their requests.
-use Rattle.std.proofs.Common.{◌≡◌, ℕ, ◌+◌, ◌-◌, ◌*◌, ◌/◌, ◌<◌, ◌≤◌, if◌then◌else◌, nat_lt, refl, sym, ap, subst, ◌∙◌, ⊎_elim, arith}
+use Rattle.std.proofs.Common.{◌≡◌, ℕ, ◌+◌, ◌-◌, ◌*◌, ◌/◌, ◌<◌, ◌≤◌, if◌then◌else◌, nat_lt, sym, ap, subst, ◌∙◌, ⊎_elim, arith}
 use Rattle.std.proofs.lemmas.Bool.{cases_lt, le-ltb, lt-ltb}
 use Rattle.std.proofs.lemmas.Nat.{le-div, mul-le}
 use native.Mathlib.Nat.{div-mul-le_self}
@@ -23,7 +23,7 @@ div_up : (m n k : ℕ) → 0 < k → m ≤ n → m / k ≤ n / k
 div_up m n k some up = le-div (m / k) n k some (let least = div-mul-le_self m k in omega (arith, least, up))
 
 -- a later request has no fewer cells before it
-pub reach_up : (first last count m n : ℕ) → m ≤ n → reach first last count m ≤ first + last → reach first last count m ≤ reach first last count n
+reach_up : (first last count m n : ℕ) → m ≤ n → reach first last count m ≤ first + last → reach first last count m ≤ reach first last count n
 reach_up first last count m n up few =
     ⊎_elim (λ below. before below) (λ past. subst (λ k. reach first last count m ≤ k) (sym (reach_past first last count n past)) few) (cases_lt n count)
   where
@@ -45,3 +45,8 @@ reach_up first last count m n up few =
         let own = reach_first first last count m (omega (arith, up, below)) (omega (arith, up, early)) in
         omega (arith, value, own, up))
         (cases_lt first n)
+
+-- so too of the cells that were counted
+pub counted_up : (first last count m n from to : ℕ) → from ≡ reach first last count m → to ≡ reach first last count n → m ≤ n → from ≤ first + last → from ≤ to
+counted_up first last count m n from to e f up few =
+    subst (λ k. from ≤ k) (sym f) (subst (λ k. k ≤ reach first last count n) (sym e) (reach_up first last count m n up (subst (λ k. k ≤ first + last) e few)))

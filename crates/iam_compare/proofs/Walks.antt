@@ -1,7 +1,6 @@
 -- Rows of changes, as a walk over cells gathers them.
-use Rattle.std.proofs.Common.{◌≡◌, ◌⊎◌, ℕ, zero, suc, ◌+◌, ◌-◌, ◌*◌, ◌<◌, ◌≤◌, Bool, true, false, Bor, List, [], ◌∷◌, ◌++◌, Option, Some, None, length, map, MatchOption, Result, Ok, Err, OnOk, refl, sym, ap, subst, ◌∙◌, inl, inr, append-nil, append_assoc, arith}
-use Rattle.std.specs.List.{flat_map, slice_get}
-use Rattle.std.specs.Option.{is_some, option_map, option_to_list}
+use Rattle.std.proofs.Common.{◌≡◌, ℕ, zero, suc, ◌+◌, ◌-◌, ◌*◌, ◌<◌, ◌≤◌, Bool, true, false, List, [], ◌∷◌, ◌++◌, Option, Some, None, length, map, MatchOption, refl, sym, ap, subst, ◌∙◌, inl, inr, append-nil, append_assoc, arith}
+use Rattle.std.specs.Option.{is_some, option_to_list}
 use Rattle.std.proofs.lemmas.Grind.{flat_map-append}
 use Rattle.std.proofs.lemmas.List.{length-append, length-map, map-append}
 use Rattle.std.proofs.lemmas.Option.{slice_get_within}
@@ -10,26 +9,25 @@ use Rattle.iam_classes.specs.Engine.{EngineValue, IsNumberAt}
 use Rattle.iam_layers.specs.Cell.{IsCell, IsVerdictAt}
 use Rattle.iam_world.specs.World.{WorldValue, world_cells}
 use Rattle.iam_row.specs.Report.{CellTexts, HasTexts, IsCellTexts}
-use Rattle.iam_selection.specs.Selection.{Selects}
+use Rattle.iam_selection.specs.Selection.{IsSelected, Selects}
 use Rattle.iam_matrix.specs.Matrix.{AreEntriesFrom}
 use Rattle.iam_requests.specs.Code.Found.{RequestsValue}
 use Rattle.iam_requests.specs.Lists.{somes}
 use Rattle.iam_requests.specs.Requests.{Has}
+use Rattle.iam_requests.proofs.Counts.{cell_texts}
 use Rattle.iam_requests.proofs.Places.{has_found}
-use Rattle.iam_changes.specs.Change.{AskedValue, ChangeValue, Changes, IsRow, Says}
-use Rattle.iam_row.specs.Piece.{bare}
+use Rattle.iam_changes.specs.Change.{AskedValue, ChangeValue, IsRow, Says}
 use Rattle.iam_row.specs.declared.quoted.Format.{Format}
 use Rattle.iam_row.specs.declared.tail.Tail.{Tail}
-use Rattle.iam_changes.specs.Code.Kept.{GatheredValue, kept_said, no_kinds, part_row, with_kind}
+use Rattle.iam_changes.specs.Code.Kept.{GatheredValue, no_kinds, part_row, with_kind}
 use Rattle.iam_changes.specs.Code.Pieces.{PartValue}
-use Rattle.iam_compare.specs.Code.Walk.{AddsChange, AddsSaid, Gathers, IsLeftRow, IsPartOf, IsRowAt, kept_row, kinds_with, numbered, tail_row, with_row}
-use Rattle.iam_changes.specs.declared.change.Change.{Change}
+use Rattle.iam_compare.specs.Code.Walk.{AddsChange, Gathers, IsLeftRow, IsPartOf, IsRowAt, kept_row, kinds_with, numbered, tail_row, with_row}
 use Rattle.iam_changes.specs.declared.change.Kinds.{Kinds}
 use Rattle.iam_changes.specs.declared.pair.Pair.{Pair}
 
 -- ---- entries behind others
 
-pub entries_join : {X : Type 0} (Is : ℕ → X → Type 0) (from : ℕ) (xs ys : List X) → AreEntriesFrom Is from xs → AreEntriesFrom Is (from + length xs) ys → AreEntriesFrom Is from (xs ++ ys)
+entries_join : {X : Type 0} (Is : ℕ → X → Type 0) (from : ℕ) (xs ys : List X) → AreEntriesFrom Is from xs → AreEntriesFrom Is (from + length xs) ys → AreEntriesFrom Is from (xs ++ ys)
 entries_join {X} Is from [] ys h k i e at =
     let same : from + 0 + i ≡ from + i = omega arith in
     subst (λ n. Is n e) same (k i e at)
@@ -41,32 +39,32 @@ entries_join {X} Is from (x ∷ xs) ys h k (suc i) e at =
     let same : from + 1 + i ≡ from + suc i = omega arith in
     subst (λ n. Is n e) same (entries_join Is (from + 1) xs ys first last i e at)
 
-pub one_entry : {X : Type 0} (Is : ℕ → X → Type 0) (from : ℕ) (x : X) → Is from x → AreEntriesFrom Is from (x ∷ [])
+one_entry : {X : Type 0} (Is : ℕ → X → Type 0) (from : ℕ) (x : X) → Is from x → AreEntriesFrom Is from (x ∷ [])
 one_entry {X} Is from x is zero e at =
     let one : x ≡ e = cc in
     let same : from ≡ from + 0 = omega arith in
     subst (λ n. Is n e) same (subst (Is from) one is)
 one_entry {X} Is from x is (suc i) e at = absurd (let wrong : ⊥ = cc in wrong)
 
-pub numbered_join : (from : ℕ) (xs ys : List (Option ChangeValue)) → numbered from (xs ++ ys) ≡ numbered from xs ++ numbered (from + length xs) ys
+numbered_join : (from : ℕ) (xs ys : List (Option ChangeValue)) → numbered from (xs ++ ys) ≡ numbered from xs ++ numbered (from + length xs) ys
 numbered_join from [] ys = ap (λ n. numbered n ys) (let same : from ≡ from + 0 = omega arith in same)
 numbered_join from (None ∷ xs) ys =
     numbered_join (from + 1) xs ys
-    ∙ ap (λ n. numbered (from + 1) xs ++ numbered n ys) (let same : from + 1 + length xs ≡ from + length (None {A = ChangeValue} ∷ xs) = omega arith in same)
+    ∙ ap (λ n. numbered (from + 1) xs ++ numbered n ys) (let same : from + 1 + length xs ≡ from + suc (length xs) = omega arith in same)
 numbered_join from (Some change ∷ xs) ys =
     ap (λ rows. (from, change) ∷ rows) (numbered_join (from + 1) xs ys
-    ∙ ap (λ n. numbered (from + 1) xs ++ numbered n ys) (let same : from + 1 + length xs ≡ from + length (Some change ∷ xs) = omega arith in same))
+    ∙ ap (λ n. numbered (from + 1) xs ++ numbered n ys) (let same : from + 1 + length xs ≡ from + suc (length xs) = omega arith in same))
 
-pub few_numbered : (from : ℕ) (xs : List (Option ChangeValue)) → length (numbered from xs) ≤ length xs
+few_numbered : (from : ℕ) (xs : List (Option ChangeValue)) → length (numbered from xs) ≤ length xs
 few_numbered from [] = omega arith
 few_numbered from (None ∷ xs) = let few = few_numbered (from + 1) xs in omega (arith, few)
 few_numbered from (Some change ∷ xs) = let few = few_numbered (from + 1) xs in omega (arith, few)
 
-pub kinds_join : (kinds : Kinds) (xs ys : List ChangeValue) → kinds_with kinds (xs ++ ys) ≡ kinds_with (kinds_with kinds xs) ys
+kinds_join : (kinds : Kinds) (xs ys : List ChangeValue) → kinds_with kinds (xs ++ ys) ≡ kinds_with (kinds_with kinds xs) ys
 kinds_join kinds [] ys = refl
 kinds_join kinds (x ∷ xs) ys = kinds_join (with_kind kinds x.change) xs ys
 
-pub somes_join : (xs ys : List (Option ChangeValue)) → somes (xs ++ ys) ≡ somes xs ++ somes ys
+somes_join : (xs ys : List (Option ChangeValue)) → somes (xs ++ ys) ≡ somes xs ++ somes ys
 somes_join xs ys = flat_map-append option_to_list xs ys
 
 -- ---- what is gathered
@@ -130,7 +128,7 @@ gathers_row asked requests brief cell change old new is e =
     })
 
 -- cells without rows
-pub gathers_past : (asked : AskedValue) (requests : RequestsValue) (brief : Bool) (from n : ℕ) (old : GatheredValue) → old.end ≤ from
+gathers_past : (asked : AskedValue) (requests : RequestsValue) (brief : Bool) (from n : ℕ) (old : GatheredValue) → old.end ≤ from
     → ((cell : ℕ) → from ≤ cell → cell < from + n → IsRowAt asked requests cell None) → Gathers asked requests brief from (from + n) old old
 gathers_past asked requests brief from zero old end none =
     let same : from ≡ from + 0 = omega arith in
@@ -183,9 +181,36 @@ place_before asked requests cell texts of absent None is = (texts, inr (cell, re
 place_before asked requests cell texts of absent (Some change) is = (texts, inr (cell, refl, of, (absent, is)))
 
 -- a cell of BEFORE that has no row
-pub left_nothing : (asked : AskedValue) (requests : RequestsValue) (cell : ℕ) (texts : CellTexts) → IsCellTexts requests.before cell texts
+left_nothing : (asked : AskedValue) (requests : RequestsValue) (cell : ℕ) (texts : CellTexts) → IsCellTexts requests.before cell texts
     → IsLeftRow asked requests.before requests.after texts None → IsRowAt asked requests (world_cells requests.after + cell) None
 left_nothing asked requests cell texts of is = (texts, inr (cell, refl, of, is))
+
+-- a cell of AFTER that is not selected
+pub off_after : (asked : AskedValue) (requests : RequestsValue) (cell p a r : ℕ) → IsCell requests.after cell p a r → ¬ IsSelected asked.selection requests.after cell
+    → IsRowAt asked requests cell None
+off_after asked requests cell p a r is not =
+    let (texts, of) = cell_texts requests.after cell p a r is in
+    (texts, inl (of, inl (λ selects. not (texts, of, selects))))
+
+-- a cell of BEFORE that is left out, whatever its texts
+pub off_before : (asked : AskedValue) (requests : RequestsValue) (cell p a r : ℕ) → IsCell requests.before cell p a r
+    → ((texts : CellTexts) → IsCellTexts requests.before cell texts → IsLeftRow asked requests.before requests.after texts None)
+    → IsRowAt asked requests (world_cells requests.after + cell) None
+off_before asked requests cell p a r is left =
+    let (texts, of) = cell_texts requests.before cell p a r is in
+    left_nothing asked requests cell texts of (left texts of)
+
+-- cells of BEFORE without rows
+pub gathers_behind : (asked : AskedValue) (requests : RequestsValue) (brief : Bool) (here next : ℕ) (old : GatheredValue) → here ≤ next
+    → old.end ≤ world_cells requests.after + here
+    → ((cell : ℕ) → here ≤ cell → cell < next → IsRowAt asked requests (world_cells requests.after + cell) None)
+    → Gathers asked requests brief (world_cells requests.after + here) (world_cells requests.after + next) old old
+gathers_behind asked requests brief here next old up end none =
+    let first = world_cells requests.after in
+    gathers_up asked requests brief (first + here) (first + next) old (omega (arith, up)) end
+    (λ cell above below.
+    let same : first + (cell - first) ≡ cell = omega (arith, above) in
+    subst (λ k. IsRowAt asked requests k None) same (none (cell - first) (omega (arith, above)) (omega (arith, above, below))))
 
 -- ---- what was found of a request
 
@@ -198,10 +223,6 @@ pub none_of_found : (world : WorldValue) (texts : CellTexts) (found : Option (�
     → ¬ Has world texts
 none_of_found world texts None absent off = absent
 none_of_found world texts (Some found) has off = absurd (let wrong : ⊥ = cc in wrong)
-
-pub at_ok : {T E P Q : Type 0} (r : Result T E) → (P → Q) → OnOk r P → OnOk r Q
-at_ok (Ok x) f p = f p
-at_ok (Err e) f p = tt
 
 -- ---- a part
 
@@ -222,12 +243,6 @@ part_gathered asked requests format brief from to old new part none gathers (row
           rows ∙ ap (map (part_row format brief)) (gathers.rows_are ∙ ap (λ (v : GatheredValue). v.rows ++ all) none) ∙ tails_of_kept format brief (numbered from gathers.entries);
       kinds_are = kinds ∙ gathers.kinds_are ∙ ap (λ (v : GatheredValue). kinds_with v.kinds (somes gathers.entries)) none;
     }
-
--- ---- what is said, as it is kept in brief
-
-pub bare_said : (said : Option (Bor Verdict)) → option_map bare (option_map (λ verdict. verdict.now.decision) said) ≡ kept_said true (option_map (λ verdict. verdict.now) said)
-bare_said None = refl
-bare_said (Some verdict) = refl
 
 -- ---- what a world says of a request
 
@@ -253,7 +268,7 @@ pub record AreWithin (world : WorldValue) (p a r : ℕ) : Type 0 where
   pub action : a < length world.actions
   pub resource : r < length world.resources
 
-pub within_found : (world : WorldValue) (p a r : ℕ) (texts : CellTexts) → HasTexts world p a r texts → AreWithin world p a r
+within_found : (world : WorldValue) (p a r : ℕ) (texts : CellTexts) → HasTexts world p a r texts → AreWithin world p a r
 within_found world p a r texts has =
     let (principal, p_at, p_is) = has.principal in
     let (resource, r_at, r_is) = has.resource in
@@ -262,6 +277,18 @@ within_found world p a r texts has =
       action = slice_get_within world.actions a texts.action has.action;
       resource = slice_get_within world.resources r resource r_at;
     }
+
+pub found_within : (after before world other same : WorldValue) (cell p a r q b s : ℕ) → world ≡ after → other ≡ before → same ≡ before → IsCell after cell p a r
+    → ((texts : CellTexts) → IsCellTexts world cell texts → HasTexts other q b s texts) → AreWithin same q b s
+found_within after before world other same cell p a r q b s e f g is found =
+    let (texts, of) = cell_texts after cell p a r is in
+    let has = found texts (subst (λ w. IsCellTexts w cell texts) (sym e) of) in
+    within_found same q b s texts (subst (λ w. HasTexts w q b s texts) (f ∙ sym g) has)
+
+-- and so are those of a cell, in each world that is the same
+pub within_cell : (world other : WorldValue) (cell p a r : ℕ) → other ≡ world → IsCell world cell p a r → AreWithin other p a r
+within_cell world other cell p a r e is =
+    subst (λ w. AreWithin w p a r) (sym e) (record { principal = is.principal; action = is.action; resource = is.resource })
 
 -- a number of a verdict is one of those that are kept
 pub number_within : (engine : EngineValue) (p a r number : ℕ) → IsNumberAt engine p a r number → number < length engine.rulings

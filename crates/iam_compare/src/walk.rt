@@ -84,6 +84,8 @@ impl<'a> Crew for Workers<'a> {
         _bound: &mut Bound<'_>,
         tile: u64,
     ) -> Result<Part, OutOfMemory> {
+        // There are at most 33,554,432 requests, so the numbers fit.
+        let _count = self.requests.count();
         let tile = self.cut.cells(tile);
         let from = self.requests.reach(tile.from);
         let to = self.requests.reach(tile.from + tile.count);

@@ -1,0 +1,71 @@
+use Rattle.std.proofs.Common.{◌≡◌, ◌+◌, true, false, inl, inr, sym, subst}
+use Rattle.std.specs.Option.{is_some}
+use Rattle.std.proofs.lemmas.Result.{on_ok_weaker}
+use Rattle.iam_layers.specs.Cell.{IsCell}
+use Rattle.iam_world.specs.World.{WorldValue, world_cells}
+use Rattle.iam_row.specs.Report.{CellTexts, IsCellTexts}
+use Rattle.iam_selection.specs.Code.Listing.{PickerValue}
+use Rattle.iam_selection.specs.Selection.{IsSelected}
+use Rattle.iam_requests.specs.Requests.{Has}
+use Rattle.iam_compare.specs.Code.Walk.{asked_of}
+use Rattle.iam_compare.proofs.Walks.{gathers_nothing, gathers_said, has_of_found, none_of_found, off_before, place_before}
+use Rattle.iam_compare.proofs.walk.visit_before.Goals as goal
+
+pub asks-requires : goal.asks-requires
+asks-requires c =
+    let at = c.args.at in
+    let C : PickerValue → Type 0 = λ v. IsCell v.world at.cell at.principal at.action at.resource in
+    subst C (sym c.requires.crew.picker_before) c.requires.cell
+
+pub returns-then-not-asks-clause-rows : goal.returns-then-not-asks-clause-rows
+returns-then-not-asks-clause-rows c =
+    let crew = c.args.crew.now in
+    let asked = asked_of crew in
+    let requests = crew.requests.now in
+    let at = c.args.at in
+    let S : PickerValue → Type 0 = λ v. IsSelected v.selection v.world at.cell in
+    let off = c.if-not-asks.true in
+    let not : ¬ IsSelected asked.selection requests.before at.cell = λ selected.
+    let on = c.asks.ensures.1 (subst S (sym c.requires.crew.picker_before) selected) in
+    let wrong : ⊥ = cc in wrong in
+    gathers_nothing asked requests crew.asked.brief (world_cells requests.after + at.cell) c.args.rows.now
+    (off_before asked requests at.cell at.principal at.action at.resource c.requires.cell (λ texts of. inr (inl (λ selects. not (texts, of, selects))))) c.requires.rows
+
+pub find-requires : goal.find-requires
+find-requires c =
+    let at = c.args.at in
+    let C : WorldValue → Type 0 = λ w. IsCell w at.cell at.principal at.action at.resource in
+    subst C (sym c.to_after.ensures.world) c.requires.cell
+
+pub returns-then-is_some-clause-rows : goal.returns-then-is_some-clause-rows
+returns-then-is_some-clause-rows c =
+    let crew = c.args.crew.now in
+    let asked = asked_of crew in
+    let requests = crew.requests.now in
+    let at = c.args.at in
+    let T : CellTexts → WorldValue → Type 0 = λ texts w. IsCellTexts w at.cell texts in
+    let H : CellTexts → WorldValue → Type 0 = λ texts w. Has w texts in
+    gathers_nothing asked requests crew.asked.brief (world_cells requests.after + at.cell) c.args.rows.now
+    (off_before asked requests at.cell at.principal at.action at.resource c.requires.cell
+    (λ texts of. inl (subst (H texts) c.to_after.ensures.other
+    (has_of_found c.to_after.result.now.other texts c.find.result (c.find.ensures texts (subst (T texts) (sym c.to_after.ensures.world) of))
+    (let on : is_some c.find.result ≡ true = cc in on)))))
+    c.requires.rows
+
+pub returns-clause-rows : goal.returns-clause-rows
+returns-clause-rows c =
+    let crew = c.args.crew.now in
+    let asked = asked_of crew in
+    let requests = crew.requests.now in
+    let at = c.args.at in
+    let S : PickerValue → Type 0 = λ v. IsSelected v.selection v.world at.cell in
+    let T : CellTexts → WorldValue → Type 0 = λ texts w. IsCellTexts w at.cell texts in
+    let H : CellTexts → WorldValue → Type 0 = λ texts w. ¬ Has w texts in
+    let (texts, of, selects) = subst S c.requires.crew.picker_before (c.asks.ensures.0 c.if-not-asks.false) in
+    let absent : ¬ Has requests.after texts = subst (H texts) c.to_after.ensures.other
+    (none_of_found c.to_after.result.now.other texts c.find.result (c.find.ensures texts (subst (T texts) (sym c.to_after.ensures.world) of))
+    (let off : is_some c.find.result ≡ false = cc in off)) in
+    on_ok_weaker c.add_before.result
+    (λ added. gathers_said asked requests crew.asked.brief (world_cells requests.after + at.cell) texts c.args.rows.now c.add_before.new.rows
+    (place_before asked requests at.cell texts of absent) selects (added texts of absent) c.requires.rows)
+    c.add_before.ensures.rows
