@@ -1,4 +1,4 @@
--- The numbers of the faults of a run of two worlds, and the line that tells of one. LOGIC 14.
+-- The numbers of the faults of a run of two worlds, and the line that tells of one. LOGIC 13.4, 14.
 use Rattle.std.specs.Prelude.{ℕ, List, ◌++◌, Bool, ◌||◌, false, Option, Some, None, codes}
 use Rattle.iam_world.specs.WorldFault.{world_text}
 use Rattle.iam_requests.specs.Twice.{twice_text}
