@@ -12,10 +12,9 @@ use Rattle.iam_requests.specs.Twice.{IsApart, IsFirstTwice}
 use Rattle.iam_requests.specs.declared.twice.Twice.{Twice}
 use Rattle.iam_changes.specs.Change.{AskedValue}
 use Rattle.iam_changes.specs.Laws.{OneChangesReport}
-use Rattle.iam_changes.specs.Report.{IsChangesReport}
 use Rattle.iam_changes.specs.declared.change.Kinds.{Kinds}
 use Rattle.iam_options.specs.declared.changes.ChangesOptions.{ChangesOptions}
-use Rattle.iam_app.specs.Changes.{EndsChangesBy, HasSide, IsChangesOutput, IsNoWorld, IsSide, IsTwiceIn, WritesChanges, changes_format}
+use Rattle.iam_app.specs.Changes.{EndsChangesBy, HasSide, IsAskedChanges, IsChangesOutput, IsNoWorld, IsSide, IsTwiceIn, WritesChanges, changes_format}
 use Rattle.iam_app.specs.ChangesLaws
 use Rattle.iam_app.specs.ChangesLaws.{AskTheSameChanges, IsOfWorlds}
 use Rattle.iam_app.specs.declared.changes_fault.ChangesFault.{ChangesFault}
@@ -33,19 +32,14 @@ pub record Given : Type 0 where
 
 -- ---- the report
 
--- the report that the options ask for
-abbrev Reports : ChangesOptions → SelectionValue → WorldValue → WorldValue → List ℕ → Kinds → Type 0
-Reports options selection before after text kinds =
-    IsChangesReport (changes_format options) options.brief (record { selection = selection; all = options.all }) before after text kinds
-
 pub one_changes_output : Given → ChangesLaws.OneChangesOutput
 one_changes_output g options other selection first second text text' kinds kinds' same (before, after, (is, apart), (is_after, apart_after), h) (before', after', (is', apart'), (is_after', apart_after'), k) =
     let asked : AskedValue = record { selection = selection; all = other.all } in
     let one : before' ≡ before = g.worlds first before' before is' is in
     let two : after' ≡ after = g.worlds second after' after is_after' is_after in
-    let was : Reports other selection before after text kinds = subst (λ (o : ChangesOptions). Reports o selection before after text kinds) (sym same) h.report in
-    let also : Reports other selection before after text' kinds' =
-    subst (λ w. Reports other selection before w text' kinds') two (subst (λ w. Reports other selection w after' text' kinds') one k.report) in
+    let was : IsAskedChanges other selection before after text kinds = subst (λ (o : ChangesOptions). IsAskedChanges o selection before after text kinds) (sym same) h.1 in
+    let also : IsAskedChanges other selection before after text' kinds' =
+    subst (λ w. IsAskedChanges other selection before w text' kinds') two (subst (λ w. IsAskedChanges other selection w after' text' kinds') one k.1) in
     g.reports (changes_format other) other.brief asked before after text text' kinds kinds' apart apart_after was also
 
 -- ---- one of two inputs

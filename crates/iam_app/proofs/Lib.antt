@@ -1,3 +1,4 @@
+mod Compared
 mod Comparing
 pub mod OneOutput
 pub mod Refusals

@@ -25,7 +25,7 @@ use Rattle.iam_options.specs.declared.changes.ChangesOptions.{ChangesOptions}
 use Rattle.iam_app.specs.Output.{tile_or_default}
 use Rattle.iam_app.specs.Streams.{AllRemained, MoreRemained}
 use Rattle.iam_app.specs.declared.changes_fault.ChangesFault.{ChangesFault}
-use Rattle.iam_app.specs.declared.changes_fault.ChangesFault.TheVariants.{Run, Twice, Before}
+use Rattle.iam_app.specs.declared.changes_fault.ChangesFault.TheVariants as changes
 use Rattle.iam_app.specs.declared.changes_fault.Side.{Side}
 use Rattle.iam_app.specs.declared.changes_fault.Side.TheVariants as side
 use Rattle.iam_app.specs.declared.fault.RunFault.{RunFault}
@@ -63,11 +63,18 @@ abbrev pub HasNoCutOf : ChangesOptions → WorldValue → WorldValue → CutFaul
 HasNoCutOf options before after fault =
     (count : ℕ) × IsCount before after count × IsEvenFault (tile_or_default options.tile count) count fault
 
--- the report of two worlds, with the kinds of changes that it has
-pub record IsComparison (options : ChangesOptions) (selection : SelectionValue) (before after : WorldValue) (text : List ℕ) (kinds : Kinds) : Type 0 where
+-- the requests of two worlds can be worked off: they have such a cut, and the number of workers is lawful
+pub record CanCompare (options : ChangesOptions) (before after : WorldValue) : Type 0 where
   pub cut : HasCutOf options before after
   pub workers : ¬ IsUnlawful options.workers
-  pub report : IsChangesReport (changes_format options) options.brief (record { selection = selection; all = options.all }) before after text kinds
+
+-- the report that the options ask for, of two worlds, with the kinds of changes that it has
+abbrev pub IsAskedChanges : ChangesOptions → SelectionValue → WorldValue → WorldValue → List ℕ → Kinds → Type 0
+IsAskedChanges options selection before after text kinds =
+    IsChangesReport (changes_format options) options.brief (record { selection = selection; all = options.all }) before after text kinds
+
+abbrev pub IsComparison : ChangesOptions → SelectionValue → WorldValue → WorldValue → List ℕ → Kinds → Type 0
+IsComparison options selection before after text kinds = CanCompare options before after × IsAskedChanges options selection before after text kinds
 
 -- there is none, for this fault
 abbrev pub IsNoComparison : ChangesOptions → WorldValue → WorldValue → RunFault → Type 0
@@ -108,13 +115,13 @@ AreNotCompared options first second fault =
 
 -- how a run ends without its report: after every fault but `Write` nothing was written
 abbrev pub EndsChangesBy : ChangesOptions → SelectionValue → Option (List ℕ) → Option (List ℕ) → Option (List ℕ) → Option (List ℕ) → ChangesFault → Type 0
-EndsChangesBy options selection first second old new (Run f.Read) = new ≡ old
-EndsChangesBy options selection first second old new (Run (f.World fault)) = (new ≡ old) × HasBefore first × IsNoWorld second fault
-EndsChangesBy options selection first second old new (Run (f.Matrix fault)) = (new ≡ old) × AreNotCompared options first second (f.Matrix fault)
-EndsChangesBy options selection first second old new (Run f.Write) = BeginsChanges options selection first second old new
-EndsChangesBy options selection first second old new (Run f.NoSuchCell) = ⊥
-EndsChangesBy options selection first second old new (Run (f.Cut fault)) = (new ≡ old) × AreNotCompared options first second (f.Cut fault)
-EndsChangesBy options selection first second old new (Run f.OutOfMemory) = new ≡ old
-EndsChangesBy options selection first second old new (Twice side.Before twice) = (new ≡ old) × IsTwiceIn first twice
-EndsChangesBy options selection first second old new (Twice side.After twice) = (new ≡ old) × HasBefore first × IsTwiceIn second twice
-EndsChangesBy options selection first second old new (Before fault) = (new ≡ old) × IsNoWorld first fault
+EndsChangesBy options selection first second old new (changes.Run f.Read) = new ≡ old
+EndsChangesBy options selection first second old new (changes.Run (f.World fault)) = (new ≡ old) × HasBefore first × IsNoWorld second fault
+EndsChangesBy options selection first second old new (changes.Run (f.Matrix fault)) = (new ≡ old) × AreNotCompared options first second (f.Matrix fault)
+EndsChangesBy options selection first second old new (changes.Run f.Write) = BeginsChanges options selection first second old new
+EndsChangesBy options selection first second old new (changes.Run f.NoSuchCell) = ⊥
+EndsChangesBy options selection first second old new (changes.Run (f.Cut fault)) = (new ≡ old) × AreNotCompared options first second (f.Cut fault)
+EndsChangesBy options selection first second old new (changes.Run f.OutOfMemory) = new ≡ old
+EndsChangesBy options selection first second old new (changes.Twice side.Before twice) = (new ≡ old) × IsTwiceIn first twice
+EndsChangesBy options selection first second old new (changes.Twice side.After twice) = (new ≡ old) × HasBefore first × IsTwiceIn second twice
+EndsChangesBy options selection first second old new (changes.Before fault) = (new ≡ old) × IsNoWorld first fault

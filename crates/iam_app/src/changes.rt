@@ -1,7 +1,7 @@
 // A run of two worlds: what has changed from one to the other.
 ghost use Rattle.std.specs.Prelude.{◌≡◌, ◌≢◌, IfErr, IfOk, MatchResult, OnOk, if◌then◌else◌, sum};
 ghost use Rattle.std.specs.Io.KnownBytes.{Appends};
-ghost use Rattle.iam_app.specs.Changes.{EndsChangesBy, HasCutOf, HasNoCutOf, HasSide, IsComparison, IsNoComparison, WritesChanges, changes_format};
+ghost use Rattle.iam_app.specs.Changes.{CanCompare, EndsChangesBy, HasCutOf, HasNoCutOf, HasSide, IsAskedChanges, IsNoComparison, WritesChanges, changes_format};
 ghost use Rattle.iam_app.specs.ChangesFault.{fails_on};
 ghost use Rattle.iam_app.specs.Code.Sides.{IsNoSide, IsNotWritten, fault_after, fault_before};
 ghost use Rattle.iam_app.specs.Streams.{ConsumesAtMost};
@@ -116,24 +116,23 @@ fn changes_format(options: &ChangesOptions) -> Format
     }
 }
 
-/// The report of two worlds.
-fn compare<T: Threads + Sync>(
+/// The report of what has changed among the requests of two worlds.
+fn report_of<T: Threads + Sync>(
     rt: &T,
     alloc: Global,
     options: &ChangesOptions,
     selection: &Selection,
-    before: &World,
-    after: &World,
+    requests: &Requests<'_>,
 ) -> Result<ChangesText, RunFault>
-    ensures ok { IfOk result (λ report. IsComparison options.now selection.now before.now after.now (report_text report) report.kinds) }
-    ensures fault { IfErr result (λ fault. IsNoComparison options.now before.now after.now fault) }
+    ensures work { OnOk result (CanCompare options.now requests.now.before requests.now.after) }
+    ensures ok { IfOk result (λ report. IsAskedChanges options.now selection.now requests.now.before requests.now.after (report_text report) report.kinds) }
+    ensures fault { IfErr result (λ fault. IsNoComparison options.now requests.now.before requests.now.after fault) }
 {
-    let requests = Requests::of(alloc, before, after)?;
-    let cut = cut_requests(alloc, options, &requests)?;
+    let cut = cut_requests(alloc, options, requests)?;
     let report = changes_report(
         rt,
         alloc,
-        &requests,
+        requests,
         selection,
         options.all,
         &cut,
@@ -143,6 +142,23 @@ fn compare<T: Threads + Sync>(
         options.brief,
     )?;
     Ok(report)
+}
+
+/// The report of what has changed from one world to another.
+fn compare<T: Threads + Sync>(
+    rt: &T,
+    alloc: Global,
+    options: &ChangesOptions,
+    selection: &Selection,
+    before: &World,
+    after: &World,
+) -> Result<ChangesText, RunFault>
+    ensures work { OnOk result (CanCompare options.now before.now after.now) }
+    ensures ok { IfOk result (λ report. IsAskedChanges options.now selection.now before.now after.now (report_text report) report.kinds) }
+    ensures fault { IfErr result (λ fault. IsNoComparison options.now before.now after.now fault) }
+{
+    let requests = Requests::of(alloc, before, after)?;
+    report_of(rt, alloc, options, selection, &requests)
 }
 
 /// Reads two worlds, and writes what has changed from the first to the second; the kinds of changes that were written. The whole
@@ -185,8 +201,8 @@ fn write_changes<W: Write>(
     report: ChangesText,
     writer: &mut W,
 ) -> Result<Kinds, ChangesFault>
-    ensures done { IfOk result (λ kinds. (kinds ≡ report.entry.kinds) × Appends (W.contents writer.old) (W.contents writer.new) (report_text report.entry)) }
-    ensures fault { IfErr result (λ fault. IsNotWritten (W.contents writer.old) (W.contents writer.new) (report_text report.entry) fault) }
+    ensures done { IfOk result (λ kinds. (kinds ≡ report.kinds) × Appends (W.contents writer.old) (W.contents writer.new) (report_text report)) }
+    ensures fault { IfErr result (λ fault. IsNotWritten (W.contents writer.old) (W.contents writer.new) (report_text report) fault) }
 {
     let kinds = report.kinds();
     let mut kept = buffer(alloc)?;

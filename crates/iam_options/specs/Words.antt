@@ -6,6 +6,8 @@ use Rattle.std.specs.Str.{bytes_eq}
 use Rattle.std.specs.Str.Parse.{digits_value, without_leading_plus}
 use Rattle.clap.specs.Matches.{first_value, found_of, matched_of, one_text, raw_values}
 use Rattle.clap.specs.declared.parser.matches.ArgMatches.{ArgMatches}
+use Rattle.iam_options.specs.declared.changes.FailOn.{FailOn}
+use Rattle.iam_options.specs.declared.changes.FailOn.TheVariants.{Gained, Lost, Any}
 use Rattle.iam_options.specs.declared.command.Asked.{Asked}
 use Rattle.iam_options.specs.declared.options.Task.{Task}
 use Rattle.iam_options.specs.declared.options.Task.TheVariants.{Check, Decide, Matrix, First}
@@ -49,3 +51,14 @@ pub record HasAsked (matches : ArgMatches) (asked : Asked) : Type 0 where
   pub actions : map string_bytes asked.actions.items ≡ texts_at matches (codes "action")
   pub resources : map string_bytes asked.resources.items ≡ texts_at matches (codes "resource")
   pub decisions : map string_bytes asked.decisions.items ≡ texts_at matches (codes "decision")
+
+-- the words of rows that end a run with a status of its own
+abbrev pub fail_on_word : FailOn → List ℕ
+fail_on_word Gained = codes "gained"
+fail_on_word Lost = codes "lost"
+fail_on_word Any = codes "any"
+
+-- the rows are those that are said, where something is said
+pub record IsFailOn (matches : ArgMatches) (fail_on : Option FailOn) : Type 0 where
+  pub none : first_value (found_of matches) (codes "fail-on") ≡ None → fail_on ≡ None
+  pub said : (said : FailOn) → first_value (found_of matches) (codes "fail-on") ≡ Some (fail_on_word said) → fail_on ≡ Some said

@@ -1,6 +1,8 @@
 // The command line of `changes`.
-ghost use Rattle.std.specs.Prelude.{IfOk, codes};
-ghost use Rattle.iam_options.specs.Words.{HasAsked, IsFileAt};
+ghost use Rattle.std.specs.Prelude.{◌≡◌, IfOk, None, Some, codes};
+ghost use Rattle.clap.specs.Matches.{first_value, found_of};
+ghost use Rattle.iam_options.specs.Words.{HasAsked, IsFailOn, IsFileAt, fail_on_word};
+ghost use Rattle.iam_options.specs.declared.changes.FailOn.{FailOn};
 
 use crate::arguments::{brief, format, run};
 use crate::command::{Asked, asked_in, file, file_at, with_patterns};
@@ -69,6 +71,7 @@ pub fn changes_in(alloc: Global, command: &ArgMatches<'_>) -> Result<ChangesComm
     ensures before { IfOk result (λ read. IsFileAt command.now (codes "BEFORE") read.before) }
     ensures after { IfOk result (λ read. IsFileAt command.now (codes "AFTER") read.after) }
     ensures asked { IfOk result (λ read. HasAsked command.now read.asked) }
+    ensures fail_on { IfOk result (λ read. IsFailOn command.now read.fail_on) }
 {
     let before = file_at(alloc, command, "BEFORE")?;
     let after = file_at(alloc, command, "AFTER")?;
@@ -101,7 +104,10 @@ fn options_at(command: &ArgMatches<'_>) -> ChangesOptions {
     }
 }
 
-fn fail_on_of(command: &ArgMatches<'_>) -> Option<FailOn> {
+fn fail_on_of(command: &ArgMatches<'_>) -> Option<FailOn>
+    ensures none { first_value (found_of command.now) (codes "fail-on") ≡ None → result ≡ None }
+    ensures said { (said : FailOn) → first_value (found_of command.now) (codes "fail-on") ≡ Some (fail_on_word said) → result ≡ Some said }
+{
     match command.get_str("fail-on")? {
         "gained" => Some(FailOn::Gained),
         "lost" => Some(FailOn::Lost),

@@ -8,7 +8,7 @@ use std::test::Fail;
 use std::thread::Threads;
 
 /// Ann may get what bucket b holds.
-const WORLD: &str = r#"{"moment":0,"accounts":[{"id":"111122223333"}],
+pub const WORLD: &str = r#"{"moment":0,"accounts":[{"id":"111122223333"}],
     "principals":[{"user":"arn:aws:iam::111122223333:user/ann","identity":[
     {"Version":"2012-10-17","Statement":{"Effect":"Allow","Action":"s3:Get*","Resource":"arn:aws:s3:::b/*"}}]}],
     "actions":["S3:getobject"],"resources":[{"arn":"arn:aws:s3:::b/k","account":"111122223333"}]}"#;
@@ -106,9 +106,9 @@ fn ends_by(
 
 /// Gives one byte a read, and fails once no more reads are left.
 #[derive(Drop)]
-struct Dripping<'a> {
-    rest: &'a [u8],
-    reads: usize,
+pub struct Dripping<'a> {
+    pub rest: &'a [u8],
+    pub reads: usize,
 }
 
 impl Read for Dripping<'_> {
@@ -155,8 +155,8 @@ fn a_reader_that_fails_at_each_read(rt: HostRuntime) -> Result<(), Fail> {
 
 /// Gives spaces without end.
 #[derive(Drop)]
-struct Endless {
-    given: usize,
+pub struct Endless {
+    pub given: usize,
 }
 
 impl Read for Endless {
@@ -179,18 +179,18 @@ fn a_reader_without_end(rt: HostRuntime) -> Result<(), Fail> {
 
 /// What a writer does once it has no room left.
 #[derive(Clone, Copy)]
-enum Full {
+pub enum Full {
     Fails,
     TakesNothing,
 }
 
 /// Takes one byte a write while it has room.
 #[derive(Drop)]
-struct Narrow {
-    taken: Vec<u8>,
-    room: usize,
-    full: Full,
-    flushes: bool,
+pub struct Narrow {
+    pub taken: Vec<u8>,
+    pub room: usize,
+    pub full: Full,
+    pub flushes: bool,
 }
 
 impl Write for Narrow {

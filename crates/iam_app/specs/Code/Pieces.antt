@@ -10,4 +10,4 @@ abbrev pub report_text : Report → List ℕ
 report_text (Whole text) = text.items
 report_text (Matrix matrix) = text_of matrix
 report_text (Rows rows) = list_text rows
-report_text (Changes changes) = changes.report_text changes
+report_text (Changes report) = changes.report_text report

@@ -1,0 +1,67 @@
+-- How a run of two worlds ends: by a fault of one of them, by a fault of both together, or with its report.
+use Rattle.std.proofs.Common.{◌≡◌, inl, inr, ℕ, List, Option, refl, sym, subst}
+use Rattle.std.specs.Io.KnownBytes.{Appends}
+use Rattle.iam_world.specs.World.{WorldValue}
+use Rattle.iam_selection.specs.Selection.{SelectionValue}
+use Rattle.iam_changes.specs.declared.change.Kinds.{Kinds}
+use Rattle.iam_options.specs.declared.changes.ChangesOptions.{ChangesOptions}
+use Rattle.iam_app.specs.Changes.{EndsChangesBy, HasBefore, HasSide, IsComparison, IsNoComparison, WritesChanges}
+use Rattle.iam_app.specs.Code.Sides.{IsNoSide, IsNotWritten, fault_after, fault_before}
+use Rattle.iam_app.specs.declared.changes.SideFault.{SideFault}
+use Rattle.iam_app.specs.declared.changes.SideFault.TheVariants as s
+use Rattle.iam_app.specs.declared.changes_fault.ChangesFault.{ChangesFault}
+use Rattle.iam_app.specs.declared.changes_fault.ChangesFault.TheVariants as c
+use Rattle.iam_app.specs.declared.fault.RunFault.{RunFault}
+use Rattle.iam_app.specs.declared.fault.RunFault.TheVariants.{Read, World, Matrix, Write, NoSuchCell, Cut, OutOfMemory}
+
+-- one of the two inputs is not taken
+of_before : (options : ChangesOptions) (selection : SelectionValue) (first second held : Option (List ℕ)) (fault : SideFault) → IsNoSide first fault
+    → EndsChangesBy options selection first second held held (fault_before fault)
+of_before options selection first second held s.Read h = refl
+of_before options selection first second held (s.World fault) h = (refl, h)
+of_before options selection first second held (s.Twice twice) h = (refl, h)
+of_before options selection first second held s.OutOfMemory h = refl
+
+pub no_before : (options : ChangesOptions) (selection : SelectionValue) (first second held : Option (List ℕ)) (fault : SideFault) (told : ChangesFault)
+    → told ≡ fault_before fault → IsNoSide first fault → EndsChangesBy options selection first second held held told
+no_before options selection first second held fault told is h =
+    subst (EndsChangesBy options selection first second held held) (sym is) (of_before options selection first second held fault h)
+
+of_after : (options : ChangesOptions) (selection : SelectionValue) (first second held : Option (List ℕ)) (fault : SideFault) → HasBefore first
+    → IsNoSide second fault → EndsChangesBy options selection first second held held (fault_after fault)
+of_after options selection first second held s.Read has h = refl
+of_after options selection first second held (s.World fault) has h = (refl, has, h)
+of_after options selection first second held (s.Twice twice) has h = (refl, has, h)
+of_after options selection first second held s.OutOfMemory has h = refl
+
+pub no_after : (options : ChangesOptions) (selection : SelectionValue) (first second held : Option (List ℕ)) (fault : SideFault) (told : ChangesFault)
+    → told ≡ fault_after fault → HasBefore first → IsNoSide second fault → EndsChangesBy options selection first second held held told
+no_after options selection first second held fault told is has h =
+    subst (EndsChangesBy options selection first second held held) (sym is) (of_after options selection first second held fault has h)
+
+-- there is no report of both
+pub not_compared : (options : ChangesOptions) (selection : SelectionValue) (first second held : Option (List ℕ)) (before after : WorldValue) (fault : RunFault)
+    → HasSide first before → HasSide second after → IsNoComparison options before after fault
+    → EndsChangesBy options selection first second held held (c.Run fault)
+not_compared options selection first second held before after Read one two h = absurd h
+not_compared options selection first second held before after (World fault) one two h = absurd h
+not_compared options selection first second held before after (Matrix fault) one two h = (refl, (before, after, one, two, h))
+not_compared options selection first second held before after Write one two h = absurd h
+not_compared options selection first second held before after NoSuchCell one two h = absurd h
+not_compared options selection first second held before after (Cut fault) one two h = (refl, (before, after, one, two, h))
+not_compared options selection first second held before after OutOfMemory one two h = refl
+
+-- there is one, and the writer fails or there is no memory for it; or it is written
+pub not_written : (options : ChangesOptions) (selection : SelectionValue) (first second old new : Option (List ℕ)) (before after : WorldValue) (text : List ℕ)
+    (kinds : Kinds) (fault : ChangesFault) → HasSide first before → HasSide second after → IsComparison options selection before after text kinds
+    → IsNotWritten old new text fault → EndsChangesBy options selection first second old new fault
+not_written options selection first second old new before after text kinds fault (bytes, all, one) (more, all_more, two) h (inl (is, begins)) =
+    subst (EndsChangesBy options selection first second old new) (sym is) (bytes, more, all, all_more, (text, kinds, (before, after, one, two, h), begins))
+not_written options selection first second old new before after text kinds fault one two h (inr (is, kept)) =
+    subst (EndsChangesBy options selection first second old new) (sym is) kept
+
+pub compared : (options : ChangesOptions) (selection : SelectionValue) (first second old new : Option (List ℕ)) (before after : WorldValue) (text : List ℕ)
+    (kinds told : Kinds) → told ≡ kinds → HasSide first before → HasSide second after → IsComparison options selection before after text kinds
+    → Appends old new text → WritesChanges options selection first second old new told
+compared options selection first second old new before after text kinds told is (bytes, all, one) (more, all_more, two) h appends =
+    subst (WritesChanges options selection first second old new) (sym is) (bytes, more, all, all_more, (text, (before, after, one, two, h), appends))

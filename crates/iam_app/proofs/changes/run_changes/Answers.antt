@@ -1,0 +1,36 @@
+use Rattle.std.proofs.lemmas.Result.{IfErr-weaker, IfOk-weaker, err_from_is_err_and}
+use Rattle.iam_changes.specs.Code.Pieces.{report_text}
+use Rattle.iam_app.proofs.Compared.{compared, no_after, no_before, not_compared, not_written}
+use Rattle.iam_app.proofs.changes.run_changes.Goals as goal
+
+pub returns-in-Err-clause-fault : goal.returns-in-Err-clause-fault
+returns-in-Err-clause-fault g c =
+    no_before c.args.options.now c.args.selection.now _ _ _ c.in-Err.fault c.fault_before.result c.fault_before.ensures c.in-Err.ensures.fault
+
+pub returns-in-Err-read_side-clause-fault : goal.returns-in-Err-read_side-clause-fault
+returns-in-Err-read_side-clause-fault g c =
+    no_after c.args.options.now c.args.selection.now _ _ _ c.in-Err-read_side.fault c.fault_after.result c.fault_after.ensures
+    (c.in-Ok.world, c.in-Ok.ensures.ok) c.in-Err-read_side.ensures.fault
+
+pub returns-in_err-report-clause-fault : goal.returns-in_err-report-clause-fault
+returns-in_err-report-clause-fault g c =
+    let p = err_from_is_err_and c.from_residual.result c.from_residual.ensures.1 in
+    rw (p.1, p.2)
+    (not_compared c.args.options.now c.args.selection.now _ _ _ c.in-Ok.world c.in-Ok-read_side.world c.in_err-report.field-0.0 c.in-Ok.ensures.ok
+    c.in-Ok-read_side.ensures.ok c.in_err-report.ensures.fault)
+
+pub returns-clause-done : goal.returns-clause-done
+returns-clause-done g c =
+    let report = c.in_ok-report.field-0 in
+    IfOk-weaker c.write_changes.result _ _ (λ kinds p.
+    compared c.args.options.now c.args.selection.now _ _ _ _ c.in-Ok.world c.in-Ok-read_side.world (report_text report) report.kinds kinds p.0
+    c.in-Ok.ensures.ok c.in-Ok-read_side.ensures.ok (c.in_ok-report.ensures.work, c.in_ok-report.ensures.ok) p.1)
+    c.write_changes.ensures.done
+
+pub returns-clause-fault : goal.returns-clause-fault
+returns-clause-fault g c =
+    let report = c.in_ok-report.field-0 in
+    IfErr-weaker c.write_changes.result _ _ (λ fault p.
+    not_written c.args.options.now c.args.selection.now _ _ _ _ c.in-Ok.world c.in-Ok-read_side.world (report_text report) report.kinds fault
+    c.in-Ok.ensures.ok c.in-Ok-read_side.ensures.ok (c.in_ok-report.ensures.work, c.in_ok-report.ensures.ok) p)
+    c.write_changes.ensures.fault
