@@ -13,12 +13,13 @@ pub struct NotRead<'a> {
     pub reason: io::Error,
 }
 
-/// The file of a name. It is opened when it is first read, and keeps why it can't be.
+/// The file of a name. It is opened when it is first read, let go at its end, and keeps why it can't be read.
 #[derive(Drop)]
 pub struct Source<'a, T: Files> {
     rt: &'a T,
     name: &'a str,
     file: Option<T::File>,
+    is_ended: bool,
     reason: Option<io::Error>,
 }
 
@@ -29,6 +30,7 @@ impl<'a, T: Files> Source<'a, T> {
             rt,
             name,
             file: None,
+            is_ended: false,
             reason: None,
         }
     }
@@ -44,15 +46,23 @@ impl<'a, T: Files> Source<'a, T> {
         }
     }
 
-    /// Reads the file, which is opened first where it is not yet open.
+    /// Reads the file, which is opened first where it is not yet open. At its end it is closed: with a standard input that is
+    /// closed it has the number that another world would be read from.
     fn read_open(&mut self, buf: &mut [u8]) -> io::Result<usize> {
+        if self.is_ended {
+            return Ok(0);
+        }
         let mut file = match self.file.take() {
             Some(file) => file,
             None => fs::open(self.rt, self.name)?,
         };
-        let count = file.read(buf);
-        self.file = Some(file);
-        count
+        let count = file.read(buf)?;
+        if count == 0 {
+            self.is_ended = true;
+        } else {
+            self.file = Some(file);
+        }
+        Ok(count)
     }
 }
 
