@@ -1,3 +1,4 @@
 mod Reaches
+mod Reported
 mod Walks
 mod Wholes
