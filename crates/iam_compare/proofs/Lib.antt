@@ -1,3 +1,4 @@
+mod Made
 mod Reaches
 mod Reported
 mod Walks
