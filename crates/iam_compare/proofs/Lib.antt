@@ -1,3 +1,5 @@
+mod Made
 mod Reaches
+mod Reported
 mod Walks
 mod Wholes

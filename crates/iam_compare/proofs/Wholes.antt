@@ -1,23 +1,22 @@
 -- The parts of all tiles have the rows of all requests, one behind the other.
-use Rattle.std.proofs.Common.{◌≡◌, ◌≤◌, ◌<◌, ◌||◌, ℕ, zero, suc, ◌+◌, Bool, true, false, List, [], ◌∷◌, ◌++◌, Option, Some, None, length, map, sum, refl, sym, ap, subst, ◌∙◌, ⊎_elim, inl, inr, arith}
-use Rattle.std.specs.List.{AllZip, flat_map, slice_get}
+use Rattle.std.proofs.Common.{◌≡◌, ◌≤◌, ◌<◌, ◌||◌, ℕ, zero, suc, ◌+◌, Bool, true, false, List, [], ◌∷◌, ◌++◌, Option, Some, None, length, map, sum, refl, sym, ap, subst, ◌∙◌, ⊎_elim, arith}
+use Rattle.std.specs.Bool.{⊤}
+use Rattle.std.specs.List.{AllZip, slice_get}
 use Rattle.std.proofs.lemmas.Grind.{flat_map-append}
 use Rattle.std.proofs.lemmas.List.{length-append, map-append}
 use Rattle.std.proofs.lemmas.List.Concat.{flat_map-cons}
 use Rattle.std.proofs.lemmas.List.Sums.{sum_by-cons}
-use Rattle.std.proofs.lemmas.Option.{slice_get_within}
 use Rattle.std.specs.Option.{option_to_list}
 use Rattle.iam_layers.specs.Laws.{OneTriple}
 use Rattle.iam_world.specs.World.{WorldValue, world_cells}
 use Rattle.iam_row.specs.Report.{CellTexts, IsCellTexts}
 use Rattle.iam_row.specs.declared.quoted.Format.{Format}
-use Rattle.iam_row.specs.declared.tail.Tail.{Tail}
 use Rattle.iam_matrix.specs.Matrix.{AreEntriesFrom}
 use Rattle.iam_matrix.specs.Code.Tiles.{AreEntries, Chain}
 use Rattle.iam_matrix.proofs.Tiles.{join_entries, no_entries}
 use Rattle.iam_requests.specs.Code.Found.{RequestsValue}
 use Rattle.iam_requests.specs.Lists.{somes}
-use Rattle.iam_requests.specs.Requests.{AreOfCells, AreRequests, Has, IsUnlessHad}
+use Rattle.iam_requests.specs.Requests.{AreRequests, Has, IsUnlessHad}
 use Rattle.iam_requests.proofs.Ones.{one_texts}
 use Rattle.iam_changes.specs.Change.{AreChanges, AskedValue, ChangeValue, IsRow}
 use Rattle.iam_changes.specs.Code.Kept.{joined_kinds, kinds_in, no_kinds, with_kind}
@@ -142,8 +141,9 @@ get_front (y ∷ xs) ys zero x at = at
 get_front (y ∷ xs) ys (suc i) x at = get_front xs ys i x at
 
 get_back : {X : Type 0} (xs ys : List X) (i : ℕ) → slice_get (xs ++ ys) (length xs + i) ≡ slice_get ys i
-get_back [] ys i = refl
-get_back (y ∷ xs) ys i = get_back xs ys i
+get_back [] ys i = let same : 0 + i ≡ i = omega arith in ap (slice_get ys) same
+get_back (y ∷ xs) ys i =
+    let same : length (y ∷ xs) + i ≡ suc (length xs + i) = omega arith in ap (slice_get (y ∷ (xs ++ ys))) same ∙ get_back xs ys i
 
 zip_by : {A B : Type 0} (R : A → B → Type 0) (xs : List A) (ys : List B) → length xs ≡ length ys
     → ((i : ℕ) (x : A) (y : B) → slice_get xs i ≡ Some x → slice_get ys i ≡ Some y → R x y) → AllZip R xs ys
@@ -184,6 +184,11 @@ lefts asked before after (Some request ∷ lasts) (None ∷ back) h =
 lefts asked before after (Some request ∷ lasts) (Some c ∷ back) h =
     let (rows, zip, same) = lefts asked before after lasts back h.1 in (Some c ∷ rows, (h.0, zip), ap (λ l. c ∷ l) same)
 
+-- rows that are put in the place of others of which the same are there
+same_somes : {X : Type 0} (all front back rows : List (Option X)) → all ≡ front ++ back → somes rows ≡ somes back → somes all ≡ somes (front ++ rows)
+same_somes all front back rows whole same =
+    ap somes whole ∙ somes_both front back ∙ ap (λ l. somes front ++ l) (sym same) ∙ sym (somes_both front rows)
+
 pub changes_of : OneTriple → (asked : AskedValue) (requests : RequestsValue) (entries : List (Option ChangeValue)) (list : List CellTexts)
     → length entries ≡ world_cells requests.after + world_cells requests.before → AreEntriesFrom (IsRowAt asked requests) 0 entries
     → AreRequests requests.before requests.after list → AreChanges asked requests.before requests.after (somes entries)
@@ -219,5 +224,5 @@ changes_of triples asked requests entries list count each (firsts, lasts, of_fir
       front ++ rows,
       (firsts, lasts, of_firsts, of_lasts, is),
       subst (λ l. AllZip R l (front ++ rows)) (sym is) (zip_both R firsts (somes lasts) front rows first_rows zip),
-      ap somes whole ∙ somes_both front back ∙ ap (λ l. somes front ++ l) (sym alike) ∙ sym (somes_both front rows),
+      same_somes entries front back rows whole alike,
     )

@@ -1,4 +1,4 @@
-//! The report of what has changed from one world to another, decided by as many workers as are wanted.
+//! The report of what has changed from one world to another.
 //!
 //! `changes_report` is the report of the `Requests` of two worlds. Whatever the cut of the requests into tiles and the number of
 //! workers, the answer is that of one thread.

@@ -2,13 +2,13 @@
 ghost use Rattle.std.specs.Prelude.{◌≡◌, ◌≤◌, ◌↔◌, IfOk, sum};
 ghost use Rattle.iam_matrix.specs.Workers.{IsUnlawful};
 ghost use Rattle.iam_changes.specs.Code.Pieces.{report_text};
-ghost use Rattle.iam_compare.specs.Code.Walk.{AreParts};
+ghost use Rattle.iam_compare.specs.Code.Walk.{AreParts, IsCrew, asked_of};
 ghost use Rattle.iam_changes.specs.Report.{IsChangesReport};
 
-use crate::walk::{Asked, Workers};
+use crate::walk::{Asked, Workers, engines_of, tile_part};
 use iam_changes::{ChangesText, Part, pieces_of};
 use iam_classes::{Index, Survey};
-use iam_crew::{Gate, gather};
+use iam_crew::Gate;
 use iam_layers::one_triple;
 use iam_matrix::{Cut, MatrixFault, is_unlawful, survey_of};
 use iam_requests::Requests;
@@ -20,8 +20,10 @@ use std::thread::Threads;
 
 /// The report of what has changed from one world to another, of the requests that a selection selects, whose decisions play no
 /// part: those that are gained or lost, and where `all` are asked for also those that are as allowed as before by another
-/// verdict. It is written by [`ChangesText::write_to`]. What is not selected is not decided. The tiles of the cut, which has to be
-/// one of the requests of both worlds, the workers and the gate are as in [`iam_matrix::matrix`], and so are the faults.
+/// verdict. It is written by [`ChangesText::write_to`]. What is not selected is not decided. The workers find together what the
+/// requests of a world's pairs share, where many are looked at. The tiles of the cut, which has to be one of the requests of both
+/// worlds, are then worked one after the other, and the gate is told of each before. The faults are those of
+/// [`iam_matrix::matrix`].
 pub fn changes_report<R: Threads + Sync, G: Gate + Sync>(
     rt: &R,
     alloc: Global,
@@ -42,6 +44,8 @@ pub fn changes_report<R: Threads + Sync, G: Gate + Sync>(
         return Err(MatrixFault::Workers);
     }
     one_triple();
+    let _count = requests.count();
+    let cells = requests.after().cells();
     let before = pieces_of(alloc, requests.before(), format)?;
     let after = pieces_of(alloc, requests.after(), format)?;
     let asked = Asked {
@@ -51,16 +55,15 @@ pub fn changes_report<R: Threads + Sync, G: Gate + Sync>(
         brief,
     };
     let parts = picked_parts(rt, alloc, requests, selection, cut, gate, asked)?;
-    let cells = requests.after().cells();
     Ok(ChangesText::of(before, after, cells, brief, parts))
 }
 
 /// The rows of all tiles that are asked for, in the order of tiles.
-fn picked_parts<R: Threads + Sync, G: Gate + Sync>(
+fn picked_parts<'a, R: Threads + Sync, G: Gate + Sync>(
     rt: &R,
     alloc: Global,
-    requests: &Requests<'_>,
-    selection: &Selection,
+    requests: &'a Requests<'a>,
+    selection: &'a Selection,
     cut: &Cut,
     gate: &G,
     asked: Asked,
@@ -74,32 +77,111 @@ fn picked_parts<R: Threads + Sync, G: Gate + Sync>(
     let pick_after = Picker::of(alloc, requests.after(), selection)?;
     let index_before = index_of(alloc, requests.before(), pick_before.is_broad())?;
     let index_after = index_of(alloc, requests.after(), pick_after.is_broad())?;
-    let before = surveyed(
+    indexed_parts(
         rt,
         alloc,
+        requests,
         &index_before,
-        asked.workers,
-        pick_before.is_broad(),
-    );
-    let after = surveyed(
+        &index_after,
+        &pick_before,
+        &pick_after,
+        cut,
+        gate,
+        asked,
+    )
+}
+
+/// The same, where both worlds have an index, and what is selected in each is known.
+fn indexed_parts<R: Threads + Sync, G: Gate + Sync>(
+    rt: &R,
+    alloc: Global,
+    requests: &Requests<'_>,
+    index_before: &Index<'_>,
+    index_after: &Index<'_>,
+    pick_before: &Picker<'_>,
+    pick_after: &Picker<'_>,
+    cut: &Cut,
+    gate: &G,
+    asked: Asked,
+) -> Result<Vec<Part>, OutOfMemory>
+    requires some { 1 ≤ asked.workers }
+    requires few { asked.workers ≤ 64 }
+    requires before { index_before.now ≡ requests.now.before }
+    requires after { index_after.now ≡ requests.now.after }
+    requires pick_before { pick_before.now ≡ record { world = requests.now.before; selection = pick_after.now.selection } }
+    requires pick_after { pick_after.now.world ≡ requests.now.after }
+    requires cut { sum cut.now ≡ requests.now.count }
+    ensures { IfOk result (λ parts. AreParts (record { selection = pick_after.now.selection; all = asked.all }) requests.now asked.format asked.brief cut.now parts.items) }
+{
+    let workers = asked.workers;
+    let before = surveyed(rt, alloc, index_before, workers, pick_before.is_broad());
+    let after = surveyed(rt, alloc, index_after, workers, pick_after.is_broad());
+    surveyed_parts(
         rt,
         alloc,
-        &index_after,
-        asked.workers,
-        pick_after.is_broad(),
-    );
-    let tiles = cut.lengths().len() as u64;
+        requests,
+        &before,
+        &after,
+        pick_before,
+        pick_after,
+        cut,
+        gate,
+        asked,
+    )
+}
+
+/// The same, where surveys of both worlds have been made.
+fn surveyed_parts<R: Threads + Sync, G: Gate + Sync>(
+    rt: &R,
+    alloc: Global,
+    requests: &Requests<'_>,
+    before: &Survey<'_>,
+    after: &Survey<'_>,
+    pick_before: &Picker<'_>,
+    pick_after: &Picker<'_>,
+    cut: &Cut,
+    gate: &G,
+    asked: Asked,
+) -> Result<Vec<Part>, OutOfMemory>
+    requires some { 1 ≤ asked.workers }
+    requires few { asked.workers ≤ 64 }
+    requires before { before.now ≡ requests.now.before }
+    requires after { after.now ≡ requests.now.after }
+    requires pick_before { pick_before.now ≡ record { world = requests.now.before; selection = pick_after.now.selection } }
+    requires pick_after { pick_after.now.world ≡ requests.now.after }
+    requires cut { sum cut.now ≡ requests.now.count }
+    ensures { IfOk result (λ parts. AreParts (record { selection = pick_after.now.selection; all = asked.all }) requests.now asked.format asked.brief cut.now parts.items) }
+{
     let crew = Workers {
         requests,
-        before: &before,
-        after: &after,
-        pick_before: &pick_before,
-        pick_after: &pick_after,
+        before,
+        after,
+        pick_before,
+        pick_after,
         cut,
         asked,
     };
-    let gathered = gather(rt, alloc, &crew, tiles, asked.workers, gate)?;
-    Ok(gathered.outputs)
+    gathered_parts(alloc, &crew, gate)
+}
+
+/// The rows of all tiles, in the order of tiles.
+fn gathered_parts<G: Gate>(
+    alloc: Global,
+    crew: &Workers<'_>,
+    gate: &G,
+) -> Result<Vec<Part>, OutOfMemory>
+    requires crew { IsCrew crew.now }
+    requires cut { sum crew.now.cut.now ≡ crew.now.requests.now.count }
+    ensures { IfOk result (λ parts. AreParts (asked_of crew.now) crew.now.requests.now crew.now.asked.format crew.now.asked.brief crew.now.cut.now parts.items) }
+{
+    let tiles = crew.cut.lengths().len();
+    let mut engines = engines_of(alloc, crew)?;
+    let mut parts = Vec::with_capacity(alloc, tiles)?;
+    for tile in 0..tiles {
+        gate.before(tile as u64);
+        parts.push(tile_part(alloc, crew, &mut engines, tile as u64)?)?;
+    }
+    Ok(parts)
 }
 
 /// What the requests of a world's pairs share, where many pairs are looked at; else nothing.

@@ -1,15 +1,15 @@
 // The rows of changes among the requests of each tile.
-ghost use Rattle.std.specs.Prelude.{◌≡◌, ◌+◌, ◌<◌, ◌≤◌, ◌^◌, ℕ, IfOk, IsTrue, None, OnOk, Some, length, option_map};
+ghost use Rattle.std.specs.Prelude.{◌≡◌, ◌+◌, ◌<◌, ◌≤◌, ◌^◌, ℕ, IfOk, IsTrue, None, OnOk, Some, length, option_map, slice_index};
 ghost use Rattle.iam_decision.specs.declared.verdict.Verdict.{Verdict};
 ghost use Rattle.iam_layers.specs.Cell.{IsCell};
+ghost use Rattle.iam_matrix.specs.Cut.{start_of};
 ghost use Rattle.iam_row.specs.Report.{CellTexts, IsCellTexts};
 ghost use Rattle.iam_world.specs.World.{world_cells};
 ghost use Rattle.iam_requests.specs.Requests.{Has};
-ghost use Rattle.iam_compare.specs.Code.Walk.{AddsChange, AddsSaid, AreToolsOf, Gathers, IsCrew, IsLeftRow, IsPartOf, all_cells, asked_of, with_row};
+ghost use Rattle.iam_compare.specs.Code.Walk.{AddsChange, AddsSaid, AreToolsOf, Gathers, IsCrew, IsLeftRow, IsPartOf, IsTileOf, all_cells, asked_of, reached, with_row};
 
 use iam_changes::{Change, Decisions, Gathered, Part, Verdicts, change_of};
 use iam_classes::{ClassEngine, Survey};
-use iam_crew::{Bound, Crew};
 use iam_layers::{Decision, Verdict, one_triple};
 use iam_matrix::Cut;
 use iam_requests::Requests;
@@ -27,7 +27,7 @@ pub struct Asked {
     pub brief: bool,
 }
 
-/// Those who make the rows of changes: of the requests of two worlds, by what was found of each world.
+/// What the rows of changes are made of: the requests of two worlds, and what was found of each world.
 #[derive(Clone, Copy)]
 pub struct Workers<'a> {
     pub requests: &'a Requests<'a>,
@@ -46,53 +46,35 @@ pub struct Engines<'a> {
     pub after: ClassEngine<'a>,
 }
 
-impl<'a> Crew for Workers<'a> {
-    ghost use Rattle.std.specs.Prelude.{◌≡◌, ◌+◌, slice_index};
-    ghost use Rattle.iam_matrix.specs.Cut.{start_of};
-    ghost use Rattle.iam_compare.specs.Code.Walk.{AreToolsOf, IsPartOf, IsTileOf, asked_of, reached};
+/// Engines of both worlds, which share the bounds on what is kept.
+pub fn engines_of<'a>(alloc: Global, crew: &Workers<'a>) -> Result<Engines<'a>, OutOfMemory>
+    ensures { IfOk result (λ engines. AreToolsOf crew.now engines) }
+{
+    Ok(Engines {
+        before: ClassEngine::surveyed(alloc, crew.before, 2)?,
+        after: ClassEngine::surveyed(alloc, crew.after, 2)?,
+    })
+}
 
-    type Output = Part;
-
-    type Tools = Engines<'a>;
-
-    ghost fits = { λ crew engines. AreToolsOf crew engines };
-
-    ghost takes = { λ crew tile. IsTileOf crew tile };
-
-    ghost offers = { λ _ _. ⊥ };
-
-    ghost gives = { λ crew tile output _. IsPartOf (asked_of crew) crew.requests.now crew.asked.format crew.asked.brief
-        (reached crew.requests.now (start_of crew.cut.now tile)) (reached crew.requests.now (start_of crew.cut.now tile + slice_index crew.cut.now tile)) output };
-
-    fn tools(&self, alloc: Global) -> Result<Engines<'a>, OutOfMemory> {
-        // The engines of both worlds share the bounds on what is kept.
-        let engines = self.asked.workers.saturating_mul(2);
-        Ok(Engines {
-            before: ClassEngine::surveyed(alloc, self.before, engines)?,
-            after: ClassEngine::surveyed(alloc, self.after, engines)?,
-        })
-    }
-
-    fn skip(&self, _bound: &mut Bound<'_>, _tile: u64) -> Option<Part> {
-        None
-    }
-
-    fn work(
-        &self,
-        alloc: Global,
-        engines: &mut Engines<'a>,
-        _bound: &mut Bound<'_>,
-        tile: u64,
-    ) -> Result<Part, OutOfMemory> {
-        // There are at most 33,554,432 requests, so the numbers fit.
-        let _count = self.requests.count();
-        let tile = self.cut.cells(tile);
-        let from = self.requests.reach(tile.from);
-        let to = self.requests.reach(tile.from + tile.count);
-        part_of(alloc, self, engines, from, to)
-    }
-
-    ghost lasts = { λ _ _ _ _ _ _ given. given };
+/// The rows among the requests of a tile.
+pub fn tile_part(
+    alloc: Global,
+    crew: &Workers<'_>,
+    engines: &mut Engines<'_>,
+    tile: u64,
+) -> Result<Part, OutOfMemory>
+    requires takes { IsTileOf crew.now tile }
+    requires tools { AreToolsOf crew.now engines.old }
+    ensures part { IfOk result (IsPartOf (asked_of crew.now) crew.now.requests.now crew.now.asked.format crew.now.asked.brief
+        (reached crew.now.requests.now (start_of crew.now.cut.now tile)) (reached crew.now.requests.now (start_of crew.now.cut.now tile + slice_index crew.now.cut.now tile))) }
+    ensures tools { AreToolsOf crew.now engines.new }
+{
+    // There are at most 33,554,432 requests, so the numbers fit.
+    let _count = crew.requests.count();
+    let tile = crew.cut.cells(tile);
+    let from = crew.requests.reach(tile.from);
+    let to = crew.requests.reach(tile.from + tile.count);
+    part_of(alloc, crew, engines, from, to)
 }
 
 /// The rows among the cells of the world AFTER and of the world BEFORE behind it, from one up to another.
