@@ -2,9 +2,11 @@
 
 import csv
 import io
+import os
+import shlex
 import xml.etree.ElementTree
 
-from harness import AWS, aws, data, document, file, load, run, same, small_world, statement
+from harness import AWS, IAMSIM, aws, data, document, file, load, run, same, small_world, statement
 
 ACCOUNT = "arn:aws:iam::111122223333:"
 SESSION = "arn:aws:sts::111122223333:assumed-role/"
@@ -12,9 +14,23 @@ EXPORT = data("account.json")
 ALICE, BOB = f"{ACCOUNT}user/alice", f"{ACCOUNT}user/ops/bob"
 
 
+def by_another(script, *words):
+    """What iamsim-aws writes where a script stands before the program."""
+    path = file(f'#!/bin/sh\n{script}\nexec {shlex.quote(IAMSIM)} "$@"\n')
+    os.chmod(path, 0o755)
+    kept, os.environ["IAMSIM"] = os.environ["IAMSIM"], path
+    try:
+        return aws(*words)
+    finally:
+        os.environ["IAMSIM"] = kept
+
+
 def changes(*words):
     """{(change, principal, action, resource): (before, after)} of an answer in CSV."""
-    out, _ = aws("changes", *words, "--format", "csv", "--session", "s1")
+    words = ["changes", *words, "--format", "csv", "--session", "s1", "--moment", "0"]
+    answer = out, _ = aws(*words)
+    # It is the same where the program does not hold two worlds against each other, and each is asked alone.
+    same(by_another('[ "$1" != changes ] || exit 1', *words), answer, str(words))
     return {tuple(row[:4]): tuple(row[4:6]) for row in list(csv.reader(io.StringIO(out)))[1:]}
 
 
@@ -44,6 +60,15 @@ def test_a_draft_of_a_managed_policy():
             },
             name,
         )
+
+
+def test_the_program_is_asked_what_has_changed():
+    log = file("")
+    draft = file(document(statement(action="s3:GetObject", resource="arn:aws:s3:::homes/*")))
+    words = ["changes", EXPORT, "--put", f"ReadObjects={draft}", "--action", "s3:GetObject"]
+    by_another(f'echo "$1" >> {log}', *words)
+    with open(log) as it:
+        same(set(it.read().split()), {"changes"})
 
 
 def test_actions_follow_from_what_changes():
