@@ -1,5 +1,5 @@
 -- Runs with a selection: how they end without a report, and that there is one.
-use Rattle.std.proofs.Common.{◌≡◌, ℕ, ◌≤◌, length, List, Option, sym, ap, ◌∙◌, subst}
+use Rattle.std.proofs.Common.{◌≡◌, ℕ, ◌≤◌, length, List, Option, sym, ap, subst}
 use Rattle.iam_app.specs.Laws
 use Rattle.iam_app.specs.Output.{IsRefusal, format_of}
 use Rattle.iam_app.specs.Selected.{EndsSelectedBy, IsSelectedOf}

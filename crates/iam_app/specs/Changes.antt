@@ -1,5 +1,5 @@
 -- What a run of two worlds writes, and why it ends without its report. LOGIC 13.7.
-use Rattle.std.specs.Prelude.{◌≡◌, ◌≢◌, ◌⊎◌, ◌≤◌, ℕ, List, ◌++◌, Option, ⊤, codes, if◌then◌else◌, length}
+use Rattle.std.specs.Prelude.{◌≡◌, ◌≢◌, ◌⊎◌, ◌≤◌, ℕ, List, Option, ⊤, if◌then◌else◌, length}
 use Rattle.std.specs.Io.KnownBytes.{Appends}
 use Rattle.iam_world.specs.Reads.{IsWorld}
 use Rattle.iam_world.specs.World.{WorldValue}
@@ -13,7 +13,6 @@ use Rattle.iam_matrix.specs.Cut.{IsEvenCut, IsEvenFault}
 use Rattle.iam_matrix.specs.Workers.{IsUnlawful}
 use Rattle.iam_matrix.specs.declared.cut.CutFault.{CutFault}
 use Rattle.iam_matrix.specs.declared.cut.CutFault.TheVariants as c
-use Rattle.iam_matrix.specs.declared.fault.MatrixFault.{MatrixFault}
 use Rattle.iam_matrix.specs.declared.fault.MatrixFault.TheVariants as m
 use Rattle.iam_selection.specs.Selection.{SelectionValue}
 use Rattle.iam_requests.specs.Requests.{IsCount}
@@ -26,7 +25,6 @@ use Rattle.iam_app.specs.Output.{tile_or_default}
 use Rattle.iam_app.specs.Streams.{AllRemained, MoreRemained}
 use Rattle.iam_app.specs.declared.changes_fault.ChangesFault.{ChangesFault}
 use Rattle.iam_app.specs.declared.changes_fault.ChangesFault.TheVariants as changes
-use Rattle.iam_app.specs.declared.changes_fault.Side.{Side}
 use Rattle.iam_app.specs.declared.changes_fault.Side.TheVariants as side
 use Rattle.iam_app.specs.declared.fault.RunFault.{RunFault}
 use Rattle.iam_app.specs.declared.fault.RunFault.TheVariants as f

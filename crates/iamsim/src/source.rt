@@ -1,4 +1,7 @@
 // Where worlds come from, and what is said of a file that can't be read.
+ghost use Rattle.std.specs.Counts.{IsPrefixLen};
+ghost use Rattle.std.specs.Prelude.{IfOk};
+
 use std::alloc::{AllocError, Global};
 use std::fs;
 use std::io::{self, Read};
@@ -48,7 +51,9 @@ impl<'a, T: Files> Source<'a, T> {
 
     /// Reads the file, which is opened first where it is not yet open. At its end it is closed: with a standard input that is
     /// closed it has the number that another world would be read from.
-    fn read_open(&mut self, buf: &mut [u8]) -> io::Result<usize> {
+    fn read_open(&mut self, buf: &mut [u8]) -> io::Result<usize>
+        ensures { IfOk result (λ count. IsPrefixLen count buf.new) }
+    {
         if self.is_ended {
             return Ok(0);
         }

@@ -1,10 +1,8 @@
-use Rattle.std.proofs.Common.{◌≡◌, ◌+◌, ◌++◌, List, [], ◌∷◌, get_or, take, sym, ap, subst, ◌∙◌, String, Global}
+use Rattle.std.proofs.Common.{◌+◌, ◌++◌, List, [], ◌∷◌, get_or, take, sym, ap, subst, ◌∙◌, String, Global}
 use Rattle.std.specs.List.{AllZip}
 use Rattle.std.specs.Prelude.{string_bytes}
 use Rattle.std.proofs.lemmas.List.{take_more}
 use Rattle.std.proofs.lemmas.Slice.Zip.{all_zipped_more}
-use Rattle.iam_decision.specs.declared.verdict.Decision.{Decision}
-use Rattle.iam_row.specs.Words.{decision_word}
 use Rattle.iam_app.specs.Selected.{Means}
 use Rattle.iam_app.proofs.selected.decisions.Goals as goal
 
