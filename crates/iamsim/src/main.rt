@@ -49,10 +49,10 @@ fn asked<R: Env + AllocGlobal>(rt: &R, alloc: Global) -> Result<Command, Usage> 
 }
 
 /// Answers a command about one world, which comes from its file or from standard input; the exit status.
-fn world<T: Threads + Sync + Files + Eprint, R: Read, W: Write>(
-    rt: &T,
+fn world<'a, T: Threads + Sync + Files + Eprint, R: Read, W: Write>(
+    rt: &'a T,
     alloc: Global,
-    command: &WorldCommand,
+    command: &'a WorldCommand,
     stdin: &mut R,
     stdout: &mut W,
 ) -> u8 {
