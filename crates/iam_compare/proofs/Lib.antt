@@ -1,4 +1,4 @@
-mod Made
+mod Pair
 mod Reaches
 mod Reported
 mod Walks

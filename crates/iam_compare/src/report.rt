@@ -5,10 +5,10 @@ ghost use Rattle.iam_changes.specs.Code.Pieces.{report_text};
 ghost use Rattle.iam_compare.specs.Code.Walk.{AreParts, IsCrew, asked_of};
 ghost use Rattle.iam_changes.specs.Report.{IsChangesReport};
 
-use crate::walk::{Asked, Workers, engines_of, tile_part};
+use crate::walk::{Asked, Workers};
 use iam_changes::{ChangesText, Part, pieces_of};
 use iam_classes::{Index, Survey};
-use iam_crew::Gate;
+use iam_crew::{Gate, gather};
 use iam_layers::one_triple;
 use iam_matrix::{Cut, MatrixFault, is_unlawful, survey_of};
 use iam_requests::Requests;
@@ -20,10 +20,8 @@ use std::thread::Threads;
 
 /// The report of what has changed from one world to another, of the requests that a selection selects, whose decisions play no
 /// part: those that are gained or lost, and where `all` are asked for also those that are as allowed as before by another
-/// verdict. It is written by [`ChangesText::write_to`]. What is not selected is not decided. The workers find together what the
-/// requests of a world's pairs share, where many are looked at. The tiles of the cut, which has to be one of the requests of both
-/// worlds, are then worked one after the other, and the gate is told of each before. The faults are those of
-/// [`iam_matrix::matrix`].
+/// verdict. It is written by [`ChangesText::write_to`]. What is not selected is not decided. The tiles of the cut, which has to be
+/// one of the requests of both worlds, the workers and the gate are as in [`iam_matrix::matrix`], and so are the faults.
 pub fn changes_report<R: Threads + Sync, G: Gate + Sync>(
     rt: &R,
     alloc: Global,
@@ -161,27 +159,25 @@ fn surveyed_parts<R: Threads + Sync, G: Gate + Sync>(
         cut,
         asked,
     };
-    gathered_parts(alloc, &crew, gate)
+    gathered_parts(rt, alloc, &crew, gate)
 }
 
-/// The rows of all tiles, in the order of tiles.
-fn gathered_parts<G: Gate>(
+/// What a crew makes of all tiles of its cut, in the order of tiles.
+fn gathered_parts<R: Threads + Sync, G: Gate + Sync>(
+    rt: &R,
     alloc: Global,
     crew: &Workers<'_>,
     gate: &G,
 ) -> Result<Vec<Part>, OutOfMemory>
+    requires some { 1 ≤ crew.now.asked.workers }
+    requires few { crew.now.asked.workers ≤ 64 }
     requires crew { IsCrew crew.now }
     requires cut { sum crew.now.cut.now ≡ crew.now.requests.now.count }
     ensures { IfOk result (λ parts. AreParts (asked_of crew.now) crew.now.requests.now crew.now.asked.format crew.now.asked.brief crew.now.cut.now parts.items) }
 {
-    let tiles = crew.cut.lengths().len();
-    let mut engines = engines_of(alloc, crew)?;
-    let mut parts = Vec::with_capacity(alloc, tiles)?;
-    for tile in 0..tiles {
-        gate.before(tile as u64);
-        parts.push(tile_part(alloc, crew, &mut engines, tile as u64)?)?;
-    }
-    Ok(parts)
+    let tiles = crew.cut.lengths().len() as u64;
+    let gathered = gather(rt, alloc, crew, tiles, crew.asked.workers, gate)?;
+    Ok(gathered.outputs)
 }
 
 /// What the requests of a world's pairs share, where many pairs are looked at; else nothing.

@@ -1,15 +1,15 @@
 // The rows of changes among the requests of each tile.
-ghost use Rattle.std.specs.Prelude.{◌≡◌, ◌+◌, ◌<◌, ◌≤◌, ◌^◌, ℕ, IfOk, IsTrue, None, OnOk, Some, length, option_map, slice_index};
+ghost use Rattle.std.specs.Prelude.{◌≡◌, ◌+◌, ◌<◌, ◌≤◌, ◌^◌, ℕ, IfOk, IsTrue, None, OnOk, Some, length, option_map};
 ghost use Rattle.iam_decision.specs.declared.verdict.Verdict.{Verdict};
 ghost use Rattle.iam_layers.specs.Cell.{IsCell};
-ghost use Rattle.iam_matrix.specs.Cut.{start_of};
 ghost use Rattle.iam_row.specs.Report.{CellTexts, IsCellTexts};
 ghost use Rattle.iam_world.specs.World.{world_cells};
 ghost use Rattle.iam_requests.specs.Requests.{Has};
-ghost use Rattle.iam_compare.specs.Code.Walk.{AddsChange, AddsSaid, AreToolsOf, Gathers, IsCrew, IsLeftRow, IsPartOf, IsTileOf, all_cells, asked_of, reached, with_row};
+ghost use Rattle.iam_compare.specs.Code.Walk.{AddsChange, AddsSaid, AreEnginesOf, Gathers, IsCrew, IsLeftRow, IsPartOf, all_cells, asked_of, with_row};
 
 use iam_changes::{Change, Decisions, Gathered, Part, Verdicts, change_of};
 use iam_classes::{ClassEngine, Survey};
+use iam_crew::{Bound, Crew};
 use iam_layers::{Decision, Verdict, one_triple};
 use iam_matrix::Cut;
 use iam_requests::Requests;
@@ -27,7 +27,7 @@ pub struct Asked {
     pub brief: bool,
 }
 
-/// What the rows of changes are made of: the requests of two worlds, and what was found of each world.
+/// Those who make the rows of changes: of the requests of two worlds, by what was found of each world.
 #[derive(Clone, Copy)]
 pub struct Workers<'a> {
     pub requests: &'a Requests<'a>,
@@ -39,58 +39,71 @@ pub struct Workers<'a> {
     pub asked: Asked,
 }
 
-/// The engines of two worlds.
-#[derive(Drop)]
-pub struct Engines<'a> {
-    pub before: ClassEngine<'a>,
-    pub after: ClassEngine<'a>,
-}
+impl<'a> Crew for Workers<'a> {
+    ghost use Rattle.std.specs.Prelude.{◌≡◌, ◌+◌, slice_index};
+    ghost use Rattle.iam_matrix.specs.Cut.{start_of};
+    ghost use Rattle.iam_compare.specs.Code.Walk.{AreEnginesOf, IsPartOf, IsTileOf, asked_of, reached};
 
-/// Engines of both worlds, which share the bounds on what is kept.
-pub fn engines_of<'a>(alloc: Global, crew: &Workers<'a>) -> Result<Engines<'a>, OutOfMemory>
-    ensures { IfOk result (λ engines. AreToolsOf crew.now engines) }
-{
-    Ok(Engines {
-        before: ClassEngine::surveyed(alloc, crew.before, 2)?,
-        after: ClassEngine::surveyed(alloc, crew.after, 2)?,
-    })
-}
+    type Output = Part;
 
-/// The rows among the requests of a tile.
-pub fn tile_part(
-    alloc: Global,
-    crew: &Workers<'_>,
-    engines: &mut Engines<'_>,
-    tile: u64,
-) -> Result<Part, OutOfMemory>
-    requires takes { IsTileOf crew.now tile }
-    requires tools { AreToolsOf crew.now engines.old }
-    ensures part { IfOk result (IsPartOf (asked_of crew.now) crew.now.requests.now crew.now.asked.format crew.now.asked.brief
-        (reached crew.now.requests.now (start_of crew.now.cut.now tile)) (reached crew.now.requests.now (start_of crew.now.cut.now tile + slice_index crew.now.cut.now tile))) }
-    ensures tools { AreToolsOf crew.now engines.new }
-{
-    // There are at most 33,554,432 requests, so the numbers fit.
-    let _count = crew.requests.count();
-    let tile = crew.cut.cells(tile);
-    let from = crew.requests.reach(tile.from);
-    let to = crew.requests.reach(tile.from + tile.count);
-    part_of(alloc, crew, engines, from, to)
+    type Tools = Vec<ClassEngine<'a>>;
+
+    ghost fits = { λ crew engines. AreEnginesOf crew engines.items };
+
+    ghost takes = { λ crew tile. IsTileOf crew tile };
+
+    ghost offers = { λ _ _. ⊥ };
+
+    ghost gives = { λ crew tile output _. IsPartOf (asked_of crew) crew.requests.now crew.asked.format crew.asked.brief
+        (reached crew.requests.now (start_of crew.cut.now tile)) (reached crew.requests.now (start_of crew.cut.now tile + slice_index crew.cut.now tile)) output };
+
+    fn tools(&self, alloc: Global) -> Result<Vec<ClassEngine<'a>>, OutOfMemory> {
+        // The engines of both worlds share the bounds on what is kept.
+        let engines = self.asked.workers.saturating_mul(2);
+        let before = ClassEngine::surveyed(alloc, self.before, engines)?;
+        let after = ClassEngine::surveyed(alloc, self.after, engines)?;
+        let mut both = Vec::with_capacity(alloc, 2)?;
+        both.push(before)?;
+        both.push(after)?;
+        Ok(both)
+    }
+
+    fn skip(&self, _bound: &mut Bound<'_>, _tile: u64) -> Option<Part> {
+        None
+    }
+
+    fn work(
+        &self,
+        alloc: Global,
+        engines: &mut Vec<ClassEngine<'a>>,
+        _bound: &mut Bound<'_>,
+        tile: u64,
+    ) -> Result<Part, OutOfMemory> {
+        // There are at most 33,554,432 requests, so the numbers fit.
+        let _count = self.requests.count();
+        let tile = self.cut.cells(tile);
+        let from = self.requests.reach(tile.from);
+        let to = self.requests.reach(tile.from + tile.count);
+        part_of(alloc, self, engines, from, to)
+    }
+
+    ghost lasts = { λ _ _ _ _ _ _ given. given };
 }
 
 /// The rows among the cells of the world AFTER and of the world BEFORE behind it, from one up to another.
 fn part_of(
     alloc: Global,
     crew: &Workers<'_>,
-    engines: &mut Engines<'_>,
+    engines: &mut Vec<ClassEngine<'_>>,
     from: u64,
     to: u64,
 ) -> Result<Part, OutOfMemory>
     requires crew { IsCrew crew.now }
-    requires tools { AreToolsOf crew.now engines.old }
+    requires tools { AreEnginesOf crew.now engines.old.items }
     requires order { from ≤ to }
     requires cells { to ≤ all_cells crew.now.requests.now }
     ensures part { IfOk result (IsPartOf (asked_of crew.now) crew.now.requests.now crew.now.asked.format crew.now.asked.brief from to) }
-    ensures tools { AreToolsOf crew.now engines.new }
+    ensures tools { AreEnginesOf crew.now engines.new.items }
 {
     // A world has at most 16,777,216 cells, so the numbers fit.
     let first = crew.requests.after().cells();
@@ -101,11 +114,18 @@ fn part_of(
         return rows.part(alloc, crew.asked.format, crew.asked.brief);
     }
     if from >= first {
-        walk_before(alloc, crew, engines, from - first, to - first, &mut rows)?;
+        walk_before(
+            alloc,
+            crew,
+            &mut engines[0],
+            from - first,
+            to - first,
+            &mut rows,
+        )?;
         return rows.part(alloc, crew.asked.format, crew.asked.brief);
     }
     walk_after(alloc, crew, engines, from, first, &mut rows)?;
-    walk_before(alloc, crew, engines, 0, to - first, &mut rows)?;
+    walk_before(alloc, crew, &mut engines[0], 0, to - first, &mut rows)?;
     rows.part(alloc, crew.asked.format, crew.asked.brief)
 }
 
@@ -113,19 +133,19 @@ fn part_of(
 fn walk_after(
     alloc: Global,
     crew: &Workers<'_>,
-    engines: &mut Engines<'_>,
+    engines: &mut Vec<ClassEngine<'_>>,
     from: u64,
     end: u64,
     rows: &mut Gathered,
 ) -> Result<(), OutOfMemory>
     requires crew { IsCrew crew.now }
-    requires tools { AreToolsOf crew.now engines.old }
+    requires tools { AreEnginesOf crew.now engines.old.items }
     requires order { from ≤ end }
     requires end { end ≤ world_cells crew.now.requests.now.after }
     requires rows { rows.old.end ≤ from }
     requires few { length rows.old.rows ≤ from }
     ensures rows { OnOk result (Gathers (asked_of crew.now) crew.now.requests.now crew.now.asked.brief from end rows.old rows.new) }
-    ensures tools { AreToolsOf crew.now engines.new }
+    ensures tools { AreEnginesOf crew.now engines.new.items }
 {
     let world = crew.requests.after();
     let _cells = world.cells();
@@ -145,20 +165,20 @@ fn walk_after(
 fn walk_before(
     alloc: Global,
     crew: &Workers<'_>,
-    engines: &mut Engines<'_>,
+    before: &mut ClassEngine<'_>,
     from: u64,
     end: u64,
     rows: &mut Gathered,
 ) -> Result<(), OutOfMemory>
     requires crew { IsCrew crew.now }
-    requires tools { AreToolsOf crew.now engines.old }
+    requires tools { before.old.world ≡ crew.now.before.now }
     requires order { from ≤ end }
     requires end { end ≤ world_cells crew.now.requests.now.before }
     requires rows { rows.old.end ≤ world_cells crew.now.requests.now.after + from }
     requires few { length rows.old.rows ≤ world_cells crew.now.requests.now.after + from }
     ensures rows { OnOk result (Gathers (asked_of crew.now) crew.now.requests.now crew.now.asked.brief
         (world_cells crew.now.requests.now.after + from) (world_cells crew.now.requests.now.after + end) rows.old rows.new) }
-    ensures tools { AreToolsOf crew.now engines.new }
+    ensures tools { before.new.world ≡ crew.now.before.now }
 {
     one_triple();
     let world = crew.requests.before();
@@ -172,7 +192,7 @@ fn walk_before(
             at = past_row(world, at, end);
             continue;
         }
-        visit_before(alloc, crew, engines, at, rows)?;
+        visit_before(alloc, crew, before, at, rows)?;
         at = at.next_in(world);
     }
     Ok(())
@@ -198,18 +218,18 @@ fn skips_row(crew: &Workers<'_>, at: Position) -> bool
 fn visit_after(
     alloc: Global,
     crew: &Workers<'_>,
-    engines: &mut Engines<'_>,
+    engines: &mut Vec<ClassEngine<'_>>,
     at: Position,
     rows: &mut Gathered,
 ) -> Result<(), OutOfMemory>
     requires crew { IsCrew crew.now }
-    requires tools { AreToolsOf crew.now engines.old }
+    requires tools { AreEnginesOf crew.now engines.old.items }
     requires cell { IsCell crew.now.requests.now.after at.cell at.principal at.action at.resource }
     requires small { at.cell < 2 ^ 32 }
     requires rows { rows.old.end ≤ at.cell }
     requires few { length rows.old.rows ≤ at.cell }
     ensures rows { OnOk result (Gathers (asked_of crew.now) crew.now.requests.now crew.now.asked.brief at.cell (at.cell + 1) rows.old rows.new) }
-    ensures tools { AreToolsOf crew.now engines.new }
+    ensures tools { AreEnginesOf crew.now engines.new.items }
 {
     if !crew.pick_after.asks(at) {
         return Ok(());
@@ -222,19 +242,19 @@ fn visit_after(
 fn visit_before(
     alloc: Global,
     crew: &Workers<'_>,
-    engines: &mut Engines<'_>,
+    before: &mut ClassEngine<'_>,
     at: Position,
     rows: &mut Gathered,
 ) -> Result<(), OutOfMemory>
     requires crew { IsCrew crew.now }
-    requires tools { AreToolsOf crew.now engines.old }
+    requires tools { before.old.world ≡ crew.now.before.now }
     requires cell { IsCell crew.now.requests.now.before at.cell at.principal at.action at.resource }
     requires small { world_cells crew.now.requests.now.after + at.cell < 2 ^ 32 }
     requires rows { rows.old.end ≤ world_cells crew.now.requests.now.after + at.cell }
     requires few { length rows.old.rows ≤ world_cells crew.now.requests.now.after + at.cell }
     ensures rows { OnOk result (Gathers (asked_of crew.now) crew.now.requests.now crew.now.asked.brief
         (world_cells crew.now.requests.now.after + at.cell) (world_cells crew.now.requests.now.after + at.cell + 1) rows.old rows.new) }
-    ensures tools { AreToolsOf crew.now engines.new }
+    ensures tools { before.new.world ≡ crew.now.before.now }
 {
     if !crew.pick_before.asks(at) {
         return Ok(());
@@ -242,7 +262,7 @@ fn visit_before(
     if crew.requests.to_after().find(at).is_some() {
         return Ok(());
     }
-    add_before(alloc, crew, engines, at, rows)
+    add_before(alloc, crew, before, at, rows)
 }
 
 /// Adds the row of a cell of AFTER, where its request has changed.
@@ -250,58 +270,54 @@ fn visit_before(
 fn add_after(
     alloc: Global,
     crew: &Workers<'_>,
-    engines: &mut Engines<'_>,
+    engines: &mut Vec<ClassEngine<'_>>,
     at: Position,
     rows: &mut Gathered,
 ) -> Result<(), OutOfMemory>
     requires crew { IsCrew crew.now }
-    requires tools { AreToolsOf crew.now engines.old }
+    requires tools { AreEnginesOf crew.now engines.old.items }
     requires cell { IsCell crew.now.requests.now.after at.cell at.principal at.action at.resource }
     requires small { at.cell < 2 ^ 32 }
     requires rows { rows.old.end ≤ at.cell }
     requires few { length rows.old.rows ≤ at.cell }
     ensures rows { OnOk result ((texts : CellTexts) → IsCellTexts crew.now.requests.now.after at.cell texts
         → AddsChange crew.now.requests.now crew.now.asked.all crew.now.asked.brief at.cell texts rows.old rows.new) }
-    ensures tools { AreToolsOf crew.now engines.new }
+    ensures tools { AreEnginesOf crew.now engines.new.items }
 {
-    let number = engines
-        .after
-        .find(alloc, at.principal, at.action, at.resource)?;
+    let number = engines[1].find(alloc, at.principal, at.action, at.resource)?;
     let Some((p, a, r)) = crew.requests.to_before().find(at) else {
-        let after = Some(engines.after.verdict(number));
-        return add_said(alloc, crew.asked, at.cell, number, None, after, rows);
+        let says = Some(engines[1].verdict(number));
+        return add_said(alloc, crew.asked, at.cell, number, None, says, rows);
     };
-    let other = engines.before.find(alloc, p, a, r)?;
+    let other = engines[0].find(alloc, p, a, r)?;
     let hint = number ^ other.rotate_left(5);
-    let before = Some(engines.before.verdict(other));
-    let after = Some(engines.after.verdict(number));
-    add_said(alloc, crew.asked, at.cell, hint, before, after, rows)
+    let said = Some(engines[0].verdict(other));
+    let says = Some(engines[1].verdict(number));
+    add_said(alloc, crew.asked, at.cell, hint, said, says, rows)
 }
 
 /// Adds the row of a cell of BEFORE whose request AFTER does not have, where it has changed.
 fn add_before(
     alloc: Global,
     crew: &Workers<'_>,
-    engines: &mut Engines<'_>,
+    before: &mut ClassEngine<'_>,
     at: Position,
     rows: &mut Gathered,
 ) -> Result<(), OutOfMemory>
     requires crew { IsCrew crew.now }
-    requires tools { AreToolsOf crew.now engines.old }
+    requires tools { before.old.world ≡ crew.now.before.now }
     requires cell { IsCell crew.now.requests.now.before at.cell at.principal at.action at.resource }
     requires small { world_cells crew.now.requests.now.after + at.cell < 2 ^ 32 }
     requires rows { rows.old.end ≤ world_cells crew.now.requests.now.after + at.cell }
     requires few { length rows.old.rows ≤ world_cells crew.now.requests.now.after + at.cell }
     ensures rows { OnOk result ((texts : CellTexts) → IsCellTexts crew.now.requests.now.before at.cell texts → ¬ Has crew.now.requests.now.after texts
         → AddsChange crew.now.requests.now crew.now.asked.all crew.now.asked.brief (world_cells crew.now.requests.now.after + at.cell) texts rows.old rows.new) }
-    ensures tools { AreToolsOf crew.now engines.new }
+    ensures tools { before.new.world ≡ crew.now.before.now }
 {
     let cell = crew.requests.after().cells() + at.cell;
-    let number = engines
-        .before
-        .find(alloc, at.principal, at.action, at.resource)?;
-    let before = Some(engines.before.verdict(number));
-    add_said(alloc, crew.asked, cell, number, before, None, rows)
+    let number = before.find(alloc, at.principal, at.action, at.resource)?;
+    let said = Some(before.verdict(number));
+    add_said(alloc, crew.asked, cell, number, said, None, rows)
 }
 
 /// Adds the row of a cell, where what is said of its request before and after is a change.

@@ -1,6 +1,7 @@
 -- What the workers make of a tile, and of tiles that follow one another. The cells of BEFORE are counted behind those of AFTER.
 use Rattle.std.specs.Prelude.{◌≡◌, ◌⊎◌, ℕ, ◌+◌, ◌<◌, ◌≤◌, List, [], ◌∷◌, ◌++◌, Option, Some, None, Bool, length, map, sum}
 use Rattle.iam_decision.specs.declared.verdict.Verdict.{Verdict}
+use Rattle.iam_classes.specs.Engine.{EngineValue}
 use Rattle.iam_world.specs.World.{WorldValue, world_cells}
 use Rattle.iam_row.specs.Report.{CellTexts, IsCellTexts}
 use Rattle.iam_row.specs.declared.quoted.Format.{Format}
@@ -17,7 +18,6 @@ use Rattle.iam_changes.specs.declared.change.Change.{Change}
 use Rattle.iam_changes.specs.declared.change.Kinds.{Kinds}
 use Rattle.iam_changes.specs.declared.pair.Pair.{Pair}
 use Rattle.iam_compare.specs.declared.walk.Workers.{Workers}
-use Rattle.iam_compare.specs.declared.walk.Engines.{Engines}
 
 -- ---- who works
 
@@ -40,9 +40,13 @@ pub record IsCrew (crew : Workers) : Type 0 where
   pub picker_before : crew.pick_before.now ≡ record { world = crew.requests.now.before; selection = crew.pick_after.now.selection }
   pub picker_after : crew.pick_after.now.world ≡ crew.requests.now.after
 
--- the engines are of the worlds of its surveys
-abbrev pub AreToolsOf : Workers → Engines → Type 0
-AreToolsOf crew engines = (engines.before.world ≡ crew.before.now) × (engines.after.world ≡ crew.after.now)
+-- engines are of the worlds of its surveys
+abbrev pub AreToolsOf : Workers → EngineValue → EngineValue → Type 0
+AreToolsOf crew before after = (before.world ≡ crew.before.now) × (after.world ≡ crew.after.now)
+
+-- the same of engines in a list
+abbrev pub AreEnginesOf : Workers → List EngineValue → Type 0
+AreEnginesOf crew engines = (before after : EngineValue) × (engines ≡ before ∷ after ∷ []) × AreToolsOf crew before after
 
 -- its cut is one of the requests, and has this tile
 abbrev pub IsTileOf : Workers → ℕ → Type 0

@@ -1,23 +1,30 @@
-use Rattle.std.proofs.Common.{Some, None, sym, subst, ◌∙◌}
+use Rattle.std.proofs.Common.{◌≡◌, Some, None, ap, sym, subst, ◌∙◌}
 use Rattle.std.proofs.lemmas.Result.{on_ok_weaker}
+use Rattle.iam_classes.specs.Engine.{EngineValue, IsNumberAt}
 use Rattle.iam_layers.specs.Cell.{IsVerdictAt}
 use Rattle.iam_world.specs.World.{WorldValue}
 use Rattle.iam_row.specs.Report.{CellTexts, HasTexts, IsCellTexts}
 use Rattle.iam_requests.specs.Requests.{Has}
+use Rattle.iam_compare.proofs.Pair.{both_used, first_engine, read_first_of, read_second, read_second_of, second_engine}
 use Rattle.iam_compare.proofs.Walks.{found_within, number_within, says_at, says_found}
 use Rattle.iam_compare.proofs.walk.add_after.Goals as goal
 
 pub returns-in_default-clause-rows : goal.returns-in_default-clause-rows
 returns-in_default-clause-rows c =
     let crew = c.args.crew.now in
+    let engines = c.args.engines.now.items in
     let requests = crew.requests.now in
     let at = c.args.at in
     let verdict = c.verdict.result.now in
+    let used = c.find.new.self in
+    let read : c.index.result.now ≡ used = read_second crew engines used c.index.result.now c.requires.tools c.index.ensures in
     let V : WorldValue → Type 0 = λ w. IsVerdictAt w at.principal at.action at.resource verdict in
+    let N : EngineValue → Type 0 = λ e. IsNumberAt e at.principal at.action at.resource c.in_ok-number.number in
     let T : CellTexts → WorldValue → Type 0 = λ texts w. IsCellTexts w at.cell texts in
     let H : CellTexts → WorldValue → Type 0 = λ texts w. ¬ Has w texts in
-    let told = subst V (c.in_ok-number.ensures.same ∙ c.requires.tools.1 ∙ c.requires.crew.survey_after)
-    (c.verdict.ensures at.principal at.action at.resource c.in_ok-number.ensures.number) in
+    let world = second_engine crew engines c.index_mut.result.now c.requires.tools c.index_mut.ensures.value in
+    let told = subst V (ap (λ (e : EngineValue). e.world) read ∙ c.in_ok-number.ensures.same ∙ world ∙ c.requires.crew.survey_after)
+    (c.verdict.ensures at.principal at.action at.resource (subst N (sym read) c.in_ok-number.ensures.number)) in
     on_ok_weaker c.add_said.result
     (λ added texts of. (
       None,
@@ -30,24 +37,43 @@ returns-in_default-clause-rows c =
 
 pub find-requires-3 : goal.find-requires-3
 find-requires-3 c =
-    let requests = c.args.crew.now.requests.now in
+    let crew = c.args.crew.now in
+    let requests = crew.requests.now in
     let at = c.args.at in
     let finder = c.to_before.result.now in
-    let within = found_within requests.after requests.before finder.world finder.other c.args.engines.now.before.world at.cell at.principal at.action at.resource c.in-Some.p c.in-Some.a c.in-Some.r
-    c.to_before.ensures.world c.to_before.ensures.other (c.requires.tools.0 ∙ c.requires.crew.survey_before) c.requires.cell (λ texts of. c.in-Some.ensures texts of) in
+    let engine = c.index_mut-2.result.now in
+    let world = first_engine crew c.args.engines.now.items c.find.new.self engine c.requires.tools c.index_mut-2.ensures.value in
+    let within = found_within requests.after requests.before finder.world finder.other engine.world at.cell at.principal at.action at.resource c.in-Some.p c.in-Some.a c.in-Some.r
+    c.to_before.ensures.world c.to_before.ensures.other (world ∙ c.requires.crew.survey_before) c.requires.cell (λ texts of. c.in-Some.ensures texts of) in
     record { principal = within.principal; action = within.action; resource = within.resource }
 
+pub returns-in_err-other-clause-tools : goal.returns-in_err-other-clause-tools
+returns-in_err-other-clause-tools c =
+    let crew = c.args.crew.now in
+    let engines = c.args.engines.now.items in
+    let last = second_engine crew engines c.index_mut.result.now c.requires.tools c.index_mut.ensures.value in
+    let first = first_engine crew engines c.find.new.self c.index_mut-2.result.now c.requires.tools c.index_mut-2.ensures.value in
+    both_used crew engines c.find.new.self c.find-3.new.self c.requires.tools (c.find.ensures.same ∙ last) (c.find-3.ensures.same ∙ first)
+
 pub verdict-requires-2 : goal.verdict-requires-2
-verdict-requires-2 c = number_within c.find-3.new.self c.in-Some.p c.in-Some.a c.in-Some.r c.in_ok-other.other c.in_ok-other.ensures.number
+verdict-requires-2 c =
+    let engine = c.index-2.result.now in
+    let read = read_first_of c.args.crew.now c.args.engines.now.items c.find.new.self c.find-3.new.self engine c.requires.tools c.index-2.ensures in
+    let N : EngineValue → Type 0 = λ e. IsNumberAt e c.in-Some.p c.in-Some.a c.in-Some.r c.in_ok-other.other in
+    number_within engine c.in-Some.p c.in-Some.a c.in-Some.r c.in_ok-other.other (subst N (sym read) c.in_ok-other.ensures.number)
 
 pub verdict-requires-3 : goal.verdict-requires-3
 verdict-requires-3 c =
     let at = c.args.at in
-    number_within c.find.new.self at.principal at.action at.resource c.in_ok-number.number c.in_ok-number.ensures.number
+    let engine = c.index-3.result.now in
+    let read = read_second_of c.args.crew.now c.args.engines.now.items c.find.new.self c.find-3.new.self engine c.requires.tools c.index-3.ensures in
+    let N : EngineValue → Type 0 = λ e. IsNumberAt e at.principal at.action at.resource c.in_ok-number.number in
+    number_within engine at.principal at.action at.resource c.in_ok-number.number (subst N (sym read) c.in_ok-number.ensures.number)
 
 pub returns-clause-rows : goal.returns-clause-rows
 returns-clause-rows c =
     let crew = c.args.crew.now in
+    let engines = c.args.engines.now.items in
     let requests = crew.requests.now in
     let at = c.args.at in
     let p = c.in-Some.p in
@@ -55,13 +81,22 @@ returns-clause-rows c =
     let r = c.in-Some.r in
     let before = c.verdict-2.result.now in
     let after = c.verdict-3.result.now in
+    let used = c.find.new.self in
+    let other = c.find-3.new.self in
+    let read : c.index-2.result.now ≡ other = read_first_of crew engines used other c.index-2.result.now c.requires.tools c.index-2.ensures in
+    let reads : c.index-3.result.now ≡ used = read_second_of crew engines used other c.index-3.result.now c.requires.tools c.index-3.ensures in
+    let first = first_engine crew engines used c.index_mut-2.result.now c.requires.tools c.index_mut-2.ensures.value in
+    let last = second_engine crew engines c.index_mut.result.now c.requires.tools c.index_mut.ensures.value in
     let B : WorldValue → Type 0 = λ w. IsVerdictAt w p a r before in
     let A : WorldValue → Type 0 = λ w. IsVerdictAt w at.principal at.action at.resource after in
+    let M : EngineValue → Type 0 = λ e. IsNumberAt e p a r c.in_ok-other.other in
+    let N : EngineValue → Type 0 = λ e. IsNumberAt e at.principal at.action at.resource c.in_ok-number.number in
     let T : CellTexts → WorldValue → Type 0 = λ texts w. IsCellTexts w at.cell texts in
     let H : CellTexts → WorldValue → Type 0 = λ texts w. HasTexts w p a r texts in
-    let said = subst B (c.in_ok-other.ensures.same ∙ c.requires.tools.0 ∙ c.requires.crew.survey_before) (c.verdict-2.ensures p a r c.in_ok-other.ensures.number) in
-    let told = subst A (c.in_ok-number.ensures.same ∙ c.requires.tools.1 ∙ c.requires.crew.survey_after)
-    (c.verdict-3.ensures at.principal at.action at.resource c.in_ok-number.ensures.number) in
+    let said = subst B (ap (λ (e : EngineValue). e.world) read ∙ c.in_ok-other.ensures.same ∙ first ∙ c.requires.crew.survey_before)
+    (c.verdict-2.ensures p a r (subst M (sym read) c.in_ok-other.ensures.number)) in
+    let told = subst A (ap (λ (e : EngineValue). e.world) reads ∙ c.in_ok-number.ensures.same ∙ last ∙ c.requires.crew.survey_after)
+    (c.verdict-3.ensures at.principal at.action at.resource (subst N (sym reads) c.in_ok-number.ensures.number)) in
     on_ok_weaker c.add_said-2.result
     (λ added texts of. (
       Some before,

@@ -3,6 +3,7 @@ use Rattle.std.proofs.lemmas.Result.{IfOk-weaker}
 use Rattle.iam_world.specs.World.{WorldValue, world_cells}
 use Rattle.iam_changes.specs.Code.Kept.{GatheredValue}
 use Rattle.iam_compare.specs.Code.Walk.{Gathers, asked_of}
+use Rattle.iam_compare.proofs.Pair.{first_used}
 use Rattle.iam_compare.proofs.Walks.{few_rows, gathers_join, part_gathered}
 use Rattle.iam_compare.proofs.walk.part_of.Goals as goal
 
@@ -70,3 +71,6 @@ returns-clause-part c =
     IfOk-weaker c.part-2.result _ _
     (λ part is. part_gathered asked requests crew.asked.format crew.asked.brief from to old new part c.in_ok-rows.ensures gathers is)
     c.part-2.ensures
+
+pub returns-clause-tools : goal.returns-clause-tools
+returns-clause-tools c = first_used c.args.crew.now c.walk_after-2.new.engines.items c.walk_before-2.new.before c.walk_after-2.ensures.tools c.walk_before-2.ensures.tools

@@ -1,7 +1,7 @@
 use Rattle.std.proofs.Common.{◌-◌, ◌≤◌, ◌<◌}
 use Rattle.iam_layers.specs.Cell.{IsCell}
 use Rattle.iam_world.specs.World.{world_cells}
-use Rattle.iam_compare.specs.Code.Walk.{AreToolsOf, Gathers, asked_of}
+use Rattle.iam_compare.specs.Code.Walk.{AreEnginesOf, Gathers, asked_of}
 use Rattle.iam_compare.proofs.walk.walk_after.Given as goal
 
 -- the rows of the cells so far
@@ -10,7 +10,7 @@ invariant-loop-at l = record {
   least : l.from ≤ l.at.cell;
   most : l.at.cell ≤ l.end;
   there : l.at.cell < world_cells l.world → IsCell l.world l.at.cell l.at.principal l.at.action l.at.resource;
-  tools : AreToolsOf l.crew l.engines;
+  tools : AreEnginesOf l.crew l.engines.items;
   rows : Gathers (asked_of l.crew) l.crew.requests.now l.crew.asked.brief l.from l.at.cell l.initial.rows l.rows;
 }
 

@@ -3,18 +3,18 @@ use Rattle.iam_world.specs.World.{world_cells}
 use Rattle.iam_matrix.specs.Cut.{start_of}
 use Rattle.iam_compare.specs.Code.Walk.{IsPartOf, asked_of, reached}
 use Rattle.iam_compare.proofs.Reaches.{counted_up}
-use Rattle.iam_compare.proofs.walk.tile_part.Goals as goal
+use Rattle.iam_compare.proofs.walk.WorkersCrew.work.Goals as goal
 
 pub part_of-requires-clause-order : goal.part_of-requires-clause-order
 part_of-requires-clause-order c =
-    let requests = c.args.crew.now.requests.now in
+    let requests = c.args.self.now.requests.now in
     let tile = c.cells-tile.result in
     counted_up (world_cells requests.after) (world_cells requests.before) requests.count tile.from (tile.from + tile.count) c.reach-from.result c.reach-to.result c.reach-from.ensures.value
     c.reach-to.ensures.value (omega arith) c.reach-from.ensures.few
 
-pub returns-clause-part : goal.returns-clause-part
-returns-clause-part c =
-    let crew = c.args.crew.now in
+pub returns-clause-given : goal.returns-clause-given
+returns-clause-given c =
+    let crew = c.args.self.now in
     let requests = crew.requests.now in
     let tile = c.cells-tile.result in
     let start = start_of crew.cut.now c.args.tile in
