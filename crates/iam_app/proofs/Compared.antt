@@ -5,7 +5,7 @@ use Rattle.iam_world.specs.World.{WorldValue}
 use Rattle.iam_selection.specs.Selection.{SelectionValue}
 use Rattle.iam_changes.specs.declared.change.Kinds.{Kinds}
 use Rattle.iam_options.specs.declared.changes.ChangesOptions.{ChangesOptions}
-use Rattle.iam_app.specs.Changes.{EndsChangesBy, HasBefore, HasSide, IsComparison, IsNoComparison, WritesChanges}
+use Rattle.iam_app.specs.Changes.{EndsChangesBy, HasBefore, HasSide, IsComparison, IsNoComparison, IsOfBefore, WritesChanges}
 use Rattle.iam_app.specs.Code.Sides.{IsNoSide, IsNotWritten, fault_after, fault_before}
 use Rattle.iam_app.specs.declared.changes.SideFault.{SideFault}
 use Rattle.iam_app.specs.declared.changes.SideFault.TheVariants as s
@@ -38,6 +38,20 @@ pub no_after : (options : ChangesOptions) (selection : SelectionValue) (first se
     → told ≡ fault_after fault → HasBefore first → IsNoSide second fault → EndsChangesBy options selection first second held held told
 no_after options selection first second held fault told is has h =
     subst (EndsChangesBy options selection first second held held) (sym is) (of_after options selection first second held fault has h)
+
+-- a fault of the world after, and one of both, is none of the world before
+pub not_of_before : (fault : SideFault) (told : ChangesFault) → told ≡ fault_after fault → ¬ IsOfBefore told
+not_of_before s.Read told is h = subst IsOfBefore is h
+not_of_before (s.World fault) told is h = subst IsOfBefore is h
+not_of_before (s.Twice twice) told is h = subst IsOfBefore is h
+not_of_before s.OutOfMemory told is h = subst IsOfBefore is h
+
+pub of_both : (fault : RunFault) (told : ChangesFault) → told ≡ c.Run fault → ¬ IsOfBefore told
+of_both fault told is h = subst IsOfBefore is h
+
+pub not_of_writing : (old new : Option (List ℕ)) (text : List ℕ) (fault : ChangesFault) → IsNotWritten old new text fault → ¬ IsOfBefore fault
+not_of_writing old new text fault (inl (is, begins)) h = subst IsOfBefore is h
+not_of_writing old new text fault (inr (is, kept)) h = subst IsOfBefore is h
 
 -- there is no report of both
 pub not_compared : (options : ChangesOptions) (selection : SelectionValue) (first second held : Option (List ℕ)) (before after : WorldValue) (fault : RunFault)

@@ -111,6 +111,13 @@ abbrev pub AreNotCompared : ChangesOptions → Option (List ℕ) → Option (Lis
 AreNotCompared options first second fault =
     (before : WorldValue) × (after : WorldValue) × HasSide first before × HasSide second after × IsNoComparison options before after fault
 
+-- the fault is one of the world before
+abbrev pub IsOfBefore : ChangesFault → Type 0
+IsOfBefore (changes.Run fault) = ⊥
+IsOfBefore (changes.Twice side.Before twice) = ⊤
+IsOfBefore (changes.Twice side.After twice) = ⊥
+IsOfBefore (changes.Before fault) = ⊤
+
 -- how a run ends without its report: after every fault but `Write` nothing was written
 abbrev pub EndsChangesBy : ChangesOptions → SelectionValue → Option (List ℕ) → Option (List ℕ) → Option (List ℕ) → Option (List ℕ) → ChangesFault → Type 0
 EndsChangesBy options selection first second old new (changes.Run f.Read) = new ≡ old

@@ -1,7 +1,7 @@
 // A run of two worlds: what has changed from one to the other.
 ghost use Rattle.std.specs.Prelude.{◌≡◌, ◌≢◌, IfErr, IfOk, MatchResult, OnOk, if◌then◌else◌, sum};
 ghost use Rattle.std.specs.Io.KnownBytes.{Appends};
-ghost use Rattle.iam_app.specs.Changes.{CanCompare, EndsChangesBy, HasCutOf, HasNoCutOf, HasSide, IsAskedChanges, IsNoComparison, WritesChanges, changes_format};
+ghost use Rattle.iam_app.specs.Changes.{CanCompare, EndsChangesBy, HasCutOf, HasNoCutOf, HasSide, IsAskedChanges, IsNoComparison, IsOfBefore, WritesChanges, changes_format};
 ghost use Rattle.iam_app.specs.ChangesFault.{fails_on};
 ghost use Rattle.iam_app.specs.Code.Sides.{IsNoSide, IsNotWritten, fault_after, fault_before};
 ghost use Rattle.iam_app.specs.Streams.{ConsumesAtMost};
@@ -165,7 +165,8 @@ fn compare<T: Threads + Sync>(
 /// report is made before its first byte is written. At most 8,388,609 bytes are read of each. The first fault in this order
 /// ends the run: of the world before `Read`, `Before`, `Twice`; of the world after `Read`, `World`, `Twice`; then `Cut`,
 /// `Matrix`, `Write`. That there is no memory can come at any point before the writing, as in [`crate::run`]. After every
-/// fault except `Write` nothing was written; after `Write` a beginning of the report.
+/// fault except `Write` nothing was written; after `Write` a beginning of the report. After `Before` and `Twice` of the world
+/// before, nothing was read of the world after.
 pub fn run_changes<T: Threads + Sync, R: Read, S: Read, W: Write>(
     rt: &T,
     alloc: Global,
@@ -179,6 +180,7 @@ pub fn run_changes<T: Threads + Sync, R: Read, S: Read, W: Write>(
     ensures most_after { ConsumesAtMost (S.remaining after.old) (S.remaining after.new) 8388609 }
     ensures done { IfOk result (λ kinds. WritesChanges options.now selection.now (R.remaining before.old) (S.remaining after.old) (W.contents writer.old) (W.contents writer.new) kinds) }
     ensures fault { IfErr result (λ fault. EndsChangesBy options.now selection.now (R.remaining before.old) (S.remaining after.old) (W.contents writer.old) (W.contents writer.new) fault) }
+    ensures unread { IfErr result (λ fault. IsOfBefore fault → S.remaining after.new ≡ S.remaining after.old) }
 {
     let before = match read_side(alloc, before) {
         Ok(world) => world,

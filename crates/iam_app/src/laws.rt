@@ -10,9 +10,10 @@ use iam_row::one_row;
 use iam_selection::one_selected_report;
 use iam_world::{no_world_and_fault, one_first_fault, one_world};
 
-/// Of bytes there is one report, whatever the tile and the number of workers, and so there is of what a selection asks for. Two runs on one input, with options that differ
-/// in these alone, end alike and leave the same bytes, where neither ends because of a stream, for want of memory, or because
-/// of the tile or the number of workers. What a run left that could not write is a beginning of what another one wrote.
+/// Of bytes there is one report, whatever the tile and the number of workers, and so there is of what a selection asks for. Two
+/// runs on one input, with options that differ in these alone, end alike and leave the same bytes, where neither ends because of
+/// a stream, for want of memory, or because of the tile or the number of workers. What a run left that could not write is a
+/// beginning of what another one wrote.
 pub fn one_output()
     ensures text { OneOutput }
     ensures selected { OneSelectedOutput }

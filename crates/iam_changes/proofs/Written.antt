@@ -2,13 +2,12 @@
 use Rattle.std.proofs.Common.{◌≡◌, ℕ, suc, ◌+◌, ◌<◌, ◌||◌, Bool, true, false, List, [], ◌∷◌, ◌++◌, drop, get_or, length, take, refl, sym, ap, ◌∙◌, arith}
 use Rattle.std.specs.List.{flat_map}
 use Rattle.std.proofs.lemmas.Grind.{flat_map-append}
-use Rattle.std.proofs.lemmas.List.{drop_more}
 use Rattle.std.proofs.lemmas.List.Concat.{flat_map-cons}
 use Rattle.iam_row.specs.Piece.{closing_text}
 use Rattle.iam_row.specs.declared.tail.Tail.{Tail}
 use Rattle.iam_report.proofs.Buffered.{flat_map_at}
 use Rattle.iam_tiles.specs.Code.Numbered.{no_tail}
-use Rattle.iam_changes.specs.Code.Kept.{cell_behind, joined_kinds, kinds_in, no_kinds, row_at}
+use Rattle.iam_changes.specs.Code.Kept.{cell_behind, joined_kinds, no_kinds, row_at}
 use Rattle.iam_changes.specs.Code.Pieces.{PartValue, ReportValue, lead_of, opening_text, report_text, row_text, rows_in, rows_text}
 use Rattle.iam_changes.specs.declared.change.Kinds.{Kinds}
 use Rattle.iam_changes.specs.declared.text.Pieces.{Pieces}
@@ -67,14 +66,3 @@ joined_both a b c =
 
 pub joined_none : (a : Kinds) → joined_kinds a no_kinds ≡ a
 joined_none a = same_kinds _ _ _ _ _ _ (either_none a.gained) (either_none a.lost) (either_none a.differs)
-
-kinds_from : (parts : List PartValue) (i : ℕ) (d : PartValue) → i < length parts → kinds_in (drop i parts) ≡ joined_kinds (get_or parts i d).kinds (kinds_in (drop (i + 1) parts))
-kinds_from parts i d h = ap kinds_in (drop_more parts i d h)
-
--- the kinds of the parts so far, and of those that are left
-pub kinds_more : (parts : List PartValue) (i : ℕ) (part : PartValue) (kinds : Kinds) → i < length parts → part ≡ get_or parts i part
-    → joined_kinds kinds (kinds_in (drop i parts)) ≡ kinds_in parts → joined_kinds (joined_kinds kinds part.kinds) (kinds_in (drop (i + 1) parts)) ≡ kinds_in parts
-kinds_more parts i part kinds inside is so_far =
-    joined_both kinds part.kinds (kinds_in (drop (i + 1) parts))
-    ∙ ap (λ (p : PartValue). joined_kinds kinds (joined_kinds p.kinds (kinds_in (drop (i + 1) parts)))) is
-    ∙ ap (joined_kinds kinds) (sym (kinds_from parts i part inside)) ∙ so_far

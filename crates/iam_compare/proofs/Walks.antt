@@ -46,7 +46,7 @@ one_entry {X} Is from x is zero e at =
     subst (λ n. Is n e) same (subst (Is from) one is)
 one_entry {X} Is from x is (suc i) e at = absurd (let wrong : ⊥ = cc in wrong)
 
-numbered_join : (from : ℕ) (xs ys : List (Option ChangeValue)) → numbered from (xs ++ ys) ≡ numbered from xs ++ numbered (from + length xs) ys
+pub numbered_join : (from : ℕ) (xs ys : List (Option ChangeValue)) → numbered from (xs ++ ys) ≡ numbered from xs ++ numbered (from + length xs) ys
 numbered_join from [] ys = ap (λ n. numbered n ys) (let same : from ≡ from + 0 = omega arith in same)
 numbered_join from (None ∷ xs) ys =
     numbered_join (from + 1) xs ys
@@ -60,12 +60,12 @@ few_numbered from [] = omega arith
 few_numbered from (None ∷ xs) = let few = few_numbered (from + 1) xs in omega (arith, few)
 few_numbered from (Some change ∷ xs) = let few = few_numbered (from + 1) xs in omega (arith, few)
 
-kinds_join : (kinds : Kinds) (xs ys : List ChangeValue) → kinds_with kinds (xs ++ ys) ≡ kinds_with (kinds_with kinds xs) ys
+pub kinds_join : (kinds : Kinds) (xs ys : List ChangeValue) → kinds_with kinds (xs ++ ys) ≡ kinds_with (kinds_with kinds xs) ys
 kinds_join kinds [] ys = refl
 kinds_join kinds (x ∷ xs) ys = kinds_join (with_kind kinds x.change) xs ys
 
-somes_join : (xs ys : List (Option ChangeValue)) → somes (xs ++ ys) ≡ somes xs ++ somes ys
-somes_join xs ys = flat_map-append option_to_list xs ys
+pub somes_join : {X : Type 0} (xs ys : List (Option X)) → somes (xs ++ ys) ≡ somes xs ++ somes ys
+somes_join {X} xs ys = flat_map-append option_to_list xs ys
 
 -- ---- what is gathered
 

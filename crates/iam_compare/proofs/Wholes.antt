@@ -2,11 +2,9 @@
 use Rattle.std.proofs.Common.{◌≡◌, ◌≤◌, ◌<◌, ◌||◌, ℕ, zero, suc, ◌+◌, Bool, true, false, List, [], ◌∷◌, ◌++◌, Option, Some, None, length, map, sum, refl, sym, ap, subst, ◌∙◌, ⊎_elim, arith}
 use Rattle.std.specs.Bool.{⊤}
 use Rattle.std.specs.List.{AllZip, slice_get}
-use Rattle.std.proofs.lemmas.Grind.{flat_map-append}
 use Rattle.std.proofs.lemmas.List.{length-append, map-append}
 use Rattle.std.proofs.lemmas.List.Concat.{flat_map-cons}
 use Rattle.std.proofs.lemmas.List.Sums.{sum_by-cons}
-use Rattle.std.specs.Option.{option_to_list}
 use Rattle.iam_layers.specs.Laws.{OneTriple}
 use Rattle.iam_world.specs.World.{WorldValue, world_cells}
 use Rattle.iam_row.specs.Report.{CellTexts, IsCellTexts}
@@ -27,17 +25,7 @@ use Rattle.iam_changes.specs.declared.change.Change.TheVariants.{Gained, Lost, D
 use Rattle.iam_changes.specs.declared.change.Kinds.{Kinds}
 use Rattle.iam_changes.proofs.Cells.{inside, of_number}
 use Rattle.iam_changes.proofs.Written.{joined_both, joined_none}
-
--- ---- rows, one behind the other
-
-numbered_both : (from : ℕ) (xs ys : List (Option ChangeValue)) → numbered from (xs ++ ys) ≡ numbered from xs ++ numbered (from + length xs) ys
-numbered_both from [] ys = let same : from ≡ from + 0 = omega arith in ap (λ n. numbered n ys) same
-numbered_both from (None ∷ xs) ys =
-    let same : from + 1 + length xs ≡ from + suc (length xs) = omega arith in
-    numbered_both (from + 1) xs ys ∙ ap (λ n. numbered (from + 1) xs ++ numbered n ys) same
-numbered_both from (Some c ∷ xs) ys =
-    let same : from + 1 + length xs ≡ from + suc (length xs) = omega arith in
-    ap (λ rows. (from, c) ∷ rows) (numbered_both (from + 1) xs ys ∙ ap (λ n. numbered (from + 1) xs ++ numbered n ys) same)
+use Rattle.iam_compare.proofs.Walks.{kinds_join, numbered_join, somes_join}
 
 -- ---- kinds
 
@@ -66,13 +54,6 @@ kinds_joined kinds (c ∷ changes) =
     kinds_joined (with_kind kinds c.change) changes ∙ ap (λ k. joined_kinds k (kinds_with no_kinds changes)) (kind_joined kinds c.change)
     ∙ joined_both kinds (with_kind no_kinds c.change) (kinds_with no_kinds changes)
     ∙ ap (joined_kinds kinds) (sym (kinds_joined (with_kind no_kinds c.change) changes))
-
-kinds_both : (kinds : Kinds) (xs ys : List ChangeValue) → kinds_with kinds (xs ++ ys) ≡ kinds_with (kinds_with kinds xs) ys
-kinds_both kinds [] ys = refl
-kinds_both kinds (x ∷ xs) ys = kinds_both (with_kind kinds x.change) xs ys
-
-somes_both : {X : Type 0} (xs ys : List (Option X)) → somes (xs ++ ys) ≡ somes xs ++ somes ys
-somes_both {X} xs ys = flat_map-append option_to_list xs ys
 
 -- ---- all parts
 
@@ -119,11 +100,11 @@ all_parts asked requests format brief from (n ∷ lengths) (part ∷ parts) (fir
           flat_map-cons (λ (p : PartValue). p.rows) part parts ∙ ap (λ rows. rows ++ rows_in parts) first.rows_are
           ∙ ap (λ rows. map (tail_row format brief) (numbered start xs) ++ rows) (rest.rows_are ∙ ap (λ k. map (tail_row format brief) (numbered k ys)) here)
           ∙ sym (map-append (tail_row format brief) (numbered start xs) (numbered (start + length xs) ys))
-          ∙ ap (map (tail_row format brief)) (sym (numbered_both start xs ys));
+          ∙ ap (map (tail_row format brief)) (sym (numbered_join start xs ys));
       kinds_are =
           ap (λ k. joined_kinds k (kinds_in parts)) first.kinds_are ∙ ap (joined_kinds (kinds_with no_kinds (somes xs))) rest.kinds_are
-          ∙ sym (kinds_joined (kinds_with no_kinds (somes xs)) (somes ys)) ∙ sym (kinds_both no_kinds (somes xs) (somes ys))
-          ∙ ap (kinds_with no_kinds) (sym (somes_both xs ys));
+          ∙ sym (kinds_joined (kinds_with no_kinds (somes xs)) (somes ys)) ∙ sym (kinds_join no_kinds (somes xs) (somes ys))
+          ∙ ap (kinds_with no_kinds) (sym (somes_join xs ys));
     }
 
 -- ---- the rows of all cells are those of all requests
@@ -187,7 +168,7 @@ lefts asked before after (Some request ∷ lasts) (Some c ∷ back) h =
 -- rows that are put in the place of others of which the same are there
 same_somes : {X : Type 0} (all front back rows : List (Option X)) → all ≡ front ++ back → somes rows ≡ somes back → somes all ≡ somes (front ++ rows)
 same_somes all front back rows whole same =
-    ap somes whole ∙ somes_both front back ∙ ap (λ l. somes front ++ l) (sym same) ∙ sym (somes_both front rows)
+    ap somes whole ∙ somes_join front back ∙ ap (λ l. somes front ++ l) (sym same) ∙ sym (somes_join front rows)
 
 pub changes_of : OneTriple → (asked : AskedValue) (requests : RequestsValue) (entries : List (Option ChangeValue)) (list : List CellTexts)
     → length entries ≡ world_cells requests.after + world_cells requests.before → AreEntriesFrom (IsRowAt asked requests) 0 entries

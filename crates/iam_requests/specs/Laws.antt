@@ -17,6 +17,6 @@ abbrev pub OneCount : Type 0
 OneCount =
     (before after : WorldValue) (count other : ℕ) → IsCount before after count → IsCount before after other → count ≡ other
 
--- a world has at most one first place at which a text stands again, and none where its requests can be told apart
+-- a world has at most one first place at which a text stands again
 abbrev pub OneTwice : Type 0
 OneTwice = (world : WorldValue) (twice other : Twice) → IsFirstTwice world twice → IsFirstTwice world other → twice ≡ other

@@ -1,7 +1,7 @@
 -- Items that are kept once, and lists of their numbers.
-use Rattle.std.proofs.Common.{◌≡◌, ℕ, ◌<◌, ◌≤◌, List, [], ◌∷◌, ◌++◌, All, Some, get_or, length, map, option_map, refl, ap, sym, subst, ◌∙◌, arith}
+use Rattle.std.proofs.Common.{◌≡◌, ℕ, ◌<◌, ◌≤◌, List, [], ◌∷◌, ◌++◌, All, Some, get_or, length, map, option_map, refl, ap, subst, ◌∙◌, arith}
 use Rattle.std.proofs.lemmas.List.{get_or-map, get_or_append_left, length-append, length-map, map-append}
-use Rattle.std.proofs.lemmas.List.Elements.{All-get_or, All-head, All-push, All-tail, All-weaker}
+use Rattle.std.proofs.lemmas.List.Elements.{All-get_or, All-head, All-tail, All-weaker}
 use Rattle.std.proofs.lemmas.Option.{get_or_from_slice_get, slice_get-map, slice_get_within}
 use Rattle.std.specs.List.{slice_get}
 use Rattle.iam_tiles.specs.Code.Numbered.{picked, IsPut}
@@ -29,11 +29,6 @@ picked_next none items more new numbers n x e w at =
     ∙ ap (λ xs. xs ++ get_or new n none ∷ []) (ap (λ l. picked none l numbers) e ∙ picked_more none items more numbers w)
     ∙ ap (λ y. picked none items numbers ++ y ∷ []) (get_or_from_slice_get new n x none at)
 
-pub within_next : {A : Type 0} (items more new : List A) (numbers : List ℕ) (n : ℕ) (x : A) → new ≡ items ++ more → Within items numbers → slice_get new n ≡ Some x
-    → Within new (numbers ++ n ∷ [])
-within_next items more new numbers n x e w at =
-    All-push (λ k. k < length new) numbers n (within_more items more new numbers e w) (slice_get_within new n x at)
-
 -- the images of the items
 pub picked_images : {A B : Type 0} (f : A → B) (none : A) (other : B) (items : List A) (numbers : List ℕ) → Within items numbers
     → picked other (map f items) numbers ≡ map f (picked none items numbers)
@@ -60,14 +55,6 @@ pub picked_put : {A : Type 0} (none item : A) (number : ℕ) (items : List A) (n
 picked_put none item number items numbers more_items more_numbers put w =
     ap (λ (ns : List ℕ). picked none more_items ns) put.behind
     ∙ picked_next none items put.kept.0 more_items numbers number item put.kept.2 w put.found
-
-pub within_put : {A : Type 0} (item : A) (number : ℕ) (items : List A) (numbers : List ℕ) (more_items : List A) (more_numbers : List ℕ)
-    → IsPut item number items numbers more_items more_numbers → Within items numbers → length items ≤ length numbers
-    → Within more_items more_numbers × (length more_items ≤ length more_numbers)
-within_put item number items numbers more_items more_numbers put w few = (
-  subst (λ (ns : List ℕ). Within more_items ns) (sym put.behind) (within_next items put.kept.0 more_items numbers number item put.kept.2 w put.found),
-  omega (arith, few, put.kept.1, ap length put.kept.2, length-append items put.kept.0, ap length put.behind, length-append numbers (number ∷ [])),
-)
 
 -- fewer items than numbers are fewer than so many
 pub few_items : {A : Type 0} (none : A) (items : List A) (numbers : List ℕ) (whole : List A) (most : ℕ)
