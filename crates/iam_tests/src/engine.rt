@@ -3,8 +3,7 @@ ghost use Rattle.std.specs.Prelude.{◌≡◌, ◌<◌, IfOk, length};
 ghost use Rattle.iam_world.specs.World.{world_cells};
 
 use crate::matrix::{HOME, is_decision, is_verdict};
-use crate::streams::many;
-use iam_classes::{ClassEngine, Index, Survey, Surveyor, wants_survey};
+use iam_classes::{ClassEngine, Index, Survey, Surveyor};
 use iam_layers::{Decision, Layer, Place, Verdict, World};
 use std::alloc::Global;
 use std::test::Fail;
@@ -164,19 +163,6 @@ fn a_survey_finds_each_pair_and_an_engine_begins_with_it(rt: HostRuntime) -> Res
     let world = World::read(alloc, HOME.as_bytes())?;
     let index = Index::build(alloc, &world)?;
     assert!(rt; is_surveyed(alloc, &index)?);
-    Ok(())
-}
-
-#[test]
-fn a_survey_is_wanted_where_a_worker_would_be_waited_for(rt: HostRuntime) -> Result<(), Fail> {
-    let alloc = rt.alloc();
-    // One principal; as many statements as resources.
-    for (resources, workers, wanted) in [(181, 2, false), (182, 1, false), (182, 2, true)] {
-        let (document, _report) = many(alloc, resources)?;
-        let world = World::read(alloc, document.as_bytes())?;
-        let index = Index::build(alloc, &world)?;
-        assert_eq!(rt; wants_survey(&index, workers), wanted);
-    }
     Ok(())
 }
 

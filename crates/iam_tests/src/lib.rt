@@ -1,4 +1,4 @@
-//! Tests of what no command of the program shows: engines, cuts, gates, options, streams that fail, of one world and of two, and calls that none makes.
+//! Tests of what no command of the program shows of answers: calls that none makes, engines, candidates, cuts, matrices and gates.
 #![tactic(auto)]
 
 #[cfg(test)]
@@ -6,14 +6,8 @@ mod calls;
 #[cfg(test)]
 mod cells;
 #[cfg(test)]
-mod changes;
-#[cfg(test)]
 mod engine;
 #[cfg(test)]
 mod gates;
 #[cfg(test)]
 mod matrix;
-#[cfg(test)]
-mod options;
-#[cfg(test)]
-mod streams;

@@ -1,5 +1,6 @@
-// Readers and writers that fail, at each of their calls, for all commands.
+// Readers and writers that fail, at each of their calls, for all commands; and a world of many statements.
 use iam_app::{Options, OutOfMemory, RunFault, Task, fault_line, run, status};
+use iam_classes::{Index, World, wants_survey};
 use std::alloc::Global;
 use std::io;
 use std::io::{ErrorKind, Read, Write};
@@ -254,7 +255,7 @@ fn a_writer_that_fails_at_each_write_and_at_the_flush(rt: HostRuntime) -> Result
 }
 
 /// A world in which each of so many resources has a statement of its own, and the report of its cells.
-pub fn many(alloc: Global, resources: u32) -> Result<(String, String), OutOfMemory> {
+fn many(alloc: Global, resources: u32) -> Result<(String, String), OutOfMemory> {
     let mut statements = String::new(alloc);
     let mut arns = String::new(alloc);
     let mut report = String::from_str(
@@ -297,4 +298,17 @@ fn a_report_whose_tails_all_differ(rt: HostRuntime) -> Result<(), Fail> {
     let outcome = run(&rt, rt.alloc(), &options, &mut reader, &mut writer);
     assert_eq!(rt; writer.as_slice(), report.as_bytes());
     ends_by(&rt, &outcome, "")
+}
+
+#[test]
+fn a_survey_is_wanted_where_a_worker_would_be_waited_for(rt: HostRuntime) -> Result<(), Fail> {
+    let alloc = rt.alloc();
+    // One principal; as many statements as resources.
+    for (resources, workers, wanted) in [(181, 2, false), (182, 1, false), (182, 2, true)] {
+        let (document, _report) = many(alloc, resources)?;
+        let world = World::read(alloc, document.as_bytes())?;
+        let index = Index::build(alloc, &world)?;
+        assert_eq!(rt; wants_survey(&index, workers), wanted);
+    }
+    Ok(())
 }

@@ -1,5 +1,5 @@
 use Rattle.std.proofs.Common.{◌≡◌, All, vec_len}
-use Rattle.iam_crew_tests.proofs.sharing.sharers.Given as goal
+use Rattle.iam_run_tests.proofs.sharing.sharers.Given as goal
 
 abbrev pub invariant-loop-seat : goal.invariant-loop-seat
 invariant-loop-seat l = All (λ s. s.lanes ≡ l.lanes) l.seats.items
