@@ -39,15 +39,12 @@ pub no_after : (options : ChangesOptions) (selection : SelectionValue) (first se
 no_after options selection first second held fault told is has h =
     subst (EndsChangesBy options selection first second held held) (sym is) (of_after options selection first second held fault has h)
 
--- a fault of the world after, and one of both, is none of the world before
+-- a fault of the world after, and one of writing, is none of the world before
 pub not_of_before : (fault : SideFault) (told : ChangesFault) → told ≡ fault_after fault → ¬ IsOfBefore told
 not_of_before s.Read told is h = subst IsOfBefore is h
 not_of_before (s.World fault) told is h = subst IsOfBefore is h
 not_of_before (s.Twice twice) told is h = subst IsOfBefore is h
 not_of_before s.OutOfMemory told is h = subst IsOfBefore is h
-
-pub of_both : (fault : RunFault) (told : ChangesFault) → told ≡ c.Run fault → ¬ IsOfBefore told
-of_both fault told is h = subst IsOfBefore is h
 
 pub not_of_writing : (old new : Option (List ℕ)) (text : List ℕ) (fault : ChangesFault) → IsNotWritten old new text fault → ¬ IsOfBefore fault
 not_of_writing old new text fault (inl (is, begins)) h = subst IsOfBefore is h

@@ -1,6 +1,6 @@
 use Rattle.std.proofs.lemmas.Result.{IfErr-weaker, IfOk-weaker, err_from_is_err_and}
 use Rattle.iam_changes.specs.Code.Pieces.{report_text}
-use Rattle.iam_app.proofs.Compared.{compared, no_after, no_before, not_compared, not_written}
+use Rattle.iam_app.proofs.Compared.{compared, no_after, no_before, not_compared, not_of_before, not_of_writing, not_written}
 use Rattle.iam_app.proofs.changes.run_changes.Goals as goal
 
 pub returns-in-Err-clause-fault : goal.returns-in-Err-clause-fault
@@ -12,12 +12,21 @@ returns-in-Err-read_side-clause-fault g c =
     no_after c.args.options.now c.args.selection.now _ _ _ c.in-Err-read_side.fault c.fault_after.result c.fault_after.ensures
     (c.in-Ok.world, c.in-Ok.ensures.ok) c.in-Err-read_side.ensures.fault
 
+pub returns-in-Err-read_side-clause-unread : goal.returns-in-Err-read_side-clause-unread
+returns-in-Err-read_side-clause-unread g c of_before =
+    absurd (not_of_before c.in-Err-read_side.fault c.fault_after.result c.fault_after.ensures of_before)
+
 pub returns-in_err-report-clause-fault : goal.returns-in_err-report-clause-fault
 returns-in_err-report-clause-fault g c =
     let p = err_from_is_err_and c.from_residual.result c.from_residual.ensures.1 in
     rw (p.1, p.2)
     (not_compared c.args.options.now c.args.selection.now _ _ _ c.in-Ok.world c.in-Ok-read_side.world c.in_err-report.field-0.0 c.in-Ok.ensures.ok
     c.in-Ok-read_side.ensures.ok c.in_err-report.ensures.fault)
+
+pub returns-in_err-report-clause-unread : goal.returns-in_err-report-clause-unread
+returns-in_err-report-clause-unread g c =
+    let p = err_from_is_err_and c.from_residual.result c.from_residual.ensures.1 in
+    rw (p.1, p.2) (λ of_before. absurd of_before)
 
 pub returns-clause-done : goal.returns-clause-done
 returns-clause-done g c =
@@ -33,4 +42,9 @@ returns-clause-fault g c =
     IfErr-weaker c.write_changes.result _ _ (λ fault p.
     not_written c.args.options.now c.args.selection.now _ _ _ _ c.in-Ok.world c.in-Ok-read_side.world (report_text report) report.kinds fault
     c.in-Ok.ensures.ok c.in-Ok-read_side.ensures.ok (c.in_ok-report.ensures.work, c.in_ok-report.ensures.ok) p)
+    c.write_changes.ensures.fault
+
+pub returns-clause-unread : goal.returns-clause-unread
+returns-clause-unread g c =
+    IfErr-weaker c.write_changes.result _ _ (λ fault p of_before. absurd (not_of_writing _ _ (report_text c.in_ok-report.field-0) fault p of_before))
     c.write_changes.ensures.fault
