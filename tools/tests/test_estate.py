@@ -332,10 +332,10 @@ def test_reports_of_other_machines():
     )
     out, _ = ended([*given, "--slurm"], 0)
     count = len(rows(where, "SELECT world FROM worlds"))
-    text = open(os.path.join(where, "estate.slurm")).read()
-    assert out.startswith(f"{count} worlds; 'sbatch ") and f"--array=0-{count - 1}%" in text, text
+    job = os.path.join(where, "estate.slurm")
+    assert out.startswith(f"{count} worlds; 'sbatch ") and f"--array=0-{count - 1}\n" in open(job).read(), out
     for n in range(count):
-        subprocess.run(["sh", "ask.sh", str(n)], cwd=where, check=True, env={**os.environ, "IAMSIM": IAMSIM})
+        subprocess.run(["bash", job], check=True, env={**os.environ, "IAMSIM": IAMSIM, "SLURM_ARRAY_TASK_ID": str(n)})
     same(len(os.listdir(os.path.join(where, "reports"))), count)
     path = os.path.join(where, "reports", "3.json.gz")
     with open(path, "rb+") as it:
@@ -345,6 +345,31 @@ def test_reports_of_other_machines():
     _, said = ended(given, 1)
     assert "(fault 8 BadEffect)" in said, said
     same((allowed(where), os.listdir(os.path.join(where, "reports"))), (sorted(WANTED), []))
+
+
+def test_more_worlds_than_tasks():
+    """Slurm takes 1,000 tasks: each has every thousandth world, and asks again for none that has a report."""
+    where, rest = folder(), [{"arn": f"arn:aws:s3:::b/{n}", "account": A} for n in range(201)]
+    given = words(where, exports(), "--cells", "1", "--slurm", resources=rest, actions=["s3:GetObject"])
+    out, _ = ended(given, 0)
+    job, there = os.path.join(where, "estate.slurm"), os.path.join(where, "reports")
+    assert out.startswith("1005 worlds; ") and "--array=0-999\n" in open(job).read(), out
+    for program in (IAMSIM, "/nowhere/iamsim"):
+        more = {"IAMSIM": program, "SLURM_ARRAY_TASK_ID": "3"}
+        subprocess.run(["bash", job], check=True, env={**os.environ, **more})
+        same(sorted(os.listdir(there)), ["1003.json.gz", "3.json.gz"])
+
+
+def test_a_machine_that_cannot_ask():
+    """A program that is missing or killed there leaves no report."""
+    where = folder()
+    ended([*words(where, exports()), "--slurm"], 0)
+    killed = file("#!/bin/sh\necho '[{'\nkill -9 $$\n")
+    os.chmod(killed, 0o755)
+    for program, status in (("/nowhere/iamsim", 127), (killed, 137)):
+        ran = subprocess.run(["sh", "ask.sh", "0"], cwd=where, env={**os.environ, "IAMSIM": program}, stderr=-1)
+        same((ran.returncode, os.listdir(os.path.join(where, "reports"))), (status, []))
+        assert status == 137 or b"/nowhere/iamsim" in ran.stderr, ran.stderr
 
 
 def test_words_of_answers():
