@@ -337,7 +337,7 @@ def test_reports_of_other_machines():
     for n in range(count):
         subprocess.run(["bash", job], check=True, env={**os.environ, "IAMSIM": IAMSIM, "SLURM_ARRAY_TASK_ID": str(n)})
     same(len(os.listdir(os.path.join(where, "reports"))), count)
-    path = os.path.join(where, "reports", "3.json.gz")
+    path = os.path.join(where, "reports", "3.csv.gz")
     with open(path, "rb+") as it:
         it.truncate(os.path.getsize(path) - 5)
     _, said = ended([*given, "--jobs", "1"], 1)
@@ -357,7 +357,7 @@ def test_more_worlds_than_tasks():
     for program in (IAMSIM, "/nowhere/iamsim"):
         more = {"IAMSIM": program, "SLURM_ARRAY_TASK_ID": "3"}
         subprocess.run(["bash", job], check=True, env={**os.environ, **more})
-        same(sorted(os.listdir(there)), ["1003.json.gz", "3.json.gz"])
+        same(sorted(os.listdir(there)), ["1003.csv.gz", "3.csv.gz"])
 
 
 def test_a_machine_that_cannot_ask():
