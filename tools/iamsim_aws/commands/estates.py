@@ -138,6 +138,7 @@ def ask(options: argparse.Namespace, base: sqlite3.Connection, lock: Any) -> int
     left = len(running.waiting(base))
     if left or not is_well:
         raise Fault(f"{left} of {count} worlds are not loaded: run the command again, which goes on from here")
+    base.execute(f"PRAGMA threads = {program.processors()}")
     base.execute(schema.INDEX)
     return told(base, count)
 
