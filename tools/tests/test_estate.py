@@ -33,6 +33,10 @@ from harness import (
     world,
 )
 
+sys.path.insert(0, TOOLS)
+from iamsim_aws.estates import reading  # noqa: E402
+from iamsim_aws.faults import Fault  # noqa: E402
+
 ACTIONS = ["s3:GetObject", "kms:Decrypt", "sts:AssumeRole", "iam:PassRole"]
 A, B, C = "111111111111", "222222222222", "333333333333"
 HOSTILE = 'x\'; DROP TABLE access; --\n"quoted", `y`'
@@ -345,6 +349,46 @@ def test_reports_of_other_machines():
     _, said = ended(given, 1)
     assert "(fault 8 BadEffect)" in said, said
     same((allowed(where), os.listdir(os.path.join(where, "reports"))), (sorted(WANTED), []))
+
+
+def read(report, axes):
+    """The rows of a report that a pipe brings."""
+    return [
+        (p, a, r, text)
+        for p, a, some, texts in reading.Reader(io.BytesIO(report), axes).runs()
+        for r, text in zip(some, texts)
+    ]
+
+
+def test_reports_in_pieces():
+    """Wherever the pieces end, the rows are the same; a report of another world, or without its end, is a fault."""
+    axes = [["ann", 'b"o,b'], ["s3:GetObject", "s3:PutObject"], ["x", 'l,i\nn,\ne "quoted"\r', "y"]]
+    lines = [
+        b'1,ann,s3:GetObject,"l,i\nn,\ne ""quoted""\r",allowed,identity/0/0,\n',
+        b"2,ann,s3:GetObject,y,allowed,identity/0/0 resource/0/1,\n",
+        b'9,"b""o,b",s3:PutObject,x,allowed,identity/1/0,\n',
+        b'11,"b""o,b",s3:PutObject,y,allowed,identity/1/2,\n',
+    ]
+    texts = [b"identity/0/0", b"identity/0/0 resource/0/1", b"identity/1/0", b"identity/1/2"]
+    wanted = [(*it, text) for it, text in zip([(0, 0, 1), (0, 0, 2), (1, 1, 0), (1, 1, 2)], texts)]
+    report, before = reading.HEAD + b"".join(lines), reading.PIECE
+    others = [report[:-1], report[:-9], report + b"12,ann,s3:GetObject,x,allowed,identity/0/0,\n", report + b"x"]
+    others += [
+        report.replace(*it) for it in ((b"ann", b"dan"), (b"1,ann", b"0,ann"), (b",y,a", b",z,a"), (b"9,", b"-3,"))
+    ]
+    others += [report.replace(b"y,allowed", b"y,explicitDeny")]
+    try:
+        for reading.PIECE in range(len(reading.HEAD), len(report) + 2):
+            same(read(report, axes), wanted)
+        for it in others:
+            try:
+                found = read(it, axes)
+            except Fault as fault:
+                same(str(fault), reading.OTHER)
+            else:
+                raise AssertionError(f"{it!r} gave {found!r}")
+    finally:
+        reading.PIECE = before
 
 
 def test_more_worlds_than_tasks():
