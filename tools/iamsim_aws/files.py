@@ -74,8 +74,11 @@ def read_json(path: str) -> Any:
     return parsed(read_text(path), name_of(path))
 
 
+COMPACT = json.JSONEncoder(ensure_ascii=False, separators=(",", ":"))
+
+
 def compact(value: Any) -> str:
-    return json.dumps(value, ensure_ascii=False, separators=(",", ":"))
+    return COMPACT.encode(value)
 
 
 def encoded(text: str) -> bytes:

@@ -1,6 +1,5 @@
 """Asking iamsim."""
 
-import concurrent.futures
 import os
 import shutil
 import subprocess
@@ -55,6 +54,9 @@ def side_by_side(words: List[str], worlds: Iterable[bytes], count: int) -> Itera
 
 def each_of(jobs: Iterable[Tuple[List[str], bytes]], count: int) -> Iterator[bytes]:
     """What iamsim writes under some words of each world, in their order; each has its share of the processors."""
+    # The jobs of an estate, which are many, do not want it.
+    import concurrent.futures
+
     together = max(1, min(count, processors()))
     share = ["--workers", str(max(1, processors() // together))]
     with concurrent.futures.ThreadPoolExecutor(together) as pool:

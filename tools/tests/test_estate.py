@@ -33,6 +33,10 @@ from harness import (
     world,
 )
 
+sys.path.insert(0, TOOLS)
+from iamsim_aws.estates import reading  # noqa: E402
+from iamsim_aws.faults import Fault  # noqa: E402
+
 ACTIONS = ["s3:GetObject", "kms:Decrypt", "sts:AssumeRole", "iam:PassRole"]
 A, B, C = "111111111111", "222222222222", "333333333333"
 HOSTILE = 'x\'; DROP TABLE access; --\n"quoted", `y`'
@@ -332,12 +336,12 @@ def test_reports_of_other_machines():
     )
     out, _ = ended([*given, "--slurm"], 0)
     count = len(rows(where, "SELECT world FROM worlds"))
-    text = open(os.path.join(where, "estate.slurm")).read()
-    assert out.startswith(f"{count} worlds; 'sbatch ") and f"--array=0-{count - 1}%" in text, text
+    job = os.path.join(where, "estate.slurm")
+    assert out.startswith(f"{count} worlds; 'sbatch ") and f"--array=0-{count - 1}\n" in open(job).read(), out
     for n in range(count):
-        subprocess.run(["sh", "ask.sh", str(n)], cwd=where, check=True, env={**os.environ, "IAMSIM": IAMSIM})
+        subprocess.run(["bash", job], check=True, env={**os.environ, "IAMSIM": IAMSIM, "SLURM_ARRAY_TASK_ID": str(n)})
     same(len(os.listdir(os.path.join(where, "reports"))), count)
-    path = os.path.join(where, "reports", "3.json.gz")
+    path = os.path.join(where, "reports", "3.csv.gz")
     with open(path, "rb+") as it:
         it.truncate(os.path.getsize(path) - 5)
     _, said = ended([*given, "--jobs", "1"], 1)
@@ -345,6 +349,71 @@ def test_reports_of_other_machines():
     _, said = ended(given, 1)
     assert "(fault 8 BadEffect)" in said, said
     same((allowed(where), os.listdir(os.path.join(where, "reports"))), (sorted(WANTED), []))
+
+
+def read(report, axes):
+    """The rows of a report that a pipe brings."""
+    return [
+        (p, a, r, text)
+        for p, a, some, texts in reading.Reader(io.BytesIO(report), axes).runs()
+        for r, text in zip(some, texts)
+    ]
+
+
+def test_reports_in_pieces():
+    """Wherever the pieces end, the rows are the same; a report of another world, or without its end, is a fault."""
+    axes = [["ann", 'b"o,b'], ["s3:GetObject", "s3:PutObject"], ["x", 'l,i\nn,\ne "quoted"\r', "y"]]
+    lines = [
+        b'1,ann,s3:GetObject,"l,i\nn,\ne ""quoted""\r",allowed,identity/0/0,\n',
+        b"2,ann,s3:GetObject,y,allowed,identity/0/0 resource/0/1,\n",
+        b'9,"b""o,b",s3:PutObject,x,allowed,identity/1/0,\n',
+        b'11,"b""o,b",s3:PutObject,y,allowed,identity/1/2,\n',
+    ]
+    texts = [b"identity/0/0", b"identity/0/0 resource/0/1", b"identity/1/0", b"identity/1/2"]
+    wanted = [(*it, text) for it, text in zip([(0, 0, 1), (0, 0, 2), (1, 1, 0), (1, 1, 2)], texts)]
+    report, before = reading.HEAD + b"".join(lines), reading.PIECE
+    others = [report[:-1], report[:-9], report + b"12,ann,s3:GetObject,x,allowed,identity/0/0,\n", report + b"x"]
+    others += [
+        report.replace(*it) for it in ((b"ann", b"dan"), (b"1,ann", b"0,ann"), (b",y,a", b",z,a"), (b"9,", b"-3,"))
+    ]
+    others += [report.replace(b"y,allowed", b"y,explicitDeny")]
+    try:
+        for reading.PIECE in range(len(reading.HEAD), len(report) + 2):
+            same(read(report, axes), wanted)
+        for it in others:
+            try:
+                found = read(it, axes)
+            except Fault as fault:
+                same(str(fault), reading.OTHER)
+            else:
+                raise AssertionError(f"{it!r} gave {found!r}")
+    finally:
+        reading.PIECE = before
+
+
+def test_more_worlds_than_tasks():
+    """Slurm takes 1,000 tasks: each has every thousandth world, and asks again for none that has a report."""
+    where, rest = folder(), [{"arn": f"arn:aws:s3:::b/{n}", "account": A} for n in range(201)]
+    given = words(where, exports(), "--cells", "1", "--slurm", resources=rest, actions=["s3:GetObject"])
+    out, _ = ended(given, 0)
+    job, there = os.path.join(where, "estate.slurm"), os.path.join(where, "reports")
+    assert out.startswith("1005 worlds; ") and "--array=0-999\n" in open(job).read(), out
+    for program in (IAMSIM, "/nowhere/iamsim"):
+        more = {"IAMSIM": program, "SLURM_ARRAY_TASK_ID": "3"}
+        subprocess.run(["bash", job], check=True, env={**os.environ, **more})
+        same(sorted(os.listdir(there)), ["1003.csv.gz", "3.csv.gz"])
+
+
+def test_a_machine_that_cannot_ask():
+    """A program that is missing or killed there leaves no report."""
+    where = folder()
+    ended([*words(where, exports()), "--slurm"], 0)
+    killed = file("#!/bin/sh\necho '[{'\nkill -9 $$\n")
+    os.chmod(killed, 0o755)
+    for program, status in (("/nowhere/iamsim", 127), (killed, 137)):
+        ran = subprocess.run(["sh", "ask.sh", "0"], cwd=where, env={**os.environ, "IAMSIM": program}, stderr=-1)
+        same((ran.returncode, os.listdir(os.path.join(where, "reports"))), (status, []))
+        assert status == 137 or b"/nowhere/iamsim" in ran.stderr, ran.stderr
 
 
 def test_words_of_answers():

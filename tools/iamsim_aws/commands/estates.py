@@ -72,7 +72,9 @@ def plan(options: argparse.Namespace, base: sqlite3.Connection, key: str, found:
     """Makes the worlds, and the database without what is allowed."""
     actions = read_actions(options.actions) if options.actions else [ASSUME]
     refuse_unknown(References(options.services), actions)
-    shutil.rmtree(os.path.join(options.folder, "worlds"), ignore_errors=True)
+    # The worlds go first: then no job of another estate leaves a report of them among those of this one.
+    for it in ("worlds", "reports"):
+        shutil.rmtree(os.path.join(options.folder, it), ignore_errors=True)
     os.makedirs(os.path.join(options.folder, "worlds"))
     estate = estate_of(options, [])
     base.execute("BEGIN IMMEDIATE")
@@ -95,7 +97,6 @@ def begin(options: argparse.Namespace) -> sqlite3.Connection:
         for it in ("access.db", "access.db-journal", "joblog", "joblog.elsewhere"):
             if os.path.exists(os.path.join(options.folder, it)):
                 os.remove(os.path.join(options.folder, it))
-        shutil.rmtree(os.path.join(options.folder, "reports"), ignore_errors=True)
     base = schema.connect(path)
     if schema.is_empty(base):
         plan(options, base, key, found)
@@ -137,6 +138,7 @@ def ask(options: argparse.Namespace, base: sqlite3.Connection, lock: Any) -> int
     left = len(running.waiting(base))
     if left or not is_well:
         raise Fault(f"{left} of {count} worlds are not loaded: run the command again, which goes on from here")
+    base.execute(f"PRAGMA threads = {program.processors()}")
     base.execute(schema.INDEX)
     return told(base, count)
 

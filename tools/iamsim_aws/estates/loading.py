@@ -1,60 +1,26 @@
 """One world of an estate: it is asked, and what is allowed is loaded in one transaction."""
 
 import array
-import codecs
 import gzip
 import hashlib
-import json
 import os
-import re
 import sqlite3
 import subprocess
 import tempfile
 import zlib
-from typing import IO, Any, Dict, Iterator, List, Optional, Tuple
+from itertools import chain, groupby, repeat
+from typing import IO, Any, Dict, Iterator, List, Optional, Tuple, cast
 
 from .. import files
 from ..faults import Fault
 from ..program import Refused, program
 from . import schema
+from .reading import COMMAND, Reader, Run
 
-PIECE, LONGEST = 1 << 20, 1 << 26
 ROWS = 1 << 20  # so many rows wait in memory before the transaction begins
+TOGETHER = 100  # so many are inserted by one statement, which takes a third of the time
 MARKS = (1 << 62) - 1
-BETWEEN = re.compile(r"[\s,]*")
-COMMAND = ["matrix", "--format", "json", "--decision", "allowed"]
 Place = Tuple[Any, int]
-
-
-def texts(stream: IO[bytes]) -> Iterator[str]:
-    """The text of a stream in pieces."""
-    decoder = codecs.getincrementaldecoder("utf-8")()
-    for piece in iter(lambda: stream.read(PIECE), b""):
-        yield decoder.decode(piece)
-    yield decoder.decode(b"", True)
-
-
-def rows_in(pieces: Iterator[str]) -> Iterator[Dict[str, Any]]:
-    """The objects of a report that comes in pieces, one after another."""
-    decode, text, at = json.JSONDecoder().raw_decode, next(pieces, ""), 1
-    if not text.startswith("["):
-        raise Refused((text + "".join(pieces)).strip() or "iamsim wrote nothing")
-    while True:
-        at = BETWEEN.match(text, at).end()  # type: ignore[union-attr]
-        try:
-            row, at = decode(text, at)
-        except ValueError:
-            if text.startswith("]", at):
-                # What iamsim still writes is taken, so that it ends well.
-                if (text[at + 1 :] + "".join(pieces)).strip():
-                    raise Fault("the report goes on behind its end") from None
-                return
-            more = next(pieces, None)
-            if more is None or len(text) - at > LONGEST:
-                raise Fault("the report is no list of JSON objects, or is cut off") from None
-            text, at = text[at:] + more, 0
-        else:
-            yield row
 
 
 class World:
@@ -74,6 +40,9 @@ class World:
     def rows(self, what: str, table: str, key: str, axis: int) -> List[Tuple[Any, ...]]:
         command = f"SELECT {what} FROM {table} WHERE {key} >= ? AND {key} < ? ORDER BY {key}"
         return self.base.execute(command, (self.firsts[axis], self.ends[axis])).fetchall()
+
+    def axes(self) -> List[List[str]]:
+        return [[it[0] for it in axis] for axis in (self.principals, self.actions, self.resources)]
 
     def holdings(self, axis: str, first: int, end: int) -> Iterator[Tuple[int, str, int, str]]:
         command = "SELECT holder, place, policy, name FROM holdings JOIN policies USING (policy) WHERE kind = ? AND holder >= ? AND holder < ?"
@@ -108,20 +77,30 @@ class Reasons:
             for _, place, policy, _ in world.holdings("accounts", account, account + 1):
                 self.places["accounts", account, place] = policy
         self.statements: Dict[Place, int] = {}
-        self.quick: Dict[Any, int] = {}
         self.known: Dict[Tuple[Place, ...], int] = {}
+        # By their text: what hangs on no resource, of the principal that was asked for last; and what does.
+        self.last, self.quick = -1, cast(Dict[bytes, int], {})
+        self.of_pairs: Dict[Tuple[int, int, bytes], int] = {}
 
-    def of(self, p: int, r: int, places: Tuple[str, ...]) -> int:
-        """The number of what allows; places of a resource hang on the resource too."""
-        key = p, places
-        found = self.quick.get(key)
+    def of(self, p: int, some: List[int], texts: List[bytes]) -> List[int]:
+        """The numbers of what allows a principal on each of some resources."""
+        if p != self.last:
+            self.last, self.quick = p, {}
+        found = list(map(self.quick.get, texts))
+        if None not in found:
+            return cast(List[int], found)
+        return [self.one(p, r, text) if n is None else n for n, r, text in zip(found, some, texts)]
+
+    def one(self, p: int, r: int, text: bytes) -> int:
+        found = self.quick.get(text, self.of_pairs.get((p, r, text)))
         if found is None:
-            found = self.quick.get((p, r, places))
-        if found is None:
-            some = tuple(dict.fromkeys(self.statement(p, r, it) for it in places))
-            found = self.known.setdefault(some, len(self.known) * self.world.count + self.world.n)
-            is_alone = not any(it.startswith(("resource", "control")) for it in places)
-            self.quick[key if is_alone else (p, r, places)] = found
+            places = text.decode().split(" ")
+            statements = tuple(dict.fromkeys(self.statement(p, r, it) for it in places))
+            found = self.known.setdefault(statements, len(self.known) * self.world.count + self.world.n)
+            if any(it.startswith(("resource", "control")) for it in places):
+                self.of_pairs[p, r, text] = found
+            else:
+                self.quick[text] = found
         return found
 
     def statement(self, p: int, r: int, place: str) -> Place:
@@ -154,34 +133,29 @@ class Loader:
         self.owners, self.unsealed = [it[1] for it in world.resources], [it[2] for it in world.resources]
         self.marks = [int.from_bytes(hashlib.sha256(it[0].encode()).digest()[:7], "big") for it in world.resources]
 
-    def take(self, rows: Iterator[Dict[str, Any]]) -> None:
-        names, arns = [it[0] for it in self.world.principals], [it[0] for it in self.world.resources]
-        actions, width = [it[0] for it in self.world.actions], len(self.world.resources)
+    def take(self, runs: Iterator[Run]) -> None:
         first_p, first_a, first_r = self.world.firsts
-        for row in rows:
-            try:
-                pair, r = divmod(row["cell"], width)
-                p, a = divmod(pair, len(actions))
-                is_same = row["principal"] == names[p] and row["action"] == actions[a] and row["resource"] == arns[r]
-                reason = self.reasons.of(p, r, tuple(row["statements"]))
-            except (KeyError, TypeError, IndexError, ValueError):
-                is_same = False
-            if not is_same or row["decision"] != "allowed":
-                raise Fault("the report is not that of the world: make the estate anew")
-            self.rows.extend((first_p + p, first_a + a, first_r + r, reason))
-            total = self.totals.setdefault((p, a, self.owners[r]), [0, 0, 0])
-            total[0] += 1
-            total[1] += self.unsealed[r]
-            total[2] += self.marks[r]
+        owner_of, is_unsealed, mark_of = self.owners.__getitem__, self.unsealed.__getitem__, self.marks.__getitem__
+        for p, a, some, texts in runs:
+            reasons = self.reasons.of(p, some, texts)
+            rows = zip(repeat(first_p + p), repeat(first_a + a), map(first_r.__add__, some), reasons)
+            self.rows.extend(chain.from_iterable(rows))
+            for owner, its in groupby(some, owner_of):
+                total, mine = self.totals.setdefault((p, a, owner), [0, 0, 0]), list(its)
+                total[0] += len(mine)
+                total[1] += sum(map(is_unsealed, mine))
+                total[2] += sum(map(mark_of, mine))
             if len(self.rows) >= 4 * ROWS:
                 self.write()
 
     def write(self) -> None:
         if not self.base.in_transaction:
             self.base.execute("BEGIN IMMEDIATE")
-        it = iter(self.rows)
-        self.base.executemany("INSERT INTO access VALUES (?, ?, ?, ?)", zip(it, it, it, it))
         self.allowed += len(self.rows) // 4
+        whole = len(self.rows) - len(self.rows) % (4 * TOGETHER)
+        for some, count in ((self.rows[:whole], TOGETHER), (self.rows[whole:], 1)):
+            values = ", ".join(["(?, ?, ?, ?)"] * count)
+            self.base.executemany(f"INSERT INTO access VALUES {values}", zip(*[iter(some)] * (4 * count)))
         self.rows = array.array("Q")
 
     def end(self) -> None:
@@ -202,7 +176,7 @@ class Loader:
 
 def report_of(folder: str, n: int, workers: int) -> Tuple[IO[bytes], Optional["subprocess.Popen[bytes]"], Any]:
     """The report that another machine left, or that of iamsim as it comes."""
-    kept = os.path.join(folder, "reports", f"{n}.json.gz")
+    kept = os.path.join(folder, "reports", f"{n}.csv.gz")
     if os.path.exists(kept):
         return gzip.open(kept), None, None  # type: ignore[return-value]
     said = tempfile.TemporaryFile()
@@ -222,7 +196,7 @@ def ask(folder: str, world: World, workers: int) -> None:
     try:
         with stream:
             try:
-                loader.take(rows_in(texts(stream)))
+                loader.take(Reader(stream, world.axes()).runs())
             except Refused as refused:
                 if ran is None:
                     raise
@@ -233,7 +207,7 @@ def ask(folder: str, world: World, workers: int) -> None:
             said.seek(0)
             raise Refused(said.read().decode(errors="replace").strip() or f"iamsim ended with status {ran.returncode}")
         loader.end()
-    except (EOFError, zlib.error, gzip.BadGzipFile, UnicodeDecodeError) as error:
+    except (EOFError, zlib.error, gzip.BadGzipFile) as error:
         raise Fault(f"the report of world {world.n} cannot be read: {error}") from None
     finally:
         if ran is not None and ran.poll() is None:
@@ -256,7 +230,7 @@ def in_words(folder: str, world: World, refused: Refused) -> str:
 
 def forget(folder: str, n: int) -> None:
     """Removes a report that another machine left; one that is at fault is asked for again."""
-    kept = os.path.join(folder, "reports", f"{n}.json.gz")
+    kept = os.path.join(folder, "reports", f"{n}.csv.gz")
     if os.path.exists(kept):
         os.remove(kept)
 

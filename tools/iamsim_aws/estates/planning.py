@@ -3,7 +3,7 @@
 import hashlib
 import os
 import sqlite3
-from typing import Any, Dict, Iterator, List, NamedTuple, Tuple
+from typing import Any, Dict, Iterable, Iterator, List, NamedTuple, Sequence, Set, Tuple
 
 from .. import decimals, files
 from ..arns import principal_arn, principal_text
@@ -26,6 +26,13 @@ class Item(NamedTuple):
     text: str
     statements: int
     size: int
+    is_numeric: bool
+
+
+def joined(items: Iterable[Item]) -> Tuple[str, bool]:
+    """The JSON of items in a row, and whether numbers are compared in it."""
+    every = list(items)
+    return ",".join(it.text for it in every), any(it.is_numeric for it in every)
 
 
 class Run(NamedTuple):
@@ -34,6 +41,8 @@ class Run(NamedTuple):
     actions: Tuple[int, int]
     resources: Tuple[int, int]
     items: List[Item]
+    text: Tuple[str, bool]
+    accounts: Set[str]
     statements: int
     size: int
 
@@ -50,7 +59,7 @@ def item_of(axis: str, value: Dict[str, Any]) -> Item:
         return policy.document
 
     text = files.compact(changed(value, axis, MEMBERS[axis], take))
-    return Item(value, text, sum(counts), len(files.encoded(text)) + 1)
+    return Item(value, text, sum(counts), len(files.encoded(text)) + 1, "Numeric" in text)
 
 
 def cut(items: List[Item], most: int) -> Iterator[Tuple[int, int]]:
@@ -76,7 +85,9 @@ class Plan:
         self.groups = [[it for it in actions if it not in of_iam], of_iam]
         self.accounts: Dict[str, int] = {}
         self.policies: Dict[Tuple[str, str], int] = {}
+        self.seen: Dict[Tuple[str, int], Tuple[Any, int]] = {}  # by the object, which is kept so that it is one
         self.parts: Dict[str, List[str]] = {}
+        self.rows: Dict[str, List[Tuple[Any, ...]]] = {}  # of tables, which the database has after each account
         self.people = self.known = self.worlds = 0
         self.runs: List[Run] = []
         self.waiting: List[Item] = []
@@ -85,12 +96,14 @@ class Plan:
         self.statements, self.size = 0, self.room
 
     def make(self, paths: List[str]) -> None:
-        schema.fill(self.base, "actions", list(enumerate(self.groups[0] + self.groups[1])))
+        self.keep("actions", list(enumerate(self.groups[0] + self.groups[1])))
         self.take_resources(self.read(paths))
         for account in sorted(self.parts):
             one = self.estate._replace(accounts=read_exports(self.parts[account]))
+            self.seen = {}
             for value in principals_of(one, []):
                 self.take_principal(account, value)
+            self.flush()
         self.write_worlds()
         if not self.known:
             raise Fault("the estate has no principals")
@@ -98,7 +111,16 @@ class Plan:
             (n, it, int(self.estate.organization.is_managing(it)), int(it in self.parts))
             for it, n in self.accounts.items()
         ]
-        schema.fill(self.base, "accounts", rows)
+        self.keep("accounts", rows)
+        self.flush()
+
+    def keep(self, table: str, rows: Sequence[Tuple[Any, ...]]) -> None:
+        self.rows.setdefault(table, []).extend(rows)
+
+    def flush(self) -> None:
+        for table, rows in self.rows.items():
+            schema.fill(self.base, table, rows)
+        self.rows = {}
 
     def read(self, paths: List[str]) -> Estate:
         """The estate with its roles alone, as resources; each account is read again for its principals."""
@@ -126,7 +148,7 @@ class Plan:
         refuse_doubles([it.value["arn"] for it in every[: len(every) - len(whole.further)]])
         for n, it in enumerate(every):
             fields = (n, it.value["arn"], self.account(it.value["account"]), int(it.value.get("sealed") is True))
-            schema.fill(self.base, "resources", [fields])
+            self.keep("resources", [fields])
             self.hold("resources", n, it.value)
         first = 0
         for group, items in zip(self.groups, lists):
@@ -138,9 +160,9 @@ class Plan:
         wide = (actions[1] - actions[0]) * max(1, min(ACROSS, self.people))
         for at, end in cut(items, max(1, self.cells // wide)):
             some = items[at:end]
-            size = sum(it.size for it in some) + sum(60 for _ in {it.value["account"] for it in some})
-            run = Run(actions, (at + shift, end + shift), some, sum(it.statements for it in some), size)
-            self.runs.append(run)
+            accounts = {it.value["account"] for it in some}
+            statements, size = sum(it.statements for it in some), sum(it.size for it in some) + 60 * len(accounts)
+            self.runs.append(Run(actions, (at + shift, end + shift), some, joined(some), accounts, statements, size))
 
     def account(self, account: str) -> int:
         return self.accounts.setdefault(account, len(self.accounts))
@@ -156,22 +178,28 @@ class Plan:
             return policy
 
         changed(value, axis, MEMBERS[axis], take)
-        schema.fill(self.base, "holdings", found)
+        self.keep("holdings", found)
 
     def policy(self, policy: Policy) -> int:
-        """The number of a policy, which is kept once."""
+        """The number of a policy, which is kept once; most stand with many holders."""
+        key = policy.name, id(policy.document)
+        if key not in self.seen:
+            self.seen[key] = policy.document, self.new_policy(policy)
+        return self.seen[key][1]
+
+    def new_policy(self, policy: Policy) -> int:
         key = policy.name, hashlib.sha256(files.encoded(files.compact(policy.document))).hexdigest()
         if key in self.policies:
             return self.policies[key]
         n = self.policies[key] = len(self.policies)
         given = policy.document.get("Version") if isinstance(policy.document, dict) else None
-        schema.fill(self.base, "policies", [(n, policy.name, given if isinstance(given, str) else None)])
-        rows = []
+        self.keep("policies", [(n, policy.name, given if isinstance(given, str) else None)])
+        rows: List[Tuple[Any, ...]] = []
         for at, it in enumerate(statements_of(policy.document)):
             sid, effect = (it.get(name) if isinstance(it, dict) else None for name in ("Sid", "Effect"))
-            rows.append((n, at, *(one if isinstance(one, str) else None for one in (sid, effect)), files.compact(it)))
-        insert = "INSERT INTO statements (policy, number, sid, effect, json) VALUES (?, ?, ?, ?, ?)"
-        self.base.executemany(insert, rows)
+            texts = (one if isinstance(one, str) else None for one in (sid, effect))
+            rows.append((None, n, at, *texts, files.compact(it)))
+        self.keep("statements", rows)
         return n
 
     def take_principal(self, account: str, value: Dict[str, Any]) -> None:
@@ -188,7 +216,7 @@ class Plan:
         self.owners[account] = owner
         self.waiting.append(item)
         fields = (self.known, principal_text(value), principal_arn(value), self.account(account))
-        schema.fill(self.base, "principals", [fields])
+        self.keep("principals", [fields])
         self.hold("principals", self.known, value)
         self.known += 1
 
@@ -207,11 +235,11 @@ class Plan:
 
     def write_worlds(self) -> None:
         """The worlds of the principals that wait, one for each run of resources."""
-        first = self.known - len(self.waiting)
+        first, people = self.known - len(self.waiting), joined(self.waiting)
         for run in self.runs if self.waiting else ():
-            ids = {it.value["account"] for it in run.items} - set(self.owners)
+            ids = run.accounts - set(self.owners)
             bare_ones = [item_of("accounts", {"id": it, **self.managing(it)}) for it in sorted(ids)]
-            text = self.text_of(run, [*self.owners.values(), *bare_ones])
+            text = self.text_of(run, [*self.owners.values(), *bare_ones], people)
             files.write_file(os.path.join(self.folder, "worlds", f"{self.worlds}.json"), text + "\n")
             cells = len(self.waiting) * run.wide
             schema.fill(
@@ -227,18 +255,19 @@ class Plan:
         """What binds a principal binds no resource, so an account without principals wants this alone."""
         return {"management": True} if self.estate.organization.is_managing(account) else {}
 
-    def text_of(self, run: Run, accounts: List[Item]) -> str:
-        axes = {"accounts": accounts, "principals": self.waiting, "resources": run.items}
+    def text_of(self, run: Run, accounts: List[Item], people: Tuple[str, bool]) -> str:
         head: Dict[str, Any] = {"moment": self.estate.moment}
         if self.estate.context is not None:
             head["context"] = self.estate.context
         head["actions"] = (self.groups[0] + self.groups[1])[slice(*run.actions)]
-        if any("Numeric" in it.text for of in axes.values() for it in of):
+        texts = {"accounts": joined(accounts), "principals": people, "resources": run.text}
+        if any(is_numeric for _, is_numeric in texts.values()):
+            axes = {"accounts": accounts, "principals": self.waiting, "resources": run.items}
             try:
                 return files.compact(
                     bare(decimals.whole({**head, **{axis: [it.value for it in of] for axis, of in axes.items()}}))
                 )
             except Fault:
                 pass
-        lists = (f'"{axis}":[{",".join(it.text for it in of)}]' for axis, of in axes.items())
+        lists = (f'"{axis}":[{text}]' for axis, (text, _) in texts.items())
         return files.compact(head)[:-1] + "," + ",".join(lists) + "}"

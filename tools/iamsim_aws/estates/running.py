@@ -18,20 +18,37 @@ ASK = """#!/bin/sh
 # Asks iamsim for the world of this number; its report, or the line of its fault, is kept for the database.
 set -e
 mkdir -p reports
-"${IAMSIM:-iamsim}" matrix --format json --decision allowed --workers "${WORKERS:-1}" "worlds/$1.json" > "reports/$1.part" 2> "reports/$1.said" || cat "reports/$1.said" > "reports/$1.part"
-gzip -1 -c "reports/$1.part" > "reports/$1.gz"
-rm -f "reports/$1.part" "reports/$1.said"
-mv "reports/$1.gz" "reports/$1.json.gz"
+[ ! -e "reports/$1.csv.gz" ] || exit 0
+part=$(mktemp "reports/$1.XXXXXX")
+trap 'rm -f "$part" "$part.said" "$part.gz"' EXIT
+trap 'exit 1' HUP INT TERM
+status=0
+"${IAMSIM:-iamsim}" matrix --decision allowed --workers "${WORKERS:-1}" "worlds/$1.json" > "$part" 2> "$part.said" || status=$?
+# A program that is missing, or was killed, says nothing of the world.
+if [ "$status" -gt 1 ]; then
+    cat "$part.said" >&2
+    exit "$status"
+fi
+[ "$status" = 0 ] || cat "$part.said" > "$part"
+gzip -1 -c "$part" > "$part.gz"
+mv "$part.gz" "reports/$1.csv.gz"
 """
 SLURM = """#!/bin/bash
 #SBATCH --job-name=iamsim-estate
-#SBATCH --array=0-{last}%{most}
+#SBATCH --array=0-{last}
 #SBATCH --cpus-per-task=1
-#SBATCH --output=slurm-%a.out
-# A task a world. Where all have ended, 'iamsim-aws estate' with the same words but --slurm loads the reports.
-cd {folder}
-exec sh ask.sh "$SLURM_ARRAY_TASK_ID"
+#SBATCH --output=slurm-%A.out
+#SBATCH --open-mode=append
+# Task N asks for the worlds N, N + {tasks}, .., but for those that have a report. Where all tasks have ended, the command
+# that wrote this, without --slurm, loads the reports.
+cd {folder} || exit 1
+{program}status=0
+for ((n = SLURM_ARRAY_TASK_ID; n < {count}; n += {tasks})); do
+    sh ask.sh "$n" || status=1
+done
+exit "$status"
 """
+TASKS = 1000  # Slurm takes no more in an array unless it is told to
 
 
 def locked(folder: str) -> IO[bytes]:
@@ -85,11 +102,22 @@ def run(words: List[str], numbers: List[int], folder: str, lock: IO[bytes]) -> i
     return ran.returncode
 
 
+def named_program() -> str:
+    """The program that $IAMSIM names, for other machines too."""
+    return f"IAMSIM={shlex.quote(os.path.abspath(program()))}" if os.environ.get("IAMSIM") else ""
+
+
 def write_jobs(folder: str, count: int) -> None:
     """The files by which other machines ask."""
     files.write_file(os.path.join(folder, "ask.sh"), ASK)
-    where = shlex.quote(os.path.abspath(folder))
-    text = SLURM.format(last=count - 1, most=1000, folder=where)
+    named, tasks = named_program(), min(count, TASKS)
+    text = SLURM.format(
+        last=tasks - 1,
+        tasks=tasks,
+        count=count,
+        folder=shlex.quote(os.path.abspath(folder)),
+        program=f"export {named}\n" if named else "",
+    )
     files.write_file(os.path.join(folder, "estate.slurm"), text)
 
 
@@ -98,7 +126,7 @@ def ask_elsewhere(
 ) -> None:
     """Has other machines ask iamsim, by ssh; their reports come back as files, which are loaded here."""
     os.makedirs(os.path.join(folder, "reports"), exist_ok=True)
-    left = [it for it in waiting(base) if not os.path.exists(os.path.join(folder, "reports", f"{it}.json.gz"))]
+    left = [it for it in waiting(base) if not os.path.exists(os.path.join(folder, "reports", f"{it}.csv.gz"))]
     if not left:
         return
     words = [it for login in logins for it in ("--sshlogin", login)] + (["--jobs", jobs] if jobs else [])
@@ -112,9 +140,7 @@ def ask_elsewhere(
         "--transferfile",
         "worlds/{}.json",
     ]
-    words += ["--return", "reports/{}.json.gz", "--cleanup", "sh ask.sh {}"]
-    if os.environ.get("IAMSIM"):
-        words[-1] = f"IAMSIM={shlex.quote(os.path.abspath(program()))} " + words[-1]
+    words += ["--return", "reports/{}.csv.gz", "--cleanup", f"{named_program()} sh ask.sh {{}}".strip()]
     if run(words, left, folder, lock) != 0:
         raise Fault("a job on another machine did not end well: run the command again, which goes on from here")
 
@@ -128,7 +154,8 @@ def ask_here(base: sqlite3.Connection, folder: str, jobs: Optional[str], lock: I
     workers = max(1, processors() // len(left))
     package = os.path.dirname(os.path.dirname(os.path.abspath(__file__)))
     command = ["env", f"PYTHONPATH={os.path.dirname(package)}", f"IAMSIM={os.path.abspath(program())}"]
-    command += [sys.executable, "-m", "iamsim_aws.estates", os.path.abspath(folder), str(workers)]
+    # The standard library is all that a job wants (-S), and each of them begins anew.
+    command += [sys.executable, "-S", "-m", "iamsim_aws.estates", os.path.abspath(folder), str(workers)]
     words = [*(["--jobs", jobs] if jobs else []), "--joblog", log_of(base, folder, "joblog"), "--resume-failed"]
     words[words.index("--joblog") + 1] = os.path.abspath(words[words.index("--joblog") + 1])
     words.append(" ".join(map(shlex.quote, command)) + " {}")
