@@ -162,3 +162,9 @@ counted old digit start stop end n order long read nine small is =
     let ds_is : length ds ≡ k = length-take-le k left (omega (arith, left_is, count, order.behind, order.most, some)) in
     let ends : start + length (decimal (n + 1)) ≡ stop = omega (arith, ap length next, length-append ds ((digit + 1) ∷ []), ds_is, some) in
     renumbered old new (decimal (n + 1)) start start stop end order refl ends puts (take-set-le start old (stop - 1) (digit + 1) (omega (arith, some)))
+
+-- how many bytes the texts have
+pub whole_len : (bytes : List ℕ) (start stop end : ℕ) → length bytes ≡ 1024 → IsOrdered start stop end
+    → end - 20 ≡ length (between bytes 20 start ++ (between bytes start stop ++ between bytes stop end))
+whole_len bytes start stop end long order =
+    sym (length-take-le (end - 20) (drop 20 bytes) (omega (arith, length-drop 20 bytes, long, order.most))) ∙ ap length (whole_text bytes start stop end order)

@@ -1,3 +1,5 @@
+mod Blocks
 pub mod Buffered
 mod Fronts
+mod Runs
 mod Whole

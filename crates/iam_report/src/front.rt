@@ -55,7 +55,7 @@ fn put_two(bytes: &mut [u8; ROOM], at: usize, first: &str, second: &str) -> Opti
 }
 
 impl Front {
-    ghost use Rattle.std.specs.Prelude.{◌≡◌, ◌++◌, ◌+◌, ◌<◌, ◌^◌, ℕ, IsTrue, decimal, false};
+    ghost use Rattle.std.specs.Prelude.{◌≡◌, ◌++◌, ◌+◌, ◌<◌, ◌^◌, ℕ, IsTrue, decimal, false, length, take};
 
     /// A number without digits between empty texts.
     pub fn new() -> Front {
@@ -104,6 +104,7 @@ impl Front {
     }
 
     /// Counts the number up in place, where its last digit is no 9.
+    #[inline(always)]
     pub fn count_up(&mut self) -> bool
         ensures counted { IsTrue result → (n : ℕ) → n + 1 < 2 ^ 64 → self.old.number ≡ decimal n → self.new ≡ record self.old { number = decimal (n + 1) } }
         ensures none { result ≡ false → self.new ≡ self.old }
@@ -125,6 +126,23 @@ impl Front {
         };
         self.end = end;
         true
+    }
+
+    /// How many bytes the number and its texts have.
+    #[inline(always)]
+    pub fn len(&self) -> usize
+        ensures { result ≡ length (self.now.before ++ (self.now.number ++ self.now.behind)) }
+    {
+        self.end - DIGITS
+    }
+
+    /// The number with its texts, and what bytes stand behind them.
+    #[inline(always)]
+    pub fn bytes(&self) -> &[u8]
+        ensures text { take (length (self.now.before ++ (self.now.number ++ self.now.behind))) result.now ≡ self.now.before ++ (self.now.number ++ self.now.behind) }
+        ensures many { length result.now ≡ 1004 }
+    {
+        &self.bytes[DIGITS..]
     }
 
     /// The number with its texts.

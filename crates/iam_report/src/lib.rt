@@ -5,10 +5,12 @@
 //! report, as the laws of `iam_row` say, and is written without taking memory.
 #![tactic(auto)]
 
+mod block;
 mod front;
 mod line;
 mod matrix;
 mod output;
+mod rows;
 mod text;
 
 pub use iam_layers::{Decision, Verdict, World};

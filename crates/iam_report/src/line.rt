@@ -1,11 +1,15 @@
 // Rows that share what stands beside the number of their cells.
-ghost use Rattle.std.specs.Prelude.{◌≡◌, ◌++◌, ◌<◌, IsTrue, decimal, false, length};
+ghost use Rattle.std.specs.Prelude.{◌≡◌, ◌++◌, ◌+◌, ◌-◌, ◌<◌, ◌≤◌, All, IsTrue, Some, decimal, false, length, slice_get, take};
+ghost use Rattle.iam_report.specs.Code.Buffer.{IsWithin};
 ghost use Rattle.iam_report.specs.Code.Line.{HasSides, before_of, behind_of, tail_at};
+ghost use Rattle.iam_report.specs.Code.Run.{AddsRows, IsBefore, behind_in, behind_rows, further};
+ghost use Rattle.iam_tiles.specs.Code.Numbered.{no_tail, picked};
 ghost use Rattle.iam_row.specs.Piece.{row_at};
 
+use crate::block::Block;
 use crate::front::Front;
-use crate::output::keep_three;
 use iam_row::{Format, Position, Quoted, Tail, text_at};
+use iam_tiles::Numbers;
 use std::marker::Model;
 
 /// Makes rows. What stands before the resource of a row is its front; the texts in it are put together once for all rows
@@ -70,6 +74,69 @@ fn renumber(front: &mut Front, last: u64, cell: u64) -> bool
         return true;
     }
     front.renumber(cell)
+}
+
+/// The resource and the back of a row that is put quickly have at most so many bytes each.
+const MOST: usize = 1024;
+
+/// Puts a front and two texts into a block as one, where none is long and there is room for them.
+#[inline(always)]
+fn put_three<const N: usize>(block: &mut Block, front: &Front, resource: &[u8], back: &[u8]) -> bool
+    requires { N ≤ 256 }
+    ensures put { IsTrue result → block.new ≡ block.old ++ ((front.now.before ++ (front.now.number ++ front.now.behind)) ++ (resource.now ++ back.now)) }
+    ensures none { result ≡ false → block.new ≡ block.old }
+{
+    let count = front.len();
+    if count > N || resource.len() > MOST || back.len() > MOST || !block.has_room(N + 2 * MOST) {
+        return false;
+    }
+    block.put_front::<N>(front.bytes(), count);
+    block.put(resource);
+    block.put(back);
+    true
+}
+
+/// How many rows from a resource on have the same action, where there are so many resources, or the greatest number.
+fn rows_left(resources: u64, at: u64, most: usize) -> usize
+    ensures left { result ≤ resources - at }
+    ensures most { result ≤ most }
+{
+    let left = resources.saturating_sub(at);
+    if left < most as u64 {
+        left as usize
+    } else {
+        most
+    }
+}
+
+/// Number i of these.
+#[inline(always)]
+fn number_at(numbers: &[u8], i: usize) -> usize
+    requires { i < length numbers.now }
+    ensures { slice_get numbers.now i ≡ Some result }
+{
+    numbers[i] as usize
+}
+
+/// The position behind so many rows, where there are so many actions and resources, and all but the last have the same
+/// principal and action.
+pub fn behind(at: Position, count: usize, actions: u64, resources: u64) -> Position
+    requires within { IsWithin at }
+    requires few { at.cell + count ≤ 16777216 }
+    ensures position { result ≡ behind_rows actions resources at count }
+    ensures within { IsWithin result }
+    ensures cell { result.cell ≡ at.cell + count }
+{
+    if count == 0 {
+        return at;
+    }
+    let last = count as u64 - 1;
+    let here = Position {
+        cell: at.cell + last,
+        resource: at.resource + last,
+        ..at
+    };
+    here.next(actions, resources)
 }
 
 impl<'a> Line<'a> {
@@ -158,14 +225,13 @@ impl<'a> Line<'a> {
         self.is_made
     }
 
-    /// Whether a front with the action of a position is that of the position with a tail, but for the number. In CSV it has
-    /// no text of the tail.
-    fn has_sides(&self, at: Position, tail: usize) -> bool
-        requires made { IsTrue self.now.is_made }
-        requires action { self.now.action ≡ at.action }
-        ensures { IsTrue result → HasSides self.now.quoted self.now.tails at.principal at.action tail self.now.front }
+    /// Whether the front is that of this tail too, but for the number. In CSV it has no text of the tail.
+    #[inline(always)]
+    fn has_tail(&self, tail: usize) -> bool
+        requires { IsTrue self.now.is_made }
+        ensures { IsTrue result → HasSides self.now.quoted self.now.tails self.now.principal self.now.action tail self.now.front }
     {
-        self.principal == at.principal && (self.tail == tail || self.quoted.format == Format::Csv)
+        self.tail == tail || self.quoted.format == Format::Csv
     }
 
     /// Makes the front of the row at a position, with this tail, where there is room for it.
@@ -179,31 +245,140 @@ impl<'a> Line<'a> {
         if !self.is_made || self.action != at.action || !self.renumber(at.cell) {
             return self.fill(at, tail);
         }
-        if self.has_sides(at, tail) {
+        if self.principal == at.principal && self.has_tail(tail) {
             return true;
         }
         self.refill(at, tail)
     }
 
-    /// Keeps the row at a position, with this tail, where there is room for it. The first row is not kept: no comma stands
-    /// before it.
-    pub fn keep(&mut self, kept: &mut Vec<u8>, at: Position, tail: usize) -> bool
+    /// Puts the row at a position, with this tail, into a block, where there is room for it. The first row is not put: no comma
+    /// stands before it.
+    pub fn put(&mut self, block: &mut Block, at: Position, tail: usize) -> bool
         requires { tail < length self.old.tails }
         ensures quoted { self.new.quoted ≡ self.old.quoted }
         ensures tails { self.new.tails ≡ self.old.tails }
-        ensures kept { IsTrue result → kept.new.items ≡ kept.old.items ++ row_at self.old.quoted at (tail_at self.old.tails tail) }
-        ensures none { result ≡ false → kept.new.items ≡ kept.old.items }
+        ensures put { IsTrue result → block.new ≡ block.old ++ row_at self.old.quoted at (tail_at self.old.tails tail) }
+        ensures none { result ≡ false → block.new ≡ block.old }
     {
         if at.cell == 0 || !self.make(at, tail) {
             return false;
         }
         let resource = text_at(self.quoted.resources.as_slice(), at.resource);
         let back = self.tails[tail].back.as_str();
-        keep_three(
-            kept,
-            self.front.text(),
-            resource.as_bytes(),
-            back.as_bytes(),
-        )
+        block.put_three(self.front.text(), resource.as_bytes(), back.as_bytes())
+    }
+
+    /// Whether the front is that of the row before a position, and the principal and the action are the same there.
+    fn is_before(&self, at: Position) -> bool
+        ensures { IsTrue result → IsBefore self.now at }
+    {
+        self.is_made
+            && self.principal == at.principal
+            && self.action == at.action
+            && self.cell < at.cell
+            && at.cell - self.cell == 1
+    }
+
+    /// Puts the number of the next cell into the front, where it has as many digits.
+    #[inline(always)]
+    fn count_up(&mut self, cell: u64) -> bool
+        requires made { IsTrue self.old.is_made }
+        requires next { self.old.cell + 1 ≡ cell }
+        ensures quoted { self.new.quoted ≡ self.old.quoted }
+        ensures tails { self.new.tails ≡ self.old.tails }
+        ensures made { IsTrue result → self.new ≡ record self.old { cell = cell; front = record self.old.front { number = decimal cell } } }
+    {
+        if self.front.count_up() {
+            self.cell = cell;
+            return true;
+        }
+        self.renumber(cell)
+    }
+
+    /// Makes the front of the next row, with the same principal and action, where it has the same front of a tail and its number
+    /// has as many digits.
+    #[inline(always)]
+    fn make_next(&mut self, at: Position, tail: usize) -> bool
+        requires { IsBefore self.old at }
+        ensures quoted { self.new.quoted ≡ self.old.quoted }
+        ensures tails { self.new.tails ≡ self.old.tails }
+        ensures number { IsTrue result → self.new.front.number ≡ decimal at.cell }
+        ensures sides { IsTrue result → HasSides self.old.quoted self.old.tails at.principal at.action tail self.new.front }
+        ensures before { IsTrue result → IsBefore self.new (further at 1) }
+    {
+        self.has_tail(tail) && self.count_up(at.cell)
+    }
+
+    /// Puts the next row, with the same principal and action, where this is quick.
+    #[inline(always)]
+    fn put_next<const N: usize>(&mut self, block: &mut Block, at: Position, tail: usize) -> bool
+        requires size { N ≤ 256 }
+        requires before { IsBefore self.old at }
+        requires tail { tail < length self.old.tails }
+        requires later { 0 < at.cell }
+        ensures quoted { self.new.quoted ≡ self.old.quoted }
+        ensures tails { self.new.tails ≡ self.old.tails }
+        ensures put { IsTrue result → block.new ≡ block.old ++ row_at self.old.quoted at (tail_at self.old.tails tail) }
+        ensures none { result ≡ false → block.new ≡ block.old }
+        ensures before { IsTrue result → IsBefore self.new (further at 1) }
+    {
+        if !self.make_next(at, tail) {
+            return false;
+        }
+        let resource = text_at(self.quoted.resources.as_slice(), at.resource);
+        let back = self.tails[tail].back.as_str();
+        put_three::<N>(block, &self.front, resource.as_bytes(), back.as_bytes())
+    }
+
+    /// Puts the rows from a position on, which have the tails of these numbers, as long as each is quick; how many.
+    fn put_run<const N: usize>(&mut self, block: &mut Block, at: Position, numbers: &[u8]) -> usize
+        requires size { N ≤ 256 }
+        requires known { All (λ n. n < length self.old.tails) numbers.now }
+        requires before { IsBefore self.old at }
+        requires within { IsWithin at }
+        requires few { at.cell + length numbers.now ≤ 16777216 }
+        ensures quoted { self.new.quoted ≡ self.old.quoted }
+        ensures tails { self.new.tails ≡ self.old.tails }
+        ensures most { result ≤ length numbers.now }
+        ensures rows { AddsRows self.old.quoted (picked no_tail self.old.tails (take result numbers.now)) at (behind_in self.old.quoted at result) block.old block.new }
+    {
+        let resources = self.quoted.resources.as_slice().len() as u64;
+        let most = rows_left(resources, at.resource, numbers.len());
+        for i in 0..most {
+            let here = Position {
+                cell: at.cell + i as u64,
+                resource: at.resource + i as u64,
+                ..at
+            };
+            let n = number_at(numbers, i);
+            if !self.put_next::<N>(block, here, n) {
+                return i;
+            }
+        }
+        most
+    }
+
+    /// Puts rows as [`Line::put_run`] does, where the first is behind the row that was put last, with the same principal and action.
+    pub fn put_rows(&mut self, block: &mut Block, at: Position, numbers: &[u8]) -> usize
+        requires known { All (λ n. n < length self.old.tails) numbers.now }
+        requires within { IsWithin at }
+        requires few { at.cell + length numbers.now ≤ 16777216 }
+        ensures quoted { self.new.quoted ≡ self.old.quoted }
+        ensures tails { self.new.tails ≡ self.old.tails }
+        ensures most { result ≤ length numbers.now }
+        ensures rows { AddsRows self.old.quoted (picked no_tail self.old.tails (take result numbers.now)) at (behind_in self.old.quoted at result) block.old block.new }
+    {
+        let count = self.front.len();
+        if !self.is_before(at) {
+            0
+        } else if count <= 64 {
+            self.put_run::<64>(block, at, numbers)
+        } else if count <= 96 {
+            self.put_run::<96>(block, at, numbers)
+        } else if count <= 128 {
+            self.put_run::<128>(block, at, numbers)
+        } else {
+            self.put_run::<256>(block, at, numbers)
+        }
     }
 }

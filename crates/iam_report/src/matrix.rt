@@ -1,18 +1,18 @@
 // Reports of all cells that are kept as numbers, and written without taking memory.
-ghost use Rattle.std.specs.Prelude.{◌≡◌, ◌++◌, ◌+◌, ◌<◌, ◌≤◌, [], All, List, OnErr, OnOk, length};
+ghost use Rattle.std.specs.Prelude.{◌≡◌, ◌++◌, ◌+◌, ◌≤◌, [], List, OnErr, OnOk, length};
 ghost use Rattle.std.specs.Io.KnownBytes.{Appends};
 ghost use Rattle.std.specs.List.{flat_map};
 ghost use Rattle.iam_report.specs.Code.Buffer.{IsWithin, PutsRows, Passes};
-ghost use Rattle.iam_report.specs.Code.Line.{row_behind, tail_at};
-ghost use Rattle.iam_tiles.specs.Code.Numbered.{no_tail, picked};
-ghost use Rattle.iam_row.specs.Piece.{first_position, row_at, rows_text, text_of};
+ghost use Rattle.iam_report.specs.Code.Line.{row_behind};
+ghost use Rattle.iam_row.specs.Piece.{first_position, rows_text, text_of};
 ghost use Rattle.iam_report.specs.Streams.{AppendsBeginning};
 ghost use Rattle.iam_row.specs.declared.tail.Tail.{Tail};
 
-use crate::line::Line;
-use crate::output::{OutputFault, put, put_all, write_kept};
-use iam_row::{Format, Position, Quoted, Tail, closing, comma_before, opening, text_at};
-use iam_tiles::{Numbers, Tile};
+use crate::block::Block;
+use crate::output::{OutputFault, put, put_all, put_bytes, write_kept};
+use crate::rows::put_rows;
+use iam_row::{Format, Position, Quoted, Tail, closing, opening, text_at};
+use iam_tiles::Tile;
 use itoa::Buffer;
 use std::io::Write;
 use std::marker::Model;
@@ -36,30 +36,6 @@ impl Model for MatrixText {
     ghost view = { λ matrix. record { quoted = matrix.quoted; brief = matrix.brief; tails = flat_map (λ tile. tile) matrix.tiles.items } };
 
     ghost invariant = { λ matrix. length (flat_map (λ tile. tile) matrix.tiles.items) ≤ 16777216 };
-}
-
-/// Puts the row at a position, with tail n.
-fn put_row<W: Write>(
-    writer: &mut W,
-    kept: &mut Vec<u8>,
-    line: &mut Line<'_>,
-    at: Position,
-    n: usize,
-) -> Result<(), OutputFault>
-    requires { n < length line.old.tails }
-    ensures ok { OnOk result (Passes (W.contents writer.old) (W.contents writer.new) kept.old.items kept.new.items (row_at line.old.quoted at (tail_at line.old.tails n))) }
-    ensures err { OnErr result (AppendsBeginning (W.contents writer.old) (W.contents writer.new) (kept.old.items ++ row_at line.old.quoted at (tail_at line.old.tails n))) }
-    ensures quoted { line.new.quoted ≡ line.old.quoted }
-    ensures tails { line.new.tails ≡ line.old.tails }
-{
-    if line.keep(kept, at, n) {
-        return Ok(());
-    }
-    let comma = comma_before(at.cell);
-    if let Err(fault) = put_pieces(writer, kept, line.quoted(), comma, at, line.tail(n)) {
-        return Err(fault);
-    }
-    Ok(())
 }
 
 /// Puts the row at a position, with this tail, piece by piece; where it is an object, this comma stands before it. No memory
@@ -128,53 +104,24 @@ fn put_object<'a, W: Write>(
     )
 }
 
-/// Puts rows, which have the tails of these numbers, from this position on, and moves it behind the last.
-fn put_rows<W: Write>(
-    writer: &mut W,
-    kept: &mut Vec<u8>,
-    quoted: &Quoted,
-    tails: &[Tail],
-    numbers: &Numbers,
-    at: &mut Position,
-) -> Result<(), OutputFault>
-    requires known { All (λ n. n < length tails.now) numbers.now }
-    requires within { IsWithin at.old }
-    requires few { at.old.cell + length numbers.now ≤ 16777216 }
-    ensures ok { OnOk result (PutsRows quoted.now (picked no_tail tails.now numbers.now) at.old at.new (W.contents writer.old) (W.contents writer.new) kept.old.items kept.new.items) }
-    ensures err { OnErr result ((more : List Tail) → AppendsBeginning (W.contents writer.old) (W.contents writer.new) (kept.old.items ++ rows_text quoted.now at.old (picked no_tail tails.now numbers.now ++ more))) }
-    ensures within { OnOk result (IsWithin at.new) }
-    ensures cell { OnOk result (at.new.cell ≡ at.old.cell + length numbers.now) }
-{
-    let actions = quoted.actions.as_slice().len() as u64;
-    let resources = quoted.resources.as_slice().len() as u64;
-    let mut line = Line::new(quoted, tails);
-    for i in 0..numbers.len() {
-        let n = numbers.at(i) as usize;
-        if let Err(fault) = put_row(writer, kept, &mut line, *at, n) {
-            return Err(fault);
-        }
-        *at = at.next(actions, resources);
-    }
-    Ok(())
-}
-
 /// Puts the rows of a tile from this position on, and moves it behind the last.
 fn put_tile<W: Write>(
     writer: &mut W,
     kept: &mut Vec<u8>,
+    block: &mut Block,
     quoted: &Quoted,
     tile: &Tile,
     at: &mut Position,
 ) -> Result<(), OutputFault>
     requires within { IsWithin at.old }
     requires few { at.old.cell + length tile.now ≤ 16777216 }
-    ensures ok { OnOk result (PutsRows quoted.now tile.now at.old at.new (W.contents writer.old) (W.contents writer.new) kept.old.items kept.new.items) }
-    ensures err { OnErr result ((more : List Tail) → AppendsBeginning (W.contents writer.old) (W.contents writer.new) (kept.old.items ++ rows_text quoted.now at.old (tile.now ++ more))) }
+    ensures ok { OnOk result (PutsRows quoted.now tile.now at.old at.new (W.contents writer.old) (W.contents writer.new) (kept.old.items ++ block.old) (kept.new.items ++ block.new)) }
+    ensures err { OnErr result ((more : List Tail) → AppendsBeginning (W.contents writer.old) (W.contents writer.new) ((kept.old.items ++ block.old) ++ rows_text quoted.now at.old (tile.now ++ more))) }
     ensures within { OnOk result (IsWithin at.new) }
     ensures cell { OnOk result (at.new.cell ≡ at.old.cell + length tile.now) }
 {
     let (tails, numbers) = tile.parts();
-    if let Err(fault) = put_rows(writer, kept, quoted, tails, numbers, at) {
+    if let Err(fault) = put_rows(writer, kept, block, quoted, tails, numbers, at) {
         return Err(fault);
     }
     Ok(())
@@ -192,10 +139,14 @@ fn put_tiles<W: Write>(
     ensures err { OnErr result (AppendsBeginning (W.contents writer.old) (W.contents writer.new) (kept.old.items ++ rows_text quoted.now first_position (flat_map (λ tile. tile) tiles.now))) }
 {
     let mut at = Position::first();
+    let mut block = Block::new();
     for tile in tiles {
-        if let Err(fault) = put_tile(writer, kept, quoted, tile, &mut at) {
+        if let Err(fault) = put_tile(writer, kept, &mut block, quoted, tile, &mut at) {
             return Err(fault);
         }
+    }
+    if let Err(fault) = put_bytes(writer, kept, block.text()) {
+        return Err(fault);
     }
     Ok(())
 }

@@ -1,5 +1,5 @@
 // Texts written at once, or by way of a buffer.
-ghost use Rattle.std.specs.Prelude.{◌≡◌, ◌++◌, ◌+◌, ◌≤◌, [], IfOk, IsTrue, OnErr, OnOk, false, length, vec_capacity, vec_len};
+ghost use Rattle.std.specs.Prelude.{◌≡◌, ◌++◌, ◌+◌, ◌≤◌, [], IfOk, OnErr, OnOk, length, vec_capacity, vec_len};
 ghost use Rattle.std.specs.Io.KnownBytes.{Appends};
 ghost use Rattle.std.specs.List.{flat_map};
 ghost use Rattle.iam_report.specs.Code.Buffer.{Passes};
@@ -65,27 +65,8 @@ fn keep(kept: &mut Vec<u8>, text: &[u8])
     }
 }
 
-/// Keeps three texts as one, where there is room for it.
-#[inline]
-pub fn keep_three(kept: &mut Vec<u8>, first: &[u8], second: &[u8], third: &[u8]) -> bool
-    ensures kept { IsTrue result → kept.new.items ≡ kept.old.items ++ (first.now ++ (second.now ++ third.now)) }
-    ensures none { result ≡ false → kept.new.items ≡ kept.old.items }
-{
-    let count = first
-        .len()
-        .saturating_add(second.len())
-        .saturating_add(third.len());
-    if count > kept.capacity() - kept.len() {
-        return false;
-    }
-    keep(kept, first);
-    keep(kept, second);
-    keep(kept, third);
-    true
-}
-
 /// Writes what is kept, and keeps this text, or writes it too where it is longer than the buffer.
-fn put_behind<W: Write>(writer: &mut W, kept: &mut Vec<u8>, text: &str) -> Result<(), OutputFault>
+fn put_behind<W: Write>(writer: &mut W, kept: &mut Vec<u8>, text: &[u8]) -> Result<(), OutputFault>
     ensures ok { OnOk result (Passes (W.contents writer.old) (W.contents writer.new) kept.old.items kept.new.items text.now) }
     ensures err { OnErr result (AppendsBeginning (W.contents writer.old) (W.contents writer.new) (kept.old.items ++ text.now)) }
 {
@@ -94,10 +75,29 @@ fn put_behind<W: Write>(writer: &mut W, kept: &mut Vec<u8>, text: &str) -> Resul
     }
     kept.clear();
     if text.len() <= kept.capacity() - kept.len() {
-        keep(kept, text.as_bytes());
+        keep(kept, text);
         return Ok(());
     }
-    if let Err(fault) = write_text(writer, text.as_bytes()) {
+    if let Err(fault) = write_text(writer, text) {
+        return Err(fault);
+    }
+    Ok(())
+}
+
+/// Puts bytes behind what is kept, as [`put`] does.
+pub fn put_bytes<W: Write>(
+    writer: &mut W,
+    kept: &mut Vec<u8>,
+    text: &[u8],
+) -> Result<(), OutputFault>
+    ensures ok { OnOk result (Passes (W.contents writer.old) (W.contents writer.new) kept.old.items kept.new.items text.now) }
+    ensures err { OnErr result (AppendsBeginning (W.contents writer.old) (W.contents writer.new) (kept.old.items ++ text.now)) }
+{
+    if text.len() <= kept.capacity() - kept.len() {
+        keep(kept, text);
+        return Ok(());
+    }
+    if let Err(fault) = put_behind(writer, kept, text) {
         return Err(fault);
     }
     Ok(())
@@ -109,11 +109,7 @@ pub fn put<W: Write>(writer: &mut W, kept: &mut Vec<u8>, text: &str) -> Result<(
     ensures ok { OnOk result (Passes (W.contents writer.old) (W.contents writer.new) kept.old.items kept.new.items text.now) }
     ensures err { OnErr result (AppendsBeginning (W.contents writer.old) (W.contents writer.new) (kept.old.items ++ text.now)) }
 {
-    if text.len() <= kept.capacity() - kept.len() {
-        keep(kept, text.as_bytes());
-        return Ok(());
-    }
-    if let Err(fault) = put_behind(writer, kept, text) {
+    if let Err(fault) = put_bytes(writer, kept, text.as_bytes()) {
         return Err(fault);
     }
     Ok(())

@@ -39,6 +39,14 @@ impl Numbers {
         self.narrow.len() + self.wide.len()
     }
 
+    /// The first numbers, each a byte.
+    #[inline]
+    pub fn narrow(&self) -> &[u8]
+        ensures { (wide : List ℕ) × (self.now ≡ result.now ++ wide) }
+    {
+        self.narrow.as_slice()
+    }
+
     /// Number i of these.
     #[inline]
     pub fn at(&self, i: usize) -> u32

@@ -7,5 +7,6 @@ use Rattle.iam_report.proofs.matrix.put_tile.Goals as goal
 pub returns-in-Err-clause-err : goal.returns-in-Err-clause-err
 returns-in-Err-clause-err g c more =
     let P : List Tail → Type 0 = λ all.
-    AppendsBeginning (g.W.Write.contents c.args.writer.now) (g.W.Write.contents c.put_rows.new.writer) (c.args.kept.now.items ++ rows_text c.args.quoted.now c.args.at.now (all ++ more)) in
+    AppendsBeginning (g.W.Write.contents c.args.writer.now) (g.W.Write.contents c.put_rows.new.writer)
+    ((c.args.kept.now.items ++ c.args.block.now) ++ rows_text c.args.quoted.now c.args.at.now (all ++ more)) in
     subst P c.parts.ensures.rows (c.in-Err.ensures.err more)

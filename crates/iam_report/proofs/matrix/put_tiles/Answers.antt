@@ -1,7 +1,26 @@
-use Rattle.std.proofs.Common.{◌+◌, ◌≤◌, length, arith}
+use Rattle.std.proofs.Common.{List, [], ℕ, ◌+◌, ◌≤◌, ◌++◌, ◌∙◌, length, ap, append-nil, arith, subst, sym}
+use Rattle.iam_report.specs.Code.Buffer.{IsWithin, Passes, PutsRows}
+use Rattle.iam_report.specs.Streams.{AppendsBeginning}
+use Rattle.iam_row.specs.declared.position.Position.{Position}
 use Rattle.iam_row.specs.Piece.{first_position}
-use Rattle.iam_report.proofs.Buffered.{count_next, few_at, tile_fails, tile_more, tiles_all}
+use Rattle.iam_report.proofs.Buffered.{count_next, few_at, puts_none, tile_fails, tile_more, tiles_all}
+use Rattle.iam_report.proofs.Runs.{handed_fails, passes_handed}
 use Rattle.iam_report.proofs.matrix.put_tiles.Goals as goal
+
+pub loop-tile-init : goal.loop-tile-init
+loop-tile-init g c =
+    let quoted = c.args.quoted.now in
+    let k = c.args.kept.now.items in
+    let writer = g.W.Write.contents c.args.writer.now in
+    let none : IsWithin first_position = record { principal = omega arith; action = omega arith; resource = omega arith } in
+    record {
+      puts =
+          subst (λ (p : Position). PutsRows quoted [] first_position p writer writer k (k ++ c.new-block.result)) (sym c.first-at.ensures)
+          (subst (λ (l : List ℕ). PutsRows quoted [] first_position first_position writer writer k l) (sym (ap (λ (b : List ℕ). k ++ b) c.new-block.ensures ∙ append-nil k))
+          (puts_none quoted first_position writer k));
+      within = subst IsWithin (sym c.first-at.ensures) none;
+      cell = ap (λ (p : Position). p.cell) c.first-at.ensures;
+    }
 
 pub put_tile-requires-clause-few : goal.put_tile-requires-clause-few
 put_tile-requires-clause-few g c =
@@ -27,6 +46,18 @@ loop-tile-preserved g c =
       cell = omega (arith, c.in_default.ensures.cell, c.loop-tile.invariant.cell, count_next tiles i tile c.loop-tile-test.true c.tile-item.is);
     }
 
+pub returns-in-Err-put_bytes-clause-err : goal.returns-in-Err-put_bytes-clause-err
+returns-in-Err-put_bytes-clause-err g c =
+    let loop = c.loop-tile in
+    handed_fails _ _ _ c.args.kept.now.items (loop.kept.items ++ loop.block) _
+    (tiles_all c.args.quoted.now c.args.tiles.now loop.tile-index first_position loop.at _ _ _ _ c.loop-tile-test.false loop.invariant.puts)
+    (subst (λ (t : List ℕ). AppendsBeginning (g.W.Write.contents loop.writer) (g.W.Write.contents c.put_bytes.new.writer) (loop.kept.items ++ t)) c.text.ensures
+    c.in-Err-put_bytes.ensures.err)
+
 pub returns-clause-ok : goal.returns-clause-ok
 returns-clause-ok g c =
-    tiles_all c.args.quoted.now c.args.tiles.now c.loop-tile.tile-index first_position c.loop-tile.at _ _ _ _ c.loop-tile-test.false c.loop-tile.invariant.puts
+    let loop = c.loop-tile in
+    passes_handed _ _ _ c.args.kept.now.items loop.kept.items c.put_bytes.new.kept.items _ loop.block
+    (tiles_all c.args.quoted.now c.args.tiles.now loop.tile-index first_position loop.at _ _ _ _ c.loop-tile-test.false loop.invariant.puts)
+    (subst (λ (t : List ℕ). Passes (g.W.Write.contents loop.writer) (g.W.Write.contents c.put_bytes.new.writer) loop.kept.items c.put_bytes.new.kept.items t) c.text.ensures
+    c.in_default-put_bytes.ensures.ok)
