@@ -1,2 +1,3 @@
 mod MemoLemmas
 mod SurveyLemmas
+pub mod EngineLemmas

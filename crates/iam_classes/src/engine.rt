@@ -1,15 +1,16 @@
 // The engine as its callers see it.
-ghost use Rattle.std.specs.Prelude.{◌≡◌, ◌<◌, All, IfOk, IfSome, Some, length};
+ghost use Rattle.std.specs.Prelude.{◌≡◌, ◌<◌, All, IfOk, IfSome, Some, false, length};
 ghost use Rattle.std.specs.List.{slice_get};
 ghost use Rattle.iam_layers.specs.Cell.{IsSharedAt};
 ghost use Rattle.iam_world.specs.World.{WorldValue};
+ghost use Rattle.iam_classes.specs.Engine.{HasMore};
 ghost use Rattle.iam_classes.specs.Keys.{AreKeys};
 ghost use Rattle.iam_classes.specs.Memo.{HasClass, IsNumber, IsRight};
 ghost use Rattle.iam_classes.specs.declared.memo.Class.{Class};
 
 use crate::held::Held;
 use crate::keys::{Keys, no_keys, shared_by};
-use crate::memo::Memo;
+use crate::memo::{Found, Memo};
 use crate::survey::Survey;
 use iam_index::Index;
 use iam_layers::{Decision, Matched, Shared, Verdict, World};
@@ -39,17 +40,17 @@ impl<'a> Model for ClassEngine<'a> {
 
     ghost Value = { EngineValue };
 
-    ghost view = { λ engine. record { world = engine.index.now; rulings = engine.memo.rulings.items } };
+    ghost view = { λ engine. record { world = engine.index.now; classes = engine.memo.classes.items; rulings = engine.memo.rulings.items } };
 
     ghost invariant = { λ engine. IfSome engine.survey (λ survey. survey.now ≡ engine.index.now) × IsRight engine.index.now engine.memo
         × All (AreKeys engine.index.now) engine.keys.items };
 }
 
 impl<'a> ClassEngine<'a> {
-    ghost use Rattle.std.specs.Prelude.{◌≡◌, ◌<◌, ℕ, IfOk, IfSome, length};
+    ghost use Rattle.std.specs.Prelude.{◌≡◌, ◌<◌, ℕ, IfOk, IfSome, false, length};
     ghost use Rattle.iam_world.specs.World.{world_cells};
     ghost use Rattle.iam_layers.specs.Cell.{IsDecisionOf, IsVerdictAt, IsVerdictOf};
-    ghost use Rattle.iam_classes.specs.Engine.{IsNumberAt};
+    ghost use Rattle.iam_classes.specs.Engine.{HasMore, IsClassAt, IsNumberAt, OfClass};
 
     /// An engine of the world of an index, one of so many that share the bounds on what is kept.
     pub fn new(
@@ -143,7 +144,28 @@ impl<'a> ClassEngine<'a> {
         ensures number { IfOk result (IsNumberAt self.new p a r) }
         ensures same { self.new.world ≡ self.old.world }
     {
-        let class = class_of(
+        let found = self.class(alloc, p, r)?;
+        self.number(alloc, found.class, a)
+    }
+
+    /// The class of principal p and resource r, where it is known. The requests of a class share the same.
+    #[inline(always)]
+    pub fn known(&self, p: u64, r: u64) -> Option<usize>
+        ensures { IfSome result (IsClassAt self.now p r) }
+    {
+        self.memo.class_of(p, r)
+    }
+
+    /// The class of principal p and resource r, each below the number of its kind. Where all classes that were known are let go
+    /// for it, it says so.
+    pub fn class(&mut self, alloc: Global, p: u64, r: u64) -> Result<Found, OutOfMemory>
+        requires principal { p < length self.old.world.principals }
+        requires resource { r < length self.old.world.resources }
+        ensures class { IfOk result (λ found. IsClassAt self.new p r found.class) }
+        ensures kept { IfOk result (λ found. found.cleared ≡ false → HasMore self.old.classes self.new.classes) }
+        ensures same { self.new.world ≡ self.old.world }
+    {
+        class_of(
             alloc,
             self.index,
             self.survey,
@@ -151,7 +173,18 @@ impl<'a> ClassEngine<'a> {
             &mut self.keys,
             p,
             r,
-        )?;
+        )
+    }
+
+    /// The number of the verdict on the requests of a class for action a. It is that of the verdict until the next call.
+    #[inline(always)]
+    pub fn number(&mut self, alloc: Global, class: usize, a: u64) -> Result<usize, OutOfMemory>
+        requires action { a < length self.old.world.actions }
+        requires class { class < length self.old.classes }
+        ensures number { IfOk result (λ number. OfClass self.new class (λ p r. IsNumberAt self.new p a r number)) }
+        ensures classes { self.new.classes ≡ self.old.classes }
+        ensures same { self.new.world ≡ self.old.world }
+    {
         number_of(alloc, self.index, &mut self.memo, &mut self.found, class, a)
     }
 
@@ -175,7 +208,7 @@ fn class_of<'a>(
     keys: &mut Vec<Keys>,
     p: u64,
     r: u64,
-) -> Result<usize, OutOfMemory>
+) -> Result<Found, OutOfMemory>
     requires survey { IfSome survey (λ survey. survey.now ≡ index.now) }
     requires principal { p < length index.now.principals }
     requires resource { r < length index.now.resources }
@@ -183,10 +216,14 @@ fn class_of<'a>(
     requires keys { All (AreKeys index.now) keys.old.items }
     ensures right { IsRight index.entry.now memo.new }
     ensures keys { All (AreKeys index.entry.now) keys.new.items }
-    ensures class { IfOk result (HasClass index.entry.now memo.new.classes.items p r) }
+    ensures class { IfOk result (λ found. HasClass index.entry.now memo.new.classes.items p r found.class) }
+    ensures kept { IfOk result (λ found. found.cleared ≡ false → HasMore memo.old.classes.items memo.new.classes.items) }
 {
     match memo.class_of(p, r) {
-        Some(class) => Ok(class),
+        Some(class) => Ok(Found {
+            class,
+            cleared: false,
+        }),
         None => find_class(alloc, index, survey, memo, keys, p, r),
     }
 }
@@ -202,7 +239,7 @@ fn find_class<'a>(
     keys: &mut Vec<Keys>,
     p: u64,
     r: u64,
-) -> Result<usize, OutOfMemory>
+) -> Result<Found, OutOfMemory>
     requires survey { IfSome survey (λ survey. survey.now ≡ index.now) }
     requires principal { p < length index.now.principals }
     requires resource { r < length index.now.resources }
@@ -210,7 +247,8 @@ fn find_class<'a>(
     requires keys { All (AreKeys index.now) keys.old.items }
     ensures right { IsRight index.entry.now memo.new }
     ensures keys { All (AreKeys index.entry.now) keys.new.items }
-    ensures class { IfOk result (HasClass index.entry.now memo.new.classes.items p r) }
+    ensures class { IfOk result (λ found. HasClass index.entry.now memo.new.classes.items p r found.class) }
+    ensures kept { IfOk result (λ found. found.cleared ≡ false → HasMore memo.old.classes.items memo.new.classes.items) }
 {
     let shared = held_by(alloc, index, survey, keys, p, r)?;
     memo.class_with(alloc, p, r, shared)
@@ -260,6 +298,7 @@ fn number_of(
     requires class { class < length memo.old.classes.items }
     requires right { IsRight index.now memo.old }
     ensures right { IsRight index.now memo.new }
+    ensures classes { memo.new.classes ≡ memo.old.classes }
     ensures number { (class_is : Class) → slice_get memo.old.classes.items class ≡ Some class_is
         → IfOk result (IsNumber index.now class_is.shared memo.new.rulings.items a) }
 {
@@ -283,6 +322,7 @@ fn find_number(
     requires class { class < length memo.old.classes.items }
     requires right { IsRight index.now memo.old }
     ensures right { IsRight index.now memo.new }
+    ensures classes { memo.new.classes ≡ memo.old.classes }
     ensures number { (class_is : Class) → slice_get memo.old.classes.items class ≡ Some class_is
         → IfOk result (IsNumber index.now class_is.shared memo.new.rulings.items a) }
 {

@@ -1,9 +1,10 @@
 // What an engine keeps: the classes of pairs, the acts of action elements, and verdicts by their numbers.
-ghost use Rattle.std.specs.Prelude.{◌≡◌, ◌+◌, ◌<◌, ◌≤◌, IfOk, IfSome, Some, length};
+ghost use Rattle.std.specs.Prelude.{◌≡◌, ◌+◌, ◌<◌, ◌≤◌, IfOk, IfSome, OnOk, Some, false, length};
 ghost use Rattle.std.specs.List.{slice_get};
 ghost use Rattle.iam_layers.specs.Cell.{IsAction, IsSharedAt};
 ghost use Rattle.iam_world.specs.World.{WorldValue};
 ghost use Rattle.iam_index.specs.Elements.{AreElements};
+ghost use Rattle.iam_classes.specs.Engine.{HasMore};
 ghost use Rattle.iam_classes.specs.Memo.{HasClass, HasNumber, HasRuling, HasShared, IsRight, Finds};
 ghost use Rattle.iam_classes.specs.declared.memo.Class.{Class};
 
@@ -78,6 +79,13 @@ impl Answer {
             number: u32::try_from(number).ok()?,
         })
     }
+}
+
+/// A class, and whether all that there were before were let go for it.
+#[derive(Clone, Copy)]
+pub struct Found {
+    pub class: usize,
+    pub cleared: bool,
 }
 
 /// What is kept: requests that share the same are a class, and of some classes and actions the verdict is known.
@@ -160,31 +168,37 @@ impl<'a> Memo<'a> {
         p: u64,
         r: u64,
         shared: Held<'a>,
-    ) -> Result<usize, OutOfMemory>
+    ) -> Result<Found, OutOfMemory>
         ensures right { (world : WorldValue) → IsRight world self.old → IsSharedAt world p r shared.entry → IsRight world self.new }
-        ensures class { (world : WorldValue) → IsSharedAt world p r shared.entry → IfOk result (HasClass world self.new.classes.items p r) }
+        ensures class { (world : WorldValue) → IsSharedAt world p r shared.entry → IfOk result (λ found. HasClass world self.new.classes.items p r found.class) }
+        ensures kept { IfOk result (λ found. found.cleared ≡ false → HasMore self.old.classes.items self.new.classes.items) }
     {
-        let class = self.class_sharing(alloc, shared)?;
-        if let Some(pair) = Pair::of(p, r, class) {
+        let found = self.class_sharing(alloc, shared)?;
+        if let Some(pair) = Pair::of(p, r, found.class) {
             let slot = slot_at(p, self.resources, r, self.pairs.len());
             keep(&mut self.pairs, slot, pair);
         }
-        Ok(class)
+        Ok(found)
     }
 
     /// The class of requests that share this: one that is there, or a new one. Where there is no room for a new one,
     /// everything that was kept is let go.
-    fn class_sharing(&mut self, alloc: Global, shared: Held<'a>) -> Result<usize, OutOfMemory>
+    fn class_sharing(&mut self, alloc: Global, shared: Held<'a>) -> Result<Found, OutOfMemory>
         ensures right { (world : WorldValue) → IsRight world self.old → IsRight world self.new }
-        ensures class { IfOk result (HasShared self.new.classes.items shared.entry) }
+        ensures class { IfOk result (λ found. HasShared self.new.classes.items shared.entry found.class) }
+        ensures kept { IfOk result (λ found. found.cleared ≡ false → HasMore self.old.classes.items self.new.classes.items) }
     {
         let print = shared.get().print();
         if let Some(class) = self.class_printed(print, shared.get()) {
-            return Ok(class);
+            return Ok(Found {
+                class,
+                cleared: false,
+            });
         }
         // A class without statements takes room too.
-        self.make_room(shared.get().living().len().saturating_add(1));
-        self.add(alloc, print, shared)
+        let cleared = self.make_room(shared.get().living().len().saturating_add(1));
+        let class = self.add(alloc, print, shared)?;
+        Ok(Found { class, cleared })
     }
 
     /// The class that was last found with this print, if its requests share just this.
@@ -202,15 +216,22 @@ impl<'a> Memo<'a> {
         }
     }
 
-    /// Takes room for so many statements, and lets go everything that is kept where there is none.
-    fn make_room(&mut self, statements: usize)
+    /// Takes room for so many statements, and lets go everything that is kept where there is none; whether it did.
+    fn make_room(&mut self, statements: usize) -> bool
         ensures right { (world : WorldValue) → IsRight world self.old → IsRight world self.new }
         ensures taken { statements ≤ self.old.room → self.new.room + statements ≡ self.old.room }
         ensures cleared { self.old.room < statements → statements ≤ self.old.most_statements → self.new.room + statements ≡ self.old.most_statements }
+        ensures kept { result ≡ false → self.new.classes ≡ self.old.classes }
     {
         match self.room.checked_sub(statements) {
-            Some(room) => self.room = room,
-            None => self.clear(statements),
+            Some(room) => {
+                self.room = room;
+                false
+            }
+            None => {
+                self.clear(statements);
+                true
+            }
         }
     }
 
@@ -218,6 +239,7 @@ impl<'a> Memo<'a> {
     fn add(&mut self, alloc: Global, print: u64, shared: Held<'a>) -> Result<usize, OutOfMemory>
         ensures right { (world : WorldValue) → IsRight world self.old → IsRight world self.new }
         ensures class { IfOk result (HasShared self.new.classes.items shared.entry) }
+        ensures kept { OnOk result (HasMore self.old.classes.items self.new.classes.items) }
     {
         let rows = self.elements.rows(alloc, shared.get().living())?;
         let class = self.classes.len();
@@ -263,6 +285,7 @@ impl<'a> Memo<'a> {
     pub fn keep_number(&mut self, class: usize, a: u64, number: usize)
         ensures right { (world : WorldValue) → IsRight world self.old → HasNumber world self.old.classes.items self.old.rulings.items class a number
             → IsRight world self.new }
+        ensures classes { self.new.classes ≡ self.old.classes }
         ensures same { self.new.rulings ≡ self.old.rulings }
     {
         if let Some(answer) = Answer::of(class, a, number) {

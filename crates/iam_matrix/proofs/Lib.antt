@@ -1,3 +1,4 @@
+pub mod LeadLemmas
 pub mod OneMatrix
 pub mod Offers
 pub mod Tails

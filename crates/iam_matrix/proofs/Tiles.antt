@@ -26,7 +26,7 @@ along_append P from (z ∷ xs) ys a b (suc i) x at =
     (λ j y here. let back : from + suc j ≡ from + 1 + j = omega arith in subst (λ k. P k y) back (a (suc j) y here))
     (λ j y here. let back : from + suc (length xs) + j ≡ from + 1 + length xs + j = omega arith in subst (λ k. P k y) back (b j y here)) i x at)
 
-along_one : {X : Type 0} (P : ℕ → X → Type 0) (from : ℕ) (x : X) → P from x → Along P from (x ∷ [])
+pub along_one : {X : Type 0} (P : ℕ → X → Type 0) (from : ℕ) (x : X) → P from x → Along P from (x ∷ [])
 along_one P from x h zero y at = let same : x ≡ y = cc in let here : from ≡ from + 0 = omega arith in subst (λ k. P k y) here (subst (P from) same h)
 along_one P from x h (suc i) y at = absurd (let wrong : ⊥ = cc in wrong)
 

@@ -8,6 +8,7 @@ mod cut;
 mod each;
 mod fault;
 mod laws;
+mod leads;
 mod report;
 mod rows;
 mod search;

@@ -1,14 +1,19 @@
 // The tails of the rows of each tile.
-ghost use Rattle.std.specs.Prelude.{◌≡◌, ◌+◌, ◌<◌, ◌≤◌, List, IfOk, map};
-ghost use Rattle.iam_decision.specs.declared.verdict.Decision.{Decision};
-ghost use Rattle.iam_row.specs.Piece.{bare};
+ghost use Rattle.std.specs.Prelude.{◌≡◌, ◌+◌, ◌<◌, ◌≤◌, ◌^◌, ◌++◌, ◌∷◌, [], Bool, List, IfOk, OnOk, length};
+ghost use Rattle.iam_classes.specs.Engine.{IsClassAt};
+ghost use Rattle.iam_decision.specs.declared.verdict.Verdict.{Verdict};
+ghost use Rattle.iam_layers.specs.Cell.{IsCell};
 ghost use Rattle.iam_world.specs.World.{world_cells};
-ghost use Rattle.iam_matrix.specs.Code.Tiles.{AreDecisions, AreEntriesOf, AreTailsOf, AreVerdicts};
+ghost use Rattle.iam_matrix.specs.Code.Leads.{AddsEntry, AreLeads, entry_of};
+ghost use Rattle.iam_matrix.specs.Code.Tiles.{AreEntriesOf, AreTailsOf};
 
 use crate::cut::{Cells, Cut};
-use crate::each::{decision_at, end_of};
+use crate::each::end_of;
+use crate::leads::{Lead, keep_lead, no_leads, place_of};
 use iam_classes::{ClassEngine, Survey};
 use iam_crew::{Bound, Crew};
+use iam_index::empty;
+use iam_layers::Verdict;
 use iam_report::{Entries, Tile};
 use iam_row::{Format, Position};
 use iam_text::OutOfMemory;
@@ -96,52 +101,101 @@ fn entries_of(
     ensures entries { IfOk result (λ entries. AreEntriesOf brief engine.old.world tile.from tile.count entries) }
     ensures same { engine.new.world ≡ engine.old.world }
 {
+    let world = engine.world();
+    let end = end_of(world, tile.from, tile.count);
+    let mut entries = Entries::new(alloc, tile.count as usize)?;
+    let mut leads = no_leads(alloc, tile.count);
+    let mut at = Position::of(world, tile.from);
+    while at.cell < end {
+        put(alloc, engine, brief, at, &mut leads, &mut entries)?;
+        at = at.next_in(world);
+    }
+    Ok(entries)
+}
+
+/// Puts what has to be said of a cell behind the entries.
+#[inline(always)]
+fn put(
+    alloc: Global,
+    engine: &mut ClassEngine<'_>,
+    brief: bool,
+    at: Position,
+    leads: &mut Vec<Option<Lead>>,
+    entries: &mut Entries,
+) -> Result<(), OutOfMemory>
+    requires is { IsCell engine.old.world at.cell at.principal at.action at.resource }
+    requires few { length entries.old < 2 ^ 32 }
+    requires leads { AreLeads brief engine.old leads.old.items entries.old }
+    ensures entry { OnOk result (AddsEntry brief engine.old.world at.principal at.action at.resource entries.old entries.new) }
+    ensures leads { OnOk result (AreLeads brief engine.new leads.new.items entries.new) }
+    ensures same { engine.new.world ≡ engine.old.world }
+{
+    match place_of(engine, leads.as_slice(), at) {
+        Some(place) => entries.push_again(place),
+        None => add(alloc, engine, brief, at, leads, entries),
+    }
+}
+
+/// The same where no cell of its class has led to it, and keeps where it stands for the next.
+#[inline(never)]
+fn add(
+    alloc: Global,
+    engine: &mut ClassEngine<'_>,
+    brief: bool,
+    at: Position,
+    leads: &mut Vec<Option<Lead>>,
+    entries: &mut Entries,
+) -> Result<(), OutOfMemory>
+    requires is { IsCell engine.old.world at.cell at.principal at.action at.resource }
+    requires few { length entries.old < 2 ^ 32 }
+    requires leads { AreLeads brief engine.old leads.old.items entries.old }
+    ensures entry { OnOk result (AddsEntry brief engine.old.world at.principal at.action at.resource entries.old entries.new) }
+    ensures leads { OnOk result (AreLeads brief engine.new leads.new.items entries.new) }
+    ensures same { engine.new.world ≡ engine.old.world }
+{
+    let class = class_of(alloc, engine, at.principal, at.resource, leads)?;
+    let number = engine.number(alloc, class, at.action)?;
+    let place = entries.len();
+    push(alloc, brief, number, engine.verdict(number), entries)?;
+    keep_lead(leads, class, at.action, place);
+    Ok(())
+}
+
+/// The class of principal p and resource r. Where all classes that were known are let go for it, so are the leads.
+fn class_of(
+    alloc: Global,
+    engine: &mut ClassEngine<'_>,
+    p: u64,
+    r: u64,
+    leads: &mut Vec<Option<Lead>>,
+) -> Result<usize, OutOfMemory>
+    requires principal { p < length engine.old.world.principals }
+    requires resource { r < length engine.old.world.resources }
+    ensures class { IfOk result (IsClassAt engine.new p r) }
+    ensures leads { OnOk result ((brief : Bool) (entries : List Verdict) → AreLeads brief engine.old leads.old.items entries → AreLeads brief engine.new leads.new.items entries) }
+    ensures same { engine.new.world ≡ engine.old.world }
+{
+    let found = engine.class(alloc, p, r)?;
+    if found.cleared {
+        empty(leads);
+    }
+    Ok(found.class)
+}
+
+/// Puts what a tile says for a verdict, which has this number, behind the entries.
+fn push(
+    alloc: Global,
+    brief: bool,
+    number: usize,
+    verdict: &Verdict,
+    entries: &mut Entries,
+) -> Result<(), OutOfMemory>
+    requires { length entries.old < 2 ^ 32 }
+    ensures { OnOk result (entries.new ≡ entries.old ++ entry_of brief verdict.now ∷ []) }
+{
     if brief {
-        brief_entries(alloc, engine, tile)
+        entries.push_decision(alloc, verdict.decision)
     } else {
-        full_entries(alloc, engine, tile)
+        entries.push_hinted(alloc, number, verdict)
     }
-}
-
-/// The verdicts of the cells of a tile.
-fn full_entries(
-    alloc: Global,
-    engine: &mut ClassEngine<'_>,
-    tile: Cells,
-) -> Result<Entries, OutOfMemory>
-    requires { tile.from + tile.count ≤ world_cells engine.old.world }
-    ensures entries { IfOk result (λ entries. AreVerdicts engine.old.world tile.from tile.count entries) }
-    ensures same { engine.new.world ≡ engine.old.world }
-{
-    let world = engine.world();
-    let end = end_of(world, tile.from, tile.count);
-    let mut entries = Entries::new(alloc, tile.count as usize)?;
-    let mut at = Position::of(world, tile.from);
-    while at.cell < end {
-        let number = engine.find(alloc, at.principal, at.action, at.resource)?;
-        entries.push_hinted(alloc, number, engine.verdict(number))?;
-        at = at.next_in(world);
-    }
-    Ok(entries)
-}
-
-/// The decisions of the cells of a tile.
-fn brief_entries(
-    alloc: Global,
-    engine: &mut ClassEngine<'_>,
-    tile: Cells,
-) -> Result<Entries, OutOfMemory>
-    requires { tile.from + tile.count ≤ world_cells engine.old.world }
-    ensures entries { IfOk result (λ entries. (decisions : List Decision) × AreDecisions engine.old.world tile.from tile.count decisions × (entries ≡ map bare decisions)) }
-    ensures same { engine.new.world ≡ engine.old.world }
-{
-    let world = engine.world();
-    let end = end_of(world, tile.from, tile.count);
-    let mut entries = Entries::new(alloc, tile.count as usize)?;
-    let mut at = Position::of(world, tile.from);
-    while at.cell < end {
-        entries.push_decision(alloc, decision_at(alloc, engine, at)?)?;
-        at = at.next_in(world);
-    }
-    Ok(entries)
 }

@@ -61,3 +61,12 @@ pub few_items : {A : Type 0} (none : A) (items : List A) (numbers : List ℕ) (w
     → length items ≤ length numbers → picked none items numbers ≡ whole → length whole < most → length items < most
 few_items none items numbers whole most few same below =
     omega (arith, few, ap length same, length-map numbers (λ n. get_or items n none), below)
+
+-- an item once more
+pub picked_again : {A : Type 0} (none item : A) (items : List A) (numbers more : List ℕ) (i n : ℕ) (whole : List A) → picked none items numbers ≡ whole
+    → more ≡ numbers ++ n ∷ [] → slice_get numbers i ≡ Some n → slice_get whole i ≡ Some item → picked none items more ≡ whole ++ item ∷ []
+picked_again {A} none item items numbers more i n whole same behind at there =
+    let here : slice_get whole i ≡ Some (get_or items n none) = subst (λ (xs : List A). slice_get xs i ≡ Some (get_or items n none)) same (picked_at none items numbers i n at) in
+    let is : get_or items n none ≡ item = cc in
+    ap (picked none items) behind ∙ map-append (λ k. get_or items k none) numbers (n ∷ []) ∙ ap (λ xs. xs ++ get_or items n none ∷ []) same
+    ∙ ap (λ x. whole ++ x ∷ []) is

@@ -1,5 +1,6 @@
 // Verdicts one behind the other, of which equal ones are kept once.
-ghost use Rattle.std.specs.Prelude.{◌≡◌, ◌↔◌, ◌<◌, ◌^◌, ◌++◌, ◌∷◌, [], IfOk, IsTrue, OnOk, length, map};
+ghost use Rattle.std.specs.Prelude.{◌≡◌, ◌↔◌, ◌<◌, ◌^◌, ◌++◌, ◌∷◌, [], IfOk, IsTrue, OnOk, Some, length, map, slice_get};
+ghost use Rattle.iam_decision.specs.declared.verdict.Verdict.{Verdict};
 ghost use Rattle.iam_row.specs.Piece.{bare, tail_of};
 
 use crate::guess::mix;
@@ -109,6 +110,22 @@ impl Entries {
         ensures { OnOk result (self.new ≡ self.old ++ bare decision ∷ []) }
     {
         self.kept.push(alloc, decision as usize, &decision)
+    }
+
+    /// How many.
+    pub fn len(&self) -> usize
+        ensures { result ≡ length self.now }
+    {
+        self.kept.len()
+    }
+
+    /// Puts the verdict of this place, which has to be there, once more behind all.
+    #[inline(always)]
+    pub fn push_again(&mut self, place: usize) -> Result<(), OutOfMemory>
+        requires { place < length self.old }
+        ensures { (verdict : Verdict) → slice_get self.old place ≡ Some verdict → OnOk result (self.new ≡ self.old ++ verdict ∷ []) }
+    {
+        self.kept.push_again(place)
     }
 
     /// The tails of their rows, in full or in brief.

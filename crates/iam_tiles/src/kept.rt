@@ -119,6 +119,17 @@ impl<T: Item> Kept<T> {
         Ok(())
     }
 
+    /// Puts the item of this place, which has to be there, once more behind all.
+    #[inline(always)]
+    pub fn push_again(&mut self, place: usize) -> Result<(), OutOfMemory>
+        requires { place < length self.old }
+        ensures ok { (item : T) → slice_get self.old place ≡ Some item → OnOk result (self.new ≡ self.old ++ item ∷ []) }
+        ensures err { OnErr result (self.new ≡ self.old) }
+    {
+        let number = self.numbers.at(place);
+        self.numbers.push(number)
+    }
+
     /// The different items, and the number of each item among them.
     pub fn parts(self) -> (Vec<T>, Numbers)
         ensures items { picked T.none result.0.items result.1 ≡ self }

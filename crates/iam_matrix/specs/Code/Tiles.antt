@@ -3,13 +3,14 @@ use Rattle.std.specs.Prelude.{◌≡◌, ℕ, ◌+◌, ◌<◌, ◌≤◌, List,
 use Rattle.iam_decision.specs.declared.verdict.Decision.{Decision}
 use Rattle.iam_decision.specs.declared.verdict.Decision.TheVariants.{Allowed}
 use Rattle.iam_decision.specs.declared.verdict.Verdict.{Verdict}
-use Rattle.iam_row.specs.Piece.{bare, brief_tail, full_tail}
+use Rattle.iam_row.specs.Piece.{brief_tail, full_tail}
 use Rattle.iam_row.specs.declared.quoted.Format.{Format}
 use Rattle.iam_row.specs.declared.tail.Tail.{Tail}
 use Rattle.iam_world.specs.World.{WorldValue, world_cells}
 use Rattle.iam_lanes.specs.Lanes.{no_cell}
 use Rattle.iam_layers.specs.Cell.{IsDecisionOf, IsVerdictOf}
 use Rattle.iam_matrix.specs.Matrix.{AreEntriesFrom, IsNotAllowed}
+use Rattle.iam_matrix.specs.Code.Leads.{IsEntryOf}
 
 -- the cut has this tile, and is one of the world's cells
 abbrev pub IsTileOf : WorldValue → List ℕ → ℕ → Type 0
@@ -27,11 +28,9 @@ AreVerdicts world from count verdicts = AreEntries (IsVerdictOf world) from coun
 abbrev pub AreDecisions : WorldValue → ℕ → ℕ → List Decision → Type 0
 AreDecisions world from count decisions = AreEntries (IsDecisionOf world) from count decisions
 
--- the verdicts of these cells, or in brief their decisions, as verdicts without places and layers
+-- what a tile says of these cells
 abbrev pub AreEntriesOf : Bool → WorldValue → ℕ → ℕ → List Verdict → Type 0
-AreEntriesOf brief world from count entries =
-    MatchBool brief ((decisions : List Decision) × AreDecisions world from count decisions × (entries ≡ map bare decisions))
-    (AreVerdicts world from count entries)
+AreEntriesOf brief world from count entries = AreEntries (IsEntryOf brief world) from count entries
 
 -- the tails of the rows of the entries of these cells
 abbrev pub AreTails : {X : Type 0} → (ℕ → X → Type 0) → (X → Tail) → ℕ → ℕ → List Tail → Type 0

@@ -1,19 +1,14 @@
-use Rattle.std.proofs.Common.{◌<◌, [], get_or, length, refl, sym, subst}
-use Rattle.std.proofs.lemmas.Option.{slice_get-get_or}
 use Rattle.std.proofs.lemmas.Result.{IfOk-weaker}
-use Rattle.iam_match.specs.Statement.{request_for}
-use Rattle.iam_classes.specs.Engine.{EngineValue}
+use Rattle.iam_classes.specs.Engine.{IsNumberAt}
+use Rattle.iam_classes.proofs.EngineLemmas.{class_there, of_class, same_class}
 use Rattle.iam_classes.proofs.engine.ClassEngine.find.Goals as goal
+
+pub number-requires-clause-class : goal.number-requires-clause-class
+number-requires-clause-class c = class_there c.class.new.self c.args.p c.args.r c.in_ok-found.found.class c.in_ok-found.ensures.class
 
 pub returns-clause-number : goal.returns-clause-number
 returns-clause-number c =
-    let world = c.self.inside.index.now in
-    let a = c.args.a in
-    let A : EngineValue → Type 0 = λ engine. a < length engine.world.actions in
-    let action = get_or world.actions a [] in
-    let asked = slice_get-get_or world.actions a [] (subst A (sym c.self.view_is) c.requires.action) in
-    let (shared, at, (applicable, access, accessed, own)) = c.in_ok-class.ensures.class in
-    IfOk-weaker c.number_of.result _ _
-    (λ number (verdict, there, answer).
-    (verdict, there, (applicable, request_for access action, (access, action, accessed, asked, refl), answer action applicable access asked own)))
-    (c.number_of.ensures.number shared at)
+    let engine = c.number.new.self in
+    let class = c.in_ok-found.found.class in
+    let is = same_class c.class.new.self engine c.args.p c.args.r class c.number.ensures.same c.number.ensures.classes c.in_ok-found.ensures.class in
+    IfOk-weaker c.number.result _ _ (λ number all. of_class engine c.args.p c.args.r class (λ p r. IsNumberAt engine p c.args.a r number) is all) c.number.ensures.number

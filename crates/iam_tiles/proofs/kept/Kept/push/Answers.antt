@@ -1,12 +1,9 @@
-use Rattle.std.proofs.Common.{◌≡◌, ◌++◌, ◌∷◌, [], ◌∙◌, List, Result, Ok, Err, OnOk, Some, ap, sym, subst, append-nil, arith}
+use Rattle.std.proofs.Common.{◌≡◌, ◌++◌, ◌∷◌, [], ◌∙◌, List, Some, ap, sym, subst, append-nil, arith}
+use Rattle.std.proofs.lemmas.Result.{on_ok_weaker}
 use Rattle.std.specs.List.{slice_get}
 use Rattle.iam_tiles.specs.Code.Numbered.{IsPut}
 use Rattle.iam_tiles.proofs.Picks.{picked_put}
 use Rattle.iam_tiles.proofs.kept.Kept.push.Goals as goal
-
-at_ok : {T E P Q : Type 0} (r : Result T E) → (P → Q) → OnOk r P → OnOk r Q
-at_ok (Ok x) f p = f p
-at_ok (Err e) f p = tt
 
 pub returns-then-is_at-clause-ok : goal.returns-then-is_at-clause-ok
 returns-then-is_at-clause-ok g c =
@@ -16,7 +13,7 @@ returns-then-is_at-clause-ok g c =
     let item = g.F.Form.means c.args.form.now in
     let there : slice_get items n ≡ Some item =
     subst (λ (xs : List g.row.T.Denot). slice_get xs n ≡ Some item) c.as_slice.ensures.value (c.is_at.ensures c.if-is_at.true) in
-    at_ok c.push.result
+    on_ok_weaker c.push.result
     (λ pushed. let put : IsPut item n items own.numbers items c.push.new.self = record {
       kept = ([], omega arith, sym (append-nil items));
       found = there;

@@ -1,10 +1,9 @@
-use Rattle.std.proofs.Common.{◌≡◌, ◌-◌, ◌≤◌, ◌<◌, List, map}
-use Rattle.iam_decision.specs.declared.verdict.Decision.{Decision}
-use Rattle.iam_row.specs.Piece.{bare}
-use Rattle.iam_matrix.specs.Code.Tiles.{AreDecisions}
+use Rattle.std.proofs.Common.{◌≡◌, ◌-◌, ◌≤◌, ◌<◌}
+use Rattle.iam_matrix.specs.Code.Leads.{AreLeads}
+use Rattle.iam_matrix.specs.Code.Tiles.{AreEntriesOf}
 use Rattle.iam_layers.specs.Cell.{IsCell}
 use Rattle.iam_world.specs.World.{world_cells}
-use Rattle.iam_matrix.proofs.rows.brief_entries.Given as goal
+use Rattle.iam_matrix.proofs.rows.entries_of.Given as goal
 
 -- the cells so far
 abbrev pub invariant-loop-at : goal.invariant-loop-at
@@ -13,7 +12,8 @@ invariant-loop-at l = record {
   most : l.at.cell ≤ l.end;
   there : l.at.cell < world_cells l.world → IsCell l.world l.at.cell l.at.principal l.at.action l.at.resource;
   same : l.engine.world ≡ l.world;
-  so_far : (decisions : List Decision) × AreDecisions l.world l.fn.tile.from (l.at.cell - l.fn.tile.from) decisions × (l.entries ≡ map bare decisions);
+  so_far : AreEntriesOf l.brief l.world l.fn.tile.from (l.at.cell - l.fn.tile.from) l.entries;
+  leads : AreLeads l.brief l.engine l.leads.items l.entries;
 }
 
 abbrev pub decreases-loop-at : goal.decreases-loop-at
