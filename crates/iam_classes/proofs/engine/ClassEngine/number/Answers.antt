@@ -20,7 +20,10 @@ returns-clause-number c =
     let (class, at) = get_within classes n (subst K (sym c.self.view_is) c.requires.class) in
     let there : slice_get c.number_of.new.memo.classes.items n ≡ Some class = ap (λ classes. slice_get classes.items n) c.number_of.ensures.classes ∙ at in
     IfOk-weaker c.number_of.result _ _
-    (λ number (ruling, here, answer).
-    (class, there, λ p r (applicable, access, accessed, own).
-    (ruling, here, (applicable, request_for access action, (access, action, accessed, asked, refl), answer action applicable access asked own))))
+    (λ number (ruling, here, answer). (
+      class,
+      there,
+      λ p r (applicable, access, accessed, own).
+          (ruling, here, (applicable, request_for access action, (access, action, accessed, asked, refl), answer action applicable access asked own)),
+    ))
     (c.number_of.ensures.number class at)
