@@ -46,9 +46,6 @@ pub struct WorldParts {
     context: Part,
     cells: u64,
     statements: usize,
-    // What it was read from, of which nothing is needed any more: a run that does not let go of its world spares letting go
-    // of this piece by piece too, a sixth of the reading.
-    document: Option<Value>,
 }
 
 impl Model for WorldParts {
@@ -156,7 +153,6 @@ fn build(
         context: contexts.world,
         cells: sizes.0,
         statements: sizes.1,
-        document: None,
     })
 }
 
@@ -206,7 +202,7 @@ impl WorldParts {
 
     /// The world of a JSON document, or the first fault of its bytes: `TooLarge` for over 8,388,608 of them, then 1
     /// to 8 by number, each at its first place, then `TooLarge` for over 16,777,216 cells or 4,096 statements.
-    /// `OutOfMemory` can come at any point. The bytes are let go once they are parsed, the JSON document with the world.
+    /// `OutOfMemory` can come at any point. The bytes are let go once they are parsed.
     pub fn read(alloc: Global, bytes: Vec<u8>) -> Result<WorldParts, WorldFault>
         ensures ok { IfOk result (IsWorld bytes.items) }
         ensures fault { IfErr result (λ fault. fault ≢ w.OutOfMemory → IsFirstWorldFault bytes.items fault) }
@@ -215,17 +211,7 @@ impl WorldParts {
         let world = walk(alloc, &value)?;
         one_view();
         few_documents();
-        let parts = read_view(alloc, world)?;
-        Ok(parts.with_document(value))
-    }
-
-    /// The same, with the document that it was read from.
-    fn with_document(self, document: Value) -> WorldParts
-        ensures { result ≡ self }
-    {
-        let mut world = self;
-        world.document = Some(document);
-        world
+        read_view(alloc, world)
     }
 
     /// The moment, in seconds from 1970-01-01T00:00:00Z, at most 253,402,300,799: the end of the year 9999.

@@ -1,8 +1,6 @@
-use Rattle.std.proofs.Common.{sym, subst}
-use Rattle.std.proofs.lemmas.Result.{err_from_is_err_and}
+use Rattle.std.proofs.lemmas.Result.{IfOk-weaker, IfErr-weaker}
 use Rattle.serde_json.specs.View.{view}
 use Rattle.iam_shape.specs.LentWorld.{world_of}
-use Rattle.iam_world.specs.Reads.{ReadsWorld}
 use Rattle.iam_world.proofs.FaultSet.{first_of_view, to_view}
 use Rattle.iam_world.proofs.world.WorldParts.read.Goals as goal
 
@@ -20,8 +18,8 @@ returns-clause-ok c =
     let d = view c.in_ok-value.value in
     let says = c.in_ok-world.ensures.ok in
     let parsed = c.in_ok-value.ensures.ok in
-    let read = c.in_ok-parts.ensures.ok in
-    record {
+    IfOk-weaker c.read_view.result _ _
+    (λ world read. record {
       acceptable = (
         parsed.0,
         (λ fault has. read.1 fault (to_view c.one_view.ensures bytes d (world_of c.in_ok-world.world) parsed.1 says.0 says.1 fault has)),
@@ -30,17 +28,17 @@ returns-clause-ok c =
       json = parsed.1;
       view = world_of c.in_ok-world.world;
       says = says.1;
-      reads = subst (ReadsWorld (world_of c.in_ok-world.world)) (sym c.with_document.ensures) read.0;
-    }
+      reads = read.0;
+    })
+    c.read_view.ensures.ok
 
-pub returns-in_err-parts-clause-fault : goal.returns-in_err-parts-clause-fault
-returns-in_err-parts-clause-fault c =
+pub returns-clause-fault : goal.returns-clause-fault
+returns-clause-fault c =
     let bytes = c.args.bytes.items in
     let d = view c.in_ok-value.value in
     let says = c.in_ok-world.ensures.ok in
     let parsed = c.in_ok-value.ensures.ok in
-    let p = err_from_is_err_and c.from_residual-in_err-parts.result c.from_residual-in_err-parts.ensures.1 in
-    rw (p.1, p.2)
-    (λ other.
-    first_of_view c.one_view.ensures bytes d (world_of c.in_ok-world.world) parsed.0 parsed.1 says.0 says.1 c.in_err-parts.field-0.0
-    (c.in_err-parts.ensures.fault other))
+    IfErr-weaker c.read_view.result _ _
+    (λ fault first other.
+    first_of_view c.one_view.ensures bytes d (world_of c.in_ok-world.world) parsed.0 parsed.1 says.0 says.1 fault (first other))
+    c.read_view.ensures.fault
