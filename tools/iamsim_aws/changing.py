@@ -6,7 +6,7 @@ from . import hanging, kinds
 from .arns import principal_text
 from .asking import ask_all, ask_changes, whole
 from .checking import NOTHING
-from .documents import World, bare, mapped, places, statements_of
+from .documents import Place, World, bare, mapped, places, statements_of
 from .faults import tell
 from .files import compact
 from .keys import with_key
@@ -57,6 +57,28 @@ def differing(before: World, after: World) -> Tuple[World, World]:
         return mapped(world, keep)
 
     return left(before, of_before, of_after), left(after, of_after, of_before)
+
+
+def is_limit(it: Place) -> bool:
+    """Whether a document may keep from somebody what others allow."""
+    member, statements = it.path.split("/")[2], statements_of(it.policy.document)
+    is_deny = any(isinstance(one, dict) and one.get("Effect") == "Deny" for one in statements)
+    return it.policy is not NOTHING and (member not in ("identity", "policy") or is_deny)
+
+
+def speaking(changed: World, world: World) -> World:
+    """The world with the changed documents, and with all of those whom a changed limit binds: what changes is what these allow."""
+    bounds = {tuple(it.path.split("/")[:2]) for it in places(changed) if is_limit(it)}
+    if any(axis != "principals" for axis, _ in bounds):
+        return world
+    own = {it.path for it in places(changed) if it.policy is not NOTHING}
+
+    def keep(_kind: str, path: str, policy: Any) -> Any:
+        axis, n = path.split("/")[:2]
+        is_met = (axis, n) in bounds or (axis == "resources" and bounds)
+        return policy if is_met or path in own else NOTHING
+
+    return mapped(world, keep)
 
 
 def rest_of(world: World) -> Dict[str, Any]:
@@ -194,14 +216,14 @@ def is_named(worlds: Sequence[World], asked: str) -> bool:
 
 def with_witnesses(scopes: Sequence[Scope], worlds: Sequence[World], pattern: str) -> List[World]:
     """The resources of the worlds before and after that a pattern chooses; of exports with a text for each pattern of the
-    changed documents. An ARN that no world names is asked for all the same."""
+    documents that speak. An ARN that no world names is asked for all the same."""
     found: Dict[Tuple[str, str], Dict[str, Any]] = {}
     sources = [it.source for it in scopes]
     if is_named(worlds, pattern):
         account = account_for(scopes[0], worlds[0], pattern)
         return [with_named(scope, world, pattern, account) for scope, world in zip(scopes, worlds)]
     for changed, world in zip(differing(*worlds), worlds) if sources[0].estate and is_pattern(pattern) else ():
-        for it in kinds.resources(changed, pattern, world["actions"])[0]:
+        for it in kinds.resources(speaking(changed, world), pattern, world["actions"])[0]:
             found.setdefault((it.resource["arn"], it.resource["account"]), it.resource)
 
     def joined(source: Source, world: World) -> World:

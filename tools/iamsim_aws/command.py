@@ -13,8 +13,8 @@ DESCRIPTION = """Questions to iamsim about what AWS gives: who can, what changes
 It calls no service; iamsim decides. docs/AWS.md explains it."""
 
 STATUSES = """statuses: 0 done; 1 a fault, told in one line; 2 the command line is refused; 3 'can': not all is allowed,
-'rules': a rule is broken, 'changes --exit-status': something changes; 4 'rules': a rule meets no request,
-'changes --exit-status': no request is of --action and --resource"""
+'rules': a rule is broken, 'changes --fail-on': something changes; 4 'rules': a rule meets no request,
+'changes --fail-on': no request is of --action and --resource"""
 
 
 def parser() -> argparse.ArgumentParser:

@@ -14,9 +14,16 @@ LISTS = {"UserDetailList": "users", "GroupDetailList": "groups", "RoleDetailList
 
 
 def document(value: Any, name: str) -> Any:
-    """A document is an object, or its JSON as a text, alone or as `Policy` of an object, as calls of AWS give it."""
+    """A document is an object, or its JSON as a text, alone, as `Policy` of an object or in its `PolicyVersion`, as calls of
+    AWS give it."""
     if isinstance(value, dict) and isinstance(value.get("Policy"), str):
         value = value["Policy"]
+    if (
+        isinstance(value, dict)
+        and isinstance(value.get("PolicyVersion"), dict)
+        and "Document" in value["PolicyVersion"]
+    ):
+        value = value["PolicyVersion"]["Document"]
     return files.parsed(value, f"{name}: its document") if isinstance(value, str) else value
 
 

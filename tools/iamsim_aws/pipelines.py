@@ -48,11 +48,11 @@ def junit(cases: List[Case]) -> str:
         if not it.lines:
             lines.append(f"  {head}/>")
             continue
-        tag, last = "error" if it.state == "fault" else "failure", line_of(it.lines[-1]).strip()
+        tag, first = "error" if it.state == "fault" else "failure", line_of((it.reasons or it.lines)[0]).strip()
         text = "\n".join(escape(line_of(line)) for line in it.lines)
         lines += [
             f"  {head}>",
-            f'    <{tag} type="{it.state}" message={quoteattr(last)}>{text}</{tag}>',
+            f'    <{tag} type="{it.state}" message={quoteattr(first)}>{text}</{tag}>',
             "  </testcase>",
         ]
     return "\n".join([*lines, "</testsuite>"]) + "\n"

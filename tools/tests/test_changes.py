@@ -115,7 +115,9 @@ def test_drafts_of_buckets_and_organisations():
     denying = file(document({"Effect": "Deny", "Principal": {"AWS": ALICE}, "Action": "s3:GetObject", "Resource": "*"}))
     for name in ("homes", "arn:aws:s3:::homes"):
         found = changes(EXPORT, "--resources", file(objects), "--put", f"{name}={denying}")
-        same(set(found), {("lost", ALICE, "s3:GetObject", it["arn"]) for it in objects}, name)
+        # The policy of the role worker speaks of another object of the bucket, which its policy binds too.
+        bound = [*(it["arn"] for it in objects), "arn:aws:s3:::homes/alice/x"]
+        same(set(found), {("lost", ALICE, "s3:GetObject", it) for it in bound}, name)
     # A service control policy, by its name, its id and its ARN: without NoAudit alice may assume audit.
     content = file(document(statement("Deny", "s3:DeleteBucket")))
     arn = "arn:aws:organizations::999900001111:policy/o-example0001/service_control_policy/p-00000001"
@@ -172,6 +174,43 @@ def test_drafts_that_bind_what_is_not_named():
     )
     _, said = aws("rules", rule, *given, "--put", f"Loose={draft}", status=1)
     same(said, "iamsim-aws: --put Loose: nobody has this policy, so the draft changes nothing\n")
+
+
+def test_what_a_limit_leaves():
+    """Where a deny or a boundary changes, what the other policies of whom it binds allow is asked too."""
+    guarded = load(EXPORT)
+    (alice,) = (it for it in guarded["UserDetailList"] if it["UserName"] == "alice")
+    guard = document(statement("Deny", "s3:PutObject"))
+    alice["UserPolicyList"] = [{"PolicyName": "Guard", "PolicyDocument": guard}]
+    draft = file({"PolicyVersion": {"Document": document(statement(action="s3:ListBucket"))}})
+    # Homes, of her group, lets her put objects into her home and her team's folder, and the guard alone keeps her from it.
+    places = [f"arn:aws:s3:::{it}/x" for it in ("homes/alice", "teams/red")]
+    words = [file(guarded), "--put", f"Guard={draft}", "--action", "s3:PutObject"]
+    same(changes(*words), {("gained", ALICE, "s3:PutObject", it): ("explicitDeny", "allowed") for it in places})
+    for asked, status in (("gained", 3), ("lost", 0), ("any", 3)):
+        aws("changes", *words, "--fail-on", asked, status=status)
+    found = changes("--before", EXPORT, "--after", file(guarded), "--action", "s3:PutObject")
+    same(found, {("lost", ALICE, "s3:PutObject", it): ("allowed", "explicitDeny") for it in places})
+
+    walled = load(EXPORT)
+    (worker,) = (it for it in walled["RoleDetailList"] if it["RoleName"] == "worker")
+    wall = f"{ACCOUNT}policy/Wall"
+    worker["PermissionsBoundary"] = {"PermissionsBoundaryType": "Policy", "PermissionsBoundaryArn": wall}
+    version = {"VersionId": "v1", "IsDefaultVersion": True, "Document": document(statement(action="sqs:*"))}
+    walled["Policies"].append(
+        {"PolicyName": "Wall", "Arn": wall, "DefaultVersionId": "v1", "PolicyVersionList": [version]}
+    )
+    draft = file(document(statement(action=["sqs:*", "s3:*"])))
+    # Its own policy lets it read the objects of one home.
+    same(
+        changes(file(walled), "--put", f"Wall={draft}", "--action", "s3:GetObject"),
+        {
+            ("gained", f"{SESSION}worker/s1", "s3:GetObject", "arn:aws:s3:::homes/alice/x"): (
+                "implicitDeny",
+                "allowed",
+            )
+        },
+    )
 
 
 def test_drafts_that_are_of_nothing():

@@ -32,7 +32,7 @@ class Line(NamedTuple):
 
 
 def add_all(commands: Any) -> None:
-    example = "iamsim-aws changes export.json --put Developers=draft.json"
+    example = "iamsim-aws changes export.json --put Homes=draft.json"
     parser = add(
         commands, "changes", "tell which requests a draft allows no longer, and which it allows newly", example, run
     )
@@ -47,6 +47,8 @@ def add_all(commands: Any) -> None:
     parser.add_argument("--format", choices=["text", "csv", "markdown", "page"], default="text")
     help_of_status = "status 3 where anything changes, 4 where no request is of --action and --resource"
     parser.add_argument("--exit-status", action="store_true", help=help_of_status)
+    help_of_fail_on = "status 3 where such a request is told, 4 where no request is of --action and --resource"
+    parser.add_argument("--fail-on", choices=["gained", "lost", "any"], help=help_of_fail_on)
 
 
 def run(options: argparse.Namespace) -> int:
@@ -65,11 +67,12 @@ def run(options: argparse.Namespace) -> int:
         tell("no request was compared: the two sides differ in no policy, or no resource matches")
     write = {"text": as_text, "csv": as_csv, "markdown": as_markdown}
     files.write(page_of(found) if options.format == "page" else write[options.format](lines, requests))
-    if not options.exit_status:
+    asked = "any" if options.exit_status else options.fail_on
+    if not asked:
         return 0
     is_choice = bool(options.action) or options.resource != "*"
     is_empty = not requests and is_choice and is_different(before, after)
-    return 3 if lines else 4 if is_empty else 0
+    return 3 if any(asked in ("any", it.change) for it in lines) else 4 if is_empty else 0
 
 
 def is_different(before: Source, after: Source) -> bool:
