@@ -1,6 +1,6 @@
 """What changes between two sources: requests that are lost, and those that are gained."""
 
-from typing import Any, Dict, List, NamedTuple, Optional, Sequence, Tuple
+from typing import Any, Dict, Iterable, List, NamedTuple, Optional, Sequence, Tuple
 
 from . import hanging, kinds
 from .arns import principal_text
@@ -94,11 +94,35 @@ def rest_of(world: World) -> Dict[str, Any]:
     return {**kept, "": plain.get("context", {})}
 
 
+def limits_of(world: World) -> Dict[Tuple[str, str], Any]:
+    """How many limits of each kind bind whom."""
+
+    def counts(it: Dict[str, Any]) -> Any:
+        levels = [len(it.get(of, [])) for of in ("org", "control")]
+        return "boundary" in it, bool(it.get("sessionPolicies")), levels
+
+    axes = ("accounts", "principals", "resources")
+    return {(axis, name_of(axis, it)): counts(it) for axis in axes for it in world[axis]}
+
+
+def is_freed(before: World, after: World) -> bool:
+    """Whether a limit binds somebody in one of the worlds alone. What it said nothing of changes too."""
+    one, other = limits_of(before), limits_of(after)
+    return any(other.get(key, counts) != counts for key, counts in one.items())
+
+
 def spoken_of(before: World, after: World) -> List[str]:
     """The action patterns of the changed documents; of all documents where anything else changes, as a tag."""
     worlds = (before, after) if rest_of(before) != rest_of(after) else differing(before, after)
     spoken = [text for it in worlds for text in kinds.patterns_of_actions(it)]
-    return [*spoken, *(["*"] if any(map(has_rest, worlds)) else [])]
+    return [*spoken, *(["*"] if any(map(has_rest, worlds)) or is_freed(before, after) else [])]
+
+
+def binding(world: World) -> List[str]:
+    """The action patterns of limits and of the policies of resources, without which other policies may allow nothing."""
+    some = (it for it in places(world) if it.path.startswith("resources/") or is_limit(it))
+    every = (statement for it in some for statement in statements_of(it.policy.document))
+    return [text for statement in every for text in kinds.texts_of(statement, "Action") if is_pattern(text)]
 
 
 def has_rest(world: World) -> bool:
@@ -118,6 +142,7 @@ def spoken_actions(before: Source, after: Source, patterns: List[str]) -> Dict[s
     """The actions of a choice of which the changed documents speak, by their lower case."""
     worlds = before.world([ASSUME]), after.world([ASSUME])
     spoken, references = spoken_of(*worlds), before.references
+    bounds = [text for it in worlds for text in binding(it)]
     texts = [text for it in worlds for text in kinds.patterns_of_actions(it) if not is_pattern(text)]
     # Of a service that has a file all actions are known.
     known = [*references.actions(), *(it for it in texts if not references.has_file(it))]
@@ -129,12 +154,16 @@ def spoken_actions(before: Source, after: Source, patterns: List[str]) -> Dict[s
         for action in known:
             if matcher(asked, True)(action) and any(matcher(it, True)(action) for it in spoken):
                 found.setdefault(action.lower(), action)
-        for pattern in filter(is_pattern, spoken):
-            text = common(pattern, asked, True)
-            asked_for = kinds.action_text(text) if text else None
-            if asked_for and not references.has_file(asked_for):
-                found.setdefault(asked_for.lower(), asked_for)
+        for text in witnesses(filter(is_pattern, spoken), [asked]) + witnesses(bounds, spoken):
+            if matcher(asked, True)(text) and not references.has_file(text):
+                found.setdefault(text.lower(), text)
     return found
+
+
+def witnesses(patterns: Iterable[str], others: Iterable[str]) -> List[str]:
+    """An action for each pair of patterns that meet."""
+    pairs = ((one, other) for one in dict.fromkeys(patterns) for other in dict.fromkeys(others))
+    return [kinds.action_text(text) for text in (common(*pair, True) for pair in pairs) if text]
 
 
 def compared(first: Answers, second: Answers, given: str = "") -> Changes:

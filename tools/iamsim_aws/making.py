@@ -7,6 +7,7 @@ from .arns import account_of, names_of_principal, names_of_resource, principal_a
 from .documents import World
 from .exports import ACCOUNT, Account, is_service_linked, policy, role_of, tags, text, user_of
 from .faults import Fault
+from .kinds import bucket_of
 from .organizations import Organization
 from .patterns import any_matches, is_pattern, matcher
 
@@ -34,7 +35,18 @@ def read_resources(paths: List[str]) -> List[Dict[str, Any]]:
             raise Fault(f"{what}: it is no list of resources")
         found += [further(it, f"{what}: resource {n}") for n, it in enumerate(given)]
     refuse_doubles([it["arn"] for it in found])
-    return found
+    return with_buckets(found)
+
+
+def with_buckets(given: List[Dict[str, Any]]) -> List[Dict[str, Any]]:
+    """An object without a policy has that of its bucket, where this is given."""
+    policies = {it["arn"]: it["policy"] for it in given if "policy" in it and bucket_of(it["arn"])}
+
+    def own(it: Dict[str, Any]) -> Dict[str, Any]:
+        bucket = it["arn"].split("/")[0]
+        return {**it, "policy": policies[bucket]} if "policy" not in it and bucket in policies else it
+
+    return [own(it) for it in given]
 
 
 def further(it: Any, what: str) -> Dict[str, Any]:

@@ -213,6 +213,22 @@ def test_what_a_limit_leaves():
     )
 
 
+def test_a_limit_that_is_there_no_more():
+    """A boundary that goes frees what no changed policy speaks of; so does one that allows anything."""
+    owner = {"Effect": "Allow", "Principal": {"AWS": f"{ACCOUNT}root"}, "Action": "kms:*", "Resource": "*"}
+    key = {"arn": "arn:aws:kms:eu-west-1:111122223333:key/7c1d", "account": "111122223333", "sealed": True}
+    words = ["--resources", file([{**key, "policy": document(owner)}]), "--resource", key["arn"]]
+    freed = load(EXPORT)
+    (bob,) = (it for it in freed["UserDetailList"] if it["UserName"] == "bob")
+    del bob["PermissionsBoundary"]
+    # bob may do anything by a policy of his own, and the key trusts its account; his boundary knows s3 and a role.
+    gained = {("gained", BOB, "kms:x", key["arn"]): ("implicitDeny", "allowed")}
+    found = changes("--before", EXPORT, "--after", file(freed), *words, "--action", "kms:*")
+    same(found, gained)
+    draft = file(document(statement()))
+    same(changes(EXPORT, "--put", f"AtMost={draft}", *words, "--action", "kms:*"), gained)
+
+
 def test_drafts_that_are_of_nothing():
     draft = file(document())
     _, said = aws("changes", EXPORT, "--put", f"NoSuch={draft}", status=1)

@@ -57,6 +57,22 @@ def test_who_may_assume_which_role():
     same(found, wanted)
 
 
+def test_an_object_has_the_policy_of_its_bucket():
+    policy, own = (
+        document({"Effect": effect, "Principal": "*", "Action": "s3:GetObject", "Resource": "*"})
+        for effect in ("Allow", "Deny")
+    )
+    given = [
+        {"arn": "arn:aws:s3:::b/k"},
+        {"arn": "arn:aws:s3:::b", "policy": policy},
+        {"arn": "arn:aws:s3:::b/own", "policy": own},
+        {"arn": "arn:aws:s3:::bb/k"},
+    ]
+    resources = file([{**it, "account": "111122223333"} for it in given])
+    made = world("--resources", resources, "--actions", file("s3:GetObject\n"), data("account.json"))
+    same([it.get("policy") for it in made["resources"]], [policy, policy, own, None])
+
+
 def test_policies_of_groups_versions_and_paths():
     made = world(data("account.json"))
     same(
