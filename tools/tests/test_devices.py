@@ -97,7 +97,11 @@ def leaves(words, world, wanted):
             program.stdout.close()
         program.stdin.write(world)
         program.stdin.close()
-        found = b"" if wanted == 0 else os.read(program.stdout.fileno(), wanted)
+        found = b""
+        while len(found) < wanted:
+            piece = os.read(program.stdout.fileno(), wanted - len(found))
+            assert piece, f"{words}: the answer ends behind {len(found)} bytes"
+            found += piece
         program.stdout.close()
         said = program.stderr.read()
         return found, program.wait(60), said
