@@ -1,5 +1,5 @@
 -- What was found of pairs stays right where more is found.
-use Rattle.std.proofs.Common.{◌≡◌, inl, inr, ℕ, ◌+◌, List, [], ◌∷◌, ◌++◌, length, Some, sym, ap, subst}
+use Rattle.std.proofs.Common.{◌≡◌, inl, inr, ℕ, ◌+◌, List, [], ◌∷◌, ◌++◌, length, Some, sym, subst}
 use Rattle.std.specs.List.{slice_get}
 use Rattle.iam_decision.specs.Living.{SharedValue}
 use Rattle.iam_world.specs.World.{WorldValue}

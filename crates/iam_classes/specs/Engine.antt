@@ -4,7 +4,7 @@ use Rattle.std.specs.List.{slice_get}
 use Rattle.iam_decision.specs.Ruling.{RulingValue}
 use Rattle.iam_layers.specs.Cell.{IsSharedAt, IsVerdictAt}
 use Rattle.iam_world.specs.World.{WorldValue}
-use Rattle.iam_classes.specs.Memo.{HasClass}
+use Rattle.iam_classes.specs.Memo.{HasClass, HasNumber}
 use Rattle.iam_classes.specs.declared.memo.Class.{Class}
 
 -- the world whose cells it decides, and the classes of requests and the verdicts, with what they follow from, that it keeps, by number
@@ -16,6 +16,10 @@ pub record EngineValue : Type 0 where
 -- requests of principal p for resource r are of this class
 abbrev pub IsClassAt : EngineValue → ℕ → ℕ → ℕ → Type 0
 IsClassAt engine p r n = HasClass engine.world engine.classes p r n
+
+-- the verdict of this number is the one on the requests of a class for action a
+abbrev pub IsNumberOf : EngineValue → ℕ → ℕ → ℕ → Type 0
+IsNumberOf engine n a number = HasNumber engine.world engine.classes engine.rulings n a number
 
 -- there is such a class, and P holds of each principal and resource whose requests are of it
 abbrev pub OfClass : EngineValue → ℕ → (ℕ → ℕ → Type 0) → Type 0

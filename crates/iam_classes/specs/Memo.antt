@@ -18,7 +18,6 @@ use Rattle.iam_index.specs.Slots.{AllAre}
 use Rattle.iam_index.specs.declared.elements.Element.{Element}
 use Rattle.iam_classes.specs.declared.memo.Answer.{Answer}
 use Rattle.iam_classes.specs.declared.memo.Class.{Class}
-use Rattle.iam_classes.specs.declared.memo.Memo.{Memo}
 use Rattle.iam_classes.specs.declared.memo.Pair.{Pair}
 
 -- requests of the class share this
@@ -70,8 +69,10 @@ HaveRows elements classes =
     (n : ℕ) (class : Class) → slice_get classes n ≡ Some class → AreElementNumbers elements class.shared.living class.rows.items
 
 -- everything that is kept is right
-pub record IsRight (world : WorldValue) (memo : Memo) : Type 0 where
-  pub pairs : ArePairs world memo.classes.items memo.pairs.items
-  pub answers : AreAnswers world memo.classes.items memo.rulings.items memo.answers.items
-  pub elements : AreElements world memo.elements.now.elements.items
-  pub rows : HaveRows memo.elements.now.elements.items memo.classes.items
+pub record IsRight
+    (world : WorldValue) (elements : List Element) (classes : List Class) (rulings : List RulingValue) (pairs : List (Option Pair))
+    (answers : List (Option Answer)) : Type 0 where
+  pub pairs_are : ArePairs world classes pairs
+  pub answers_are : AreAnswers world classes rulings answers
+  pub elements_are : AreElements world elements
+  pub rows_are : HaveRows elements classes

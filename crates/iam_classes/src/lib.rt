@@ -6,6 +6,7 @@ mod engine;
 mod held;
 mod keys;
 mod memo;
+mod source;
 mod survey;
 
 pub use engine::ClassEngine;

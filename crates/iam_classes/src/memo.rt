@@ -1,19 +1,13 @@
 // What an engine keeps: the classes of pairs, the acts of action elements, and verdicts by their numbers.
-ghost use Rattle.std.specs.Prelude.{◌≡◌, ◌+◌, ◌<◌, ◌≤◌, IfOk, IfSome, OnOk, Some, false, length};
-ghost use Rattle.std.specs.List.{slice_get};
-ghost use Rattle.iam_layers.specs.Cell.{IsAction, IsSharedAt};
-ghost use Rattle.iam_world.specs.World.{WorldValue};
-ghost use Rattle.iam_index.specs.Elements.{AreElements};
-ghost use Rattle.iam_classes.specs.Engine.{HasMore};
-ghost use Rattle.iam_classes.specs.Memo.{HasClass, HasNumber, HasRuling, HasShared, IsRight, Finds};
-ghost use Rattle.iam_classes.specs.declared.memo.Class.{Class};
+ghost use Rattle.std.specs.Prelude.{◌≡◌};
 
 use crate::held::Held;
 use iam_decision::acting_are_found;
-use iam_index::{Elements, WIDTH, empty, empty_slots, keep, kept, slot_at, slot_of};
-use iam_layers::{Frame, Matched, Ruling, Shared};
+use iam_index::{Elements, Index, WIDTH, empty, empty_slots, keep, kept, slot_at, slot_of};
+use iam_layers::{Frame, Matched, Ruling, Shared, Verdict, World};
 use iam_text::OutOfMemory;
 use std::alloc::Global;
+use std::marker::Model;
 
 /// How many statements, how many pairs, how many answers and how many verdicts the engines of a run keep together at most;
 /// of pairs and answers up to twice as many.
@@ -88,59 +82,95 @@ pub struct Found {
     pub cleared: bool,
 }
 
-/// What is kept: requests that share the same are a class, and of some classes and actions the verdict is known.
+/// Room for so many more statements, and how many there are at most.
+#[derive(Clone, Copy)]
+struct Room {
+    left: usize,
+    most: usize,
+}
+
+impl Room {
+    ghost use Rattle.std.specs.Prelude.{◌≡◌, ◌+◌, ◌<◌, ◌≤◌, false, true};
+
+    /// Takes room for so many statements; where there is none, all of it is free again before. Whether it was so.
+    fn take(&mut self, statements: usize) -> bool
+        ensures most { self.new.most ≡ self.old.most }
+        ensures taken { statements ≤ self.old.left → (result ≡ false) × (self.new.left + statements ≡ self.old.left) }
+        ensures freed { self.old.left < statements → (result ≡ true) × (statements ≤ self.old.most → self.new.left + statements ≡ self.old.most) }
+    {
+        if statements <= self.left {
+            self.left -= statements;
+            return false;
+        }
+        self.left = self.most.saturating_sub(statements);
+        true
+    }
+}
+
+/// What is kept: requests that share the same are a class, and of some classes and actions the verdict is known. A contract
+/// sees the world, the classes, and the verdicts with what they follow from.
 #[derive(Drop)]
 pub struct Memo<'a> {
-    pub classes: Vec<Class<'a>>,
-    pub rulings: Vec<Ruling>,
-    pub elements: &'a Elements<'a>,
-    pub pairs: Vec<Option<Pair>>,
-    pub answers: Vec<Option<Answer>>,
+    world: &'a World,
+    elements: &'a Elements<'a>,
+    classes: Vec<Class<'a>>,
+    rulings: Vec<Ruling>,
+    pairs: Vec<Option<Pair>>,
+    answers: Vec<Option<Answer>>,
     // By a print the class, and the ruling, that was last found with it: a hint.
     class_prints: Vec<Option<usize>>,
     ruling_prints: Vec<Option<usize>>,
     // How many resources there are: as wide are the rows of pairs.
     resources: u64,
-    // How many further statements may be kept, and how many when nothing is.
-    room: usize,
-    most_statements: usize,
+    room: Room,
     most_verdicts: usize,
 }
 
+impl<'a> Model for Memo<'a> {
+    ghost use Rattle.iam_classes.specs.Engine.{EngineValue};
+    ghost use Rattle.iam_classes.specs.Memo.{IsRight};
+
+    ghost Value = { EngineValue };
+
+    ghost view = { λ memo. record { world = memo.world.now; classes = memo.classes.items; rulings = memo.rulings.items } };
+
+    ghost invariant = { λ memo. IsRight memo.world.now memo.elements.now.elements.items memo.classes.items memo.rulings.items memo.pairs.items memo.answers.items };
+}
+
 impl<'a> Memo<'a> {
-    /// A memo that keeps nothing, one of so many that share the bounds, for a world of so many principals, actions and
-    /// resources, whose action elements are these.
-    pub fn new(
-        alloc: Global,
-        elements: &'a Elements<'a>,
-        principals: u64,
-        actions: u64,
-        resources: u64,
-        memos: u32,
-    ) -> Result<Memo<'a>, OutOfMemory>
-        ensures { (world : WorldValue) → AreElements world elements.entry.now.elements.items → IfOk result (IsRight world) }
+    ghost use Rattle.std.specs.Prelude.{◌≡◌, ◌<◌, ℕ, IfOk, IfSome, OnOk, Some, false, length};
+    ghost use Rattle.std.specs.List.{slice_get};
+    ghost use Rattle.iam_layers.specs.Cell.{IsAction, IsSharedAt, IsVerdictAt};
+    ghost use Rattle.iam_classes.specs.Engine.{HasMore, IsClassAt, IsNumberAt, IsNumberOf};
+    ghost use Rattle.iam_classes.specs.Memo.{Finds, HasRuling, HasShared};
+    ghost use Rattle.iam_classes.specs.declared.memo.Class.{Class};
+
+    /// A memo of the world of an index, one of so many that share the bounds, which keeps nothing yet.
+    pub fn new(alloc: Global, index: &'a Index<'a>, memos: u32) -> Result<Memo<'a>, OutOfMemory>
+        ensures { IfOk result (λ memo. memo.world ≡ index.entry.now) }
     {
+        let world = index.world();
         let memos = memos.max(1);
-        let all = principals.saturating_mul(resources);
+        let all = world.principals().saturating_mul(world.resources());
         // Where there is one action, no requests share anything.
-        let pairs = if actions > 1 {
+        let pairs = if world.actions() > 1 {
             all.min(MOST_PAIRS / memos as u64)
         } else {
             0
         };
-        let answers = all.max(WIDTH).saturating_mul(actions);
-        let most_statements = MOST_STATEMENTS / memos as usize;
+        let answers = all.max(WIDTH).saturating_mul(world.actions());
+        let most = MOST_STATEMENTS / memos as usize;
         Ok(Memo {
+            world,
+            elements: index.elements(),
             classes: Vec::new(alloc),
             rulings: Vec::new(alloc),
-            elements,
             pairs: empty_slots(alloc, pairs)?,
             answers: empty_slots(alloc, answers.min(MOST_ANSWERS / memos as u64))?,
             class_prints: empty_slots(alloc, PRINTS)?,
             ruling_prints: empty_slots(alloc, PRINTS)?,
-            resources,
-            room: most_statements,
-            most_statements,
+            resources: world.resources(),
+            room: Room { left: most, most },
             most_verdicts: MOST_VERDICTS / memos as usize,
         })
     }
@@ -148,7 +178,7 @@ impl<'a> Memo<'a> {
     /// The class of principal p and resource r, where it is known.
     #[inline(always)]
     pub fn class_of(&self, p: u64, r: u64) -> Option<usize>
-        ensures { (world : WorldValue) → IsRight world self.now → IfSome result (HasClass world self.now.classes.items p r) }
+        ensures { IfSome result (IsClassAt self.now p r) }
     {
         let pair = kept(
             self.pairs.as_slice(),
@@ -169,9 +199,10 @@ impl<'a> Memo<'a> {
         r: u64,
         shared: Held<'a>,
     ) -> Result<Found, OutOfMemory>
-        ensures right { (world : WorldValue) → IsRight world self.old → IsSharedAt world p r shared.entry → IsRight world self.new }
-        ensures class { (world : WorldValue) → IsSharedAt world p r shared.entry → IfOk result (λ found. HasClass world self.new.classes.items p r found.class) }
-        ensures kept { IfOk result (λ found. found.cleared ≡ false → HasMore self.old.classes.items self.new.classes.items) }
+        requires { IsSharedAt self.old.world p r shared }
+        ensures class { IfOk result (λ found. IsClassAt self.new p r found.class) }
+        ensures kept { IfOk result (λ found. found.cleared ≡ false → HasMore self.old.classes self.new.classes) }
+        ensures same { self.new.world ≡ self.old.world }
     {
         let found = self.class_sharing(alloc, shared)?;
         if let Some(pair) = Pair::of(p, r, found.class) {
@@ -184,9 +215,9 @@ impl<'a> Memo<'a> {
     /// The class of requests that share this: one that is there, or a new one. Where there is no room for a new one,
     /// everything that was kept is let go.
     fn class_sharing(&mut self, alloc: Global, shared: Held<'a>) -> Result<Found, OutOfMemory>
-        ensures right { (world : WorldValue) → IsRight world self.old → IsRight world self.new }
-        ensures class { IfOk result (λ found. HasShared self.new.classes.items shared.entry found.class) }
-        ensures kept { IfOk result (λ found. found.cleared ≡ false → HasMore self.old.classes.items self.new.classes.items) }
+        ensures class { IfOk result (λ found. HasShared self.new.classes shared.entry found.class) }
+        ensures kept { IfOk result (λ found. found.cleared ≡ false → HasMore self.old.classes self.new.classes) }
+        ensures same { self.new.world ≡ self.old.world }
     {
         let print = shared.get().print();
         if let Some(class) = self.class_printed(print, shared.get()) {
@@ -196,14 +227,17 @@ impl<'a> Memo<'a> {
             });
         }
         // A class without statements takes room too.
-        let cleared = self.make_room(shared.get().living().len().saturating_add(1));
+        let cleared = self
+            .room
+            .take(shared.get().living().len().saturating_add(1));
+        self.clear_if(cleared);
         let class = self.add(alloc, print, shared)?;
         Ok(Found { class, cleared })
     }
 
     /// The class that was last found with this print, if its requests share just this.
     fn class_printed(&self, print: u64, shared: &Shared<'_>) -> Option<usize>
-        ensures { IfSome result (HasShared self.now.classes.items shared.now) }
+        ensures { IfSome result (HasShared self.now.classes shared.now) }
     {
         let class = kept(
             self.class_prints.as_slice(),
@@ -216,30 +250,24 @@ impl<'a> Memo<'a> {
         }
     }
 
-    /// Takes room for so many statements, and lets go everything that is kept where there is none; whether it did.
-    fn make_room(&mut self, statements: usize) -> bool
-        ensures right { (world : WorldValue) → IsRight world self.old → IsRight world self.new }
-        ensures taken { statements ≤ self.old.room → self.new.room + statements ≡ self.old.room }
-        ensures cleared { self.old.room < statements → statements ≤ self.old.most_statements → self.new.room + statements ≡ self.old.most_statements }
-        ensures kept { result ≡ false → self.new.classes ≡ self.old.classes }
+    /// Lets go everything that is kept, where that has to be.
+    fn clear_if(&mut self, cleared: bool)
+        ensures kept { cleared ≡ false → self.new.classes ≡ self.old.classes }
+        ensures same { self.new.world ≡ self.old.world }
     {
-        match self.room.checked_sub(statements) {
-            Some(room) => {
-                self.room = room;
-                false
-            }
-            None => {
-                self.clear(statements);
-                true
-            }
+        if cleared {
+            empty(&mut self.pairs);
+            empty(&mut self.answers);
+            self.classes.clear();
+            self.rulings.clear();
         }
     }
 
     /// Adds the class of requests that share this.
     fn add(&mut self, alloc: Global, print: u64, shared: Held<'a>) -> Result<usize, OutOfMemory>
-        ensures right { (world : WorldValue) → IsRight world self.old → IsRight world self.new }
-        ensures class { IfOk result (HasShared self.new.classes.items shared.entry) }
-        ensures kept { OnOk result (HasMore self.old.classes.items self.new.classes.items) }
+        ensures class { IfOk result (HasShared self.new.classes shared.entry) }
+        ensures kept { OnOk result (HasMore self.old.classes self.new.classes) }
+        ensures same { self.new.world ≡ self.old.world }
     {
         let rows = self.elements.rows(alloc, shared.get().living())?;
         let class = self.classes.len();
@@ -252,23 +280,31 @@ impl<'a> Memo<'a> {
         Ok(class)
     }
 
-    /// Lets go everything that is kept, and takes room for so many statements.
-    fn clear(&mut self, statements: usize)
-        ensures right { (world : WorldValue) → IsRight world self.old → IsRight world self.new }
-        ensures taken { statements ≤ self.old.most_statements → self.new.room + statements ≡ self.old.most_statements }
+    /// The number of the verdict on requests of the class for action a. Room for the statements that match them is lent.
+    #[inline(always)]
+    pub fn number(
+        &mut self,
+        alloc: Global,
+        found: &mut Vec<Matched>,
+        class: usize,
+        a: u64,
+    ) -> Result<usize, OutOfMemory>
+        requires action { a < length self.old.world.actions }
+        requires class { class < length self.old.classes }
+        ensures number { IfOk result (IsNumberOf self.new class a) }
+        ensures classes { self.new.classes ≡ self.old.classes }
+        ensures same { self.new.world ≡ self.old.world }
     {
-        empty(&mut self.pairs);
-        empty(&mut self.answers);
-        self.classes.clear();
-        self.rulings.clear();
-        self.room = self.most_statements.saturating_sub(statements);
+        match self.number_of(class, a) {
+            Some(number) => Ok(number),
+            None => self.find_number(alloc, found, class, a),
+        }
     }
 
     /// The number of the verdict on requests of the class for action a, where it is known.
     #[inline(always)]
-    pub fn number_of(&self, class: usize, a: u64) -> Option<usize>
-        ensures { (world : WorldValue) → IsRight world self.now
-            → IfSome result (HasNumber world self.now.classes.items self.now.rulings.items class a) }
+    fn number_of(&self, class: usize, a: u64) -> Option<usize>
+        ensures { IfSome result (IsNumberOf self.now class a) }
     {
         let answer = kept(
             self.answers.as_slice(),
@@ -281,12 +317,31 @@ impl<'a> Memo<'a> {
         }
     }
 
-    /// Keeps the number of the verdict on requests of the class for action a.
-    pub fn keep_number(&mut self, class: usize, a: u64, number: usize)
-        ensures right { (world : WorldValue) → IsRight world self.old → HasNumber world self.old.classes.items self.old.rulings.items class a number
-            → IsRight world self.new }
+    /// The same where it is not known, from the statements of the class that act on it.
+    #[inline(never)]
+    fn find_number(
+        &mut self,
+        alloc: Global,
+        found: &mut Vec<Matched>,
+        class: usize,
+        a: u64,
+    ) -> Result<usize, OutOfMemory>
+        requires action { a < length self.old.world.actions }
+        requires class { class < length self.old.classes }
+        ensures number { IfOk result (IsNumberOf self.new class a) }
         ensures classes { self.new.classes ≡ self.old.classes }
-        ensures same { self.new.rulings ≡ self.old.rulings }
+        ensures same { self.new.world ≡ self.old.world }
+    {
+        let frame = self.find(found, class, a, self.world.action_text(a))?;
+        let number = self.ruling(alloc, frame, found.as_slice())?;
+        self.keep_number(class, a, number);
+        Ok(number)
+    }
+
+    /// Keeps the number of the verdict on requests of the class for action a.
+    fn keep_number(&mut self, class: usize, a: u64, number: usize)
+        requires { IsNumberOf self.old class a number }
+        ensures { self.new ≡ self.old }
     {
         if let Some(answer) = Answer::of(class, a, number) {
             let slot = slot_of(a, class as u64, self.answers.len());
@@ -296,16 +351,16 @@ impl<'a> Memo<'a> {
 
     /// Puts the statements that match requests of the class for action a, which has this text, into `found`, in place of what
     /// is there; what is asked beside them.
-    pub fn find(
+    fn find(
         &self,
         found: &mut Vec<Matched>,
         class: usize,
         a: u64,
         text: &str,
     ) -> Result<Frame, OutOfMemory>
-        requires { class < length self.now.classes.items }
-        ensures { (world : WorldValue) (class_is : Class) → IsRight world self.now → slice_get self.now.classes.items class ≡ Some class_is
-            → IsAction world a text.now → IfOk result (λ frame. Finds world class_is.shared text.now frame found.new.items) }
+        requires { class < length self.now.classes }
+        ensures { (it : Class) → slice_get self.now.classes class ≡ Some it → IsAction self.now.world a text.now
+            → IfOk result (λ frame. Finds self.now.world it.shared text.now frame found.new.items) }
     {
         let class = &self.classes[class];
         let rows = class.rows.as_slice();
@@ -317,15 +372,15 @@ impl<'a> Memo<'a> {
     }
 
     /// The number of the verdict that follows from this; it is made where it is not kept.
-    pub fn ruling(
+    fn ruling(
         &mut self,
         alloc: Global,
         frame: Frame,
         found: &[Matched],
     ) -> Result<usize, OutOfMemory>
-        ensures right { (world : WorldValue) → IsRight world self.old → IsRight world self.new }
-        ensures same { self.new.classes ≡ self.old.classes }
-        ensures number { IfOk result (HasRuling self.new.rulings.items frame found.now) }
+        ensures number { IfOk result (HasRuling self.new.rulings frame found.now) }
+        ensures classes { self.new.classes ≡ self.old.classes }
+        ensures same { self.new.world ≡ self.old.world }
     {
         let slot = slot_of(0, Ruling::print(frame, found), PRINTS as usize);
         if let Some(number) = self.ruling_at(slot, frame, found) {
@@ -341,7 +396,7 @@ impl<'a> Memo<'a> {
 
     /// The ruling that a slot has, if it follows from just this.
     fn ruling_at(&self, slot: u64, frame: Frame, found: &[Matched]) -> Option<usize>
-        ensures { IfSome result (HasRuling self.now.rulings.items frame found.now) }
+        ensures { IfSome result (HasRuling self.now.rulings frame found.now) }
     {
         let number = kept(self.ruling_prints.as_slice(), slot)?;
         if number < self.rulings.len() && self.rulings[number].is_on(frame, found) {
@@ -353,12 +408,21 @@ impl<'a> Memo<'a> {
 
     /// Lets go the verdicts and the answers where there are too many.
     fn bound_rulings(&mut self)
-        ensures right { (world : WorldValue) → IsRight world self.old → IsRight world self.new }
-        ensures same { self.new.classes ≡ self.old.classes }
+        ensures classes { self.new.classes ≡ self.old.classes }
+        ensures same { self.new.world ≡ self.old.world }
     {
         if self.rulings.len() >= self.most_verdicts {
             empty(&mut self.answers);
             self.rulings.clear();
         }
+    }
+
+    /// The verdict of a number, on the request that has it.
+    #[inline(always)]
+    pub fn verdict(&self, number: usize) -> &Verdict
+        requires { number < length self.now.rulings }
+        ensures { (p a r : ℕ) → IsNumberAt self.now p a r number → IsVerdictAt self.now.world p a r result.now }
+    {
+        self.rulings[number].verdict()
     }
 }

@@ -1,6 +1,6 @@
 // Where a tile has what was said of cells of a class, so that it is said again of the next.
-ghost use Rattle.std.specs.Prelude.{◌≡◌, Bool, List, IfOk, IfSome, OnOk};
-ghost use Rattle.iam_classes.specs.Engine.{EngineValue, IsClassAt};
+ghost use Rattle.std.specs.Prelude.{◌≡◌, Bool, List, IfSome};
+ghost use Rattle.iam_classes.specs.Engine.{EngineValue};
 ghost use Rattle.iam_decision.specs.declared.verdict.Verdict.{Verdict};
 ghost use Rattle.iam_matrix.specs.Code.Leads.{AreLeads, HasEntry, IsLead};
 

@@ -1,10 +1,9 @@
 -- Rows that follow one another, put into a block, and what is written of them.
-use Rattle.std.proofs.Common.{◌≡◌, ℕ, zero, suc, ◌+◌, ◌-◌, ◌<◌, ◌≤◌, All, List, [], ◌∷◌, ◌++◌, Option, length, map, nat_lt, Some, slice_get, take, drop, get_or, refl, sym, ap, ◌∙◌, subst, arith, append_assoc, append-nil}
-use Rattle.std.proofs.Math.Seq.{take-add, take-append_seam}
+use Rattle.std.proofs.Common.{◌≡◌, ℕ, zero, suc, ◌+◌, ◌-◌, ◌<◌, ◌≤◌, List, [], ◌∷◌, ◌++◌, Option, length, map, nat_lt, Some, slice_get, take, drop, get_or, sym, ap, ◌∙◌, subst, arith, append_assoc, append-nil}
+use Rattle.std.proofs.Math.Seq.{take-add}
 use Rattle.std.proofs.KnownBytes.{Appends-trans}
 use Rattle.std.proofs.lemmas.Bool.{lt-ltb}
 use Rattle.std.proofs.lemmas.List.{drop-append-le, drop-map, length-drop, map-append, take-append-le, take-map, take_more}
-use Rattle.std.proofs.lemmas.List.Elements.{All-take}
 use Rattle.std.proofs.lemmas.Option.{get_or_from_slice_get, slice_get_within}
 use Rattle.std.specs.Io.KnownBytes.{Appends}
 use Rattle.iam_report.specs.Code.Buffer.{Passes, PutsRows}
@@ -46,9 +45,6 @@ behind_next actions resources at n =
     ap (λ m. behind_rows actions resources at m) one
 
 -- ---- rows
-
-pub adds_none : (quoted : Quoted) (at : Position) (text : List ℕ) → AddsRows quoted [] at at text text
-adds_none quoted at text = record { text = []; rows = λ more. refl; added = sym (append-nil text) }
 
 -- one more row
 pub adds_next : (quoted : Quoted) (tails : List Tail) (tail : Tail) (at here : Position) (old mid new : List ℕ) → AddsRows quoted tails at here old mid
@@ -110,15 +106,7 @@ picked_part {A} none items narrow wide numbers i n e few =
     ap (λ (l : List ℕ). take n (drop i (map f l))) e ∙ ap (take n) (drop-map f i (narrow ++ wide)) ∙ take-map f n (drop i (narrow ++ wide))
     ∙ ap (λ (l : List ℕ). map f (take n l)) (drop-append-le i narrow wide here) ∙ ap (map f) (take-append-le n (drop i narrow) wide there)
 
-pub all_narrow : (P : ℕ → Type 0) (narrow wide numbers : List ℕ) → numbers ≡ narrow ++ wide → All P numbers → All P narrow
-all_narrow P narrow wide numbers e known =
-    subst (All P) (ap (take (length narrow)) e ∙ take-append_seam narrow wide) (All-take P (length narrow) numbers known)
-
 -- ---- what is kept, and a block
-
--- three texts, one behind the other
-pub three_parts : (old w r b x y z : List ℕ) → x ≡ old ++ w → y ≡ x ++ r → z ≡ y ++ b → z ≡ old ++ (w ++ (r ++ b))
-three_parts old w r b x y z e f g = g ∙ ap (λ l. l ++ b) (f ∙ ap (λ l. l ++ r) e) ∙ append_assoc (old ++ w) r b ∙ append_assoc old w (r ++ b)
 
 -- all was written, and then a text was taken
 pub passes_behind : (a b c : Option (List ℕ)) (k l m s : List ℕ) → l ≡ [] → Appends a b k → Passes b c l m s → Passes a c k m s

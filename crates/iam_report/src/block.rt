@@ -6,6 +6,9 @@ use std::marker::Model;
 /// How many bytes a block has room for.
 const ROOM: usize = 65_536;
 
+/// A block with room for fewer bytes counts as full, so that rows need not be tried one by one at its end.
+const SPARE: usize = 4096;
+
 /// Bytes, of which the first count. A contract sees these.
 #[derive(Drop)]
 pub struct Block {
@@ -129,8 +132,22 @@ fn copy_few(place: &mut [u8], text: &[u8])
     }
 }
 
+/// Copies a text, quickest where it has 8 to 16 bytes.
+#[inline(always)]
+fn copy_small(place: &mut [u8], text: &[u8])
+    requires { length place.old ≡ length text.now }
+    ensures { place.new ≡ text.now }
+{
+    let count = text.len();
+    if count >= 8 && count <= 16 {
+        copy_ends::<8>(place, text);
+    } else {
+        copy_text(place, text);
+    }
+}
+
 impl Block {
-    ghost use Rattle.std.specs.Prelude.{◌≡◌, ◌++◌, ◌+◌, ◌≤◌, [], IsTrue, false, length, take};
+    ghost use Rattle.std.specs.Prelude.{◌≡◌, ◌++◌, ◌+◌, ◌<◌, ◌≤◌, [], IsTrue, false, length, take};
 
     /// No bytes.
     pub fn new() -> Block
@@ -159,9 +176,20 @@ impl Block {
     /// Whether there is room for so many bytes more.
     #[inline(always)]
     pub fn has_room(&self, count: usize) -> bool
-        ensures { IsTrue result → length self.now + count ≤ 65536 }
+        ensures room { IsTrue result → length self.now + count ≤ 65536 }
+        ensures full { result ≡ false → 65536 < length self.now + count }
     {
         count <= ROOM - self.filled
+    }
+
+    /// Whether there is room for so many bytes more, fewer than a block has room for.
+    #[inline(always)]
+    pub fn has_spare(&self, count: usize) -> bool
+        requires { count ≤ 65536 }
+        ensures room { IsTrue result → length self.now + count ≤ 65536 }
+        ensures full { result ≡ false → 65536 < length self.now + count }
+    {
+        self.filled <= ROOM - count
     }
 
     /// Puts a text behind the others.
@@ -175,6 +203,17 @@ impl Block {
         self.filled = end;
     }
 
+    /// Puts a text behind the others, quickest where it has 8 to 16 bytes.
+    #[inline(always)]
+    pub fn put_short(&mut self, text: &[u8])
+        requires { length self.old + length text.now ≤ 65536 }
+        ensures { self.new ≡ self.old ++ text.now }
+    {
+        let end = self.filled + text.len();
+        copy_small(&mut self.bytes[self.filled..end], text);
+        self.filled = end;
+    }
+
     /// Puts a text behind the others that stands at the front of some bytes. So many of them are copied, whatever its length.
     #[inline(always)]
     pub fn put_front<const N: usize>(&mut self, bytes: &[u8], count: usize)
@@ -183,21 +222,23 @@ impl Block {
         requires room { length self.old + N ≤ 65536 }
         ensures { self.new ≡ self.old ++ take count bytes.now }
     {
-        let end = self.filled + N;
-        copy_chunk::<N>(&mut self.bytes[self.filled..end], &bytes[..N]);
-        self.filled += count;
+        let start = self.filled;
+        let end = start + N;
+        copy_chunk::<N>(&mut self.bytes[start..end], &bytes[..N]);
+        self.filled = start + count;
     }
 
     /// Puts three texts behind the others as one, where there is room for it.
     pub fn put_three(&mut self, first: &[u8], second: &[u8], third: &[u8]) -> bool
         ensures put { IsTrue result → self.new ≡ self.old ++ (first.now ++ (second.now ++ third.now)) }
         ensures none { result ≡ false → self.new ≡ self.old }
+        ensures full { result ≡ false → 61440 < length self.old + (length first.now + (length second.now + length third.now)) }
     {
         let count = first
             .len()
             .saturating_add(second.len())
             .saturating_add(third.len());
-        if !self.has_room(count) {
+        if !self.has_room(SPARE) || !self.has_room(count) {
             return false;
         }
         self.put(first);

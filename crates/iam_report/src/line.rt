@@ -1,5 +1,5 @@
 // Rows that share what stands beside the number of their cells.
-ghost use Rattle.std.specs.Prelude.{◌≡◌, ◌++◌, ◌+◌, ◌-◌, ◌<◌, ◌≤◌, All, IsTrue, Some, decimal, false, length, slice_get, take};
+ghost use Rattle.std.specs.Prelude.{◌≡◌, ◌++◌, ◌+◌, ◌-◌, ◌<◌, ◌≤◌, [], All, IsTrue, Some, decimal, false, get_or, length, slice_get, take};
 ghost use Rattle.iam_report.specs.Code.Buffer.{IsWithin};
 ghost use Rattle.iam_report.specs.Code.Line.{HasSides, before_of, behind_of, tail_at};
 ghost use Rattle.iam_report.specs.Code.Run.{AddsRows, IsBefore, behind_in, behind_rows, further};
@@ -8,7 +8,7 @@ ghost use Rattle.iam_row.specs.Piece.{row_at};
 
 use crate::block::Block;
 use crate::front::Front;
-use iam_row::{Format, Position, Quoted, Tail, text_at};
+use iam_row::{Format, Position, Quoted, Tail, Text, text_at};
 use iam_tiles::Numbers;
 use std::marker::Model;
 
@@ -87,12 +87,12 @@ fn put_three<const N: usize>(block: &mut Block, front: &Front, resource: &[u8], 
     ensures none { result ≡ false → block.new ≡ block.old }
 {
     let count = front.len();
-    if count > N || resource.len() > MOST || back.len() > MOST || !block.has_room(N + 2 * MOST) {
+    if count > N || resource.len() > MOST || back.len() > MOST || !block.has_spare(N + 2 * MOST) {
         return false;
     }
     block.put_front::<N>(front.bytes(), count);
     block.put(resource);
-    block.put(back);
+    block.put_short(back);
     true
 }
 
@@ -100,6 +100,7 @@ fn put_three<const N: usize>(block: &mut Block, front: &Front, resource: &[u8], 
 fn rows_left(resources: u64, at: u64, most: usize) -> usize
     ensures left { result ≤ resources - at }
     ensures most { result ≤ most }
+    ensures all { result < most → result ≡ resources - at }
 {
     let left = resources.saturating_sub(at);
     if left < most as u64 {
@@ -107,6 +108,15 @@ fn rows_left(resources: u64, at: u64, most: usize) -> usize
     } else {
         most
     }
+}
+
+/// The text of resource r.
+#[inline(always)]
+fn resource_at(resources: &[Text], r: u64) -> &str
+    requires { r < length resources.now }
+    ensures { result.now ≡ get_or resources.entry.now r [] }
+{
+    resources[r as usize].as_str()
 }
 
 /// Number i of these.
@@ -194,6 +204,7 @@ impl<'a> Line<'a> {
     }
 
     /// Puts the number of another cell into the front, where it has as many digits.
+    #[inline(never)]
     fn renumber(&mut self, cell: u64) -> bool
         requires { IsTrue self.old.is_made }
         ensures quoted { self.new.quoted ≡ self.old.quoted }
@@ -309,12 +320,19 @@ impl<'a> Line<'a> {
         self.has_tail(tail) && self.count_up(at.cell)
     }
 
-    /// Puts the next row, with the same principal and action, where this is quick.
+    /// Puts the next row, with the same principal and action, and this resource, where this is quick.
     #[inline(always)]
-    fn put_next<const N: usize>(&mut self, block: &mut Block, at: Position, tail: usize) -> bool
+    fn put_next<const N: usize>(
+        &mut self,
+        block: &mut Block,
+        at: Position,
+        tail: usize,
+        resource: &str,
+    ) -> bool
         requires size { N ≤ 256 }
         requires before { IsBefore self.old at }
         requires tail { tail < length self.old.tails }
+        requires resource { resource.now ≡ get_or self.old.quoted.resources at.resource [] }
         requires later { 0 < at.cell }
         ensures quoted { self.new.quoted ≡ self.old.quoted }
         ensures tails { self.new.tails ≡ self.old.tails }
@@ -325,12 +343,12 @@ impl<'a> Line<'a> {
         if !self.make_next(at, tail) {
             return false;
         }
-        let resource = text_at(self.quoted.resources.as_slice(), at.resource);
-        let back = self.tails[tail].back.as_str();
+        let back = self.tail(tail).back.as_str();
         put_three::<N>(block, &self.front, resource.as_bytes(), back.as_bytes())
     }
 
     /// Puts the rows from a position on, which have the tails of these numbers, as long as each is quick; how many.
+    #[inline(never)]
     fn put_run<const N: usize>(&mut self, block: &mut Block, at: Position, numbers: &[u8]) -> usize
         requires size { N ≤ 256 }
         requires known { All (λ n. n < length self.old.tails) numbers.now }
@@ -342,8 +360,8 @@ impl<'a> Line<'a> {
         ensures most { result ≤ length numbers.now }
         ensures rows { AddsRows self.old.quoted (picked no_tail self.old.tails (take result numbers.now)) at (behind_in self.old.quoted at result) block.old block.new }
     {
-        let resources = self.quoted.resources.as_slice().len() as u64;
-        let most = rows_left(resources, at.resource, numbers.len());
+        let resources = self.quoted.resources.as_slice();
+        let most = rows_left(resources.len() as u64, at.resource, numbers.len());
         for i in 0..most {
             let here = Position {
                 cell: at.cell + i as u64,
@@ -351,7 +369,8 @@ impl<'a> Line<'a> {
                 ..at
             };
             let n = number_at(numbers, i);
-            if !self.put_next::<N>(block, here, n) {
+            let resource = resource_at(resources, here.resource);
+            if !self.put_next::<N>(block, here, n, resource) {
                 return i;
             }
         }

@@ -7,8 +7,8 @@ use Rattle.iam_glob.specs.Glob.{Matches, MatchesFold}
 use Rattle.iam_glob.specs.declared.sign.Sign.{Sign}
 use Rattle.iam_layers.specs.Cell.{IsAction, IsCell, IsPrincipal, IsResource, principal_text}
 use Rattle.iam_layers.specs.Laws.{OneTriple}
-use Rattle.iam_world.specs.World.{PrincipalValue, ResourceValue, WorldValue}
-use Rattle.iam_row.specs.Report.{CellTexts, HasTexts}
+use Rattle.iam_world.specs.World.{ResourceValue, WorldValue}
+use Rattle.iam_row.specs.Report.{HasTexts}
 use Rattle.iam_selection.specs.Selection.{IsMeant, IsSelected, SelectionValue}
 use Rattle.iam_selection.specs.Code.Listing.{AreFlags, IsActionMeant, IsPrincipalMeant, IsResourceMeant}
 

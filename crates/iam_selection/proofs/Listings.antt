@@ -1,6 +1,6 @@
 -- Rows that are put together from pieces are the report of what is asked.
-use Rattle.std.proofs.Common.{◌≡◌, ℕ, zero, suc, ◌+◌, ◌/◌, ◌%◌, ◌<◌, ◌≤◌, ◌==◌, Bool, true, false, List, [], ◌∷◌, ◌++◌, codes, decimal, if◌then◌else◌, length, map, max, refl, sym, ap, subst, ◌∙◌, arith, append_assoc, append-nil}
-use Rattle.std.specs.List.{AllByRecursion, AllZip, concat, flat_map}
+use Rattle.std.proofs.Common.{◌≡◌, ℕ, ◌+◌, ◌/◌, ◌%◌, ◌<◌, ◌≤◌, ◌==◌, Bool, true, false, List, [], ◌∷◌, ◌++◌, codes, if◌then◌else◌, length, max, refl, sym, ap, subst, ◌∙◌, arith, append_assoc, append-nil}
+use Rattle.std.specs.List.{AllByRecursion, AllZip, concat}
 use Rattle.std.proofs.lemmas.Bool.Decides.{nat_tests}
 use Rattle.std.proofs.lemmas.List.{append_cancel_left, length-map}
 use Rattle.std.proofs.Math.Nat.{max-eq_left}
@@ -9,23 +9,21 @@ use Rattle.serde_json.specs.View.{items_of}
 use Rattle.serde_json.specs.Written.{compact_text, items_text}
 use Rattle.iam_decision.specs.declared.verdict.Decision.{Decision}
 use Rattle.iam_decision.specs.declared.verdict.Verdict.{Verdict}
-use Rattle.iam_layers.specs.Cell.{IsCell, IsDecisionOf, IsVerdictOf, principal_text}
+use Rattle.iam_layers.specs.Cell.{IsCell, IsDecisionOf, IsVerdictOf}
 use Rattle.iam_layers.proofs.CellLemmas.{cell_parts}
-use Rattle.iam_world.specs.World.{PrincipalValue, ResourceValue, WorldValue, world_cells}
-use Rattle.iam_row.specs.Piece.{IsQuotedOf, action_piece, brief_tail, closing_text, comma_before, full_tail, opening_text, pieces_at, pieces_of, principal_piece, resource_piece, tail_of}
+use Rattle.iam_world.specs.World.{ResourceValue, WorldValue, world_cells}
+use Rattle.iam_row.specs.Piece.{IsQuotedOf, action_piece, brief_tail, closing_text, comma_before, full_tail, opening_text, pieces_at, pieces_of, resource_piece, tail_of}
 use Rattle.iam_row.specs.Report.{CellTexts, IsCellTexts, brief_line, brief_object, csv_line, full_line, full_object, brief_header, full_header, json_text}
-use Rattle.iam_row.specs.declared.position.Position.{Position}
 use Rattle.iam_row.specs.declared.quoted.Format.{Format}
 use Rattle.iam_row.specs.declared.quoted.Format.TheVariants.{Csv, Json}
 use Rattle.iam_row.specs.declared.quoted.Quoted.{Quoted}
-use Rattle.iam_row.specs.declared.tail.Tail.{Tail}
 use Rattle.iam_row.proofs.Rendered.{brief_rendered, full_rendered}
 use Rattle.iam_row.proofs.Rows.{texts_there}
 use Rattle.iam_row.proofs.Texts.{pieces_there}
 use Rattle.iam_report.specs.Code.Line.{row_behind, text_behind}
-use Rattle.iam_selection.specs.Report.{ArePicked, IsListing, IsRowOf, IsSelectedReport}
+use Rattle.iam_selection.specs.Report.{ArePicked, IsRowOf, IsSelectedReport}
 use Rattle.iam_selection.specs.Selection.{IsAsked, IsPassed, SelectionValue}
-use Rattle.iam_selection.specs.Code.Listing.{AreFound, IsTailed, RowValue, comma_of, lead_of, list_text, position_in, row_text, rows_text}
+use Rattle.iam_selection.specs.Code.Listing.{AreFound, IsTailed, RowValue, comma_of, lead_of, position_in, rows_text}
 use Rattle.iam_selection.proofs.Founds.{cells_of}
 use Rattle.iam_selection.proofs.Picks.{IsBetween, picked_each, picked_rest}
 

@@ -1,18 +1,17 @@
 -- Where a selection says nothing, all cells are listed.
-use Rattle.std.proofs.Common.{◌≡◌, inl, inr, ℕ, zero, suc, ◌+◌, ◌<◌, ◌≤◌, Bool, true, false, List, [], ◌∷◌, ◌++◌, length, Option, None, Some, refl, sym, ap, ◌∙◌, subst, arith, ⊎_elim}
-use Rattle.std.specs.List.{AllZip, slice_get}
+use Rattle.std.proofs.Common.{◌≡◌, inl, inr, ℕ, zero, suc, ◌+◌, ◌<◌, ◌≤◌, true, false, List, [], ◌∷◌, length, Option, None, Some, refl, sym, subst, arith, ⊎_elim}
+use Rattle.std.specs.List.{AllZip}
 use Rattle.iam_layers.specs.Cell.{IsDecisionOf, IsVerdictOf}
 use Rattle.iam_layers.specs.Laws.{SomeTriple}
 use Rattle.iam_world.specs.World.{WorldValue, world_cells}
 use Rattle.iam_row.specs.Report.{AreRowsFrom, CellTexts, brief_line, brief_object, full_line, full_object}
-use Rattle.iam_row.specs.declared.quoted.Format.{Format}
 use Rattle.iam_row.specs.declared.quoted.Format.TheVariants.{Csv, Json}
 use Rattle.iam_row.proofs.Rows.{both_rows, no_rows, one_row, texts_there}
 use Rattle.iam_matrix.specs.Matrix.{AreEntriesFrom, IsFirstAllowed}
 use Rattle.iam_selection.specs.Laws
 use Rattle.iam_selection.specs.Laws.{nothing}
 use Rattle.iam_selection.specs.Report.{ArePicked, IsRowOf}
-use Rattle.iam_selection.specs.Selection.{IsAsked, IsFirstSelected, IsPassed, IsSelected}
+use Rattle.iam_selection.specs.Selection.{IsFirstSelected, IsPassed, IsSelected}
 
 -- each cell is selected
 all_selected : SomeTriple → (world : WorldValue) (cell : ℕ) → cell < world_cells world → IsSelected nothing world cell

@@ -1,17 +1,14 @@
 -- What is asked of a world has one report.
-use Rattle.std.proofs.Common.{◌≡◌, inl, inr, ℕ, ◌+◌, ◌<◌, Bool, true, false, List, [], ◌∷◌, Option, None, Some, refl, sym, ap, ◌∙◌, subst, arith}
+use Rattle.std.proofs.Common.{◌≡◌, inl, inr, ℕ, ◌+◌, true, false, List, [], ◌∷◌, Option, None, Some, refl, sym, ap, ◌∙◌, subst, arith}
 use Rattle.std.specs.List.{AllZip}
 use Rattle.std.proofs.lemmas.Bool.{cases_order}
-use Rattle.iam_decision.specs.declared.verdict.Decision.TheVariants.{Allowed}
 use Rattle.iam_layers.specs.Cell.{IsDecisionOf, IsVerdictOf}
 use Rattle.iam_layers.specs.Laws.{OneDecisionOf, OneTriple, OneVerdictOf}
 use Rattle.iam_world.specs.World.{WorldValue, world_cells}
 use Rattle.iam_row.specs.Laws.{OneBriefRow}
-use Rattle.iam_row.specs.Report.{CellTexts, IsCellTexts, brief_line, brief_object, csv_line, full_line, full_object, brief_header, full_header, json_text}
-use Rattle.iam_row.specs.declared.quoted.Format.{Format}
+use Rattle.iam_row.specs.Report.{CellTexts, IsCellTexts, brief_line, brief_object, full_line, full_object}
 use Rattle.iam_row.specs.declared.quoted.Format.TheVariants.{Csv, Json}
 use Rattle.iam_row.proofs.Rows.{found, one_texts}
-use Rattle.iam_matrix.specs.Matrix.{IsNotAllowed}
 use Rattle.iam_matrix.specs.Report.{IsFirstText}
 use Rattle.iam_matrix.proofs.OneMatrix.{none_allowed, one_first_text}
 use Rattle.iam_selection.specs.Laws

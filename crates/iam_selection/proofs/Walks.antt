@@ -1,12 +1,11 @@
 -- The rows that are asked for, as a walk over cells finds them.
-use Rattle.std.proofs.Common.{◌≡◌, ℕ, ◌+◌, ◌-◌, ◌<◌, ◌≤◌, Bool, List, [], ◌∷◌, ◌++◌, inl, inr, refl, sym, ap, subst, ◌∙◌, append-nil, arith}
+use Rattle.std.proofs.Common.{◌≡◌, ℕ, ◌+◌, ◌-◌, ◌<◌, ◌≤◌, Bool, List, [], ◌∷◌, ◌++◌, inl, inr, sym, subst, ◌∙◌, append-nil, arith}
 use Rattle.std.specs.List.{AllZip}
 use Rattle.std.proofs.lemmas.Slice.Zip.{all_zipped_more}
 use Rattle.iam_decision.specs.declared.verdict.Verdict.{Verdict}
-use Rattle.iam_layers.specs.Cell.{IsDecisionOf}
 use Rattle.iam_world.specs.World.{WorldValue}
 use Rattle.iam_selection.specs.Report.{AreAsked}
-use Rattle.iam_selection.specs.Selection.{IsAsked, IsPassed, IsSelected, IsWanted, SelectionValue}
+use Rattle.iam_selection.specs.Selection.{IsAsked, IsPassed, IsSelected, SelectionValue}
 use Rattle.iam_selection.specs.Code.Listing.{Adds, IsEntryOf}
 use Rattle.iam_selection.proofs.Picks.{picked_none, picked_not, picked_one, picked_to}
 

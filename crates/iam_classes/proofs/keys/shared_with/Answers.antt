@@ -1,11 +1,10 @@
-use Rattle.std.proofs.Common.{◌≡◌, ℕ, List, map, refl, ap, sym, subst, ◌∙◌}
-use Rattle.iam_context.specs.Context.{ContextValue}
+use Rattle.std.proofs.Common.{◌≡◌, refl, ap, sym, subst, ◌∙◌}
 use Rattle.iam_match.specs.Request.{access_of}
 use Rattle.iam_match.specs.Statement.{AccessValue}
 use Rattle.iam_decision.specs.Applicable.{value_of}
 use Rattle.iam_decision.specs.Living.{IsShared, SharedValue}
 use Rattle.iam_layers.specs.Applicable.{applicable_of}
-use Rattle.iam_layers.specs.Cell.{IsAccessAt, IsApplicableAt, IsContextAt, IsDerivedAt, IsRequestContext, IsResource}
+use Rattle.iam_layers.specs.Cell.{IsAccessAt, IsApplicableAt, IsContextAt, IsRequestContext, IsResource}
 use Rattle.iam_world.specs.World.{WorldValue}
 use Rattle.iam_classes.proofs.keys.shared_with.Goals as goal
 

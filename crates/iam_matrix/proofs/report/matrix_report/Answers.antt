@@ -1,4 +1,4 @@
-use Rattle.std.proofs.Common.{ℕ, List, subst, sym, arith}
+use Rattle.std.proofs.Common.{List, subst, sym, arith}
 use Rattle.std.specs.List.{flat_map}
 use Rattle.iam_row.specs.Piece.{MatrixValue, text_of}
 use Rattle.iam_row.specs.declared.quoted.Format.{Format}

@@ -4,9 +4,9 @@ use Rattle.std.specs.List.{slice_get}
 use Rattle.iam_decision.specs.declared.verdict.Verdict.{Verdict}
 use Rattle.iam_world.specs.World.{WorldValue}
 use Rattle.iam_index.proofs.ListLemmas.{get_next}
-use Rattle.iam_classes.specs.Engine.{EngineValue, IsNumberAt}
+use Rattle.iam_classes.specs.Engine.{IsNumberAt}
 use Rattle.iam_classes.proofs.EngineLemmas.{class_there, of_class, same_class}
-use Rattle.iam_matrix.specs.Code.Leads.{AreLeads, IsEntryAt, IsLead, entry_of}
+use Rattle.iam_matrix.specs.Code.Leads.{AreLeads, IsEntryAt, entry_of}
 use Rattle.iam_matrix.proofs.LeadLemmas.{leads_classes, leads_entries, said}
 use Rattle.iam_matrix.proofs.rows.add.Goals as goal
 

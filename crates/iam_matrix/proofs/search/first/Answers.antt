@@ -1,4 +1,4 @@
-use Rattle.std.proofs.Common.{Option, ℕ, subst}
+use Rattle.std.proofs.Common.{subst}
 use Rattle.iam_world.specs.World.{WorldValue}
 use Rattle.iam_matrix.specs.Matrix.{IsFirstAllowed}
 use Rattle.iam_matrix.proofs.search.first.Goals as goal

@@ -1,4 +1,4 @@
-use Rattle.std.proofs.Common.{◌≡◌, ◌++◌, ◌∙◌, List, ℕ, ap, refl, subst}
+use Rattle.std.proofs.Common.{◌++◌, ◌∙◌, List, ℕ, ap, refl, subst}
 use Rattle.std.specs.Io.KnownBytes.{Appends}
 use Rattle.iam_report.specs.Code.Buffer.{Passes}
 use Rattle.iam_report.specs.Code.Line.{tail_at}

@@ -1,4 +1,4 @@
-use Rattle.std.proofs.Common.{◌≡◌, ◌<◌, List, ℕ, Some, length, ap, slice_get, ◌+◌, ◌-◌, ◌++◌, ◌∙◌, All, arith, drop, subst, sym, take}
+use Rattle.std.proofs.Common.{◌≡◌, ◌<◌, List, ℕ, Some, length, ap, slice_get, ◌+◌, ◌-◌, ◌++◌, ◌∙◌, arith, drop, subst, sym, take}
 use Rattle.iam_report.specs.Code.Buffer.{Passes}
 use Rattle.iam_report.specs.Code.Line.{tail_at}
 use Rattle.iam_report.specs.Code.Run.{AddsRows}
@@ -7,7 +7,7 @@ use Rattle.iam_row.specs.Piece.{next_of, row_at}
 use Rattle.iam_report.specs.Streams.{AppendsBeginning}
 use Rattle.iam_row.specs.declared.quoted.Quoted.{Quoted}
 use Rattle.iam_row.specs.declared.tail.Tail.{Tail}
-use Rattle.iam_report.proofs.Buffered.{cell_next, puts_none, row_fails, row_more, within_next}
+use Rattle.iam_report.proofs.Buffered.{cell_next, puts_none, row_fails, row_more}
 use Rattle.iam_report.proofs.Runs.{rows_added}
 use Rattle.iam_tiles.proofs.Picks.{picked_at, within_at}
 use Rattle.iam_report.proofs.rows.put_rows.Goals as goal

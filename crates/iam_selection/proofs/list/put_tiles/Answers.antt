@@ -1,4 +1,4 @@
-use Rattle.std.proofs.Common.{◌++◌, List, ℕ, ap, ◌∙◌, subst, arith}
+use Rattle.std.proofs.Common.{◌++◌, List, ℕ, ap, ◌∙◌, subst}
 use Rattle.std.specs.List.{flat_map}
 use Rattle.std.proofs.lemmas.List.{take_all}
 use Rattle.iam_report.specs.Code.Buffer.{Passes}

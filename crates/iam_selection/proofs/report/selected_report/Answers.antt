@@ -1,4 +1,4 @@
-use Rattle.std.proofs.Common.{ℕ, List, ◌++◌, sum, sym, subst}
+use Rattle.std.proofs.Common.{List, ◌++◌, sym, subst}
 use Rattle.iam_row.specs.Piece.{closing_text, opening_text}
 use Rattle.iam_row.specs.declared.quoted.Format.{Format}
 use Rattle.iam_world.specs.World.{WorldValue}

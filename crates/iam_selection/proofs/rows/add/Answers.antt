@@ -1,6 +1,4 @@
-use Rattle.std.proofs.Common.{◌≡◌, Bool, Result, Ok, Err, OnOk, inl, inr, refl, sym, subst, slice_get}
-use Rattle.std.proofs.lemmas.Option.{slice_get_within}
-use Rattle.iam_decision.specs.declared.verdict.Verdict.{Verdict}
+use Rattle.std.proofs.Common.{Bool, Result, Ok, Err, OnOk, inl, inr, refl, sym, subst}
 use Rattle.iam_layers.specs.Cell.{IsDecisionOf, IsVerdictAt, IsVerdictOf}
 use Rattle.iam_world.specs.World.{WorldValue}
 use Rattle.iam_row.specs.Piece.{bare}

@@ -2,14 +2,8 @@ use Rattle.std.proofs.Common.{◌∙◌}
 use Rattle.iam_classes.proofs.EngineLemmas.{no_more}
 use Rattle.iam_classes.proofs.memo.Memo.class_sharing.Goals as goal
 
-pub returns-clause-right : goal.returns-clause-right
-returns-clause-right c = λ world right. c.add.ensures.right world (c.make_room-cleared.ensures.right world right)
-
-pub returns-in_err-class-clause-right : goal.returns-in_err-class-clause-right
-returns-in_err-class-clause-right c = λ world right. c.add.ensures.right world (c.make_room-cleared.ensures.right world right)
-
 pub returns-in-Some-clause-class : goal.returns-in-Some-clause-class
 returns-in-Some-clause-class c = let (class, at, same) = c.in-Some.ensures in (class, at, same ∙ c.get-2.ensures)
 
 pub returns-in-Some-clause-kept : goal.returns-in-Some-clause-kept
-returns-in-Some-clause-kept c = λ _. no_more c.args.self.now.classes.items
+returns-in-Some-clause-kept c = λ _. no_more c.args.self.now.classes

@@ -1,31 +1,40 @@
-use Rattle.std.proofs.Common.{◌≡◌, ℕ, List, Option, Some, map, sym, ◌∙◌, ap, subst}
+use Rattle.std.proofs.Common.{◌≡◌, ◌<◌, ℕ, List, Option, Some, length, map, sym, ◌∙◌, ap, subst}
 use Rattle.std.proofs.lemmas.Option.{slice_get-get_or}
 use Rattle.std.specs.List.{slice_get}
 use Rattle.iam_decision.specs.Living.{AreActing, IsShared, LivingValue, SharedValue, living_value}
+use Rattle.iam_layers.specs.Cell.{IsAction}
 use Rattle.iam_index.specs.Elements.{AreElementNumbers}
+use Rattle.iam_classes.specs.Engine.{EngineValue}
+use Rattle.iam_classes.specs.Memo.{Finds}
 use Rattle.iam_classes.specs.declared.memo.Class.{Class}
 use Rattle.iam_index.proofs.ListLemmas.{is_asked, some_same}
 use Rattle.iam_classes.proofs.memo.Memo.find.Goals as goal
 
 pub returns : goal.returns
-returns c = λ world class_is right at asked applicable access shared.
-    let memo = c.args.self.now in
-    let classes = memo.classes.items in
-    let elements = memo.elements.now.elements.items in
+returns c = λ it.
+    let own = c.self.inside in
+    let world = own.world.now in
+    let classes = own.classes.items in
+    let elements = own.elements.now.elements.items in
     let class = c.index-class.result.now in
+    let n = c.args.class in
     let text = c.args.text.now in
     let found = c.put_acting.new.found.items in
     let living : List LivingValue = map living_value c.living.result.now in
-    let there : slice_get classes c.args.class ≡ Some class =
-    slice_get-get_or classes c.args.class class c.requires ∙ ap Some (sym c.index-class.ensures) in
+    let K : EngineValue → Type 0 = λ engine. n < length engine.classes in
+    let there : slice_get classes n ≡ Some class =
+    slice_get-get_or classes n class (subst K (sym c.self.view_is) c.requires) ∙ ap Some (sym c.index-class.ensures) in
     let own_living = c.living.ensures ∙ ap (λ (s : SharedValue). s.living) c.get-shared.ensures in
-    let own : class ≡ class_is = some_same class class_is (sym there ∙ at) in
     let L : List LivingValue → Type 0 = λ l. AreElementNumbers elements l class.rows.items in
     let R : List (Option ℕ) → Type 0 = λ r. AreElementNumbers elements living r in
-    let rows = subst R (sym c.as_slice-rows.ensures.value) (subst L (sym own_living) (right.rows c.args.class class there)) in
+    let rows = subst R (sym c.as_slice-rows.ensures.value) (subst L (sym own_living) (c.self.invariant.rows_are n class there)) in
     let A : List LivingValue → Type 0 = λ l. AreActing text l found in
-    let acting = subst A own_living (c.in_ok-put_acting.ensures world right.elements rows asked) in
+    let G : EngineValue → Type 0 = λ engine. slice_get engine.classes n ≡ Some it → IsAction engine.world c.args.a text → Finds engine.world it.shared text c.frame.result found in
+    subst G c.self.view_is
+    (λ at asked applicable access shared.
+    let same : class ≡ it = some_same class it (sym there ∙ at) in
+    let acting = subst A own_living (c.in_ok-put_acting.ensures world c.self.invariant.elements_are rows asked) in
     let S : Class → Type 0 = λ k. IsShared world.actions applicable access k.shared in (
-      c.frame.ensures ∙ ap (λ (s : SharedValue). s.frame) c.get-shared.ensures ∙ ap (λ (k : Class). k.shared.frame) own,
-      c.acting_are_found.ensures.found world.actions applicable access text class.shared found (is_asked world c.args.a text asked) (subst S (sym own) shared) acting,
-    )
+      c.frame.ensures ∙ ap (λ (s : SharedValue). s.frame) c.get-shared.ensures ∙ ap (λ (k : Class). k.shared.frame) same,
+      c.acting_are_found.ensures.found world.actions applicable access text class.shared found (is_asked world c.args.a text asked) (subst S (sym same) shared) acting,
+    ))

@@ -1,3 +1,6 @@
+use Rattle.std.proofs.Common.{sym, subst}
+use Rattle.iam_world.specs.World.{WorldValue}
+use Rattle.iam_index.specs.Elements.{AreElements}
 use Rattle.iam_classes.specs.Memo.{HasClass, HasNumber}
 use Rattle.iam_classes.specs.declared.memo.Answer.{Answer}
 use Rattle.iam_classes.specs.declared.memo.Pair.{Pair}
@@ -5,15 +8,17 @@ use Rattle.iam_classes.proofs.MemoLemmas.{no_rows}
 use Rattle.iam_index.proofs.SlotLemmas.{all_empty}
 use Rattle.iam_classes.proofs.memo.Memo.new.Goals as goal
 
-pub returns : goal.returns
-returns c = λ world elements.
+pub invariant_of-result : goal.invariant_of-result
+invariant_of-result c =
+    let world = c.world-world.result.now in
     let classes = c.new.result.items in
     let rulings = c.new-2.result.items in
+    let W : WorldValue → Type 0 = λ w. AreElements w c.elements.result.now.elements.items in
     record {
-      pairs = all_empty (λ (p : Pair). HasClass world classes p.principal p.resource p.class) c.in_ok-empty_slots.field-0.items c.in_ok-empty_slots.ensures;
-      answers =
+      pairs_are = all_empty (λ (p : Pair). HasClass world classes p.principal p.resource p.class) c.in_ok-empty_slots.field-0.items c.in_ok-empty_slots.ensures;
+      answers_are =
           all_empty (λ (a : Answer). HasNumber world classes rulings a.class a.action a.number) c.in_ok-empty_slots-2.field-0.items
           c.in_ok-empty_slots-2.ensures;
-      elements = elements;
-      rows = no_rows c.args.elements.now.elements.items classes c.new.ensures.items;
+      elements_are = subst W (sym c.world-world.ensures) c.elements.ensures;
+      rows_are = no_rows c.elements.result.now.elements.items classes c.new.ensures.items;
     }

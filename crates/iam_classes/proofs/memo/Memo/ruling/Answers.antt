@@ -6,35 +6,24 @@ use Rattle.iam_index.proofs.ListLemmas.{get_next}
 use Rattle.iam_classes.proofs.MemoLemmas.{answers_behind}
 use Rattle.iam_classes.proofs.memo.Memo.ruling.Goals as goal
 
-pub returns-in_err-push-clause-right : goal.returns-in_err-push-clause-right
-returns-in_err-push-clause-right c = λ world right.
-    let memo = c.bound_rulings.new.self in
-    let fine = c.bound_rulings.ensures.right world right in
-    let Q : List RulingValue → Type 0 = λ rulings. AreAnswers world memo.classes.items rulings memo.answers.items in
+pub invariant_of-self-2 : goal.invariant_of-self-2
+invariant_of-self-2 c =
+    let own = c.self.inside in
+    let right = c.self.invariant in
+    let world = own.world.now in
+    let Q : List RulingValue → Type 0 = λ rulings. AreAnswers world own.classes.items rulings own.answers.items in
     record {
-      pairs = fine.pairs;
-      answers = subst Q (sym c.in_err-push.ensures.items) fine.answers;
-      elements = fine.elements;
-      rows = fine.rows;
-    }
-
-pub returns-clause-right : goal.returns-clause-right
-returns-clause-right c = λ world right.
-    let memo = c.bound_rulings.new.self in
-    let fine = c.bound_rulings.ensures.right world right in
-    let Q : List RulingValue → Type 0 = λ rulings. AreAnswers world memo.classes.items rulings memo.answers.items in
-    record {
-      pairs = fine.pairs;
-      answers =
+      pairs_are = right.pairs_are;
+      answers_are =
           subst Q (sym c.in_ok-push.ensures.items)
-          (answers_behind world memo.classes.items memo.rulings.items (c.in_ok-ruling.ruling ∷ []) memo.answers.items fine.answers);
-      elements = fine.elements;
-      rows = fine.rows;
+          (answers_behind world own.classes.items own.rulings.items (c.in_ok-ruling.ruling ∷ []) own.answers.items right.answers_are);
+      elements_are = right.elements_are;
+      rows_are = right.rows_are;
     }
 
 pub returns-clause-number : goal.returns-clause-number
 returns-clause-number c =
-    let rulings = c.bound_rulings.new.self.rulings.items in
+    let rulings = c.self.inside.rulings.items in
     let ruling = c.in_ok-ruling.ruling in
     let R : List RulingValue → Type 0 = λ rs. HasRuling rs c.args.frame c.args.found.now c.len-number.result in
     let N : ℕ → Type 0 = λ n. slice_get (rulings ++ ruling ∷ []) n ≡ Some ruling in

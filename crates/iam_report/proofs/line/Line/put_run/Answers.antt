@@ -1,4 +1,4 @@
-use Rattle.std.proofs.Common.{◌≡◌, ◌+◌, ◌<◌, ◌++◌, ◌∙◌, List, ap, arith, length, refl, subst}
+use Rattle.std.proofs.Common.{◌≡◌, ◌+◌, ◌<◌, ◌++◌, ◌∙◌, ℕ, List, [], get_or, ap, arith, length, refl, subst, sym}
 use Rattle.iam_report.specs.Code.Line.{LineValue, tail_at}
 use Rattle.iam_report.specs.Code.Run.{IsBefore, further}
 use Rattle.iam_row.specs.Piece.{row_at}
@@ -7,6 +7,13 @@ use Rattle.iam_row.specs.declared.tail.Tail.{Tail}
 use Rattle.iam_report.proofs.Runs.{further_one, run_more}
 use Rattle.iam_report.proofs.line.Line.put_run.Goals as goal
 
+pub put_next-requires-clause-resource : goal.put_next-requires-clause-resource
+put_next-requires-clause-resource g c =
+    let r = c.args.at.resource + c.loop-i.i in
+    c.resource_at-resource.ensures
+    ∙ ap (λ (texts : List (List ℕ)). get_or texts r [])
+    (c.as_slice-resources.ensures ∙ ap (λ (v : LineValue). v.quoted.resources) c.self.view_is ∙ sym (ap (λ (q : Quoted). q.resources) c.loop-i.invariant.quoted))
+
 pub loop-i-preserved : goal.loop-i-preserved
 loop-i-preserved g c =
     let line = c.args.self.now in
@@ -14,7 +21,7 @@ loop-i-preserved g c =
     let i = c.loop-i.i in
     let n = c.number_at-n.result in
     let few : at.resource + i < length line.quoted.resources =
-    omega (arith, c.loop-i-test.true, c.rows_left-most.ensures.left, ap length c.as_slice.ensures, ap (λ (v : LineValue). length v.quoted.resources) c.self.view_is) in
+    omega (arith, c.loop-i-test.true, c.rows_left-most.ensures.left, ap length c.as_slice-resources.ensures, ap (λ (v : LineValue). length v.quoted.resources) c.self.view_is) in
     let P : Quoted → List Tail → Type 0 = λ q tails. c.put_next.new.block ≡ c.loop-i.block ++ row_at q (further at i) (tail_at tails n) in
     let row =
     subst (λ q. P q line.tails) c.loop-i.invariant.quoted (subst (P c.loop-i.self.quoted) c.loop-i.invariant.tails (c.if-not-put_next.ensures.put refl)) in

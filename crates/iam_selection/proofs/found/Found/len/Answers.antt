@@ -1,4 +1,4 @@
-use Rattle.std.proofs.Common.{◌≡◌, List, ap, length, sym, ◌∙◌, arith}
+use Rattle.std.proofs.Common.{List, ap, length, arith}
 use Rattle.iam_selection.specs.Code.Listing.{RowValue}
 use Rattle.iam_selection.proofs.Founds.{count_rows}
 use Rattle.iam_selection.proofs.found.Found.len.Goals as goal

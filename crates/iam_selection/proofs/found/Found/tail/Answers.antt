@@ -1,4 +1,4 @@
-use Rattle.std.proofs.Common.{◌≡◌, ◌<◌, List, ap, length, get_or, sym, ◌∙◌, arith}
+use Rattle.std.proofs.Common.{◌<◌, List, ap, length, get_or, sym, ◌∙◌, arith}
 use Rattle.iam_selection.specs.Code.Listing.{RowValue, no_row}
 use Rattle.iam_selection.proofs.Founds.{count_rows, row_at}
 use Rattle.iam_selection.proofs.found.Found.tail.Goals as goal

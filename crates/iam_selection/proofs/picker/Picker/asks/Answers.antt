@@ -1,8 +1,8 @@
-use Rattle.std.proofs.Common.{◌<◌, IsTrue, length, sym, subst, ◌∙◌}
+use Rattle.std.proofs.Common.{IsTrue, length, sym, subst, ◌∙◌}
 use Rattle.iam_layers.specs.Cell.{IsCell}
 use Rattle.iam_selection.specs.Code.Listing.{IsActionMeant, IsPrincipalMeant, IsResourceMeant, PickerValue}
 use Rattle.iam_selection.specs.Selection.{IsSelected}
-use Rattle.iam_selection.proofs.Flags.{AreMeant, flag_is, meant_selected, selected_meant}
+use Rattle.iam_selection.proofs.Flags.{flag_is, meant_selected, selected_meant}
 use Rattle.iam_selection.proofs.picker.Picker.asks.Goals as goal
 use Rattle.iam_selection.proofs.picker.Picker.asks.Goals.{then-index, else-index}
 

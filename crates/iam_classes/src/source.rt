@@ -1,0 +1,77 @@
+// Where an engine has it from what the requests of pairs share.
+ghost use Rattle.std.specs.Prelude.{◌≡◌};
+
+use crate::held::Held;
+use crate::keys::{Keys, no_keys, shared_by};
+use crate::survey::Survey;
+use iam_index::Index;
+use iam_layers::{Shared, World};
+use iam_text::OutOfMemory;
+use std::alloc::Global;
+use std::marker::Model;
+
+/// What requests share is what a survey found, or else follows from the statements that an index lists. A contract sees the world.
+#[derive(Drop)]
+pub struct Source<'a> {
+    index: &'a Index<'a>,
+    survey: Option<&'a Survey<'a>>,
+    // The derived keys that were made last, of one principal.
+    keys: Vec<Keys>,
+}
+
+impl<'a> Model for Source<'a> {
+    ghost use Rattle.std.specs.Prelude.{◌≡◌, All, IfSome};
+    ghost use Rattle.iam_world.specs.World.{WorldValue};
+    ghost use Rattle.iam_classes.specs.Keys.{AreKeys};
+
+    ghost Value = { WorldValue };
+
+    ghost view = { λ source. source.index.now };
+
+    ghost invariant = { λ source. IfSome source.survey (λ survey. survey.now ≡ source.index.now) × All (AreKeys source.index.now) source.keys.items };
+}
+
+impl<'a> Source<'a> {
+    ghost use Rattle.std.specs.Prelude.{◌≡◌, ◌<◌, IfOk, IfSome, length};
+    ghost use Rattle.iam_layers.specs.Cell.{IsSharedAt};
+
+    /// An index, and a survey of its world where there is one.
+    pub fn new(alloc: Global, index: &'a Index<'a>, survey: Option<&'a Survey<'a>>) -> Source<'a>
+        requires { IfSome survey (λ survey. survey.now ≡ index.now) }
+        ensures { result ≡ index.entry.now }
+    {
+        Source {
+            index,
+            survey,
+            keys: no_keys(alloc),
+        }
+    }
+
+    /// The world.
+    pub fn world(&self) -> &'a World
+        ensures { result.now ≡ self.now }
+    {
+        self.index.world()
+    }
+
+    /// What the requests of principal p for resource r share.
+    pub fn shared(&mut self, alloc: Global, p: u64, r: u64) -> Result<Held<'a>, OutOfMemory>
+        requires principal { p < length self.old.principals }
+        requires resource { r < length self.old.resources }
+        ensures shared { IfOk result (IsSharedAt self.old p r) }
+        ensures same { self.new ≡ self.old }
+    {
+        match self.lent(p, r) {
+            Some(shared) => Ok(Held::lent(shared)),
+            None => Ok(Held::own(shared_by(alloc, self.index, &mut self.keys, p, r)?)),
+        }
+    }
+
+    /// What the requests of principal p for resource r share, where a survey found it.
+    fn lent(&self, p: u64, r: u64) -> Option<&'a Shared<'a>>
+        requires { r < length self.now.resources }
+        ensures { IfSome result (λ shared. IsSharedAt self.now p r shared.now) }
+    {
+        self.survey?.shared(p, r)
+    }
+}
