@@ -102,6 +102,14 @@ def small_world(*documents, context=None, resources=None, actions=("s3:GetObject
     return {**made, "context": context} if context else made
 
 
+def lone_world(count):
+    """The text of a world of one user with so many statements, and as many resources, each allowed by one of them."""
+    texts = [f"arn:aws:s3:::b/{n}" for n in range(count)]
+    resources = [{"arn": text, "account": "111122223333"} for text in texts]
+    allowed = document(*(statement(resource=text) for text in texts))
+    return json.dumps(small_world(allowed, resources=resources)).encode()
+
+
 def answer(words, given=b"", seconds=60, program=IAMSIM, **more):
     """Status, standard output and standard error of the program; a signal that ended it is its number below 0."""
     ran = subprocess.run([program, *words], input=given, capture_output=True, timeout=seconds, **more)

@@ -5,7 +5,7 @@ import json
 import os
 import subprocess
 
-from harness import EXAMPLES, IAMSIM, answer, row_world, same
+from harness import EXAMPLES, IAMSIM, answer, lone_world, row_world, same
 
 ANN = "arn:aws:iam::111122223333:user/ann"
 CELL = f"0,{ANN},S3:getobject,arn:aws:s3:::b/k,allowed,identity/0/0,\n"
@@ -161,6 +161,14 @@ def test_a_report_of_a_million_rows():
             text.encode(),
             b"",
         ), f"{workers} workers: status {found[0]}, {len(found[1])} bytes, {found[2]}"
+
+
+def test_a_report_whose_tails_all_differ():
+    # So many tails that the table by which equal ones are found grows, and rows that are longer together than the buffer; so
+    # many statements of one principal that workers begin with a survey.
+    rows = (f"{n},{ANN},s3:GetObject,arn:aws:s3:::b/{n},allowed,identity/0/{n},\n" for n in range(1000))
+    found = answer(["matrix", "--tile", "600", "--workers", "4"], lone_world(1000))
+    same(found, (0, (HEADER + "".join(rows)).encode(), b""))
 
 
 def test_a_small_stack():

@@ -17,6 +17,7 @@ from harness import (
     answer,
     data,
     document,
+    lone_world,
     matrix,
     on_all_processors,
     row_world,
@@ -185,21 +186,20 @@ def test_refused_threads():
     tell("refused threads", *refused(IAMSIM, jobs))
 
 
-def lone(count):
-    """A world of one principal with so many statements, and as many resources, each allowed by one of them."""
-    texts = [f"arn:aws:s3:::b/{n}" for n in range(count)]
-    resources = [{"arn": text, "account": "111122223333"} for text in texts]
-    allowed = document(*(statement(resource=text) for text in texts))
-    return json.dumps(small_world(allowed, resources=resources)).encode()
-
-
 def test_a_survey_that_is_refused():
-    # 182 statements on 182 resources are the least that workers survey; for that they start as many threads again.
-    for count, threads in [(181, 3), (182, 6)]:
-        met, findings = refused(IAMSIM, [("REFUSE_THREAD", 0, ["matrix"], lone(count))])
-        same((met - 1, findings), (threads, []), count)
+    # 182 statements on 182 resources are the least that workers survey; for that they start as many threads again. One worker,
+    # for whom nobody waits, surveys nothing.
+    for count, more, threads in [
+        (181, [], 3),
+        (182, [], 6),
+        (181, ["--workers", "2"], 1),
+        (182, ["--workers", "2"], 2),
+        (182, ["--workers", "1"], 0),
+    ]:
+        met, findings = refused(IAMSIM, [("REFUSE_THREAD", 0, ["matrix", *more], lone_world(count))])
+        same((met - 1, findings), (threads, []), f"{count} {more}")
     jobs = [
-        ("REFUSE_CALL", later, ["matrix", *more], lone(182))
+        ("REFUSE_CALL", later, ["matrix", *more], lone_world(182))
         for more in ([], ["--format", "json", "--tile", "50"])
         for later in (0, 1)
     ]

@@ -207,6 +207,7 @@ def test_the_longest_worlds():
     same(answer(["changes", file(BEFORE.ljust(8_388_609)), after]), (1, b"", b"fault 9 Before: 9 TooLarge\n"))
     same(answer(["changes", before], AFTER.ljust(8_388_609)), (1, b"", b"fault 2 World: 9 TooLarge\n"))
     same(shell(f"changes {before}", "< /dev/zero"), (1, b"", b"fault 2 World: 9 TooLarge\n"))
+    same(answer(["changes", "/dev/zero", "no-such-file"]), (1, b"", b"fault 9 Before: 9 TooLarge\n"))
 
 
 def test_many_cells_in_every_cut():
