@@ -1,8 +1,9 @@
 // Calls that take memory and that the program does not make, each of which has to succeed; and the letters of base64, which no
 // command tells from other letters.
-use iam_context::{Context, Derived, Part, Sought};
+use iam_app::{Options, Task, options_of};
+use iam_context::{Context, Derived, Part};
 use iam_services::Services;
-use iam_text::{Compiled, Draft, Glob, Items, Piece, Sign, Text};
+use iam_text::{Draft, Glob, Items, Piece, Sign, Text};
 use iam_value::bytes;
 use std::test::Fail;
 
@@ -15,41 +16,6 @@ fn the_signs_of_a_pattern_are_a_pattern(rt: HostRuntime) -> Result<(), Fail> {
     assert_eq!(rt; signs.at(1), Sign::One);
     assert_eq!(rt; signs.at(2), Sign::Any);
     assert!(rt; glob.matches("*a") && glob.matches("*abc") && !glob.matches("*"));
-    Ok(())
-}
-
-/// Patterns, texts, and whether they match with regard to case and without.
-const COMPILED: [(&str, &str, bool, bool); 14] = [
-    ("s3:GetObject", "s3:GetObject", true, true),
-    ("s3:GetObject", "S3:getobject", false, true),
-    ("s3:Get*", "S3:GETOBJECT", false, true),
-    ("s3:Get*", "s3:Ge", false, false),
-    ("*", "", true, true),
-    ("a*b", "ab", true, true),
-    ("ab*ab", "abab", true, true),
-    ("ab*ab", "aba", false, false),
-    ("*a?c*", "xxabcx", true, true),
-    ("????", "\u{e9}\u{e9}\u{e9}\u{e9}", true, true),
-    // A walk that tries each splitting would not end.
-    (MANY_WILDCARDS, MANY_LETTERS, false, false),
-    (MANY_WILDCARDS, "aaaaaaaaaaaaaaaaaaaaaaaab", true, true),
-    (MANY_WILDCARDS, "AAAAAAAAAAAAAAAAAAAAAAAAB", false, true),
-    ("?*?*?*", "\u{e9}\u{e9}", false, false),
-];
-
-const MANY_WILDCARDS: &str = "*a*a*a*a*a*a*a*a*a*a*a*a*a*a*a*a*a*a*a*a*a*a*a*a*b";
-
-const MANY_LETTERS: &str =
-    "aaaaaaaaaaaaaaaaaaaaaaaaaaaaaaaaaaaaaaaaaaaaaaaaaaaaaaaaaaaaaaaaaaaaaaaaaaaaaaaaaaaaaaaaaaaa";
-
-#[test]
-fn compiled_patterns_match(rt: HostRuntime) -> Result<(), Fail> {
-    for (pattern, text, matched, folded) in COMPILED {
-        let glob = Glob::read(rt.alloc(), pattern)?;
-        let compiled = Compiled::of(rt.alloc(), &glob)?;
-        assert_eq!(rt; compiled.matches(text), matched, "{pattern} on {text}");
-        assert_eq!(rt; compiled.matches_fold(text), folded, "{pattern} on {text}");
-    }
     Ok(())
 }
 
@@ -84,30 +50,6 @@ fn a_part_is_joined(rt: HostRuntime) -> Result<(), Fail> {
     let derived: Derived = Vec::new(alloc);
     let context = Context::join(alloc, &[&given], &derived)?;
     assert_eq!(rt; context.values("dEPT").len(), 1);
-    Ok(())
-}
-
-/// More keys than are sought one by one.
-const KEYS: [&str; 17] = [
-    "k0", "k1", "k2", "k3", "k4", "k5", "k6", "k7", "k8", "k9", "k10", "k11", "k12", "k13", "k14",
-    "k15", "k16",
-];
-
-#[test]
-fn many_keys_are_sought(rt: HostRuntime) -> Result<(), Fail> {
-    let alloc = rt.alloc();
-    let mut part: Part = Vec::new(alloc);
-    for key in KEYS {
-        part.push((Text::read(alloc, key)?, Items::from_vec(Vec::new(alloc))))?;
-    }
-    let mut values = Vec::new(alloc);
-    values.push(Text::read(alloc, "v")?)?;
-    part.push((Text::read(alloc, "last")?, Items::from_vec(values)))?;
-    let (one, other) = (Sought::of(alloc, &part)?, Sought::plain(&part));
-    let derived: Derived = Vec::new(alloc);
-    let context = Context::sought(&one, &other, &other, &derived);
-    assert_eq!(rt; context.values("LAST").len(), 1);
-    assert_eq!(rt; context.values("k16").len(), 0);
     Ok(())
 }
 
@@ -147,5 +89,20 @@ fn a_pattern_is_tried_on_the_actions_of_its_service(rt: HostRuntime) -> Result<(
     assert_eq!(rt; services.tried(&Glob::read(alloc, "s3:*")?, 3).len(), 2);
     assert_eq!(rt; services.tried(&Glob::read(alloc, "ec2:Get")?, 3).len(), 0);
     assert_eq!(rt; services.tried(&Glob::read(alloc, "s*:Get")?, 3).len(), 3);
+    Ok(())
+}
+
+#[test]
+fn options_of_words_without_a_file(rt: HostRuntime) -> Result<(), Fail> {
+    let first = Options {
+        task: Task::First,
+        workers: 4,
+        tile: Some(9),
+        json: false,
+        brief: false,
+    };
+    let words = ["first", "--tile", "9"];
+    assert_eq!(rt; options_of(rt.alloc(), &words).ok(), Some(first));
+    assert!(rt; options_of(rt.alloc(), &["changes", "a"]).is_err());
     Ok(())
 }

@@ -8,17 +8,40 @@ use iam_layers::{Decision, Layer, Place, Verdict, World};
 use std::alloc::Global;
 use std::test::Fail;
 
-/// Whether the engine answers a cell as the policies say, in full and in brief.
+/// The verdict on a cell, asked for once more where memory was refused.
+fn decide_again(alloc: Global, engine: &mut ClassEngine<'_>, cell: u64) -> Result<Verdict, Fail>
+    requires { cell < world_cells engine.old.world }
+    ensures { engine.new.world ≡ engine.old.world }
+{
+    match engine.decide(alloc, cell) {
+        Ok(verdict) => Ok(verdict),
+        Err(_) => Ok(engine.decide(alloc, cell)?),
+    }
+}
+
+/// The decision on a cell, asked for once more where memory was refused.
+fn decide_brief_again(
+    alloc: Global,
+    engine: &mut ClassEngine<'_>,
+    cell: u64,
+) -> Result<Decision, Fail>
+    requires { cell < world_cells engine.old.world }
+    ensures { engine.new.world ≡ engine.old.world }
+{
+    match engine.decide_brief(alloc, cell) {
+        Ok(decision) => Ok(decision),
+        Err(_) => Ok(engine.decide_brief(alloc, cell)?),
+    }
+}
+
+/// Whether the engine answers a cell as the policies say, in brief and in full.
 fn answers(alloc: Global, engine: &mut ClassEngine<'_>, cell: u64) -> Result<bool, Fail> {
     if cell >= engine.world().cells() {
         return Ok(false);
     }
-    let verdict = engine.decide(alloc, cell)?;
-    if cell >= engine.world().cells() {
-        return Ok(false);
-    }
-    let decision = engine.decide_brief(alloc, cell)?;
-    Ok(is_verdict(cell as usize, &verdict) && is_decision(cell as usize, decision))
+    let decision = decide_brief_again(alloc, engine, cell)?;
+    let verdict = decide_again(alloc, engine, cell)?;
+    Ok(is_decision(cell as usize, decision) && is_verdict(cell as usize, &verdict))
 }
 
 /// Whether one engine, of so many, answers each of these cells.
@@ -59,60 +82,11 @@ fn cells_in_any_order_by_one_engine(rt: HostRuntime) -> Result<(), Fail> {
     Ok(())
 }
 
-/// The verdict on a cell, asked for once more where memory was refused.
-fn decide_again(alloc: Global, engine: &mut ClassEngine<'_>, cell: u64) -> Result<Verdict, Fail>
-    requires { cell < world_cells engine.old.world }
-    ensures { engine.new.world ≡ engine.old.world }
-{
-    match engine.decide(alloc, cell) {
-        Ok(verdict) => Ok(verdict),
-        Err(_) => Ok(engine.decide(alloc, cell)?),
-    }
-}
-
-/// The decision on a cell, asked for once more where memory was refused.
-fn decide_brief_again(
-    alloc: Global,
-    engine: &mut ClassEngine<'_>,
-    cell: u64,
-) -> Result<Decision, Fail>
-    requires { cell < world_cells engine.old.world }
-    ensures { engine.new.world ≡ engine.old.world }
-{
-    match engine.decide_brief(alloc, cell) {
-        Ok(decision) => Ok(decision),
-        Err(_) => Ok(engine.decide_brief(alloc, cell)?),
-    }
-}
-
 // Of itself this shows nothing that the test above does not: tools/tests/test_refused.py refuses it each call of the allocator.
 #[test]
 fn cells_asked_again(rt: HostRuntime) -> Result<(), Fail> {
-    let alloc = rt.alloc();
-    let world = World::read(alloc, HOME.as_bytes())?;
-    let index = Index::build(alloc, &world)?;
-    assert!(rt; answers_again(alloc, &index)?);
+    assert!(rt; answers_all(rt.alloc(), 1, &[0, 1, 2, 3, 4, 5, 6, 7, 8, 9, 10, 11])?);
     Ok(())
-}
-
-/// Whether an engine that is asked once more where it was refused answers all twelve cells.
-fn answers_again(alloc: Global, index: &Index<'_>) -> Result<bool, Fail> {
-    let mut engine = ClassEngine::new(alloc, index, 1)?;
-    for cell in 0..12 {
-        if !is_answered_again(alloc, &mut engine, cell)? {
-            return Ok(false);
-        }
-    }
-    Ok(true)
-}
-
-fn is_answered_again(alloc: Global, engine: &mut ClassEngine<'_>, cell: u64) -> Result<bool, Fail> {
-    if cell >= engine.world().cells() {
-        return Ok(false);
-    }
-    let decision = decide_brief_again(alloc, engine, cell)?;
-    let verdict = decide_again(alloc, engine, cell)?;
-    Ok(is_decision(cell as usize, decision) && is_verdict(cell as usize, &verdict))
 }
 
 /// A survey of the six pairs of a world.
@@ -167,7 +141,7 @@ fn a_survey_finds_each_pair_and_an_engine_begins_with_it(rt: HostRuntime) -> Res
 }
 
 /// One document of five statements for one action.
-pub const FIVE: &str =
+const FIVE: &str =
     r#"{"moment":0,"accounts":[{"id":"111122223333"}],"principals":[{"user":"arn:aws:iam::111122223333:user/ann",
 "identity":[{"Version":"2012-10-17","Statement":[
 {"Effect":"Allow","Action":["S3:Get*","s3:getobject"],"Resource":"*"},{"Effect":"Allow","Action":"s*:GetObject","Resource":"*"},

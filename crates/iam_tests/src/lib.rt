@@ -1,4 +1,5 @@
-//! Tests of what no command of the program shows of answers: calls that none makes, engines, candidates, cuts, matrices and gates.
+//! Tests of what no command of the program shows: calls that none makes, engines, candidates, cuts, matrices and gates; the lanes,
+//! work and crews of workers; and streams that fail.
 #![tactic(auto)]
 
 #[cfg(test)]
@@ -6,8 +7,16 @@ mod calls;
 #[cfg(test)]
 mod cells;
 #[cfg(test)]
+mod crew;
+#[cfg(test)]
 mod engine;
 #[cfg(test)]
 mod gates;
 #[cfg(test)]
+mod lanes;
+#[cfg(test)]
 mod matrix;
+#[cfg(test)]
+mod streams;
+#[cfg(test)]
+mod work;

@@ -1,5 +1,5 @@
 // Runs that are pushed, stolen and marked, in one thread.
-use iam_lanes::{LaneFault, Run, Stolen, Work};
+use iam_lanes::{Run, Stolen, Work};
 use std::test::Fail;
 
 #[test]
@@ -31,26 +31,6 @@ fn two_seats_push_pop_steal_and_mark_in_turn(rt: HostRuntime) -> Result<(), Fail
 }
 
 #[test]
-fn work_is_refused_past_the_limits_alone(rt: HostRuntime) {
-    let refused: [(u64, u32, LaneFault); 6] = [
-        (6, 0, LaneFault::NoSeat),
-        (4097, 0, LaneFault::NoSeat),
-        (4097, 1, LaneFault::TooMany),
-        (18_446_744_073_709_551_615, 1, LaneFault::TooMany),
-        (6, 65, LaneFault::TooMany),
-        (0, 65, LaneFault::TooMany),
-    ];
-    for (grains, seats, fault) in refused {
-        let opened = Work::open(rt.alloc(), grains, seats);
-        assert_eq!(rt; opened.err(), Some(fault));
-    }
-    let accepted: [(u64, u32); 4] = [(0, 1), (0, 64), (1, 64), (4096, 64)];
-    for (grains, seats) in accepted {
-        assert!(rt; Work::open(rt.alloc(), grains, seats).is_ok());
-    }
-}
-
-#[test]
 fn a_deque_grows_and_gives_its_runs_in_their_order(rt: HostRuntime) {
     let Ok((work, mut seats)) = Work::open(rt.alloc(), 100, 1) else {
         panic!(rt; "the work is lawful")
@@ -65,21 +45,4 @@ fn a_deque_grows_and_gives_its_runs_in_their_order(rt: HostRuntime) {
         assert_eq!(rt; work.pop(&mut seat), Some(run));
     }
     assert_eq!(rt; work.pop(&mut seat), None);
-}
-
-#[test]
-fn each_of_many_grains_is_marked_once(rt: HostRuntime) -> Result<(), Fail> {
-    let Ok((work, mut seats)) = Work::open(rt.alloc(), 130, 2) else {
-        panic!(rt; "the work is lawful")
-    };
-    let mut b = seats.pop().expect(&rt, "two seats");
-    let mut a = seats.pop().expect(&rt, "two seats");
-    for grain in 0..130 {
-        assert!(rt; work.mark(&mut a, grain));
-        assert!(rt; !work.mark(&mut b, grain));
-    }
-    seats.push(a)?;
-    seats.push(b)?;
-    assert_eq!(rt; work.close(seats), 130);
-    Ok(())
 }
