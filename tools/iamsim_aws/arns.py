@@ -16,6 +16,10 @@ def service_of(arn: str) -> str:
     return (arn.split(":", 5) + [""] * 5)[2]
 
 
+def bucket_of(arn: str) -> str:
+    return resource_part(arn).split("/")[0] if service_of(arn) == "s3" else ""
+
+
 def session_arn(role: str, session: str) -> str:
     head, _, path = role.partition(":role/")
     return f"{head.replace(':iam:', ':sts:', 1)}:assumed-role/{path.split('/')[-1]}/{session}"

@@ -1,6 +1,6 @@
 """What changes between two sources: requests that are lost, and those that are gained."""
 
-from typing import Any, Dict, Iterable, List, NamedTuple, Optional, Sequence, Tuple
+from typing import Any, Dict, Iterable, Iterator, List, NamedTuple, Optional, Sequence, Tuple
 
 from . import hanging, kinds
 from .arns import principal_text
@@ -10,10 +10,12 @@ from .documents import Place, World, bare, mapped, places, statements_of
 from .faults import tell
 from .files import compact
 from .keys import with_key
-from .making import bound
+from .kinds import Origin, Origins
+from .making import Estate, bound
 from .patterns import common, is_pattern, matcher
 from .questions import ARN, Scope, account_for, with_account
 from .program import Refused
+from .references import References
 from .reports import Answer, Answers, axes_of, keys_of
 from .sources import ASSUME, Source
 from .splitting import parts
@@ -22,13 +24,17 @@ from .strangers import strangers, with_strangers
 
 class Changes(NamedTuple):
     """The answers before and after, the cells of `before` that are allowed no longer, and those of `after` that were not;
-    and the key that was given besides, in words."""
+    the key that was given besides, in words; what texts that are made up stand for; and how many requests were compared,
+    and how many that change are left out since no service has them."""
 
     before: Answers
     after: Answers
     lost: List[int]
     gained: List[int]
     given: str
+    stand: Origins = {}
+    requests: int = 0
+    left: int = 0
 
 
 def holders(world: World) -> Dict[Tuple[str, str], List[str]]:
@@ -111,18 +117,30 @@ def is_freed(before: World, after: World) -> bool:
     return any(other.get(key, counts) != counts for key, counts in one.items())
 
 
-def spoken_of(before: World, after: World) -> List[str]:
-    """The action patterns of the changed documents; of all documents where anything else changes, as a tag."""
+def spoken_of(before: World, after: World) -> Dict[str, str]:
+    """The action patterns of the changed documents, each with its policy's name; of all documents where anything else
+    changes, as a tag."""
     worlds = (before, after) if rest_of(before) != rest_of(after) else differing(before, after)
-    spoken = [text for it in worlds for text in kinds.patterns_of_actions(it)]
-    return [*spoken, *(["*"] if any(map(has_rest, worlds)) or is_freed(before, after) else [])]
+    spoken = patterns_in(worlds)
+    if any(map(has_rest, worlds)) or is_freed(before, after):
+        spoken.setdefault("*", "")
+    return spoken
 
 
-def binding(world: World) -> List[str]:
-    """The action patterns of limits and of the policies of resources, without which other policies may allow nothing."""
-    some = (it for it in places(world) if it.path.startswith("resources/") or is_limit(it))
-    every = (statement for it in some for statement in statements_of(it.policy.document))
-    return [text for statement in every for text in kinds.texts_of(statement, "Action") if is_pattern(text)]
+def patterns_in(worlds: Sequence[World]) -> Dict[str, str]:
+    """The actions and action patterns of both worlds, each with its policy's name."""
+    return {text: policy for it in worlds for text, policy in kinds.patterns_of_actions(it).items()}
+
+
+def binding(world: World) -> Dict[str, str]:
+    """The action patterns of limits and of the policies of resources, without which other policies may allow nothing; each
+    with its policy's name."""
+    found: Dict[str, str] = {}
+    for it in places(world):
+        if it.path.startswith("resources/") or is_limit(it):
+            for statement in statements_of(it.policy.document):
+                found.update((text, it.policy.name) for text in kinds.texts_of(statement, "Action") if is_pattern(text))
+    return found
 
 
 def has_rest(world: World) -> bool:
@@ -131,39 +149,46 @@ def has_rest(world: World) -> bool:
     return any(isinstance(it, dict) and "NotAction" in it for it in every)
 
 
-def actions_of(before: Source, after: Source, patterns: List[str]) -> List[str]:
+# Actions by their lower case, each with what it stands for if it is made up.
+Actions = Dict[str, Tuple[str, Optional[Origin]]]
+
+
+def actions_of(before: Source, after: Source, patterns: List[str]) -> Dict[str, Optional[Origin]]:
     """The given actions of a choice, and of exports those of which the changed documents speak."""
     listed = [it for source in (before, after) for it in [*(source.given or {}).get("actions", []), *source.actions]]
-    given = {it.lower(): it for it in listed if any(matcher(asked, True)(it) for asked in patterns)}
-    return list({**(spoken_actions(before, after, patterns) if before.estate else {}), **given}.values())
+    given: Actions = {it.lower(): (it, None) for it in listed if any(matcher(asked, True)(it) for asked in patterns)}
+    return dict({**(spoken_actions(before, after, patterns) if before.estate else {}), **given}.values())
 
 
-def spoken_actions(before: Source, after: Source, patterns: List[str]) -> Dict[str, str]:
-    """The actions of a choice of which the changed documents speak, by their lower case."""
+def spoken_actions(before: Source, after: Source, patterns: List[str]) -> Actions:
+    """The actions of a choice of which the changed documents speak."""
     worlds = before.world([ASSUME]), after.world([ASSUME])
     spoken, references = spoken_of(*worlds), before.references
-    bounds = [text for it in worlds for text in binding(it)]
-    texts = [text for it in worlds for text in kinds.patterns_of_actions(it) if not is_pattern(text)]
+    bounds = {text: policy for it in worlds for text, policy in binding(it).items()}
+    texts = [text for text in patterns_in(worlds) if not is_pattern(text)]
     # Of a service that has a file all actions are known.
     known = [*references.actions(), *(it for it in texts if not references.has_file(it))]
-    found: Dict[str, str] = {}
+    wide = {text: policy for text, policy in spoken.items() if is_pattern(text)}
+    found: Actions = {}
     for asked in patterns:
         if not is_pattern(asked):
-            found[asked.lower()] = asked
+            found[asked.lower()] = asked, None
             continue
         for action in known:
             if matcher(asked, True)(action) and any(matcher(it, True)(action) for it in spoken):
-                found.setdefault(action.lower(), action)
-        for text in witnesses(filter(is_pattern, spoken), [asked]) + witnesses(bounds, spoken):
+                found.setdefault(action.lower(), (action, None))
+        for text, origin in [*witnesses(wide, [asked]), *witnesses(bounds, spoken)]:
             if matcher(asked, True)(text) and not references.has_file(text):
-                found.setdefault(text.lower(), text)
+                found.setdefault(text.lower(), (text, origin))
     return found
 
 
-def witnesses(patterns: Iterable[str], others: Iterable[str]) -> List[str]:
-    """An action for each pair of patterns that meet."""
-    pairs = ((one, other) for one in dict.fromkeys(patterns) for other in dict.fromkeys(others))
-    return [kinds.action_text(text) for text in (common(*pair, True) for pair in pairs) if text]
+def witnesses(patterns: Dict[str, str], others: Iterable[str]) -> Iterator[Tuple[str, Origin]]:
+    """An action for each pair of patterns that meet, which stands for the first."""
+    for one, policy in patterns.items():
+        for text in (common(one, other, True) for other in others):
+            if text:
+                yield kinds.action_text(text), Origin(one, policy)
 
 
 def compared(first: Answers, second: Answers, given: str = "") -> Changes:
@@ -243,27 +268,39 @@ def is_named(worlds: Sequence[World], asked: str) -> bool:
     return is_arn and not any(it["arn"] == asked for world in worlds for it in world["resources"])
 
 
-def with_witnesses(scopes: Sequence[Scope], worlds: Sequence[World], pattern: str) -> List[World]:
+def witnesses_of(worlds: Sequence[World], pattern: str) -> Dict[Tuple[str, str], Origin]:
+    """The ARNs and accounts of texts for the patterns of the documents that speak, with what they stand for: for one of a
+    changed document if there is one."""
+    found: Dict[Tuple[str, str], Origin] = {}
+    changed = differing(*worlds)
+    for some in (changed, [speaking(*it) for it in zip(changed, worlds)]):
+        for world in some:
+            for it in kinds.resources(world, pattern, world["actions"])[0]:
+                key = it.resource["arn"], it.resource["account"]
+                if key not in found or not found[key].policy:
+                    found[key] = it.origin
+    return found
+
+
+def with_witnesses(scopes: Sequence[Scope], worlds: Sequence[World], pattern: str) -> Tuple[List[World], Origins]:
     """The resources of the worlds before and after that a pattern chooses; of exports with a text for each pattern of the
-    documents that speak. An ARN that no world names is asked for all the same."""
-    found: Dict[Tuple[str, str], Dict[str, Any]] = {}
-    sources = [it.source for it in scopes]
+    documents that speak, and what these stand for. An ARN that no world names is asked for all the same."""
     if is_named(worlds, pattern):
         account = account_for(scopes[0], worlds[0], pattern)
-        return [with_named(scope, world, pattern, account) for scope, world in zip(scopes, worlds)]
-    for changed, world in zip(differing(*worlds), worlds) if sources[0].estate and is_pattern(pattern) else ():
-        for it in kinds.resources(speaking(changed, world), pattern, world["actions"])[0]:
-            found.setdefault((it.resource["arn"], it.resource["account"]), it.resource)
+        return [with_named(scope, world, pattern, account) for scope, world in zip(scopes, worlds)], {}
+    found = witnesses_of(worlds, pattern) if scopes[0].source.estate and is_pattern(pattern) else {}
 
-    def joined(source: Source, world: World) -> World:
+    def joined(estate: Optional[Estate], world: World) -> World:
         known = {it["arn"] for it in world["resources"]}
         ids = {it["id"] for it in world["accounts"]}
         more = [kinds.beside(world, arn, account) for arn, account in found if arn not in known and account in ids]
-        more = [bound(source.estate, it) if source.estate else it for it in more]
+        more = [bound(estate, it) if estate else it for it in more]
         chosen = [it for it in [*world["resources"], *more] if matcher(pattern)(it["arn"])]
         return {**world, "resources": chosen}
 
-    return [joined(source, world) for source, world in zip(sources, worlds)]
+    named = {it["arn"] for world in worlds for it in world["resources"]}
+    stand = {arn: origin for (arn, _), origin in found.items() if arn not in named}
+    return [joined(scope.source.estate, world) for scope, world in zip(scopes, worlds)], stand
 
 
 def with_named(scope: Scope, world: World, arn: str, account: str) -> World:
@@ -287,6 +324,15 @@ def with_keys(before: World, after: World) -> List[Tuple[str, World, World]]:
     return [(f"`{key}` is `{text}`", with_key(before, key, text), with_key(after, key, text)) for key, text in pairs]
 
 
+def as_services_have(references: References, changes: Changes) -> Changes:
+    """The changes without requests that no service has, as far as the service reference is given."""
+    before, after = (references.pairs(it.world) for it in changes[:2])
+    lost = [cell for cell in changes.lost if before[cell % len(before)]]
+    gained = [cell for cell in changes.gained if after[cell % len(after)]]
+    left = len(changes.lost) + len(changes.gained) - len(lost) - len(gained)
+    return changes._replace(lost=lost, gained=gained, left=left, requests=sum(after) * changes.after.shape[0])
+
+
 def changes_of(
     before: Source,
     after: Source,
@@ -297,14 +343,17 @@ def changes_of(
 ) -> List[Changes]:
     """What changes, by worlds of actions: as it is, and what changes with a key alone that nothing gives."""
     scopes = [Scope(it, account=account) for it in (before, after)]
-    actions, found = actions_of(before, after, patterns), []
+    chosen, found = actions_of(before, after, patterns), []
+    made_up = {it: origin for it, origin in chosen.items() if origin}
+    actions = list(chosen)
     for worlds in zip(before.worlds(actions), after.worlds(actions)):
-        pair = with_witnesses(scopes, worlds, resource)
+        pair, stand = with_witnesses(scopes, worlds, resource)
         some = strangers(after, pair)
         one, other = (with_strangers(source, world, some) for source, world in zip((before, after), pair))
         keyed = with_keys(one, other)
         pairs = [(one, other), *((first, second) for _, first, second in keyed)]
-        first, *others = compared_all(pairs, ["", *(words for words, _, _ in keyed)], is_page)
+        every = compared_all(pairs, ["", *(words for words, _, _ in keyed)], is_page)
+        first, *others = (as_services_have(after.references, it._replace(stand={**made_up, **stand})) for it in every)
         lost, gained = set(first.lost), set(first.gained)
         found.append(first)
         for more in others:

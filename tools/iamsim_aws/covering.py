@@ -26,10 +26,10 @@ def tell_strangers(source: Source, worlds: Iterable[World]) -> None:
             for statement in statements_of(it["policy"].document) if "policy" in it else ():
                 for text in named_by(statement):
                     if account_of(text) not in ("", *known) and not stand_in(text, "aws", "", "session"):
-                        found[f"the policy of {it['arn']} names {text}, for whom nobody is asked"] = None
+                        found[f"{it['policy'].name} names {text}, for whom nobody is asked"] = None
                 if in_organization and named_by(statement) and asks_for_members(statement):
                     what = "grants to members of an organisation: of those without an export nobody is asked"
-                    found[f"the policy of {it['arn']} {what}"] = None
+                    found[f"{it['policy'].name} {what}"] = None
     for line in found:
         tell(line)
 

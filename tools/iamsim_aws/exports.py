@@ -2,12 +2,13 @@
 
 import copy
 import re
-from typing import Any, Dict, List, Optional
+from typing import Any, Dict, Iterator, List, Optional, Tuple
 
 from . import files
 from .arns import account_of
 from .documents import Policy
 from .faults import Fault
+from .naming import inline_policy
 
 ACCOUNT = re.compile(r"[0-9]{12}")
 LISTS = {"UserDetailList": "users", "GroupDetailList": "groups", "RoleDetailList": "roles", "Policies": "policies"}
@@ -82,11 +83,18 @@ class Account:
                 return policy(arn, it["Document"])
         raise Fault(f"{holder}: the export does not hold the default version of the policy {arn}")
 
+    def lacking(self) -> Iterator[Tuple[str, str]]:
+        """(holder, ARN) of each managed policy that is attached, or a boundary, and that the account does not hold."""
+        for it in [*self.users, *self.groups.values(), *self.roles]:
+            arns = [of.get("PolicyArn") for of in it.get("AttachedManagedPolicies") or []]
+            arns.append((it.get("PermissionsBoundary") or {}).get("PermissionsBoundaryArn"))
+            yield from ((str(it["Arn"]), arn) for arn in arns if arn and arn not in self.policies)
+
     def own(self, holder: Dict[str, Any], inline: str) -> List[Policy]:
         """The inline and the attached policies of a user, group or role."""
         arn = text(holder, "Arn", f"account {self.account}")
         found = [
-            policy(f"{arn} inline {text(it, 'PolicyName', arn)}", it.get("PolicyDocument"))
+            policy(inline_policy(arn, text(it, "PolicyName", arn)), it.get("PolicyDocument"))
             for it in objects(holder, inline, arn)
         ]
         attached = objects(holder, "AttachedManagedPolicies", arn)

@@ -54,10 +54,10 @@ def wanted(world: World) -> Dict[str, List[str]]:
     given = givers(world)
     names: Dict[str, str] = {}
     found: Dict[str, Dict[str, None]] = {}
-    for path, statement, is_new in statements(world, world["actions"]):
-        values = values_of(world, path)[0] if is_new else {}
+    for place, statement, is_new in statements(world, world["actions"]):
+        values = values_of(world, place.path)[0] if is_new else {}
         for operator, key, asked in conditions_of(statement):
-            if not lacks(world, given, path, key):
+            if not lacks(world, given, place.path, key):
                 continue
             texts = found.setdefault(names.setdefault(key.lower(), key), {})
             for value in each(asked):

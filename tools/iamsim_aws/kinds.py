@@ -3,8 +3,8 @@
 import functools
 from typing import Any, Dict, Iterable, Iterator, List, NamedTuple, Optional, Tuple
 
-from .arns import account_of, principal_arn, resource_part, service_of
-from .documents import World, each, places, statements_of
+from .arns import account_of, bucket_of, principal_arn
+from .documents import Place, World, each, places, statements_of
 from .patterns import common, is_pattern, matcher, resolved
 
 REGION = "us-east-1"
@@ -14,11 +14,30 @@ OPEN = ["arn", "aws", "x", REGION, "", "x"]
 Resource = Dict[str, Any]
 
 
+class Origin(NamedTuple):
+    """What a text stands for: a pattern of a policy; without a policy what else is meant by the pattern that is asked for."""
+
+    pattern: str
+    policy: str
+
+    def words(self) -> str:
+        return f"{self.pattern} of {self.policy}" if self.policy else f"what else {self.pattern} means"
+
+
+# What the texts among the actions and resources stand for; others stand for themselves.
+Origins = Dict[str, Origin]
+
+
 class Witness(NamedTuple):
-    """A resource, and the pattern of a policy that it stands for; none where it stands for what is asked alone."""
+    """A resource, and what it stands for."""
 
     resource: Resource
-    pattern: str
+    origin: Origin
+
+
+def stand_words(origins: Origins, *texts: str) -> List[str]:
+    """What those texts stand for that are made up."""
+    return [f"{it} stands for {origins[it].words()}" for it in texts if it in origins and origins[it].pattern != it]
 
 
 def texts_of(statement: Any, *elements: str) -> List[str]:
@@ -38,14 +57,14 @@ def speaks_of(statement: Any, actions: Tuple[str, ...]) -> bool:
     return is_open or meets(tuple(texts_of(statement, "Action")), actions)
 
 
-def statements(world: World, actions: List[str]) -> Iterator[Tuple[str, Any, bool]]:
-    """(path of the document, statement, whether it has variables) of those that may speak of the actions."""
+def statements(world: World, actions: List[str]) -> Iterator[Tuple[Place, Any, bool]]:
+    """(place of the document, statement, whether it has variables) of those that may speak of the actions."""
     wanted = tuple(actions)
     for it in places(world):
         document = it.policy.document
         for statement in statements_of(document):
             if speaks_of(statement, wanted):
-                yield it.path, statement, isinstance(document, dict) and document.get("Version") == "2012-10-17"
+                yield it, statement, isinstance(document, dict) and document.get("Version") == "2012-10-17"
 
 
 def first_text(value: Any) -> Optional[str]:
@@ -89,10 +108,6 @@ def filled(pattern: str, account: str) -> Optional[str]:
     return common(pattern, f"arn:*:*:*:{account}:*")
 
 
-def bucket_of(arn: str) -> str:
-    return resource_part(arn).split("/")[0] if service_of(arn) == "s3" else ""
-
-
 def beside(world: World, arn: str, account: str) -> Resource:
     """A resource that the world does not name; a bucket's policy is that of each of its objects."""
     bucket = bucket_of(arn)
@@ -108,13 +123,13 @@ def resources(world: World, asked: str, actions: List[str]) -> Tuple[List[Witnes
     them says nothing of the others."""
     named = {it["arn"] for it in world["resources"]}
     ids = {it["id"] for it in world["accounts"]}
-    patterns: Dict[Tuple[str, str], None] = {}
-    for path, statement, is_new in statements(world, actions):
-        values, account = values_of(world, path)
+    patterns: Dict[Tuple[str, str], str] = {}
+    for place, statement, is_new in statements(world, actions):
+        values, account = values_of(world, place.path)
         for text in texts_of(statement, "Resource", "NotResource"):
             pattern = resolved(text, values) if is_new else text
             if pattern is not None and pattern not in named:
-                patterns[pattern, account] = None
+                patterns.setdefault((pattern, account), place.policy.name)
     found: Dict[Tuple[str, str], Witness] = {}
     without = []
     wide = in_parts_of("", asked)
@@ -124,8 +139,8 @@ def resources(world: World, asked: str, actions: List[str]) -> Tuple[List[Witnes
         owner = (account_of(arn) or account) if arn else ""
         if arn and owner in ids:
             if arn not in named:
-                own = pattern if (pattern, account) in patterns else ""
-                found.setdefault((arn, owner), Witness(beside(world, arn, owner), own))
+                origin = Origin(pattern, patterns.get((pattern, account), ""))
+                found.setdefault((arn, owner), Witness(beside(world, arn, owner), origin))
         elif pattern != wide and common(pattern, of_pattern):
             without.append(pattern)
     return list(found.values()), list(dict.fromkeys(without))
@@ -152,10 +167,14 @@ def witness(pattern: str, asked: str, account: str) -> Optional[str]:
     return None
 
 
-def patterns_of_actions(world: World) -> List[str]:
-    """The actions and action patterns that policies name, each once."""
-    every = (statement for it in places(world) for statement in statements_of(it.policy.document))
-    return list(dict.fromkeys(text for statement in every for text in texts_of(statement, "Action", "NotAction")))
+def patterns_of_actions(world: World) -> Dict[str, str]:
+    """The actions and action patterns that policies name, each once with its first policy's name."""
+    found: Dict[str, str] = {}
+    for it in places(world):
+        for statement in statements_of(it.policy.document):
+            for text in texts_of(statement, "Action", "NotAction"):
+                found.setdefault(text, it.policy.name)
+    return found
 
 
 def action_text(text: str) -> str:
@@ -163,18 +182,18 @@ def action_text(text: str) -> str:
     return text if ":" in text else f"any:{text}"
 
 
-def actions(world: World, asked: str, known: Iterable[str], has_witnesses: bool) -> Dict[str, str]:
+def actions(world: World, asked: str, known: Iterable[str], has_witnesses: bool) -> Dict[str, Optional[Origin]]:
     """The actions that a pattern asks for: known ones, those that policies name and, with witnesses, a text for the pattern
-    and for each pattern of a policy that meets it. Each with the pattern of a policy that it stands for, or itself; with none
-    where it stands for what is asked alone."""
-    found = {it.lower(): (it, it) for it in known if matcher(asked, True)(it)}
+    and for each pattern of a policy that meets it, with what it stands for."""
     patterns = patterns_of_actions(world)
-    for pattern in patterns:
-        if not is_pattern(pattern) and matcher(asked, True)(pattern):
-            found.setdefault(pattern.lower(), (pattern, pattern))
+    named = [*known, *(it for it in patterns if not is_pattern(it))]
+    found: Dict[str, Tuple[str, Optional[Origin]]] = {}
+    for it in named:
+        if matcher(asked, True)(it):
+            found.setdefault(it.lower(), (it, None))
     for pattern in [*patterns, asked] if has_witnesses else ():
         text = common(pattern, asked, True) if is_pattern(pattern) else None
         if text:
-            own = pattern if pattern in patterns else ""
-            found.setdefault(action_text(text).lower(), (action_text(text), own))
+            origin = Origin(pattern, patterns.get(pattern, ""))
+            found.setdefault(action_text(text).lower(), (action_text(text), origin))
     return dict(found.values())

@@ -3,13 +3,13 @@
 from typing import Any, Dict, List, NamedTuple, Optional
 
 from . import files
-from .arns import account_of, names_of_principal, names_of_resource, principal_arn, resource_part, service_of
+from .arns import account_of, bucket_of, names_of_principal, names_of_resource, principal_arn, resource_part, service_of
 from .documents import World
 from .exports import ACCOUNT, Account, is_service_linked, policy, role_of, tags, text, user_of
 from .faults import Fault
-from .kinds import bucket_of
+from .naming import control_policy, resource_policy, trust_policy
 from .organizations import Organization
-from .patterns import any_matches, is_pattern, matcher
+from .patterns import any_matches, is_pattern, matcher, near
 
 
 class Estate(NamedTuple):
@@ -59,7 +59,7 @@ def further(it: Any, what: str) -> Dict[str, Any]:
     if made.get("policy") is None:
         made.pop("policy", None)
     else:
-        made["policy"] = policy(f"{arn} policy", made["policy"])
+        made["policy"] = policy(resource_policy(arn), made["policy"])
     if "control" in made:
         made["control"] = control_levels(made["control"], arn, what)
     return made
@@ -68,7 +68,7 @@ def further(it: Any, what: str) -> Dict[str, Any]:
 def control_levels(given: Any, arn: str, what: str) -> List[List[Any]]:
     if not isinstance(given, list) or not all(isinstance(it, list) for it in given):
         raise Fault(f"{what} ({arn}): control is no list of levels, each a list of policies")
-    return [[policy(f"{arn} control", it) for it in level] for level in given]
+    return [[policy(control_policy(arn), it) for it in level] for level in given]
 
 
 def warnings(resources: List[Dict[str, Any]]) -> List[str]:
@@ -105,7 +105,7 @@ def roles_as_resources(estate: Estate, account: Account, actions: List[str]) -> 
         context = {**tags(it, "aws:ResourceTag/"), **tags(it, "iam:ResourceTag/")}
         one: Dict[str, Any] = {"arn": arn, "account": account.account, "context": context}
         if is_assumed:
-            one.update(sealed=True, policy=policy(f"{arn} trust policy", it.get("AssumeRolePolicyDocument")))
+            one.update(sealed=True, policy=policy(trust_policy(arn), it.get("AssumeRolePolicyDocument")))
             one.update(estate.organization.control(account.account, "sts"))
         made.append(one)
     return made
@@ -203,7 +203,7 @@ def unmatched(world: World, principals: List[str], resources: List[str]) -> List
     some = [names_of_principal(it) for it in world["principals"]]
     of = [names_of_resource(it["arn"]) for it in world["resources"]]
     return [
-        f"the pattern {pattern} matches no {what}"
+        f"the pattern {pattern} matches no {what}{near(pattern, (names[0] for names in every))}"
         for what, patterns, every in (("principal", principals, some), ("resource", resources, of))
         for pattern in patterns
         if not any(matcher(pattern)(name) for names in every for name in names)

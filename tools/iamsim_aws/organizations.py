@@ -7,6 +7,7 @@ from . import files
 from .documents import Policy
 from .exports import policy
 from .faults import Fault
+from .naming import organization_policy
 
 SERVICE, CONTROL = "SERVICE_CONTROL_POLICY", "RESOURCE_CONTROL_POLICY"
 MEMBERS = ["id", "management", "parents", "targets", "policies"]
@@ -30,7 +31,7 @@ class Organization:
     def names(self) -> Dict[str, str]:
         """The names that the policies' ARNs have."""
         found = [it["PolicySummary"] for it in self.policies.values()]
-        return {str(it.get("Arn") or it["Id"]): str(it["Name"]) for it in found if it.get("Name")}
+        return {organization_policy(it): str(it["Name"]) for it in found if it.get("Name")}
 
     def member(self, name: str, kind: Any) -> Any:
         found = self.given.get(name, kind())
@@ -67,7 +68,7 @@ class Organization:
         if policy_id not in self.policies:
             raise Fault(f"organization: no policy {policy_id}")
         it = self.policies[policy_id]
-        return policy(str(it["PolicySummary"].get("Arn") or policy_id), it.get("Content"))
+        return policy(organization_policy(it["PolicySummary"]), it.get("Content"))
 
     def attached(self, target: str, kind: str) -> List[Policy]:
         if target not in self.targets:

@@ -1,5 +1,6 @@
 """Patterns with '*' and '?', and texts that are made of them."""
 
+import difflib
 import functools
 import re
 from typing import Callable, Dict, Iterable, List, Optional
@@ -21,6 +22,20 @@ def is_pattern(text: str) -> bool:
 
 def any_matches(patterns: Iterable[str], texts: List[str], fold: bool = False) -> bool:
     return any(matcher(pattern, fold)(text) for pattern in patterns for text in texts)
+
+
+def last_of(name: str) -> str:
+    return re.split("[/:]", name)[-1]
+
+
+def near(asked: str, names: Iterable[str]) -> str:
+    """A hint for a pattern that no name matches: the names whose last part it means, or nearly."""
+    last, parts = last_of(asked), {it: last_of(it) for it in names}
+    if not last.strip("*?"):
+        return ""
+    alike = difflib.get_close_matches(last, parts.values(), cutoff=0.8)
+    found = [it for it in parts if matcher(last, True)(parts[it])] or [it for it in parts if parts[it] in alike]
+    return f" (near is {', '.join(found[:3])})" if found else ""
 
 
 def variables_of(text: str) -> List[str]:

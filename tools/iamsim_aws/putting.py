@@ -3,12 +3,12 @@
 from typing import Any, Dict, List, NamedTuple, Optional, Set, Tuple
 
 from . import files
-from .arns import account_of, resource_part, service_of
+from .arns import account_of, bucket_of, resource_part, service_of
 from .documents import Policy, World, mapped, places
 from .exports import document
 from .faults import Fault
-from .kinds import bucket_of
 from .making import Estate
+from .naming import called, organization_policy, resource_policy
 
 
 NO_SUCH = "no policy and no resource is called so"
@@ -29,37 +29,25 @@ def read_draft(text: str) -> Draft:
     return Draft(name, document(files.read_json(path), files.name_of(path)))
 
 
-def called(name: str) -> Set[str]:
-    """What a policy of that name may be called."""
-    for middle in (" inline ", " trust policy"):
-        holder, found, own = name.partition(middle)
-        if found:
-            short = resource_part(holder)
-            last = short.split("/")[-1]
-            if own:
-                return {name, own, f"{short} inline {own}", f"{last} inline {own}"}
-            return {name, holder, short, last, f"{short} trust policy", f"{last} trust policy"}
-    return {name, resource_part(name), resource_part(name).split("/")[-1]}
-
-
 def is_resource(it: Dict[str, Any], name: str) -> bool:
     """Whether the resource's policy is called so: by its ARN, its bucket or its last part. A role's policy is a trust
     policy, where it has one."""
-    arn = it["arn"]
+    arn, part, bucket = it["arn"], resource_part(it["arn"]), bucket_of(it["arn"])
     if service_of(arn) == "iam" and "policy" not in it:
         return False
-    names = (
-        {arn, f"{arn} policy", resource_part(arn), resource_part(arn).split("/")[-1]} if not bucket_of(arn) else {arn}
-    )
-    bucket = bucket_of(arn)
-    return name in names or (bucket != "" and name in (bucket, f"{arn.split(':::')[0]}:::{bucket}"))
+    names = {bucket, arn.split("/")[0]} if bucket else {part, part.split("/")[-1]}
+    return name in {arn, resource_policy(arn), *names}
+
+
+def name_of(resource: Dict[str, Any]) -> str:
+    return resource["policy"].name if "policy" in resource else resource_policy(resource["arn"])
 
 
 def put_one(world: World, draft: Draft, aliases: Dict[str, str]) -> Tuple[World, bool]:
     """The world with one draft, and whether it has such a policy."""
     if any(is_resource(it, draft.name) for it in world["resources"]):
         resources = [
-            {**it, "policy": Policy(policy_name(it, draft), draft.document)} if is_resource(it, draft.name) else it
+            {**it, "policy": Policy(name_of(it), draft.document)} if is_resource(it, draft.name) else it
             for it in world["resources"]
         ]
         return {**world, "resources": resources}, True
@@ -91,10 +79,6 @@ def refuse_doubles(world: World, drafts: List[Draft], aliases: Dict[str, str], e
             if it in seen:
                 raise Fault(f"--put {seen[it]} and --put {draft.name}: both are drafts of one policy")
             seen[it] = draft.name
-
-
-def policy_name(resource: Dict[str, Any], draft: Draft) -> str:
-    return resource["policy"].name if "policy" in resource else f"{draft.name} policy"
 
 
 def put(world: World, drafts: List[Draft], aliases: Dict[str, str]) -> World:
@@ -129,7 +113,7 @@ def with_drafts(estate: Estate, drafts: List[Draft]) -> Estate:
 def names_of_organization(it: Dict[str, Any]) -> Set[str]:
     """What a policy of the organisation may be called."""
     summary = it["PolicySummary"]
-    return called(str(summary.get("Arn") or summary["Id"])) | {str(summary["Id"]), str(summary.get("Name"))}
+    return called(organization_policy(summary)) | {str(summary["Id"]), str(summary.get("Name"))}
 
 
 def refuse_strangers(world: World, drafts: List[Draft], aliases: Dict[str, str], estate: Optional[Estate]) -> None:

@@ -4,11 +4,12 @@ import re
 from typing import Any, Dict, List, NamedTuple, Optional
 
 from . import kinds
-from .arns import account_of, names_of_resource
+from .arns import account_of, names_of_resource, principal_arn
 from .documents import Policy, World
 from .faults import Fault
+from .kinds import Origin, Origins
 from .making import bound
-from .patterns import any_matches, is_pattern, matcher
+from .patterns import any_matches, is_pattern, matcher, near
 from .sources import ASSUME, Source
 from .strangers import is_excepted, is_meant, strangers, with_strangers
 
@@ -37,11 +38,11 @@ class Question(NamedTuple):
 
 
 class Asked(NamedTuple):
-    """A world of a question's requests, the patterns that its witnesses stand for, patterns without a witness, and the
-    resources that the world did not name."""
+    """A world of a question's requests, what its witnesses stand for, patterns without a witness, and the resources that
+    the world did not name."""
 
     world: World
-    witnesses: Dict[str, str]
+    witnesses: Origins
     without: List[str]
     added: List[str]
 
@@ -50,18 +51,18 @@ def principals(some: List[Dict[str, Any]], question: Question) -> List[Dict[str,
     return [it for it in some if is_meant(it, question.principal) and not is_excepted(it, question.exceptions)]
 
 
-def actions(scope: Scope, pattern: str) -> Dict[str, str]:
-    """The actions that a pattern asks for, each with the pattern of a policy that it stands for, or itself."""
+def actions(scope: Scope, pattern: str) -> Dict[str, Optional[Origin]]:
+    """The actions that a pattern asks for; of a text that stands for others, what for."""
     if not is_pattern(pattern):
         if not ACTION.fullmatch(pattern):
             raise Fault(f"{pattern or 'an empty text'}: an action is written 'service:Name', and '*' and '?' are wild")
-        return {pattern: pattern}
+        return {pattern: None}
     source = scope.source
     references = source.references
     found = kinds.actions(source.world([ASSUME]), pattern, source.actions, scope.kinds)
     # Of a service that has a file all actions are known.
     rest = {it: of for it, of in found.items() if it in source.actions or not references.has_file(it)}
-    return {**{it: it for it in references.actions() if matcher(pattern, True)(it)}, **rest}
+    return {**{it: None for it in references.actions() if matcher(pattern, True)(it)}, **rest}
 
 
 def account_for(scope: Scope, world: World, arn: str) -> str:
@@ -108,14 +109,14 @@ def asked_in(scope: Scope, world: World, question: Question) -> Asked:
     if scope.outside:
         some = strangers(scope.source, [narrow], question.principal)
         narrow = with_strangers(scope.source, narrow, principals(some, question))
-    return Asked(narrow, {it.resource["arn"]: it.pattern for it in witnesses}, without, added)
+    return Asked(narrow, {it.resource["arn"]: it.origin for it in witnesses}, without, added)
 
 
 def worlds(scope: Scope, question: Question) -> List[Asked]:
     """The worlds of a question's requests; none of them where it asks for none."""
     chosen = actions(scope, question.action)
     found = [asked_in(scope, world, question) for world in scope.source.worlds(list(chosen))]
-    stand = {action: pattern for action, pattern in chosen.items() if action != pattern}
+    stand = {action: origin for action, origin in chosen.items() if origin}
     found = [it._replace(witnesses={**stand, **it.witnesses}) for it in found]
     return [it for it in found if it.world["principals"] and it.world["resources"]]
 
@@ -127,6 +128,8 @@ def missing(scope: Scope, question: Question) -> str:
         return f"no action matches {question.action}: name actions by --actions, or their services by --services"
     found = scope.source.worlds(list(chosen))
     if not any(principals(it["principals"], question) for it in found):
-        return f"no principal matches {question.principal}"
+        people = [principal_arn(one) for it in found for one in it["principals"]]
+        return f"no principal matches {question.principal}{near(question.principal, people)}"
+    hint = near(question.resource, [one["arn"] for it in found for one in it["resources"]])
     more = ", resources by --resources," if scope.source.estate else ""
-    return f"no resource matches {question.resource}: name its ARN{more} or ask with --kinds"
+    return f"no resource matches {question.resource}{hint}: name its ARN{more} or ask with --kinds"

@@ -6,6 +6,8 @@ import re
 from typing import Any, Callable, Dict, Iterable, List, Set, Tuple
 
 from . import files
+from .arns import service_of
+from .documents import World
 from .faults import Fault, tell
 
 FORM = re.compile(r"\$\{[^}]*\}")
@@ -20,6 +22,13 @@ def expression(form: str) -> Tuple[Any, int]:
     *head, last = form.split(":", 5)
     written = ":".join([*(in_part(it, "[^:]*") for it in head), in_part(last, ".*")])
     return re.compile(written, re.DOTALL), sum(map(len, FORM.split(form)))
+
+
+def is_mixed(action: str, resource: str) -> bool:
+    """Whether an action is of one service and a resource of another, as kms:Decrypt and an object. Few services have such
+    requests, as ssm:StartSession on an instance; of texts that leave a service open nothing is known."""
+    services = action.lower().partition(":")[0], service_of(resource)
+    return services[0] != services[1] and services != ("sts", "iam") and not {"any", "x", ""} & set(services)
 
 
 class Service:
@@ -64,6 +73,11 @@ class References:
 
     def actions(self) -> List[str]:
         return [f"{it.name}:{name}" for it in self.services.values() for name in it.names]
+
+    def pairs(self, world: World) -> List[bool]:
+        """Whether a service has the request of each action and resource, in the order of cells; of one without a file, yes."""
+        pairs = ((action, it["arn"]) for action in world["actions"] for it in world["resources"])
+        return [not self.services or self.keeps(*it) for it in pairs]
 
     def has_file(self, action: str) -> bool:
         return action.lower().partition(":")[0] in self.services

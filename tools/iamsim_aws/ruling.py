@@ -1,14 +1,16 @@
 """Rules that a team keeps: which requests are never allowed, and which always."""
 
 import re
-from typing import Dict, List, NamedTuple, Optional
+from typing import Dict, List, NamedTuple, Optional, Tuple
 
 from . import files
-from .arns import principal_text
+from .arns import principal_arn, principal_text
 from .asking import ask_all
 from .faults import Fault, tell
 from .hanging import Turn, is_too_much, turns
-from .patterns import is_pattern
+from .keys import with_key
+from .kinds import Origins
+from .patterns import is_pattern, near
 from .questions import Asked, Question, Scope, missing, worlds
 from .reports import Answers
 from .sources import ASSUME
@@ -34,11 +36,14 @@ class Rule(NamedTuple):
 
 
 class Break(NamedTuple):
-    """A request that breaks a rule: as it is, or with a key that nothing gives."""
+    """A request that breaks a rule: its answer as it is, or with a key that nothing gives; what its texts stand for; and
+    its answer before a draft, where it was allowed."""
 
     answers: Answers
     cell: int
     turn: Optional[Turn]
+    stand: Origins
+    before: Optional[Tuple[Answers, int]] = None
 
 
 class Outcome(NamedTuple):
@@ -105,7 +110,8 @@ def asked_by(scope: Scope, rule: Rule) -> List[Asked]:
     outside too."""
     for it, people in exceptions(scope, rule).items():
         if not people:
-            tell(f"{rule.name}: the exception {it} matches no principal")
+            names = map(principal_arn, scope.source.world([ASSUME])["principals"])
+            tell(f"{rule.name}: the exception {it} matches no principal{near(it, names)}")
     question = rule.question
     is_never = rule.kind == "never"
     has_kinds = is_never and (is_pattern(question.resource) or is_pattern(question.action))
@@ -115,33 +121,43 @@ def asked_by(scope: Scope, rule: Rule) -> List[Asked]:
         raise Fault(f"{rule.name}: {fault}") from None
 
 
-def check(scope: Scope, rules: List[Rule], as_given: bool = False) -> List[Outcome]:
-    """The outcome of each rule, all asked side by side."""
+def check(scope: Scope, rules: List[Rule], as_given: bool = False, before: Optional[Scope] = None) -> List[Outcome]:
+    """The outcome of each rule, all asked side by side; over a draft with what was allowed before it."""
     asked = [asked_by(scope, rule) for rule in rules]
     flat = [it for of in asked for it in of]
     answers: Dict[int, Answers] = {id(it): found for it, found in zip(flat, ask_all([it.world for it in flat]))}
     outcomes = []
     for rule, of in zip(rules, asked):
         kept = [(answers[id(it)], cells_of(scope, answers[id(it)])) for it in of]
-        broken = [it for found, cells in kept for it in breaks(rule, found, cells, as_given)]
+        broken = [more for it, found in zip(of, kept) for more in breaks(rule, it, *found, as_given)]
         requests = sum(met(it, *found) for it, found in zip(of, kept)) or len(broken)
         why = "" if requests else missing(scope, rule.question) if not of else NOTHING_SPEAKS
+        broken = since(before, rule, broken) if before else broken
         outcomes.append(Outcome(rule, requests, broken, of, why, scope.source.giver))
     return outcomes
+
+
+def since(before: Scope, rule: Rule, broken: List[Break]) -> List[Break]:
+    """The requests that have to be allowed and are not, with those answers before a draft that allowed them."""
+    if rule.kind == "never" or not broken:
+        return broken
+    answers = ask_all([it.world for it in worlds(before, rule.question)])
+    allowed = {found.row(cell)[:3]: (found, cell) for found in answers for cell in found.allowed()}
+    return [it._replace(before=allowed.get(it.answers.row(it.cell)[:3])) for it in broken]
 
 
 def met(asked: Asked, answers: Answers, cells: List[int]) -> int:
     """How many requests are of what is named, or of what a policy speaks of; others stand for a pattern of the rule that
     may have a slip."""
-    own, world = {text for text, pattern in asked.witnesses.items() if not pattern}, answers.world
+    own, world = {text for text, origin in asked.witnesses.items() if not origin.policy}, answers.world
     is_met = [action not in own and it["arn"] not in own for action in world["actions"] for it in world["resources"]]
     return sum(is_met[cell % len(is_met)] for cell in cells)
 
 
-def breaks(rule: Rule, answers: Answers, cells: List[int], as_given: bool) -> List[Break]:
+def breaks(rule: Rule, asked: Asked, answers: Answers, cells: List[int], as_given: bool) -> List[Break]:
     """The requests that break a rule. What is never allowed is not with a key that nothing gives either."""
     flags, wrong = answers.flags(), int(rule.kind == "never")
-    found = [Break(answers, cell, None) for cell in cells if flags[cell] == wrong]
+    found = [Break(answers, cell, None, asked.witnesses) for cell in cells if flags[cell] == wrong]
     if rule.kind == "always" or as_given or not cells:
         return found
     if is_too_much(answers.world):
@@ -149,14 +165,12 @@ def breaks(rule: Rule, answers: Answers, cells: List[int], as_given: bool) -> Li
         return found
     turned = turns(answers.world, answers)
     opened = [(cell, it) for cell in cells for it in turned.get(cell, []) if it.decision == "allowed"]
-    return found + [Break(answers, cell, turn) for cell, turn in opened]
+    keys = list(dict.fromkeys((it.key, it.value) for _, it in opened))
+    given = dict(zip(keys, ask_all([with_key(answers.world, *it) for it in keys])))
+    return found + [Break(given[it.key, it.value], cell, it, asked.witnesses) for cell, it in opened]
 
 
 def cells_of(scope: Scope, answers: Answers) -> List[int]:
     """The requests that some service has, as far as the service reference is given."""
-    every, references = range(len(answers.numbers)), scope.source.references
-    if not references.services:
-        return list(every)
-    world, count = answers.world, answers.shape[2]
-    kept = [references.keeps(action, it["arn"]) for action in world["actions"] for it in world["resources"]]
-    return [cell for cell in every if kept[cell % (answers.shape[1] * count)]]
+    kept = scope.source.references.pairs(answers.world)
+    return [cell for cell in range(len(answers.numbers)) if kept[cell % len(kept)]]

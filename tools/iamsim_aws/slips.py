@@ -5,7 +5,7 @@ from typing import List
 from .arns import names_of_resource, resource_part
 from .documents import places, statements_of
 from .kinds import patterns_of_actions, texts_of
-from .patterns import VARIABLE, any_matches, common, is_pattern
+from .patterns import VARIABLE, any_matches, common, is_pattern, near
 from .questions import Question, Scope
 from .sources import ASSUME
 
@@ -45,7 +45,9 @@ def slips(scope: Scope, question: Question) -> List[str]:
     """A line for each name of a question that is likely a slip."""
     action, resource, found = question.action, question.resource, []
     if not is_wide(action) and not is_known_action(scope, action):
-        found.append(f"no list and no policy names an action that {action} means, but for all of a service")
+        what = f"no list and no policy names an action that {action} means, but for all of a service"
+        found.append(f"{what}: is it a slip? If not, give its actions by --actions FILE or --services FOLDER")
     if is_pattern(resource) and not is_wide(resource_part(resource)) and not is_known_resource(scope, resource):
-        found.append(f"nothing names a resource that {resource} means, but policies for all")
-    return [f"{it}: is it a slip?" for it in found]
+        hint = near(resource, [it["arn"] for it in scope.source.world([ASSUME])["resources"]])
+        found.append(f"nothing names a resource that {resource} means{hint}, but policies for all: is it a slip?")
+    return found

@@ -4,15 +4,16 @@ import re
 from typing import Any, Callable, Dict, Iterator, List, NamedTuple, Optional, Tuple
 
 from . import files
-from .arns import account_of, resource_part
+from .arns import account_of, bucket_of, resource_part
 from .exports import Account, policy
 from .faults import Fault, tell
-from .kinds import bucket_of
 from .making import Estate
+from .naming import resource_policy
 from .organizations import CONTROL, SERVICE
 
 Values = Dict[str, Any]
 INDEX = re.compile(r"\[[^\]]*\]")
+ROOT = re.compile(r"arn:[a-z-]+:iam::([0-9]{12}):root")
 QUEUE = re.compile(r"https://sqs\.((?!us-gov-)[a-z0-9-]+)\.amazonaws\.com/([0-9]{12})/([^/]+)")
 INLINE = {"user": "UserPolicyList", "group": "GroupPolicyList", "role": "RolePolicyList"}
 ATTACHED = ("AttachedManagedPolicies", "PolicyArn")
@@ -118,16 +119,22 @@ class Apply:
         self.ignored: Dict[str, int] = {}
         self.notes: List[str] = []
 
+    def wanted(self, change: Change) -> Optional[str]:
+        """The account that a resource is of, as far as the plan or an option says it."""
+        values = change.after or change.before or {}
+        return account_of(str(values.get("arn") or "")) or self.given
+
+    def found(self, change: Change, estate: Estate) -> Optional[Account]:
+        wanted, accounts = self.wanted(change), estate.accounts
+        return next((it for it in accounts if it.account == wanted or (wanted is None and len(accounts) == 1)), None)
+
     def account(self, change: Change, is_before: bool = False) -> Account:
         """The account that a resource is of, after the changes so far or as the export has it."""
-        values = change.after or change.before or {}
-        wanted = account_of(str(values.get("arn") or "")) or self.given
-        for it in (self.first if is_before else self.estate).accounts:
-            if it.account == wanted or (wanted is None and len(self.estate.accounts) == 1):
-                return it
-        raise Fault(
-            f"{change.address}: no export is of its account {wanted or ''}: name the plan's account by --account"
-        )
+        found = self.found(change, self.first if is_before else self.estate)
+        if found is None:
+            wanted = self.wanted(change) or ""
+            raise Fault(f"{change.address}: no export is of its account {wanted}: name the plan's account by --account")
+        return found
 
     def run(self) -> Estate:
         changes = [it for it in self.plan.changes if it.before != it.after or any_true(it.unknown)]
@@ -135,6 +142,8 @@ class Apply:
             if change.kind in TARGETS:
                 give_before(self, change)
         self.first = self.estate.copied()
+        for change in self.plan.changes:
+            self.notes += drifted(change, before_plan(self, change))
         for kind, handle in HANDLERS.items():
             for change in changes:
                 if change.kind == kind:
@@ -175,6 +184,56 @@ def refuse_lacking(change: Change, account: Account) -> None:
             raise Fault(
                 f"{change.address}: the plan changes the {what}, which the export of {account.account} lacks: they do not match"
             )
+
+
+def plain(value: Any) -> Any:
+    """A document of which the ways to write the same are alike: a list of one, lists in any order, an account or its root."""
+    if isinstance(value, dict):
+        return {key: plain(value[key]) for key in sorted(value)}
+    if isinstance(value, list):
+        made = sorted(map(plain, value), key=files.compact)
+        return made[0] if len(made) == 1 else made
+    root = ROOT.fullmatch(value) if isinstance(value, str) else None
+    return root[1] if root else str(value).lower() if isinstance(value, bool) else str(value)
+
+
+def drifted(change: Change, there: Dict[str, Any]) -> List[str]:
+    """A line for each attribute that a plan takes to be there before it otherwise than it is there."""
+    before = change.before or {}
+    told = "is not what the plan takes to be there before it: the export and --resources count"
+
+    def read(value: Any) -> Any:
+        is_document = isinstance(value, str) and value.startswith("{")
+        return plain(policy(change.address, value).document if is_document else value or "")
+
+    differing = [it for it in there if it in before and read(before[it]) != read(there[it])]
+    return [f"{change.address}: its {it} {told}" for it in differing]
+
+
+def before_plan(apply: Apply, change: Change) -> Dict[str, Any]:
+    """The attributes of a resource that are there before the plan, by the names that it gives them."""
+    name = (change.before or {}).get(TARGETS[change.kind]) if change.kind in TARGETS else None
+    if name:
+        own = [it for it in apply.first.further if is_meant(it["arn"], name) and "policy" in it]
+        return {"policy": it["policy"].document for it in own}
+    account = apply.found(change, apply.first)
+    return in_export(change, account) if account else {}
+
+
+def in_export(change: Change, account: Account) -> Dict[str, Any]:
+    """Those of a resource of IAM that the account has."""
+    before = change.before or {}
+    kind, part, _ = change.kind[len("aws_iam_") :].partition("_policy")
+    if change.kind == "aws_iam_policy":
+        versions = account.policies.get(iam_arn("policy", before, account.account), {}).get("PolicyVersionList") or []
+        return {"policy": it.get("Document") for it in versions if it.get("IsDefaultVersion")} if before else {}
+    if change.kind in (f"aws_iam_{it}_policy" for it in INLINE):
+        items = [it for of in holders(account, kind, before.get(kind)) for it in of.get(INLINE[kind]) or []]
+        return {"policy": it.get("PolicyDocument") for it in items if it.get("PolicyName") == before.get("name")}
+    found = holders(account, kind, before.get("name")) if kind in ("user", "role") and not part else []
+    trust = {"assume_role_policy": it["AssumeRolePolicyDocument"] for it in found if "AssumeRolePolicyDocument" in it}
+    boundaries = [it.get("PermissionsBoundary") or {} for it in found]
+    return {**trust, **{"permissions_boundary": it.get("PermissionsBoundaryArn") for it in boundaries}}
 
 
 def taken_as_there(change: Change, account: Account) -> Iterator[Tuple[str, bool]]:
@@ -424,7 +483,7 @@ def on_resource(target: str) -> Callable[[Apply, Change], None]:
 
 def put_policy(apply: Apply, change: Change, name: str, document: Any) -> None:
     for it in meant(apply, change, name):
-        it["policy"] = policy(f"{it['arn']} policy", document)
+        it["policy"] = policy(resource_policy(it["arn"]), document)
 
 
 def arn_of(change: Change, name: str) -> Optional[str]:
@@ -464,7 +523,7 @@ def give_before(apply: Apply, change: Change) -> None:
         return
     if given:
         for it in meant(apply, change, name):
-            it["policy"] = policy(f"{it['arn']} policy", policy(f"{change.address}.policy", given).document)
+            it["policy"] = policy(resource_policy(it["arn"]), policy(f"{change.address}.policy", given).document)
     elif given is None and after.get("policy"):
         apply.notes.append(
             f"{change.address}: neither the plan nor --resources has its policy before the plan: it is taken to have none"

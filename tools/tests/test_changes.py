@@ -339,7 +339,7 @@ def test_a_choice_that_meets_nothing():
         "nothing names a resource that arn:aws:s3:::hoems/* means, but policies for all: is it a slip?\n" in said
     ), said
     _, said = aws(*words, "--action", "s3:PutObjekt")
-    assert "names an action that s3:PutObjekt means, but for all of a service: is it a slip?\n" in said, said
+    assert "names an action that s3:PutObjekt means, but for all of a service: is it a slip? If not, give" in said, said
     out, said = aws(*words, "--action", "kms:*", status=4)
     same(out, "0 lost and 0 gained, of 0 requests\n")
     assert "no request was compared" in said, said
@@ -447,21 +447,151 @@ def test_changes_in_words_and_for_a_review():
             "    was allowed by principals/0/identity/0, statement 0 Old|` (identity policy)",
         ],
     )
-    out, _ = aws("changes", "--before", file(before), "--after", file(after), "--format", "markdown")
-    lines = out.splitlines()
+    out, _ = aws(
+        "changes", "--before", file(before), "--after", file(after), "--action", "s3:GetObject", "--format", "markdown"
+    )
     same(
-        lines[:6],
+        out.splitlines(),
         [
             "**1 lost and 0 gained, of 1 requests**",
             "",
             "### Lost",
             "",
-            "| Principal | Action | Resource | Before | After | Why |",
-            "|---|---|---|---|---|---|",
+            "- <code>allowed, now explicitDeny</code>",
+            "- <code>denied by principals/0/identity/0, statement 0 &#60;b&#62;No (identity policy)</code>",
+            "- <code>was allowed by principals/0/identity/0, statement 0 Old&#124;&#96; (identity policy)</code>",
+            "",
+            "| Principal | Actions | Resources |",
+            "|---|---|---|",
+            "| <code>arn:aws:iam::111122223333:user/ann</code> | <code>s3:GetObject</code> | <code>arn:aws:s3:::b/k</code> |",
         ],
     )
-    same(lines[6].count("|"), 7)
-    assert "&#60;b&#62;No" in lines[6] and "Old&#124;&#96;" in lines[6], lines[6]
+
+
+def test_a_review_of_many_requests():
+    """The same principal, actions and statements make a row, of which three resources are named."""
+    resources = [{"arn": f"arn:aws:s3:::b/{n}", "account": "111122223333"} for n in range(5)]
+    actions = ("s3:GetObject", "s3:PutObject")
+    before = small_world(
+        document(statement("Deny", "s3:Put*", "arn:aws:s3:::b/4")), actions=actions, resources=resources
+    )
+    after = small_world(document(statement()), actions=actions, resources=resources)
+    words = [word for it in actions for word in ("--action", it)]
+    out, _ = aws("changes", "--before", file(before), "--after", file(after), *words, "--format", "markdown")
+    why = "- <code>allowed by principals/0/identity/0, statement 0 (identity policy)</code>"
+    head = ["", "| Principal | Actions | Resources |", "|---|---|---|"]
+    ann = "| <code>arn:aws:iam::111122223333:user/ann</code> |"
+    three = ", ".join(f"<code>arn:aws:s3:::b/{n}</code>" for n in range(3))
+    # Reads of five objects, writes of four, and the write that was denied.
+    same(
+        out.splitlines(),
+        [
+            "**0 lost and 10 gained, of 10 requests**",
+            "",
+            "### Gained",
+            "",
+            "- <code>implicitDeny, now allowed</code>",
+            why,
+        ]
+        + [*head, f"{ann} <code>s3:GetObject</code> | {three} and 2 more |"]
+        + [
+            f"{ann} <code>s3:PutObject</code> | {three} and 1 more |",
+            "",
+            "- <code>explicitDeny, now allowed</code>",
+            why,
+        ]
+        + [*head, f"{ann} <code>s3:PutObject</code> | <code>arn:aws:s3:::b/4</code> |"],
+    )
+
+
+def test_a_review_that_a_comment_has_no_room_for():
+    """A comment of GitHub has at most 65,536 characters."""
+    users = [f"arn:aws:iam::111122223333:user/{'u' * 50}{n:03}" for n in range(600)]
+    before = {**small_world(), "principals": [{"user": it} for it in users]}
+    after = {**before, "principals": [{"user": it, "identity": [document(statement())]} for it in users]}
+    words = ["--action", "s3:GetObject", "--format", "markdown"]
+    out, _ = aws("changes", "--before", file(before), "--after", file(after), *words)
+    # All 600 want a row, and each has over 120 signs.
+    assert 65_000 < len(out) <= 65_536, len(out)
+    *lines, last = out.splitlines()
+    rows = sum(line.startswith("| <code>") for line in lines)
+    left = "requests and 0 notes are left out, for which a comment has no room: --format csv has all"
+    same(last, f"{600 - rows} {left}")
+
+
+def test_texts_that_are_made_up():
+    """It is said for which pattern of which policy they stand."""
+    draft = file(document(statement(action="s3:Get*")))
+    words = ["changes", EXPORT, "--put", f"ReadObjects={draft}", "--session", "s1"]
+    stands = "s3:Listx stands for s3:List* of arn:aws:iam::aws:policy/ReadObjects"
+    out, _ = aws(*words)
+    lines = out.splitlines()
+    same(lines[1:4], ["lost:", f"- {ALICE} s3:Listx *", f"    {stands}"])
+    out, _ = aws(*words, "--format", "csv")
+    header, *rows = csv.reader(io.StringIO(out))
+    same([header[-1], *(row[-1] for row in rows)], ["stands for", stands, stands])
+    out, _ = aws(*words, "--format", "markdown")
+    assert f"| <code>{stands.replace('*', '&#42;')}</code> | <code>&#42;</code> |\n" in out, out
+    # alice may put into her home, which stands for what the policy of her group names; bob's policy is for anything.
+    out, _ = rules("never * s3:Put* arn:aws:s3:::homes/*\n", status=3)
+    found = [line for line in out.splitlines() if f"{ALICE} may s3:PutObject arn:aws:s3:::homes/alice/x: " in line]
+    same(len(found), 1)
+    home = (
+        "arn:aws:s3:::homes/alice/x stands for arn:aws:s3:::homes/alice/* of arn:aws:iam::111122223333:group/Developers"
+    )
+    assert found[0].endswith(f"; {home} inline Homes"), found
+    # Of what no pattern of a policy names.
+    rest = file(small_world(document({"Effect": "Allow", "NotAction": "iam:*", "Resource": "*"})))
+    out, _ = aws("rules", file("never ann s3:* arn:aws:s3:::b/k\n"), "--world", rest, status=3)
+    assert out.splitlines()[2].endswith("; s3:x stands for what else s3:* means"), out
+
+
+def test_an_action_of_one_service_on_a_resource_of_another():
+    """Such a row is told last; the service reference tells that no service has it."""
+    granting = {"Effect": "Allow", "Principal": {"AWS": "111122223333"}, "Action": "kms:*", "Resource": "*"}
+    key = {"arn": "arn:aws:kms:eu-west-1:111122223333:key/7c1d", "account": "111122223333", "sealed": True}
+    resources = file([*FURTHER, {**key, "policy": document(granting)}])
+    draft = file(document(statement(action=["s3:Get*", "s3:List*", "kms:Decrypt"])))
+    words = ["changes", EXPORT, "--resources", resources, "--put", f"ReadObjects={draft}", "--session", "s1"]
+    people, places = [ALICE, f"{SESSION}deploy/s1"], [key["arn"], "*", FURTHER[0]["arn"]]
+    lines = lambda out: [line for line in out.splitlines() if not line.startswith("    ")]
+    gained = sorted(f"+ {who} kms:Decrypt {it}" for who in people for it in places[:2])
+    mixed = [f"+ {who} kms:Decrypt {places[2]}" for who in people]
+    title = "2 of an action of one service on a resource of another (--services FOLDER leaves out those that no service has):"
+    out, _ = aws(*words)
+    first, *rest = lines(out)
+    assert first.startswith("0 lost and 6 gained, of "), first
+    same([rest[0], sorted(rest[1:5]), *rest[5:]], ["gained:", gained, title, *mixed])
+    out, _ = aws(*words, "--format", "csv")
+    same([row[3] for row in csv.reader(io.StringIO(out))][-2:], [places[2]] * 2)
+    out, _ = aws(*words, "--format", "markdown")
+    assert f"\n### {title[:-1]}\n" in out and out.index("### Gained") < out.index("### 2 of"), out
+    out, said = aws(*words, "--services", data("kms.json"), "--services", data("s3.json"))
+    same(sorted(lines(out)[2:]), gained)
+    assert "2 requests that change are left out, since no service has them (--services)\n" in said, said
+    words += ["--action", "kms:Decrypt", "--resource", places[2], "--fail-on", "gained"]
+    aws(*words, status=3)
+    aws(*words, "--services", data("kms.json"), status=4)
+
+
+def test_a_policy_has_one_name():
+    """However a draft names it, and whether it was there before."""
+    draft = file(document({"Effect": "Deny", "Principal": {"AWS": ALICE}, "Action": "s3:GetObject", "Resource": "*"}))
+    for resources in (
+        [{"arn": "arn:aws:s3:::homes/a", "account": "111122223333"}],
+        [{"arn": "arn:aws:s3:::homes/a", "account": "111122223333", "policy": document()}],
+        [{"arn": "arn:aws:s3:::homes", "account": "111122223333", "policy": document()}],
+    ):
+        for name in ("homes", "arn:aws:s3:::homes", "arn:aws:s3:::homes policy"):
+            words = ["--resources", file(resources), "--put", f"{name}={draft}", "--resource", "arn:aws:s3:::homes/a"]
+            out, _ = aws("changes", EXPORT, *words)
+            same(
+                out.splitlines()[2:4],
+                [
+                    f"- {ALICE} s3:GetObject arn:aws:s3:::homes/a",
+                    "    denied by arn:aws:s3:::homes policy, statement 0 (the resource's policy)",
+                ],
+            )
 
 
 def test_a_review_has_the_warnings():
@@ -715,6 +845,33 @@ def test_rules_over_what_changes():
     rules(text)
     out, _ = rules(text, "--put", f"ReadObjects={draft}", status=3)
     assert f"{ALICE} may s3:PutObject" in out, out
+
+
+def test_an_always_says_what_allowed_before_a_draft():
+    draft = file(document(statement(action="s3:Get*", resource="arn:aws:s3:::homes/*")))
+    rule = "always alice s3:GetObject arn:aws:s3:::releases/app.zip\n"
+    out, _ = rules(rule, "--put", f"ReadObjects={draft}", status=3)
+    same(
+        out.splitlines()[1],
+        f"  {ALICE} may not s3:GetObject arn:aws:s3:::releases/app.zip: lacks identity: no identity policy of the principal"
+        " allows this; was allowed by arn:aws:iam::aws:policy/ReadObjects, statement 0 (identity policy)",
+    )
+    # What was not allowed before either is told as without a draft.
+    out, _ = rules(rule.replace("Get", "Put"), "--put", f"ReadObjects={draft}", status=3)
+    assert out.splitlines()[1].endswith(": lacks identity: no identity policy of the principal allows this"), out
+
+
+def test_a_name_that_matches_nothing_has_its_near_ones():
+    near = f"(near is {ACCOUNT}role/app/deploy)"
+    out, said = rules("never *:role/deploy s3:GetObject *\nalways *:role/app/deploi s3:GetObject *\n", status=4)
+    for n, name in enumerate(("*:role/deploy", "*:role/app/deploi")):
+        assert out.splitlines()[n].endswith(f": no principal matches {name} {near}"), out
+    _, said = rules("never chain s3:GetObject releases/app.zip except role/deploy\n")
+    assert f":1: the exception role/deploy matches no principal {near}\n" in said, said
+    _, said = aws("can", "alice", "sts:AssumeRole", "role/deploy", EXPORT, status=1)
+    assert f": no resource matches role/deploy {near}: name its ARN" in said, said
+    out, _ = rules("never *:role/nobody s3:GetObject *\n", status=4)
+    assert out.splitlines()[0].endswith(": no principal matches *:role/nobody"), out
 
 
 def test_spaces_and_signs_in_rules():

@@ -81,13 +81,14 @@ def test_files_are_named_from_the_top():
 
 # --- slips -----------------------------------------------------------------------------------------------------------
 
+ROLES = "arn:aws:iam::111122223333:role/"
 ACTION, RESOURCE = "no list and no policy names an action that {} means", "nothing names a resource that {} means"
 
 
 def slips(rule, *words):
     """The lines about slips of a rule that is kept."""
     _, said = aws("rules", file(rule + "\n"), *(words or [EXPORT]))
-    return [line.split(": ", 2)[-1] for line in said.splitlines() if line.endswith("is it a slip?")]
+    return [line.split(": ", 2)[-1] for line in said.splitlines() if "is it a slip?" in line]
 
 
 def test_rules_that_are_likely_a_slip():
@@ -110,6 +111,12 @@ def test_rules_that_are_likely_a_slip():
         wanted = [text.format(it) for text, it in ((ACTION, action), (RESOURCE, resource)) if it]
         same(len(found), len(wanted), f"{rule}: {found}")
         assert all(line.startswith(it) for line, it in zip(found, wanted)), f"{rule}: {found}"
+    [line] = slips("never chain iam:* *")
+    assert line.endswith(": is it a slip? If not, give its actions by --actions FILE or --services FOLDER"), line
+    [line] = slips("never chain sts:AssumeRole *:role/worker/*")
+    assert "means, but policies for all" in line, line
+    [line] = slips("never chain sts:AssumeRole *:role/people?/worker*")
+    assert f"means (near is {ROLES}worker), but policies for all" in line, line
     # What a list of actions or the service reference has is no slip, nor is a rule that is broken or empty.
     same(slips("never chain kms:* *", EXPORT, "--services", data("kms.json")), [])
     same(slips("never chain kms:De* *", EXPORT, "--actions", file("kms:Decrypt\n")), [])

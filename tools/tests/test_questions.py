@@ -183,7 +183,7 @@ def test_texts_that_stand_for_patterns():
     )
     same([it["decision"] for it in found if it["resource"] == "*"], ["implicitDeny"])
     out, _ = aws("who-can", "kms:Decrypt", "*", "--world", file(made), "--kinds")
-    assert f"{wanted[1]} stands for arn:aws:kms:*:111122223333:key/a* of a policy\n" in out, out
+    assert f"{wanted[1]} stands for arn:aws:kms:*:111122223333:key/a* of principals/0/identity/0\n" in out, out
     assert "the answer covers such texts as were asked for" in out, out
     # Without --kinds the resources of the world alone are asked for.
     same(len(rows("who-can", "kms:Decrypt", "*", "--world", file(made))), 1)

@@ -183,6 +183,19 @@ def test_a_never_is_broken_by_them():
     rules(f"always alice s3:GetObject {BUCKET}\nalways * s3:GetObject {BUCKET}\n", bucket(grant("*")), 0)
 
 
+def test_a_never_names_what_lets_them_in_with_a_key():
+    """Anyone of the organisation o-1 is let in; of no request the key is known."""
+    resources = bucket(grant("*", Condition={"StringEquals": {"aws:PrincipalOrgID": "o-1"}}))
+    rule = file(f"never *(anybody) s3:GetObject {BUCKET}\n")
+    out, _ = aws("rules", rule, EXPORT, "--resources", resources, status=3)
+    same(
+        out.splitlines()[1],
+        f"  {ANY} may s3:GetObject {BUCKET} if `aws:PrincipalOrgID` is `o-1`, which nothing gives (--context gives it):"
+        f" allowed by {BUCKET} policy, statement 0 (the resource's policy);"
+        " allowed by what its own account may allow (assumed), statement 0 (identity policy)",
+    )
+
+
 def test_exceptions_mean_all_of_an_account():
     rule, given = f"never * s3:GetObject {BUCKET} except alice bob deploy", bucket(grant("999988887777"))
     for pattern, status in (
@@ -246,7 +259,7 @@ def test_members_of_the_organisation():
     # 444455556666 is a member, and whoever is of no account there is none.
     same(outside("s3:GetObject", given, *organization), {"anyone outside: account 444455556666": True, ANY: False})
     _, said = aws("who-can", "s3:GetObject", BUCKET, EXPORT, "--resources", given, *organization)
-    line = f"iamsim-aws: the policy of {BUCKET} grants to members of an organisation: of those without an export nobody is asked\n"
+    line = f"iamsim-aws: {BUCKET} policy grants to members of an organisation: of those without an export nobody is asked\n"
     same(said, line)
     # 444455556666 may not do this by its organisation's policies.
     bound = load(data("organization.json"))
@@ -261,7 +274,7 @@ def test_who_is_not_asked():
     """Who is of another account and neither a user nor a role is told."""
     federated = "arn:aws:sts::999988887777:federated-user/x"
     _, said = aws("who-can", "s3:GetObject", BUCKET, EXPORT, "--resources", bucket(grant(federated)))
-    same(said, f"iamsim-aws: the policy of {BUCKET} names {federated}, for whom nobody is asked\n")
+    same(said, f"iamsim-aws: {BUCKET} policy names {federated}, for whom nobody is asked\n")
     _, said = aws("who-can", "s3:GetObject", BUCKET, EXPORT, "--resources", bucket(grant("999988887777", "*")))
     same(said, "")
 

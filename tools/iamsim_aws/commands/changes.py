@@ -2,33 +2,18 @@
 
 import argparse
 import time
-from typing import Any, Dict, List, NamedTuple, Tuple
+from typing import Any, List, Tuple
 
-from .. import drafts, files
-from ..changing import Changes, changes_of, differing, same_cell, spoken_of
+from .. import drafts, files, reviews
+from ..changing import Changes, changes_of, differing, spoken_of
 from ..covering import tell_actions, tell_strangers
 from ..documents import World
-from ..faults import TOLD, Fault, line_of, tell
+from ..faults import TOLD, Fault, tell
 from ..paging import data, page
 from ..questions import Question, Scope
-from ..reports import csv_text
 from ..slips import slips
 from ..sources import ASSUME, Source, add_source
-from ..telling import BY, LACKS, causes
 from .parsers import add
-
-
-class Line(NamedTuple):
-    """A request that is lost or gained."""
-
-    change: str
-    principal: str
-    action: str
-    resource: str
-    before: str
-    after: str
-    given: str
-    why: List[str]
 
 
 def add_all(commands: Any) -> None:
@@ -59,13 +44,16 @@ def run(options: argparse.Namespace) -> int:
     found = changes_of(before, after, patterns, options.resource, options.account, options.format == "page")
     tell_actions(after, patterns)
     tell_strangers(after, [world for it in found if not it.given for world in changed(it)])
-    lines = [line for it in found for line in lines_of(it)]
-    requests = sum(len(it.after.numbers) for it in found if not it.given)
+    lines = [line for it in found for line in reviews.lines_of(it)]
+    requests = sum(it.requests for it in found if not it.given)
+    left = sum(it.left for it in found)
+    if left:
+        tell(f"{left} requests that change are left out, since no service has them (--services)")
     if not lines:
         tell_slips((before, after), patterns, options.resource)
     if not requests and options.format != "page":
         tell("no request was compared: the two sides differ in no policy, or no resource matches")
-    write = {"text": as_text, "csv": as_csv, "markdown": as_markdown}
+    write = {"text": reviews.as_text, "csv": reviews.as_csv, "markdown": reviews.as_markdown}
     files.write(page_of(found) if options.format == "page" else write[options.format](lines, requests))
     asked = "any" if options.exit_status else options.fail_on
     if not asked:
@@ -100,87 +88,3 @@ def page_of(found: List[Changes]) -> str:
     if len(plain) != 1:
         raise Fault("a page is of one matrix: choose either iam: actions or others by --action")
     return page(data(plain[0].after, False, before=plain[0].before))
-
-
-def lines_of(changes: Changes) -> List[Line]:
-    return [line_for(changes, it, True) for it in changes.lost] + [
-        line_for(changes, it, False) for it in changes.gained
-    ]
-
-
-def line_for(changes: Changes, cell: int, is_lost: bool) -> Line:
-    """A request that changes, and why it is decided now as it is; where it is no longer there, as it was."""
-    one, other = (changes.before, changes.after) if is_lost else (changes.after, changes.before)
-    there = same_cell(changes, cell, is_lost)
-    row = one.row(cell)
-    elsewhere = "absent" if there is None else other.at(there).decision
-    decisions = (row.answer.decision, elsewhere) if is_lost else (elsewhere, row.answer.decision)
-    answers, at = (other, there) if is_lost and there is not None else (one, cell)
-    answer = answers.at(at)
-    before = "was " if is_lost and there is None else ""
-    why = [f"{before}{BY[answer.decision]} {it.words()}" for it in causes(answers, at)] + [
-        f"lacks {it}: {LACKS[it]}" for it in answer.lacks
-    ]
-    if is_lost and there is not None:
-        why += [f"was {BY['allowed']} {it.words()}" for it in causes(one, cell)]
-    return Line(
-        "lost" if is_lost else "gained", row.principal, row.action, row.resource, *decisions, changes.given, why
-    )
-
-
-def as_text(lines: List[Line], requests: int) -> str:
-    found = [summary(lines, requests)]
-    for kind in ("lost", "gained"):
-        of = [it for it in lines if it.change == kind]
-        found += [f"{kind}:"] if of else []
-        for it in of:
-            found.append(f"{'-' if kind == 'lost' else '+'} {it.principal} {it.action} {it.resource}{with_key(it)}")
-            found += [f"    {why}" for why in it.why]
-    return "".join(f"{line_of(it)}\n" for it in found)
-
-
-def with_key(line: Line) -> str:
-    return f", if {line.given}" if line.given else ""
-
-
-def summary(lines: List[Line], requests: int) -> str:
-    counts: Dict[str, int] = {kind: sum(it.change == kind for it in lines) for kind in ("lost", "gained")}
-    return f"{counts['lost']} lost and {counts['gained']} gained, of {requests} requests"
-
-
-def as_csv(lines: List[Line], _requests: int) -> str:
-    header = ["change", "principal", "action", "resource", "before", "after", "if", "why"]
-    return csv_text(header, [[*it[:7], "; ".join(it.why)] for it in lines])
-
-
-SIGNS = {ord(it): f"&#{ord(it)};" for it in "&<>|`*_[]\\~@#"}
-
-
-def code(text: str) -> str:
-    """A text as code in a table of Markdown, whatever it holds."""
-    return f"<code>{line_of(text).translate(SIGNS)}</code>"
-
-
-def as_markdown(lines: List[Line], requests: int) -> str:
-    """For a review's comment, with what was told on standard error."""
-    found = [f"**{summary(lines, requests)}**", ""]
-    for kind in ("lost", "gained"):
-        of = [it for it in lines if it.change == kind]
-        if of:
-            found += [
-                f"### {kind.capitalize()}",
-                "",
-                "| Principal | Action | Resource | Before | After | Why |",
-                "|---|---|---|---|---|---|",
-            ]
-        for it in of:
-            cells = [
-                *map(code, it[1:4]),
-                it.before,
-                it.after,
-                "<br>".join(map(code, [*([f"if {it.given}"] if it.given else []), *it.why])),
-            ]
-            found.append(f"| {' | '.join(cells)} |")
-        found += [""] if of else []
-    found += ["### Notes", "", *(f"- {code(it)}" for it in TOLD)] if TOLD else []
-    return "\n".join(found).rstrip("\n") + "\n"

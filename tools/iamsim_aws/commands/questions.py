@@ -10,6 +10,7 @@ from ..documents import Policy
 from ..exports import policy
 from ..faults import Fault, line_of, tell
 from ..hanging import Turn
+from ..kinds import stand_words
 from ..questions import Asked, Question, Scope, missing, worlds
 from ..reports import Answers, csv_text
 from ..sources import add_source, source_of
@@ -103,13 +104,8 @@ def stand_lines(asked: Asked, answers: Answers, turns: Dict[int, List[Turn]]) ->
     """What the texts stand for by which something is allowed, or would be; the others are counted."""
     rows = [answers.row(cell) for cell in {*answers.allowed(), *turns}]
     told_of = {text for row in rows for text in (row.action, row.resource)}
-    stand = {text: pattern for text, pattern in asked.witnesses.items() if text != pattern}
-    lines = [
-        f"{text} stands for {f'{pattern} of a policy' if pattern else 'what else is asked for'}"
-        for text, pattern in stand.items()
-        if text in told_of
-    ]
-    rest = len(stand) - len(lines)
+    lines = stand_words(asked.witnesses, *(it for it in asked.witnesses if it in told_of))
+    rest = len(stand_words(asked.witnesses, *asked.witnesses)) - len(lines)
     return (
         [*lines, f"{rest} further texts stand for patterns, and by none of them anything is allowed"] if rest else lines
     )

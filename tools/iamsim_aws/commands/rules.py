@@ -7,6 +7,7 @@ from typing import Any, List, Set
 from .. import drafts, files
 from ..covering import tell_actions, tell_strangers
 from ..faults import Fault, line_of, tell
+from ..kinds import stand_words
 from ..pipelines import Case, fault, junit, sarif
 from ..questions import Scope
 from ..ruling import Break, Outcome, check, read_rules
@@ -54,11 +55,12 @@ def checked(options: argparse.Namespace) -> int:
     if options.moment is None:
         options.moment = int(time.time())
     rules = read_rules(options.rules)
-    source = source_of(options)
+    source, before = source_of(options), None
     if drafts.is_changed(options):
-        source = drafts.before_and_after(source, options)[1]
+        first, source = drafts.before_and_after(source, options)
+        before = Scope(first, account=options.account)
     scope = Scope(source, account=options.account)
-    outcomes = check(scope, rules, options.as_given)
+    outcomes = check(scope, rules, options.as_given, before)
     notes(scope, outcomes)
     files.write("".join(f"{line_of(line)}\n" for it in outcomes for line in lines_of(it, options.most)))
     counts = {state: sum(it.state == state for it in outcomes) for state in STATUSES}
@@ -88,16 +90,14 @@ def notes(scope: Scope, outcomes: List[Outcome]) -> None:
 
 def message(broken: Break, giver: str) -> str:
     """Why a request is decided as it is."""
-    answers, cell, turn = broken
-    row = answers.row(cell)
-    request = f"{row.action} {row.resource}"
-    if turn is not None:
-        what = f"`{turn.key}` is `{turn.value}`, which nothing gives ({giver} gives it)"
-        return f"{row.principal} may {request} if {what}"
-    why = [f"{BY[row.answer.decision]} {it.words()}" for it in causes(answers, cell)]
+    row, turn = broken.answers.row(broken.cell), broken.turn
+    why = [f"{BY[row.answer.decision]} {it.words()}" for it in causes(broken.answers, broken.cell)]
     why += [f"lacks {it}: {LACKS[it]}" for it in row.answer.lacks]
+    why += [f"was {BY['allowed']} {it.words()}" for it in (causes(*broken.before) if broken.before else [])]
+    why += stand_words(broken.stand, row.action, row.resource)
     may = "may" if row.answer.decision == "allowed" else "may not"
-    return f"{row.principal} {may} {request}: {'; '.join(why) or 'no statement speaks of it'}"
+    given = f" if `{turn.key}` is `{turn.value}`, which nothing gives ({giver} gives it)" if turn else ""
+    return f"{row.principal} {may} {row.action} {row.resource}{given}: {'; '.join(why) or 'no statement speaks of it'}"
 
 
 def lines_of(outcome: Outcome, most: int) -> List[str]:

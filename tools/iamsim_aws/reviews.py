@@ -1,0 +1,161 @@
+"""What changes, told in lines: as a text, as CSV, and as Markdown for a review."""
+
+from typing import Any, Dict, Iterable, Iterator, List, NamedTuple, Tuple
+
+from .changing import Changes, same_cell
+from .faults import TOLD, line_of
+from .kinds import Origins, stand_words
+from .references import is_mixed
+from .reports import csv_text
+from .telling import BY, LACKS, causes
+
+KINDS = ("gained", "lost")
+MIXED = "of an action of one service on a resource of another (--services FOLDER leaves out those that no service has)"
+# The characters that a comment on GitHub may have, and those that are kept for its last line.
+LIMIT, LAST = 65_536, 200
+# The resources of a row in Markdown; the others are counted.
+FEW = 3
+
+
+class Line(NamedTuple):
+    """A request that is lost or gained, why, and what its texts stand for that are made up."""
+
+    change: str
+    principal: str
+    action: str
+    resource: str
+    before: str
+    after: str
+    given: str
+    why: List[str]
+    stand: Origins
+
+    def is_mixed(self) -> bool:
+        return is_mixed(self.action, self.resource)
+
+    def shown(self, text: str) -> str:
+        """The action or the resource, with what it stands for."""
+        return next(iter(stand_words(self.stand, text)), text)
+
+
+def lines_of(changes: Changes) -> List[Line]:
+    return [line_for(changes, it, True) for it in changes.lost] + [
+        line_for(changes, it, False) for it in changes.gained
+    ]
+
+
+def line_for(changes: Changes, cell: int, is_lost: bool) -> Line:
+    """A request that changes, and why it is decided now as it is; where it is no longer there, as it was."""
+    one, other = (changes.before, changes.after) if is_lost else (changes.after, changes.before)
+    there = same_cell(changes, cell, is_lost)
+    row = one.row(cell)
+    elsewhere = "absent" if there is None else other.at(there).decision
+    decisions = (row.answer.decision, elsewhere) if is_lost else (elsewhere, row.answer.decision)
+    answers, at = (other, there) if is_lost and there is not None else (one, cell)
+    answer = answers.at(at)
+    before = "was " if is_lost and there is None else ""
+    why = [f"{before}{BY[answer.decision]} {it.words()}" for it in causes(answers, at)] + [
+        f"lacks {it}: {LACKS[it]}" for it in answer.lacks
+    ]
+    if is_lost and there is not None:
+        why += [f"was {BY['allowed']} {it.words()}" for it in causes(one, cell)]
+    request = row.principal, row.action, row.resource
+    return Line("lost" if is_lost else "gained", *request, *decisions, changes.given, why, changes.stand)
+
+
+def parted(lines: List[Line]) -> List[Tuple[str, List[Line]]]:
+    """What is gained and what is lost, and last what hardly any service has."""
+    plain = [it for it in lines if not it.is_mixed()]
+    kinds = [(kind, [it for it in plain if it.change == kind]) for kind in KINDS]
+    mixed = sorted((it for it in lines if it.is_mixed()), key=lambda it: KINDS.index(it.change))
+    return [(title, of) for title, of in [*kinds, (f"{len(mixed)} {MIXED}", mixed)] if of]
+
+
+def summary(lines: List[Line], requests: int) -> str:
+    counts: Dict[str, int] = {kind: sum(it.change == kind for it in lines) for kind in KINDS}
+    return f"{counts['lost']} lost and {counts['gained']} gained, of {requests} requests"
+
+
+def as_text(lines: List[Line], requests: int) -> str:
+    found = [summary(lines, requests)]
+    for title, of in parted(lines):
+        found.append(f"{title}:")
+        for it in of:
+            given = f", if {it.given}" if it.given else ""
+            found.append(f"{'-' if it.change == 'lost' else '+'} {it.principal} {it.action} {it.resource}{given}")
+            found += [f"    {line}" for line in [*stand_words(it.stand, it.action, it.resource), *it.why]]
+    return "".join(f"{line_of(it)}\n" for it in found)
+
+
+def as_csv(lines: List[Line], _requests: int) -> str:
+    header = ["change", "principal", "action", "resource", "before", "after", "if", "why", "stands for"]
+    rows = sorted(lines, key=Line.is_mixed)
+    stands = ["; ".join(stand_words(it.stand, it.action, it.resource)) for it in rows]
+    return csv_text(header, [[*it[:7], "; ".join(it.why), stand] for it, stand in zip(rows, stands)])
+
+
+SIGNS = {ord(it): f"&#{ord(it)};" for it in "&<>|`*_[]\\~@#"}
+
+
+def code(text: str) -> str:
+    """A text as code in a table of Markdown, whatever it holds."""
+    return f"<code>{line_of(text).translate(SIGNS)}</code>"
+
+
+def grouped(lines: Iterable[Any], key: Any) -> Iterator[Tuple[Any, List[Any]]]:
+    """The lines that are alike by a key, in the order of the first of each."""
+    found: Dict[Any, List[Any]] = {}
+    for it in lines:
+        found.setdefault(key(it), []).append(it)
+    yield from found.items()
+
+
+def rows_of(lines: List[Line]) -> Iterator[Tuple[str, int]]:
+    """The rows of a table, each with how many requests it has: what a principal may or may not by the same statements, with
+    all actions, and the first resources."""
+    of_action = {request: [it.shown(it.resource) for it in of] for request, of in by_action(lines)}
+    for (principal, resources), actions in grouped(of_action, lambda it: (it[0], tuple(of_action[it]))):
+        more = f" and {len(resources) - FEW} more" if len(resources) > FEW else ""
+        cells = [[principal], [action for _, action in actions], resources[:FEW]]
+        row = " | ".join(", ".join(map(code, of)) for of in cells)
+        yield f"| {row}{more} |", len(actions) * len(resources)
+
+
+def by_action(lines: List[Line]) -> Iterator[Tuple[Tuple[str, str], List[Line]]]:
+    return grouped(lines, lambda it: (it.principal, it.shown(it.action)))
+
+
+def pieces_of(lines: List[Line]) -> Iterator[Tuple[str, int]]:
+    """The rows in Markdown, grouped by what decides; the first of a table with what stands above it."""
+    for title, of in parted(lines):
+        head = ["", f"### {title[0].upper()}{title[1:]}", ""]
+        for (_, before, after, given, why), some in grouped(of, lambda it: (it.change, *it[4:7], tuple(it.why))):
+            reasons = [f"{before}, now {after}", *([f"if {given}"] if given else []), *why]
+            head += [*(f"- {code(it)}" for it in reasons), "", "| Principal | Actions | Resources |", "|---|---|---|"]
+            for row, count in rows_of(some):
+                yield "\n".join([*head, row]), count
+                head = []
+            head = [""]
+
+
+def fitting(pieces: Iterable[Tuple[str, int]], room: int) -> Tuple[List[str], int]:
+    """The pieces that there is room for, and the count of the others."""
+    kept: List[str] = []
+    left = 0
+    for text, count in pieces:
+        room -= len(text) + 1
+        if room < 0:
+            left += count
+        else:
+            kept.append(text)
+    return kept, left
+
+
+def as_markdown(lines: List[Line], requests: int) -> str:
+    """For a comment on GitHub, with what was told on standard error; its last line says what it has no room for."""
+    head = f"**{summary(lines, requests)}**"
+    notes, untold = fitting(((f"- {code(it)}", 1) for it in TOLD), LIMIT // 4)
+    notes = ["", "### Notes", "", *notes] if notes else []
+    rows, left = fitting(pieces_of(lines), LIMIT - LAST - len("\n".join([head, *notes])))
+    last = f"{left} requests and {untold} notes are left out, for which a comment has no room: --format csv has all"
+    return "\n".join([head, *rows, *notes, *(["", last] if left or untold else [])]) + "\n"
