@@ -6,6 +6,7 @@ from typing import List, Optional, Tuple
 from . import files, putting, terraform
 from .documents import World
 from .faults import Fault
+from .making import Estate
 from .sources import ASSUME, Source, source_of
 
 
@@ -27,6 +28,8 @@ def before_and_after(source: Source, options: argparse.Namespace) -> Tuple[Sourc
     drafts = [putting.read_draft(it) for it in options.put]
     estate = putting.with_drafts(estate, drafts) if estate else None
     aliases = estate.organization.names() if estate else {}
+    if options.terraform and first and estate:
+        refuse_unheld(first, estate)
 
     def change(world: World) -> World:
         return putting.put(world, drafts, aliases)
@@ -35,6 +38,15 @@ def before_and_after(source: Source, options: argparse.Namespace) -> Tuple[Sourc
     putting.refuse_strangers(plain.world([ASSUME]), drafts, aliases, estate)
     putting.refuse_doubles(plain.world([ASSUME]), drafts, aliases, estate)
     return source.like(first, lambda world: world), source.like(estate, change)
+
+
+def refuse_unheld(before: Estate, after: Estate) -> None:
+    """What a plan attaches has to be in the exports, or among the drafts."""
+    known = {it for account in before.accounts for it in account.lacking()}
+    for holder, arn in (it for account in after.accounts for it in account.lacking()):
+        if (holder, arn) not in known:
+            why = f"the plan attaches {arn}, which the export does not hold"
+            raise Fault(f"{holder}: {why}: give its document by --put {arn}=FILE")
 
 
 def is_changed(options: argparse.Namespace) -> bool:

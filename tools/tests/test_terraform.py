@@ -551,7 +551,8 @@ def test_a_managed_policy_that_the_export_does_not_hold():
     arn = "arn:aws:iam::aws:policy/AmazonS3ReadOnlyAccess"
     made = plan(change("aws_iam_role_policy_attachment.a", None, {"role": "audit", "policy_arn": arn}))
     _, said = aws("changes", EXPORT, "--terraform", made, status=1)
-    assert f"role/app/audit: the export does not hold the policy {arn}" in said, said
+    why = f"the plan attaches {arn}, which the export does not hold: give its document by --put {arn}=FILE"
+    same(said, f"iamsim-aws: {ACCOUNT}role/app/audit: {why}\n")
     draft = file(document(statement(action="s3:Get*")))
     same(changes(made, "--put", f"{arn}={draft}"), {("gained", f"{SESSION}audit/s1", OBJECT)})
     rules = file(f"never audit s3:GetObject {OBJECT}\n")
@@ -571,6 +572,49 @@ def test_a_managed_policy_that_the_export_does_not_hold():
         same(said, f"iamsim-aws: --put {name}: nobody has this policy, so the draft changes nothing\n")
     _, said = aws("changes", EXPORT, "--put", f"{arn.replace('policy/', '')}={draft}", status=1)
     assert "no policy and no resource is called so" in said, said
+
+
+def drifts(*some, resources=RESOURCES):
+    """What is said of a plan beside what is said of each."""
+    words = ["--resources", resources, "--terraform", plan(*some), "--action", "s3:GetObject"]
+    _, said = aws("changes", EXPORT, *words)
+    told = ": the export and --resources count"
+    return [line[len("iamsim-aws: ") : -len(told)] for line in said.splitlines() if line.endswith(told)]
+
+
+def test_what_the_export_has_otherwise():
+    """The plan takes something to be there before it that is not what the export has: it tells of another day."""
+    told = "is not what the plan takes to be there before it"
+    own = {"name": "Inside", "role": "worker"}
+    there = text(statement(action="s3:GetObject", resource="arn:aws:s3:::homes/alice/*"))
+    for policy, wanted in ((READ, [f"aws_iam_role_policy.w: its policy {told}"]), (there, [])):
+        same(drifts(change("aws_iam_role_policy.w", {**own, "policy": policy}, {**own, "policy": text()})), wanted)
+        # Of what the plan does not change, too.
+        same(drifts(change("aws_iam_role_policy.w", {**own, "policy": policy}, {**own, "policy": policy})), wanted)
+    managed = {"name": "AtMost", "arn": f"{ACCOUNT}policy/limits/AtMost", "path": "/limits/"}
+    storage = statement(Sid="Storage", action=["s3:*"])
+    deploy = statement(Sid="Deploy", action="sts:AssumeRole", resource=f"{ACCOUNT}role/app/deploy")
+    # The export has these two statements; their order and a list of one action say the same.
+    for some, wanted in (([deploy, storage], []), ([storage], [f"aws_iam_policy.m: its policy {told}"])):
+        before = {**managed, "policy": text(*some)}
+        same(drifts(change("aws_iam_policy.m", before, before)), wanted)
+    # The role trusts its account by the ARN of its root; bob's boundary is AtMost.
+    trust = lambda who: text({"Effect": "Allow", "Principal": {"AWS": who}, "Action": ["sts:AssumeRole"]})
+    role = lambda who: {"name": "deploy", "path": "/app/", "assume_role_policy": trust(who)}
+    same(drifts(change("aws_iam_role.d", role("111122223333"), role("111122223333"))), [])
+    wanted = [f"aws_iam_role.d: its assume_role_policy {told}"]
+    same(drifts(change("aws_iam_role.d", role("444455556666"), role("444455556666"))), wanted)
+    for boundary, wanted in (
+        (f"{ACCOUNT}policy/limits/AtMost", []),
+        (None, [f"aws_iam_user.b: its permissions_boundary {told}"]),
+    ):
+        bob = {"name": "bob", "path": "/ops/", "permissions_boundary": boundary}
+        same(drifts(change("aws_iam_user.b", bob, bob)), wanted)
+    granting = document({"Effect": "Allow", "Principal": "*", "Action": "s3:GetObject", "Resource": "*"})
+    given = file([{"arn": "arn:aws:s3:::releases", "account": "111122223333", "policy": granting}])
+    for policy, wanted in ((granting, []), (document(), [f"aws_s3_bucket_policy.r: its policy {told}"])):
+        before = {"bucket": "releases", "policy": json.dumps(policy)}
+        same(drifts(change("aws_s3_bucket_policy.r", before, {**before, "policy": text()}), resources=given), wanted)
 
 
 def test_rules_over_a_plan():
