@@ -226,6 +226,22 @@ def test_principals_and_resources_by_pattern():
     same([it["arn"] for it in made["resources"]], [f"{ACCOUNT}role/app/audit"])
 
 
+def test_a_world_with_drafts():
+    """It has the documents as if the drafts were in force."""
+    draft = document(statement(action="s3:ListBucket"))
+    resources = file([{"arn": "arn:aws:s3:::homes/a", "account": "111122223333"}])
+    words = [data("account.json"), "--actions", file("s3:PutObject\n"), "--resources", resources]
+    trust = document({"Effect": "Allow", "Principal": {"AWS": f"{ACCOUNT}user/zoe"}, "Action": "sts:AssumeRole"})
+    made = world(*words, "--put", f"Homes={file(draft)}", "--put", f"homes={file(trust)}", "--principal", "alice")
+    # alice has ReadObjects, then of her groups Homes and AssumeRoles.
+    same([len(made["principals"]), made["principals"][0]["identity"][1]], [1, draft])
+    same(made["resources"], [{"arn": "arn:aws:s3:::homes/a", "account": "111122223333", "policy": trust}])
+    made = world(data("account.json"), "--put", f"deploy={file(trust)}")
+    same([it["policy"] == trust for it in made["resources"]], [it == "role/app/deploy" for it in ROLES])
+    said = world(data("account.json"), "--put", f"NoSuch={file(trust)}", status=1)
+    same(said, "iamsim-aws: --put NoSuch: no policy and no resource is called so\n")
+
+
 def test_a_policy_that_is_not_there_is_named():
     with open(data("account.json")) as it:
         export = json.load(it)

@@ -4,7 +4,7 @@ import argparse
 import json
 from typing import Any, List
 
-from .. import decimals, files, keys
+from .. import decimals, drafts, files, keys
 from ..collecting import collected
 from ..checking import lines, other_faults, refused_documents
 from ..documents import World, bare, dressed, names_of
@@ -12,7 +12,7 @@ from ..faults import Fault, line_of, tell
 from ..making import refuse_empty, unmatched, world_of
 from ..program import run
 from ..references import References
-from ..sources import ASSUME, add_options, estate_of, read_actions, read_object, read_world, refuse_unknown
+from ..sources import ASSUME, Source, add_options, estate_of, read_actions, read_object, read_world, refuse_unknown
 from ..splitting import limits
 from .parsers import add
 
@@ -47,6 +47,7 @@ def add_maker(commands: Any) -> None:
     help_of_actions = "the actions, one a line ('#' begins a comment); without it " + ASSUME
     parser.add_argument("--actions", metavar="FILE", help=help_of_actions)
     add_options(parser)
+    drafts.add_options(parser)
     for name, what in (("principal", "principals"), ("resource", "resources")):
         help_of_pattern = f"only {what} that match; '*' and '?' are wild; may stand several times"
         parser.add_argument(f"--{name}", action="append", default=[], metavar="PATTERN", help=help_of_pattern)
@@ -64,7 +65,7 @@ def write_world(value: World) -> None:
 def world(options: argparse.Namespace) -> int:
     chosen = read_actions(options.actions) if options.actions else [ASSUME]
     refuse_unknown(References(options.services), chosen)
-    made = world_of(estate_of(options, options.exports), chosen, options.principal, options.resource)
+    made = chosen_of(options, chosen)
     refuse_empty(made)
     asked = keys.lacking(made)
     if asked:
@@ -77,6 +78,15 @@ def world(options: argparse.Namespace) -> int:
         files.write_file(options.names, files.compact(names_of(made)) + "\n")
     write_world(made)
     return 0
+
+
+def chosen_of(options: argparse.Namespace, actions: List[str]) -> World:
+    """The world of the exports, or of them with drafts and a plan put into effect."""
+    source = Source(estate_of(options, options.exports), None, actions, References([]))
+    if drafts.is_changed(options):
+        source = drafts.before_and_after(source, options)[1]
+    assert source.estate is not None
+    return source.change(world_of(source.estate, actions, options.principal, options.resource))
 
 
 def check(options: argparse.Namespace) -> int:
