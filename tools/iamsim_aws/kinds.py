@@ -37,7 +37,12 @@ class Witness(NamedTuple):
 
 def stand_words(origins: Origins, *texts: str) -> List[str]:
     """What those texts stand for that are made up."""
-    return [f"{it} stands for {origins[it].words()}" for it in texts if it in origins and origins[it].pattern != it]
+    return [f"{it} {words}" for it, words in stands(origins).items() if it in texts]
+
+
+def stands(origins: Origins) -> Dict[str, str]:
+    """What the texts stand for that are made up, in words; one that is a pattern of a policy as it is stands for itself."""
+    return {it: f"stands for {of.words()}" for it, of in origins.items() if of.pattern != it}
 
 
 def texts_of(statement: Any, *elements: str) -> List[str]:
@@ -139,8 +144,9 @@ def resources(world: World, asked: str, actions: List[str]) -> Tuple[List[Witnes
         owner = (account_of(arn) or account) if arn else ""
         if arn and owner in ids:
             if arn not in named:
+                one = beside(world, arn, owner)
                 origin = Origin(pattern, patterns.get((pattern, account), ""))
-                found.setdefault((arn, owner), Witness(beside(world, arn, owner), origin))
+                found.setdefault((arn, one["account"]), Witness(one, origin))
         elif pattern != wide and common(pattern, of_pattern):
             without.append(pattern)
     return list(found.values()), list(dict.fromkeys(without))

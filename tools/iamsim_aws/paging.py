@@ -12,6 +12,7 @@ from .arns import account_of, principal_arn, principal_text
 from .documents import Policy, World, statements_of
 from .files import compact
 from .hanging import Turn
+from .kinds import Origins, stands
 from .reports import DECISIONS, Answer, Answers, keys_of
 
 PARTS = os.path.join(os.path.dirname(os.path.realpath(__file__)), "parts")
@@ -116,7 +117,11 @@ def side(answers: Answers, axes: List[List[Any]], table: Table, layers: Layers) 
 
 
 def data(
-    answers: Answers, is_brief: bool, turns: Optional[Dict[int, List[Turn]]] = None, before: Optional[Answers] = None
+    answers: Answers,
+    is_brief: bool,
+    turns: Optional[Dict[int, List[Turn]]] = None,
+    before: Optional[Answers] = None,
+    stand: Optional[Origins] = None,
 ) -> Dict[str, Any]:
     """What the page shows."""
     axes = [list(axis) for axis in keys_of(answers.world)]
@@ -138,6 +143,7 @@ def data(
         "layers": own,
         "before": old and {"cells": packed(old[0], len(every))[1], "layers": old[1]},
         "turns": {str(cell): [list(it) for it in of] for cell, of in (turns or {}).items()},
+        "stand": list(stands(stand or {}).items()),
         "statements": statements.values(),
         "names": names.values(),
         "width": width,

@@ -532,6 +532,8 @@ def test_texts_that_are_made_up():
     same([header[-1], *(row[-1] for row in rows)], ["stands for", stands, stands])
     out, _ = aws(*words, "--format", "markdown")
     assert f"| <code>{stands.replace('*', '&#42;')}</code> | <code>&#42;</code> |\n" in out, out
+    out, _ = aws(*words, "--format", "page")
+    assert f'["s3:Listx","{stands.partition(" ")[2]}"]' in out, "the page does not have it"
     # alice may put into her home, which stands for what the policy of her group names; bob's policy is for anything.
     out, _ = rules("never * s3:Put* arn:aws:s3:::homes/*\n", status=3)
     found = [line for line in out.splitlines() if f"{ALICE} may s3:PutObject arn:aws:s3:::homes/alice/x: " in line]

@@ -87,4 +87,4 @@ def page_of(found: List[Changes]) -> str:
     plain = [it for it in found if not it.given]
     if len(plain) != 1:
         raise Fault("a page is of one matrix: choose either iam: actions or others by --action")
-    return page(data(plain[0].after, False, before=plain[0].before))
+    return page(data(plain[0].after, False, before=plain[0].before, stand=plain[0].stand))

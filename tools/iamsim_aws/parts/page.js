@@ -494,7 +494,12 @@ function detail(n) {
   const numbers = numbersOf(n), texts = textsOf(n), answer = data.answers[answerOf[n]], decision = answer[0];
   const title = make("h2"), list = make("dl"), change = changeOf(n);
   title.append(make("span", `mark d${decision}`, SIGNS[decision]), `${change ? `${CHANGES[change]}: ` : ""}${WORDS[decision]}`);
-  AXES.forEach((axis, it) => list.append(make("dt", "", axis), make("dd", "", texts[it])));
+  const stands = new Map(data.stand);
+  AXES.forEach((axis, it) => {
+    const value = make("dd", "", texts[it]);
+    if (stands.has(texts[it])) value.append(make("br"), make("small", "", stands.get(texts[it])));
+    list.append(make("dt", "", axis), value);
+  });
   const command = make("p");
   if (!beforeOf) command.append("Cell ", make("b", "", number(n)), ": ", make("code", "", `iamsim decide ${numbers.join(" ")} < world.json`));
   at("detail").dataset.cell = n;
