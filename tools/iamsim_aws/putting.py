@@ -9,9 +9,7 @@ from .exports import document
 from .faults import Fault
 from .making import Estate
 from .naming import called, organization_policy, resource_policy
-
-
-NO_SUCH = "no policy and no resource is called so"
+from .patterns import near
 
 
 class Draft(NamedTuple):
@@ -127,5 +125,13 @@ def refuse_strangers(world: World, drafts: List[Draft], aliases: Dict[str, str],
             (bound if key in attached else held).update(names_of_organization(it))
     for draft in drafts:
         if not put_one(world, draft, aliases)[1] and draft.name not in bound:
-            why = "nobody has this policy, so the draft changes nothing" if draft.name in held else NO_SUCH
-            raise Fault(f"--put {draft.name}: {why}")
+            if draft.name in held:
+                raise Fault(f"--put {draft.name}: nobody has this policy, so the draft changes nothing")
+            hint = near(draft.name, short_names(world))
+            raise Fault(f"--put {draft.name}: no policy and no resource is called so{hint}")
+
+
+def short_names(world: World) -> Set[str]:
+    """What policies and resources may be called in short."""
+    resources = {bucket_of(it["arn"]) or it["arn"] for it in world["resources"]}
+    return resources | {min(called(it.policy.name), key=len) for it in places(world) if it.kind != "resource"}

@@ -233,6 +233,9 @@ def test_drafts_that_are_of_nothing():
     draft = file(document())
     _, said = aws("changes", EXPORT, "--put", f"NoSuch={draft}", status=1)
     assert "--put NoSuch: no policy and no resource is called so" in said, said
+    for name, meant in (("Home", "Homes"), ("role/deploi", f"{ACCOUNT}role/app/deploy")):
+        _, said = aws("changes", EXPORT, "--put", f"{name}={draft}", status=1)
+        assert said.endswith(f": no policy and no resource is called so (near is {meant})\n"), said
     _, said = aws("changes", EXPORT, "--put", "NoSuch", status=1)
     assert "it takes POLICY-NAME=FILE" in said, said
     export = load(EXPORT)
