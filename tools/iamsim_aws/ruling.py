@@ -12,6 +12,7 @@ from .keys import with_key
 from .kinds import Origins
 from .patterns import is_pattern, near
 from .questions import Asked, Question, Scope, missing, worlds
+from .references import is_mixed
 from .reports import Answers
 from .sources import ASSUME
 from .strangers import is_excepted, strangers
@@ -44,6 +45,11 @@ class Break(NamedTuple):
     turn: Optional[Turn]
     stand: Origins
     before: Optional[Tuple[Answers, int]] = None
+
+    def is_mixed(self) -> bool:
+        """Whether hardly any service has such a request: it is told last."""
+        row = self.answers.row(self.cell)
+        return is_mixed(row.action, row.resource)
 
 
 class Outcome(NamedTuple):
@@ -132,7 +138,7 @@ def check(scope: Scope, rules: List[Rule], as_given: bool = False, before: Optio
         broken = [more for it, found in zip(of, kept) for more in breaks(rule, it, *found, as_given)]
         requests = sum(met(it, *found) for it, found in zip(of, kept)) or len(broken)
         why = "" if requests else missing(scope, rule.question) if not of else NOTHING_SPEAKS
-        broken = since(before, rule, broken) if before else broken
+        broken = sorted(since(before, rule, broken) if before else broken, key=Break.is_mixed)
         outcomes.append(Outcome(rule, requests, broken, of, why, scope.source.giver))
     return outcomes
 

@@ -132,8 +132,9 @@ class Apply:
         """The account that a resource is of, after the changes so far or as the export has it."""
         found = self.found(change, self.first if is_before else self.estate)
         if found is None:
-            wanted = self.wanted(change) or ""
-            raise Fault(f"{change.address}: no export is of its account {wanted}: name the plan's account by --account")
+            wanted = self.wanted(change)
+            whose = f"its account {wanted}" if wanted else "the account that the plan does not name"
+            raise Fault(f"{change.address}: no export is of {whose}: name the plan's account by --account")
         return found
 
     def run(self) -> Estate:

@@ -574,6 +574,9 @@ def test_an_action_of_one_service_on_a_resource_of_another():
     out, said = aws(*words, "--services", data("kms.json"), "--services", data("s3.json"))
     same(sorted(lines(out)[2:]), gained)
     assert "2 requests that change are left out, since no service has them (--services)\n" in said, said
+    out, _ = aws("rules", file("never * kms:Decrypt *\n"), *words[1:], status=3)
+    told = [line.split(": ")[0].split(" kms:Decrypt ") for line in out.splitlines()[1:-1]]
+    same([len(told), told[-2:]], [6, [[f"  {who} may", places[2]] for who in people]])
     words += ["--action", "kms:Decrypt", "--resource", places[2], "--fail-on", "gained"]
     aws(*words, status=3)
     aws(*words, "--services", data("kms.json"), status=4)
