@@ -9,6 +9,7 @@ from .documents import Policy, World
 from .faults import Fault
 from .kinds import Origin, Origins
 from .making import bound
+from .naming import resource_policy
 from .patterns import any_matches, is_pattern, matcher, near
 from .sources import ASSUME, Source
 from .strangers import is_excepted, is_meant, strangers, with_strangers
@@ -80,7 +81,8 @@ def dressed(scope: Scope, resource: Dict[str, Any]) -> Dict[str, Any]:
     """The resource with the policy that is given beside the question."""
     if scope.policy is None:
         return resource
-    return {**resource, "policy": scope.policy, **({"sealed": True} if scope.sealed else {})}
+    own = scope.policy._replace(name=resource_policy(resource["arn"]))
+    return {**resource, "policy": own, **({"sealed": True} if scope.sealed else {})}
 
 
 def with_account(scope: Scope, world: World, resources: List[Dict[str, Any]]) -> List[Dict[str, Any]]:

@@ -87,7 +87,7 @@ def test_a_policy_beside_the_question():
     denying = file(document({"Effect": "Deny", "Principal": "*", "Action": "s3:*", "Resource": "*", "Sid": "Nobody"}))
     found = rows("who-can", "s3:GetObject", "arn:aws:s3:::homes/alice/x", EXPORT, "--policy", denying)
     same({it["decision"] for it in found}, {"explicitDeny"})
-    same(found[0]["statements"][0]["policy"], denying)
+    same(found[0]["statements"][0]["policy"], "arn:aws:s3:::homes policy")
     # A KMS key's policy must grant: it grants to alice alone, and bob's own policy allows everything, his boundary nothing of kms.
     key = "arn:aws:kms:eu-west-1:111122223333:key/7c1d"
     granting = file(

@@ -6,7 +6,6 @@ from typing import Any, Dict, List, NamedTuple, Set
 from .. import chains, files, hanging
 from ..asking import ask
 from ..covering import tell_strangers
-from ..documents import Policy
 from ..exports import policy
 from ..faults import Fault, line_of, tell
 from ..hanging import Turn
@@ -62,12 +61,8 @@ def add_question(parser: argparse.ArgumentParser) -> None:
 
 
 def scope_of(options: argparse.Namespace) -> Scope:
-    own = None
-    if options.policy:
-        own = Policy(
-            files.name_of(options.policy),
-            policy(files.name_of(options.policy), files.read_json(options.policy)).document,
-        )
+    path = options.policy
+    own = policy(files.name_of(path), files.read_json(path)) if path else None
     return Scope(source_of(options), options.kinds, own, options.account, options.sealed)
 
 
