@@ -9,7 +9,7 @@ from .exports import ACCOUNT, Account, is_service_linked, policy, role_of, tags,
 from .faults import Fault
 from .naming import control_policy, resource_policy, trust_policy
 from .organizations import Organization
-from .patterns import any_matches, is_pattern, matcher, near
+from .patterns import any_matches, is_pattern, matcher
 
 
 class Estate(NamedTuple):
@@ -203,7 +203,7 @@ def unmatched(world: World, principals: List[str], resources: List[str]) -> List
     some = [names_of_principal(it) for it in world["principals"]]
     of = [names_of_resource(it["arn"]) for it in world["resources"]]
     return [
-        f"the pattern {pattern} matches no {what}{near(pattern, (names[0] for names in every))}"
+        f"the pattern {pattern} matches no {what}"
         for what, patterns, every in (("principal", principals, some), ("resource", resources, of))
         for pattern in patterns
         if not any(matcher(pattern)(name) for names in every for name in names)

@@ -111,7 +111,7 @@ def asked_in(scope: Scope, world: World, question: Question) -> Asked:
     if scope.outside:
         some = strangers(scope.source, [narrow], question.principal)
         narrow = with_strangers(scope.source, narrow, principals(some, question))
-    return Asked(narrow, {it.resource["arn"]: it.origin for it in witnesses}, without, added)
+    return Asked(narrow, {it.resource["arn"]: it.origin for it in reversed(witnesses)}, without, added)
 
 
 def worlds(scope: Scope, question: Question) -> List[Asked]:
