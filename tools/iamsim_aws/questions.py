@@ -111,7 +111,10 @@ def asked_in(scope: Scope, world: World, question: Question) -> Asked:
     if scope.outside:
         some = strangers(scope.source, [narrow], question.principal)
         narrow = with_strangers(scope.source, narrow, principals(some, question))
-    return Asked(narrow, {it.resource["arn"]: it.origin for it in reversed(witnesses)}, without, added)
+    stand: Origins = {}
+    for it in witnesses:
+        stand.setdefault(it.resource["arn"], it.origin)
+    return Asked(narrow, stand, without, added)
 
 
 def worlds(scope: Scope, question: Question) -> List[Asked]:
