@@ -143,7 +143,7 @@ class Apply:
             if change.kind in TARGETS:
                 give_before(self, change)
         self.first = self.estate.copied()
-        for change in self.plan.changes:
+        for change in (it for it in self.plan.changes if it.before):
             self.notes += drifted(change, before_plan(self, change))
         for kind, handle in HANDLERS.items():
             for change in changes:
@@ -204,7 +204,7 @@ def drifted(change: Change, there: Dict[str, Any]) -> List[str]:
     told = "is not what the plan takes to be there before it: the export and --resources count"
 
     def read(value: Any) -> Any:
-        is_document = isinstance(value, str) and value.startswith("{")
+        is_document = isinstance(value, str) and value.lstrip().startswith("{")
         return plain(policy(change.address, value).document if is_document else value or "")
 
     differing = [it for it in there if it in before and read(before[it]) != read(there[it])]
@@ -227,7 +227,7 @@ def in_export(change: Change, account: Account) -> Dict[str, Any]:
     kind, part, _ = change.kind[len("aws_iam_") :].partition("_policy")
     if change.kind == "aws_iam_policy":
         versions = account.policies.get(iam_arn("policy", before, account.account), {}).get("PolicyVersionList") or []
-        return {"policy": it.get("Document") for it in versions if it.get("IsDefaultVersion")} if before else {}
+        return {"policy": it.get("Document") for it in versions if it.get("IsDefaultVersion")}
     if change.kind in (f"aws_iam_{it}_policy" for it in INLINE):
         items = [it for of in holders(account, kind, before.get(kind)) for it in of.get(INLINE[kind]) or []]
         return {"policy": it.get("PolicyDocument") for it in items if it.get("PolicyName") == before.get("name")}
