@@ -1,10 +1,9 @@
-"""changes and rules. What is lost, gained, kept and broken is worked out by hand from the exports in data/."""
+"""changes. What is lost and gained is worked out by hand from the exports in data/."""
 
 import csv
 import io
 import os
 import shlex
-import xml.etree.ElementTree
 
 from harness import AWS, IAMSIM, aws, data, document, file, load, run, same, small_world, statement
 
@@ -537,28 +536,17 @@ def test_texts_that_are_made_up():
     assert f"| <code>{stands.replace('*', '&#42;')}</code> | <code>&#42;</code> |\n" in out, out
     out, _ = aws(*words, "--format", "page")
     assert f'["s3:Listx","{stands.partition(" ")[2]}"]' in out, "the page does not have it"
-    # alice may put into her home, which stands for what the policy of her group names; bob's policy is for anything.
-    out, _ = rules("never * s3:Put* arn:aws:s3:::homes/*\n", status=3)
-    found = [line for line in out.splitlines() if f"{ALICE} may s3:PutObject arn:aws:s3:::homes/alice/x: " in line]
-    same(len(found), 1)
-    home = (
-        "arn:aws:s3:::homes/alice/x stands for arn:aws:s3:::homes/alice/* of arn:aws:iam::111122223333:group/Developers"
-    )
-    assert found[0].endswith(f"; {home} inline Homes"), found
-    # Of what no pattern of a policy names.
-    rest = file(small_world(document({"Effect": "Allow", "NotAction": "iam:*", "Resource": "*"})))
-    out, _ = aws("rules", file("never ann s3:* arn:aws:s3:::b/k\n"), "--world", rest, status=3)
-    assert out.splitlines()[2].endswith("; s3:x stands for what else s3:* means"), out
 
 
 def test_an_action_of_one_service_on_a_resource_of_another():
     """Such a row is told last; the service reference tells that no service has it."""
     granting = {"Effect": "Allow", "Principal": {"AWS": "111122223333"}, "Action": "kms:*", "Resource": "*"}
     key = {"arn": "arn:aws:kms:eu-west-1:111122223333:key/7c1d", "account": "111122223333", "sealed": True}
-    resources = file([*FURTHER, {**key, "policy": document(granting)}])
+    further = {"arn": "arn:aws:s3:::releases/app.zip", "account": "111122223333"}
+    resources = file([further, {**key, "policy": document(granting)}])
     draft = file(document(statement(action=["s3:Get*", "s3:List*", "kms:Decrypt"])))
     words = ["changes", EXPORT, "--resources", resources, "--put", f"ReadObjects={draft}", "--session", "s1"]
-    people, places = [ALICE, f"{SESSION}deploy/s1"], [key["arn"], "*", FURTHER[0]["arn"]]
+    people, places = [ALICE, f"{SESSION}deploy/s1"], [key["arn"], "*", further["arn"]]
     lines = lambda out: [line for line in out.splitlines() if not line.startswith("    ")]
     gained = sorted(f"+ {who} kms:Decrypt {it}" for who in people for it in places[:2])
     mixed = [f"+ {who} kms:Decrypt {places[2]}" for who in people]
@@ -574,9 +562,6 @@ def test_an_action_of_one_service_on_a_resource_of_another():
     out, said = aws(*words, "--services", data("kms.json"), "--services", data("s3.json"))
     same(sorted(lines(out)[2:]), gained)
     assert "2 requests that change are left out, since no service has them (--services)\n" in said, said
-    out, _ = aws("rules", file("never * kms:Decrypt *\n"), *words[1:], status=3)
-    told = [line.split(": ")[0].split(" kms:Decrypt ") for line in out.splitlines()[1:-1]]
-    same([len(told), told[-2:]], [6, [[f"  {who} may", places[2]] for who in people]])
     words += ["--action", "kms:Decrypt", "--resource", places[2], "--fail-on", "gained"]
     aws(*words, status=3)
     aws(*words, "--services", data("kms.json"), status=4)
@@ -658,121 +643,6 @@ def test_actions_without_the_service_reference():
         same(line in said, is_said, words)
 
 
-# --- rules -----------------------------------------------------------------------------------------------------------
-
-FURTHER = [{"arn": "arn:aws:s3:::releases/app.zip", "account": "111122223333"}]
-
-
-def rules(text, *words, status=0):
-    return aws("rules", file(text), EXPORT, "--resources", file(FURTHER), *words, status=status)
-
-
-def states(out):
-    return [line.split(":")[0] for line in out.splitlines() if line.split(":")[0] in ("kept", "broken", "empty")]
-
-
-def test_rules_that_are_kept():
-    # deploy reads everything; nobody but bob may have anything of iam, and his boundary forbids him.
-    text = "# what we keep\nalways *:role/app/deploy s3:GetObject arn:aws:s3:::releases/app.zip\n\nnever * iam:* *   # not at all\n"
-    out, said = rules(text)
-    same(states(out), ["kept", "kept"])
-    same(out.splitlines()[-1], "2 rules: 2 kept, 0 broken, 0 empty")
-    assert (
-        "without --services an action pattern is taken over the actions of the world and of its policies" in said
-    ), said
-
-
-def test_rules_that_are_broken():
-    out, _ = rules(
-        "never * s3:GetObject arn:aws:s3:::releases/*\nalways alice s3:PutObject arn:aws:s3:::releases/app.zip\n",
-        status=3,
-    )
-    same(states(out), ["broken", "broken"])
-    lines = [line for line in out.splitlines() if line.startswith("  ")]
-    # Each of the three may on app.zip, and on x, which stands for whatever else is there.
-    people = [ALICE, BOB, f"{SESSION}deploy/session"]
-    same(
-        [line.split(": ")[0].strip() for line in lines[:6]],
-        [f"{who} may s3:GetObject arn:aws:s3:::releases/{it}" for who in people for it in ("app.zip", "x")],
-    )
-    same(
-        lines[0],
-        f"  {ALICE} may s3:GetObject arn:aws:s3:::releases/app.zip: allowed by arn:aws:iam::aws:policy/ReadObjects, statement 0 (identity policy)",
-    )
-    same(
-        lines[6],
-        f"  {ALICE} may not s3:PutObject arn:aws:s3:::releases/app.zip: lacks identity: no identity policy of the principal allows this",
-    )
-    same(len(lines), 7)
-
-
-def test_exceptions():
-    out, _ = rules("never * s3:GetObject arn:aws:s3:::releases/app.zip except alice *:user/ops/* *:role/app/deploy\n")
-    same(states(out), ["kept"])
-    assert "(5 requests)" in out, out
-    out, _ = rules("never * s3:GetObject arn:aws:s3:::releases/app.zip except alice *:user/ops/*\n", status=3)
-    assert "deploy" in out and "ops/bob may" not in out, out
-
-
-def test_exceptions_by_name_mean_one():
-    made = small_world(document(statement()))
-    made["principals"].append({"user": "arn:aws:iam::111122223333:user/ops/ann", "identity": [document(statement())]})
-    rule = "never * s3:GetObject arn:aws:s3:::b/k except"
-    _, said = aws("rules", file(f"{rule} ann\n"), "--world", file(made), status=1)
-    assert (
-        "several principals are called ann, name one by its ARN: arn:aws:iam::111122223333:user/ann, arn" in said
-    ), said
-    out, _ = aws("rules", file(f"{rule} *:user/ann\n"), "--world", file(made), status=3)
-    assert "user/ops/ann may" in out and "user/ann may" not in out, out
-    _, said = aws("rules", file(f"{rule} *ann none\n"), "--world", file(made), status=4)
-    assert "the exception none matches no principal" in said, said
-
-
-def test_names_in_rules_cover_what_is_not_named():
-    # No object of the bucket is named; its name alone is a pattern of resources too.
-    out, _ = aws("rules", file("never * s3:PutObject releases/*\n"), EXPORT, status=3)
-    assert f"{BOB} may s3:PutObject arn:" in out and ":releases/x: " in out, out
-
-
-def test_a_never_covers_the_patterns_of_policies():
-    """alice may put into her home, which no resource of the world is."""
-    out, _ = rules("never * s3:PutObject * except bob\n", status=3)
-    assert f"{ALICE} may s3:PutObject arn:aws:s3:::homes/alice/x" in out, out
-    # bob may everything of s3, an action that nobody names too.
-    out, _ = rules("never * s3:Put* arn:aws:s3:::releases/app.zip\n", status=3)
-    assert f"{BOB} may s3:PutObject arn:aws:s3:::releases/app.zip" in out, out
-    out, _ = rules("never * s3:Delete* arn:aws:s3:::releases/app.zip\n", status=3)
-    assert f"{BOB} may s3:Deletex arn:aws:s3:::releases/app.zip" in out, out
-
-
-def test_what_is_named_does_not_hide_the_rest():
-    """A deny on one object, or what NotAction and NotResource name, says nothing of the others."""
-    for statements in (
-        [statement("Deny", "s3:*", "arn:aws:s3:::b/k"), statement(action="s3:*")],
-        [statement(action="s3:*", resource=None, NotResource="arn:aws:s3:::b/k")],
-        [{"Effect": "Allow", "NotAction": "s3:GetObject", "Resource": "*"}],
-    ):
-        given = document(*[{key: it for key, it in one.items() if it is not None} for one in statements])
-        made = file(small_world(given))
-        out, _ = aws("rules", file("never * s3:* arn:aws:s3:::b/*\n"), "--world", made, status=3)
-        assert "ann may s3:" in out, out
-        aws("rules", file("never * s3:GetObject arn:aws:s3:::b/k\n"), "--world", made)
-
-
-def test_never_holds_with_a_key_too():
-    with_code = small_world(document(statement(Condition={"Bool": {"aws:MultiFactorAuthPresent": "true"}})))
-    rule = file("never * s3:GetObject arn:aws:s3:::b/k\n")
-    out, _ = aws("rules", rule, "--world", file(with_code), status=3)
-    assert (
-        "ann may s3:GetObject arn:aws:s3:::b/k if `aws:MultiFactorAuthPresent` is `true`, which nothing gives" in out
-    ), out
-    aws("rules", rule, "--world", file(with_code), "--as-given")
-    aws("rules", rule, "--world", file({**with_code, "context": {"aws:MultiFactorAuthPresent": False}}))
-    # What is always allowed is asked for as it is given.
-    unless = small_world(document(statement(), statement("Deny", Condition={"Bool": {"aws:SecureTransport": "false"}})))
-    aws("rules", file("always ann s3:GetObject arn:aws:s3:::b/k\n"), "--world", file(unless))
-
-
 def test_changes_with_a_key_alone():
     before, after = small_world(document()), small_world(
         document(statement(Condition={"Bool": {"aws:MultiFactorAuthPresent": "true"}}))
@@ -786,127 +656,3 @@ def test_changes_with_a_key_alone():
             "+ arn:aws:iam::111122223333:user/ann s3:GetObject arn:aws:s3:::b/k, if `aws:MultiFactorAuthPresent` is `true`",
         ],
     )
-
-
-def test_rules_that_meet_nothing():
-    text = "never *:role/none s3:GetObject *\nalways alice s3:GetObject *.none\n"
-    out, _ = rules(text, status=4)
-    same(states(out), ["empty", "empty"])
-    assert "no principal matches *:role/none" in out and "no resource matches *.none" in out, out
-    rules(text, "--allow-empty")
-    # A slip in a pattern: nothing is named so, and no policy speaks of it. Where a policy would allow it all the same, it is broken.
-    slip = small_world(document(statement(action="s3:GetObject", resource="arn:aws:s3:::b/*")))
-    out, _ = aws(
-        "rules",
-        file("never * s3:GetObject arn:aws:s3:::bb/*\nnever * s4:* arn:aws:s3:::b/k\n"),
-        "--world",
-        file(slip),
-        status=4,
-    )
-    same(states(out), ["empty", "empty"])
-    wide = small_world(document({"Effect": "Allow", "NotAction": "iam:*", "NotResource": "arn:aws:s3:::b/*"}))
-    aws("rules", file("never * s3:GetObject arn:aws:s3:::bb/*\n"), "--world", file(wide), status=3)
-    # A broken one says more than an empty one.
-    rules(text + "always alice s3:PutObject arn:aws:s3:::releases/app.zip\n", status=3)
-    rules(text + "always alice s3:PutObject arn:aws:s3:::releases/app.zip\n", "--allow-empty", status=3)
-
-
-def test_faults_of_rules_are_no_answers():
-    for text, why in [
-        ("sometimes * s3:GetObject *\n", ":1: a rule begins with 'never' or 'always'"),
-        ("\nnever * s3:GetObject\n", ":2: a rule is 'never PRINCIPAL"),
-        ("never * s3:GetObject * but bob\n", ":1: behind the resource stands"),
-        ("never * s3:GetObject * except\n", ":1: behind the resource"),
-        ("never * GetObject *\n", ":1: GetObject: an action is written"),
-        ("# none\n", "it has no rules"),
-    ]:
-        _, said = rules(text, status=1)
-        assert why in said, said
-    _, said = aws("rules", "no-such-file", EXPORT, status=1)
-    assert "no-such-file: No such file" in said, said
-    run([AWS, "rules"], status=2)
-    broken = load(EXPORT)
-    broken["Policies"][2]["PolicyVersionList"][0]["Document"] = {}
-    _, said = aws(
-        "rules",
-        file("never nobody s3:GetObject *\nnever alice s3:GetObject arn:aws:s3:::b/k\n"),
-        file(broken),
-        status=1,
-    )
-    assert "iamsim refuses a policy: arn:aws:iam::aws:policy/ReadObjects" in said, said
-
-
-def test_rules_over_a_service_reference():
-    """With --services an action pattern takes the service's actions, and no request that no service has."""
-    services = ["--services", data("s3.json")]
-    out, _ = rules("never alice s3:ListB* arn:aws:s3:::releases/app.zip\n", *services, status=4)
-    assert "nothing that is named, and no pattern of a policy, is meant by it" in out, out
-    out, _ = rules("always *:role/app/deploy s3:Get* *\n", *services)
-    assert "(1 requests)" in out, out
-    out, _ = rules("never alice s3:Delete* *\n", *services, status=4)
-    assert "no action matches s3:Delete*" in out, out
-
-
-def test_rules_over_what_changes():
-    draft = file(document(statement(action="s3:*", resource="*")))
-    text = "never * s3:PutObject arn:aws:s3:::releases/app.zip except bob\n"
-    rules(text)
-    out, _ = rules(text, "--put", f"ReadObjects={draft}", status=3)
-    assert f"{ALICE} may s3:PutObject" in out, out
-
-
-def test_an_always_says_what_allowed_before_a_draft():
-    draft = file(document(statement(action="s3:Get*", resource="arn:aws:s3:::homes/*")))
-    rule = "always alice s3:GetObject arn:aws:s3:::releases/app.zip\n"
-    out, _ = rules(rule, "--put", f"ReadObjects={draft}", status=3)
-    same(
-        out.splitlines()[1],
-        f"  {ALICE} may not s3:GetObject arn:aws:s3:::releases/app.zip: lacks identity: no identity policy of the principal"
-        " allows this; was allowed by arn:aws:iam::aws:policy/ReadObjects, statement 0 (identity policy)",
-    )
-    # What was not allowed before either is told as without a draft.
-    out, _ = rules(rule.replace("Get", "Put"), "--put", f"ReadObjects={draft}", status=3)
-    assert out.splitlines()[1].endswith(": lacks identity: no identity policy of the principal allows this"), out
-
-
-def test_a_name_that_matches_nothing_has_its_near_ones():
-    near = f"(near is {ACCOUNT}role/app/deploy)"
-    out, said = rules("never *:role/deploy s3:GetObject *\nalways *:role/app/deploi s3:GetObject *\n", status=4)
-    for n, name in enumerate(("*:role/deploy", "*:role/app/deploi")):
-        assert out.splitlines()[n].endswith(f": no principal matches {name} {near}"), out
-    _, said = rules("never chain s3:GetObject releases/app.zip except role/deploy\n")
-    assert f":1: the exception role/deploy matches no principal {near}\n" in said, said
-    _, said = aws("can", "alice", "sts:AssumeRole", "role/deploy", EXPORT, status=1)
-    assert f": no resource matches role/deploy {near}: name its ARN" in said, said
-    out, _ = rules("never *:role/nobody s3:GetObject *\n", status=4)
-    assert out.splitlines()[0].endswith(": no principal matches *:role/nobody"), out
-
-
-def test_spaces_and_signs_in_rules():
-    made = small_world(document(statement()), resources=[{"arn": "arn:aws:s3:::b/a b#c", "account": "111122223333"}])
-    out, _ = aws(
-        "rules",
-        file("always ann s3:GetObject arn:aws:s3:::b/a\\ b#c\nnever \\#x* s3:GetObject * # none\n"),
-        "--world",
-        file(made),
-        status=4,
-    )
-    same(states(out), ["kept", "empty"])
-
-
-def test_reports_for_pipelines():
-    junit, sarif = file(""), file("")
-    text = "always *:role/app/deploy s3:GetObject arn:aws:s3:::releases/app.zip\nnever alice s3:GetObject arn:aws:s3:::releases/app.zip\nnever nobody s3:GetObject *\n"
-    rules(text, "--junit", junit, "--sarif", sarif, status=3)
-    suite = xml.etree.ElementTree.parse(junit).getroot()
-    same((suite.get("tests"), suite.get("failures")), ("3", "2"))
-    same([[it.get("type") for it in case] for case in suite], [[], ["broken"], ["empty"]])
-    assert "alice may s3:GetObject" in suite[1][0].text
-    results = load(sarif)["runs"][0]["results"]
-    same(
-        [(it["ruleId"], it["locations"][0]["physicalLocation"]["region"]["startLine"]) for it in results],
-        [("broken", 2), ("empty", 3)],
-    )
-    assert "ReadObjects" in results[0]["message"]["text"]
-    rules(text, "--junit", junit, "--sarif", sarif, "--allow-empty", status=3)
-    same(xml.etree.ElementTree.parse(junit).getroot().get("failures"), "1")
