@@ -43,10 +43,10 @@ def run(options: argparse.Namespace) -> int:
     patterns = options.action or ["*"]
     found = changes_of(before, after, patterns, options.resource, options.account, options.format == "page")
     tell_actions(after, patterns)
-    tell_strangers(after, [world for it in found if not it.given for world in changed(it)])
+    plain = [it for it in found if not it.given]
+    tell_strangers(after, [world for it in plain for world in changed(it)])
     lines = [line for it in found for line in reviews.lines_of(it)]
-    requests = sum(it.requests for it in found if not it.given)
-    left = sum(it.left for it in found)
+    requests, left = sum(it.requests for it in plain), sum(it.left for it in plain)
     if left:
         tell(f"{left} requests that change are left out, since no service has them (--services)")
     if not lines:
