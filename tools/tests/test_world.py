@@ -360,7 +360,7 @@ def test_documents_that_are_refused():
         "(fault 20 BadValue); of arn:aws:iam::111122223333:user/alice, arn:aws:sts::111122223333:assumed-role/deploy/s1"
     ), lines[0]
     assert lines[1].startswith(
-        "arn:aws:s3:::c/k policy: statement 0: a resource's policy has to name a Principal (fault 12"
+        "arn:aws:s3:::c policy: statement 0: a resource's policy has to name a Principal (fault 12"
     ), lines[1]
     out, said = aws("check", "--leave-out", given=json.dumps(made))
     rest = json.loads(out)
