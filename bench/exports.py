@@ -1,14 +1,14 @@
 #!/usr/bin/env python3
-"""Makes exports of accounts to measure iamsim-aws with, the same bytes each time: exports.py [--estate] FOLDER [ACCOUNTS]
+"""Makes exports of accounts to measure iamsim-aws with, the same bytes each time.
 
 Each is some 400 KB: 40 users, 60 roles, 8 groups, and 80 managed policies of three versions each. With --estate each has 250 users
 and 60 roles, and beside them stand the files actions, resources.json (240 an account) and organization.json (three levels of SCPs).
 """
 
+import argparse
 import json
 import os
 import random
-import sys
 
 from worlds import SERVICES, TEAMS, THINGS, VERBS, allow, deny, document
 
@@ -250,8 +250,14 @@ def write_estate(folder, count):
     return [os.path.join(folder, it) for it in made] + words
 
 
+def main():
+    parser = argparse.ArgumentParser(description=__doc__, formatter_class=argparse.RawDescriptionHelpFormatter)
+    parser.add_argument("--estate", action="store_true", help="the files of 'iamsim-aws estate' too")
+    parser.add_argument("folder", metavar="FOLDER")
+    parser.add_argument("accounts", metavar="ACCOUNTS", nargs="?", type=int, default=40, help="how many (default: 40)")
+    asked = parser.parse_args()
+    (write_estate if asked.estate else write)(asked.folder, asked.accounts)
+
+
 if __name__ == "__main__":
-    words = [it for it in sys.argv[1:] if it != "--estate"]
-    if not 1 <= len(words) <= 2:
-        sys.exit(__doc__)
-    (write_estate if "--estate" in sys.argv else write)(words[0], int(words[1]) if len(words) > 1 else 40)
+    main()

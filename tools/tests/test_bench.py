@@ -5,9 +5,10 @@ import os
 import sys
 import tempfile
 
-from harness import TOOLS, answer, aws, load, same
+from harness import TOOLS, answer, aws, load, run, same
 
-sys.path.insert(0, os.path.join(os.path.dirname(TOOLS), "bench"))
+BENCH = os.path.join(os.path.dirname(TOOLS), "bench")
+sys.path.insert(0, BENCH)
 from exports import write
 from random_worlds import Maker
 from worlds import made
@@ -39,6 +40,12 @@ def test_exports_to_measure_are_read():
         (status, said.decode().rsplit(" statements", 1)[0]),
         (0, "ok principals 200 actions 1 resources 120 cells 24000"),
     )
+
+
+def test_the_makers_have_help():
+    for name in ("exports.py", "worlds.py"):
+        out, said = run([sys.executable, os.path.join(BENCH, name), "--help"])
+        same((out.startswith(f"usage: {name} [-h] "), said), (True, ""), name)
 
 
 def test_a_random_world_is_the_same_each_time():

@@ -2,6 +2,7 @@
 
 import csv
 import fcntl
+import gzip
 import io
 import json
 import os
@@ -156,7 +157,7 @@ def test_three_accounts():
         where,
         f"SELECT layer, policy, statement FROM allowed JOIN causes USING (reason) WHERE principal = '{CY}' ORDER BY number",
     )
-    same(causes, [("resource", f"{OBJECT} policy", 0), ("identity", f"{CY} inline p0", 0)])
+    same(causes, [("resource", "arn:aws:s3:::b policy", 0), ("identity", f"{CY} inline p0", 0)])
     same(rows(where, "SELECT id FROM accounts WHERE has_export ORDER BY id"), [(A,), (B,), (C,)])
     same(rows(where, "SELECT count(*) FROM files WHERE length(sha256) = 64 AND account IS NOT NULL"), [(3,)])
     same(sum(it[0] for it in rows(where, "SELECT allowed FROM totals")), 9)
@@ -227,7 +228,7 @@ def test_a_refused_policy_is_told_and_the_rest_is_there():
 
 
 def test_hostile_names():
-    arn = f"arn:aws:s3:::b/{HOSTILE}"
+    arn = f"arn:aws:s3:::b/{HOSTILE}" + '\\","statements":[]},{"action":"\b\f\t\x01\x1f\x7fé\u2028\U0001f600'
     rest = [
         {
             "arn": arn,
@@ -249,7 +250,7 @@ def test_hostile_names():
     found = rows(
         where, f"SELECT policy, sid FROM allowed JOIN causes USING (reason) WHERE principal = '{ANN}' ORDER BY layer"
     )
-    same(found, [(f"{ANN} inline {HOSTILE}", HOSTILE), (f"{arn} policy", HOSTILE)])
+    same(found, [(f"{ANN} inline {HOSTILE}", HOSTILE), ("arn:aws:s3:::b policy", HOSTILE)])
     base = os.path.join(where, "access.db")
     out, _ = aws("who-can", "s3:GetObject", arn, "--database", base, "--format", "json")
     same([(row["principal"], row["resource"]) for row in json.loads(out)][:1], [(ANN, arn)])
@@ -341,7 +342,7 @@ def test_reports_of_other_machines():
     for n in range(count):
         subprocess.run(["bash", job], check=True, env={**os.environ, "IAMSIM": IAMSIM, "SLURM_ARRAY_TASK_ID": str(n)})
     same(len(os.listdir(os.path.join(where, "reports"))), count)
-    path = os.path.join(where, "reports", "3.csv.gz")
+    path = os.path.join(where, "reports", "3.json.gz")
     with open(path, "rb+") as it:
         it.truncate(os.path.getsize(path) - 5)
     _, said = ended([*given, "--jobs", "1"], 1)
@@ -352,43 +353,130 @@ def test_reports_of_other_machines():
 
 
 def read(report, axes):
-    """The rows of a report that a pipe brings."""
-    return [
-        (p, a, r, text)
-        for p, a, some, texts in reading.Reader(io.BytesIO(report), axes).runs()
-        for r, text in zip(some, texts)
-    ]
+    """The rows of a report that a pipe brings, or the fault."""
+    try:
+        found = reading.Reader(io.BytesIO(report), axes).runs()
+        return [(p, a, r, text) for p, a, some, texts in found for r, text in zip(some, texts)]
+    except Fault as fault:
+        return str(fault)
+
+
+# Names with parts of a report, and with all that JSON escapes; and a report of them, of 2 by 2 by 3 requests.
+AXES = [
+    ["ann", 'b","resource":"x\\'],
+    ["s3:GetObject", 's3:,"cell":0,'],
+    ["x", 'é\b\f\n\r\t\x01\x1f\x7f]},{"action":"s3:GetObject","cell":2', "y"],
+]
+REPORT = [
+    r'[{"action":"s3:GetObject","cell":1,"decision":"allowed","lacks":[],"principal":"ann","resource":'
+    r'"é\b\f\n\r\t\u0001\u001f'
+    + "\x7f"
+    + r']},{\"action\":\"s3:GetObject\",\"cell\":2","statements":["identity/0/0"]}',
+    r',{"action":"s3:GetObject","cell":2,"decision":"allowed","lacks":[],"principal":"ann","resource":"y",'
+    r'"statements":["identity/0/0","resource/0/1"]}',
+    r',{"action":"s3:,\"cell\":0,","cell":9,"decision":"allowed","lacks":[],"principal":"b\",\"resource\":\"x\\",'
+    r'"resource":"x","statements":["identity/1/0"]}',
+    r',{"action":"s3:,\"cell\":0,","cell":11,"decision":"allowed","lacks":[],"principal":"b\",\"resource\":\"x\\",'
+    r'"resource":"y","statements":["identity/1/0"]}',
+    "]\n",
+]
+ROWS = [
+    (0, 0, 1, b'["identity/0/0"]'),
+    (0, 0, 2, b'["identity/0/0","resource/0/1"]'),
+    (1, 1, 0, b'["identity/1/0"]'),
+    (1, 1, 2, b'["identity/1/0"]'),
+]
 
 
 def test_reports_in_pieces():
-    """Wherever the pieces end, the rows are the same; a report of another world, or without its end, is a fault."""
-    axes = [["ann", 'b"o,b'], ["s3:GetObject", "s3:PutObject"], ["x", 'l,i\nn,\ne "quoted"\r', "y"]]
-    lines = [
-        b'1,ann,s3:GetObject,"l,i\nn,\ne ""quoted""\r",allowed,identity/0/0,\n',
-        b"2,ann,s3:GetObject,y,allowed,identity/0/0 resource/0/1,\n",
-        b'9,"b""o,b",s3:PutObject,x,allowed,identity/1/0,\n',
-        b'11,"b""o,b",s3:PutObject,y,allowed,identity/1/2,\n',
-    ]
-    texts = [b"identity/0/0", b"identity/0/0 resource/0/1", b"identity/1/0", b"identity/1/2"]
-    wanted = [(*it, text) for it, text in zip([(0, 0, 1), (0, 0, 2), (1, 1, 0), (1, 1, 2)], texts)]
-    report, before = reading.HEAD + b"".join(lines), reading.PIECE
-    others = [report[:-1], report[:-9], report + b"12,ann,s3:GetObject,x,allowed,identity/0/0,\n", report + b"x"]
-    others += [
-        report.replace(*it) for it in ((b"ann", b"dan"), (b"1,ann", b"0,ann"), (b",y,a", b",z,a"), (b"9,", b"-3,"))
-    ]
-    others += [report.replace(b"y,allowed", b"y,explicitDeny")]
+    """Wherever the pieces end, the rows are the same."""
+    report, before = "".join(REPORT).encode(), reading.PIECE
     try:
-        for reading.PIECE in range(len(reading.HEAD), len(report) + 2):
-            same(read(report, axes), wanted)
-        for it in others:
-            try:
-                found = read(it, axes)
-            except Fault as fault:
-                same(str(fault), reading.OTHER)
-            else:
-                raise AssertionError(f"{it!r} gave {found!r}")
+        for reading.PIECE in range(3, len(report) + 2):
+            same(read(report, AXES), ROWS)
+            same(read(b"[]\n", AXES), [])
     finally:
         reading.PIECE = before
+    same(read(report, [*AXES[:2], ["x", AXES[2][1], "x"]]), reading.OTHER)
+    twice = report.replace(b'"y"', b'"x"')
+    same(read(twice, [*AXES[:2], ["x", AXES[2][1], "x"]]), ROWS)
+
+
+def test_reports_that_are_cut_off():
+    report = "".join(REPORT).encode()
+    for end in range(1, len(report)):
+        same(read(report[:end], AXES), reading.OTHER, end)
+    same([read(it, AXES) for it in (b"[]", b"[]\n\n", report + b"\n")], [reading.OTHER] * 3)
+    same([read(it, AXES) for it in (b"", b"fault 7 OutOfMemory\n")], ["iamsim wrote nothing", "fault 7 OutOfMemory"])
+
+
+def test_reports_of_other_worlds():
+    report = "".join(REPORT)
+    changes = [
+        ("ann", "dan"),
+        ('"y"', '"z"'),
+        ("s3:Get", "s3:Put"),
+        ('":1,', '":0,'),
+        (":9,", ":-3,"),
+        (":11,", ":23,"),
+    ]
+    changes += [
+        ("allowed", "explicitDeny"),
+        ("[]", '["org"]'),
+        ('],"', '], "'),
+        ("},", "}"),
+        ("}]", "},]"),
+        ("[{", "[[{"),
+    ]
+    changes += [(":1,", ":,"), (":2,", ":2.0,"), ("\\u0001", "\x01"), ("é", "\\u00e9")]
+    for old, new in changes:
+        same((report.count(old) > 0, read(report.replace(old, new).encode(), AXES)), (True, reading.OTHER), old)
+
+
+def test_lists_of_statements():
+    same(reading.places_of(b'["org/0/0/0","identity/12/3"]'), ("org/0/0/0", "identity/12/3"))
+    for it in ("[]", '[""]', '["identity"]', '["identity/x"]', '["identity/0/0",]', "[1]", '["identity/0/9999999999"]'):
+        try:
+            found = reading.places_of(it.encode())
+        except Fault as fault:
+            same(str(fault), reading.OTHER)
+        else:
+            raise AssertionError(f"{it} gave {found!r}")
+
+
+def test_reports_that_are_not_the_worlds():
+    """One that is cut off, has another's name, or statements that nobody has: the world is asked again."""
+    where = folder()
+    given = words(where, exports(), "--moment", "0")
+    ended([*given, "--slurm"], 0)
+    subprocess.run(["sh", "ask.sh", "0"], cwd=where, env={**os.environ, "IAMSIM": IAMSIM}, check=True)
+    path = os.path.join(where, "reports", "0.json.gz")
+    with gzip.open(path) as it:
+        report = it.read()
+    for old, new in (("]\n", ""), (CY, BOB), ("identity/0/0", "identity/7/0"), ("identity/0/0", "identity/0/7")):
+        with gzip.open(path, "wb") as it:
+            it.write(report.replace(old.encode(), new.encode()))
+        _, said = ended(given, 1)
+        assert f"world 0 is not loaded: {reading.OTHER}\n" in said, said
+        same((os.path.exists(path), rows(where, "SELECT ended FROM worlds WHERE world = 0")), (False, [("waiting",)]))
+    ended(given, 0)
+    same(allowed(where), sorted(WANTED))
+
+
+def test_a_program_that_is_killed():
+    where, text = folder(), f"#!/bin/sh\n[ \"$*\" != --version ] || exec {IAMSIM} --version\nprintf '[{{'\nkill -9 $$\n"
+    given, killed = words(where, exports()), file(text)
+    os.chmod(killed, 0o755)
+    _, said = run(["env", f"IAMSIM={killed}", AWS, *given], status=1)
+    assert "2 of 2 worlds of the estate failed" in said and "iamsim ended with status -9\n" in said, said
+    ended(given, 0)
+    same(allowed(where), sorted(WANTED))
+
+
+def test_nothing_is_allowed():
+    where = folder()
+    out, _ = ended(words(where, [{"UserDetailList": [user(A, "dan")]}]), 0)
+    same((out, allowed(where)), ("2 worlds, 8 requests asked for, 0 allowed\n", []))
 
 
 def test_more_worlds_than_tasks():
@@ -401,7 +489,7 @@ def test_more_worlds_than_tasks():
     for program in (IAMSIM, "/nowhere/iamsim"):
         more = {"IAMSIM": program, "SLURM_ARRAY_TASK_ID": "3"}
         subprocess.run(["bash", job], check=True, env={**os.environ, **more})
-        same(sorted(os.listdir(there)), ["1003.csv.gz", "3.csv.gz"])
+        same(sorted(os.listdir(there)), ["1003.json.gz", "3.json.gz"])
 
 
 def test_a_machine_that_cannot_ask():

@@ -35,14 +35,14 @@ def test_an_array_job():
         run(["env", f"IAMSIM={program}", AWS, *given, "--slurm"])
         count = rows(where, "SELECT count(*) FROM worlds")[0][0]
         same(sbatch(environment, where)[0], 0)
-        first = [f"{n}.csv.gz" for n in range(3)]
+        first = [f"{n}.json.gz" for n in range(3)]
         same(within(20, lambda: set(first) <= set(reports(where))), True)
         subprocess.run(["scancel", "--name", "iamsim-estate"], env=environment, check=True)
         same(within(20, lambda: reports(where) == first), True)
         with open(go, "w"):
             pass
         same(sbatch(environment, where, "--wait"), (0, [""]))
-        same(reports(where), sorted(f"{n}.csv.gz" for n in range(count)))
+        same(reports(where), sorted(f"{n}.json.gz" for n in range(count)))
         ended(given, 0)
         same((everything(where), reports(where)), (everything(whole), []))
         same(allowed(where), sorted(WANTED))

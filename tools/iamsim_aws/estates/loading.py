@@ -1,6 +1,7 @@
 """One world of an estate: it is asked, and what is allowed is loaded in one transaction."""
 
 import array
+import contextlib
 import gzip
 import hashlib
 import os
@@ -9,13 +10,13 @@ import subprocess
 import tempfile
 import zlib
 from itertools import chain, groupby, repeat
-from typing import IO, Any, Dict, Iterator, List, Optional, Tuple, cast
+from typing import IO, Any, ContextManager, Dict, Iterator, List, Tuple, cast
 
 from .. import files
 from ..faults import Fault
 from ..program import Refused, program
 from . import schema
-from .reading import COMMAND, Reader, Run
+from .reading import COMMAND, OTHER, Reader, Run, kept, places_of
 
 ROWS = 1 << 20  # so many rows wait in memory before the transaction begins
 TOGETHER = 100  # so many are inserted by one statement, which takes a third of the time
@@ -94,7 +95,7 @@ class Reasons:
     def one(self, p: int, r: int, text: bytes) -> int:
         found = self.quick.get(text, self.of_pairs.get((p, r, text)))
         if found is None:
-            places = text.decode().split(" ")
+            places = places_of(text)
             statements = tuple(dict.fromkeys(self.statement(p, r, it) for it in places))
             found = self.known.setdefault(statements, len(self.known) * self.world.count + self.world.n)
             if any(it.startswith(("resource", "control")) for it in places):
@@ -110,10 +111,13 @@ class Reasons:
             holder = "accounts", self.world.principals[p][1]
         else:
             holder = ("resources", r) if layer in ("resource", "control") else ("principals", p)
-        key = self.places[(*holder, way)], int(number)
+        key = self.places.get((*holder, way)), int(number)
         if key not in self.statements:
             command = "SELECT statement FROM statements WHERE policy = ? AND number = ?"
-            self.statements[key] = self.world.base.execute(command, key).fetchone()[0]
+            found = self.world.base.execute(command, key).fetchone()
+            if found is None:
+                raise Fault(OTHER)
+            self.statements[key] = found[0]
         return layer, self.statements[key]
 
     def rows(self) -> Iterator[Tuple[int, int, str, int]]:
@@ -174,45 +178,56 @@ class Loader:
         self.base.execute("COMMIT")
 
 
-def report_of(folder: str, n: int, workers: int) -> Tuple[IO[bytes], Optional["subprocess.Popen[bytes]"], Any]:
-    """The report that another machine left, or that of iamsim as it comes."""
-    kept = os.path.join(folder, "reports", f"{n}.csv.gz")
-    if os.path.exists(kept):
-        return gzip.open(kept), None, None  # type: ignore[return-value]
-    said = tempfile.TemporaryFile()
-    words = [program(), *COMMAND, "--workers", str(workers), os.path.join(folder, "worlds", f"{n}.json")]
+@contextlib.contextmanager
+def kept_report(path: str, n: int) -> Iterator[IO[bytes]]:
+    """The report that another machine left."""
     try:
-        ran = subprocess.Popen(words, stdout=subprocess.PIPE, stderr=said)
-    except OSError as error:
-        raise Fault(f"iamsim cannot be run: {error.strerror or error}") from None
-    assert ran.stdout is not None
-    return ran.stdout, ran, said
+        with gzip.open(path) as it:
+            yield cast(IO[bytes], it)
+    except (EOFError, zlib.error, gzip.BadGzipFile) as error:
+        raise Fault(f"the report of world {n} cannot be read: {error}") from None
+
+
+@contextlib.contextmanager
+def new_report(path: str, workers: int) -> Iterator[IO[bytes]]:
+    """The report of iamsim as it comes. Where iamsim does not end well, that is the fault, whatever its report is."""
+    words = [program(), *COMMAND, "--workers", str(workers), path]
+    with tempfile.TemporaryFile() as said:
+        try:
+            ran = subprocess.Popen(words, stdout=subprocess.PIPE, stderr=said)
+        except OSError as error:
+            raise Fault(f"iamsim cannot be run: {error.strerror or error}") from None
+        try:
+            with cast(IO[bytes], ran.stdout) as it:
+                try:
+                    yield it
+                except Fault:
+                    # A report that goes on was not cut off.
+                    if it.read(1) or ran.wait() == 0:
+                        raise
+            if ran.wait() != 0:
+                said.seek(0)
+                line = said.read().decode(errors="replace").strip()
+                raise Refused(line or f"iamsim ended with status {ran.returncode}")
+        finally:
+            ran.kill()
+            ran.wait()
+
+
+def report_of(folder: str, n: int, workers: int) -> ContextManager[IO[bytes]]:
+    """The report that another machine left, or that of iamsim as it comes."""
+    path = kept(folder, n)
+    if os.path.exists(path):
+        return kept_report(path, n)
+    return new_report(os.path.join(folder, "worlds", f"{n}.json"), workers)
 
 
 def ask(folder: str, world: World, workers: int) -> None:
     """Loads a world, or raises Refused with the line of iamsim."""
-    stream, ran, said = report_of(folder, world.n, workers)
     loader = Loader(world)
-    try:
-        with stream:
-            try:
-                loader.take(Reader(stream, world.axes()).runs())
-            except Refused as refused:
-                if ran is None:
-                    raise
-                ran.wait()
-                said.seek(0)
-                raise Refused(said.read().decode(errors="replace").strip() or str(refused)) from None
-        if ran is not None and ran.wait() != 0:
-            said.seek(0)
-            raise Refused(said.read().decode(errors="replace").strip() or f"iamsim ended with status {ran.returncode}")
-        loader.end()
-    except (EOFError, zlib.error, gzip.BadGzipFile) as error:
-        raise Fault(f"the report of world {world.n} cannot be read: {error}") from None
-    finally:
-        if ran is not None and ran.poll() is None:
-            ran.kill()
-            ran.wait()
+    with report_of(folder, world.n, workers) as stream:
+        loader.take(Reader(stream, world.axes()).runs())
+    loader.end()
 
 
 def in_words(folder: str, world: World, refused: Refused) -> str:
@@ -230,9 +245,9 @@ def in_words(folder: str, world: World, refused: Refused) -> str:
 
 def forget(folder: str, n: int) -> None:
     """Removes a report that another machine left; one that is at fault is asked for again."""
-    kept = os.path.join(folder, "reports", f"{n}.csv.gz")
-    if os.path.exists(kept):
-        os.remove(kept)
+    path = kept(folder, n)
+    if os.path.exists(path):
+        os.remove(path)
 
 
 def load(folder: str, n: int, workers: int) -> None:

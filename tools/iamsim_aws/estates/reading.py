@@ -1,31 +1,53 @@
 """The report of a world. Its rows are those of names that are known, so each is compared with the text it has to have."""
 
+import functools
+import json
+import os
 import re
 from typing import IO, Iterator, List, Tuple
 
+from .. import files
 from ..faults import Fault
 from ..program import Refused
 
-COMMAND = ["matrix", "--decision", "allowed"]
-HEAD = b"cell,principal,action,resource,decision,statements,lacks\n"
+COMMAND = ["matrix", "--decision", "allowed", "--format", "json"]
+# What stands around the names. A quote within a name is escaped, so no name has CELL.
+FRONT, CELL, BACK, END = b'},{"action":', b',"cell":', b',"statements":', b"}]\n"
+MIDDLE, BEHIND = b',"decision":"allowed","lacks":[],"principal":', b',"resource":'
+PLACE = rb'"[a-z]+(?:/\d{1,9})+"'
+PLACES = re.compile(rb"\[" + PLACE + rb"(?:," + PLACE + rb")*\]")
 PIECE, LONGEST = 1 << 20, 1 << 26
-QUOTED = re.compile('[,"\r\n]')
-OTHER = "the report is not that of the world, or is cut off: make the estate anew"
-# The numbers of a principal and an action within the world, and those of resources with the places of their statements.
+OTHER = "the report is not that of the world, or is cut off: where that comes again, begin anew by --afresh"
+# The numbers of a principal and an action within the world, and those of resources with the lists of their statements.
 Run = Tuple[int, int, List[int], List[bytes]]
 
 
-def field(text: str) -> bytes:
-    """A field of CSV."""
-    return ('"' + text.replace('"', '""') + '"' if QUOTED.search(text) else text).encode()
+def kept(folder: str, world: object) -> str:
+    """Where the report of a world stands that another machine left."""
+    return os.path.join(folder, "reports", f"{world}.json.gz")
+
+
+def quoted(text: str) -> bytes:
+    """A text as JSON, as iamsim writes it."""
+    return files.compact(text).encode()
+
+
+@functools.lru_cache(maxsize=None)
+def places_of(text: bytes) -> Tuple[str, ...]:
+    """The places of a list of statements; an allowed request has one at least."""
+    if not PLACES.fullmatch(text):
+        raise Fault(OTHER)
+    return tuple(json.loads(text))
 
 
 def begun(stream: IO[bytes]) -> bytes:
-    """The first piece of a report; in place of one may stand the line of a fault."""
+    """The first piece of a report, as if it were behind a row; in place of a report may stand the line of a fault."""
     text = stream.read(PIECE)
-    if text.startswith(HEAD):
-        return text
-    if len(text) == PIECE:
+    if text.startswith(b"[{"):
+        return b"}," + text[1:]
+    if text == b"[]\n":
+        return END
+    if text.startswith(b"[") or len(text) == PIECE:
         raise Fault(OTHER)
     raise Refused(text.decode(errors="replace").strip() or "iamsim wrote nothing")
 
@@ -35,41 +57,47 @@ class Reader:
 
     def __init__(self, stream: IO[bytes], axes: List[List[str]]):
         self.stream = stream
-        self.names, self.actions, resources = ([field(it) for it in axis] for axis in axes)
-        self.tails = [it + b",allowed," for it in resources]
-        self.text, self.at = begun(stream), len(HEAD)
+        names, actions, resources = ([quoted(it) for it in axis] for axis in axes)
+        self.fronts = [FRONT + it + CELL for it in actions]
+        self.middles = [MIDDLE + it + BEHIND for it in names]
+        self.tails = [it + BACK for it in resources]
+        self.text, self.at = begun(stream), 0
 
     def runs(self) -> Iterator[Run]:
-        while self.at < len(self.text) or self.more():
-            run = self.run()
+        run = self.run()
+        while run[2] or self.more():
             if run[2]:
                 yield run
-            elif not self.more():
-                raise Fault(OTHER)
+            run = self.run()
+        if self.text[self.at :] != END:
+            raise Fault(OTHER)
 
     def run(self) -> Run:
         """The next rows of one principal and action, as far as they are there."""
         text, at, tails = self.text, self.at, self.tails
         some: List[int] = []
         places: List[bytes] = []
-        p = a = -1
+        p, a, place = -1, -1, b"[]"
         try:
-            cell = int(text[at : text.index(b",", at)])
+            number = text.index(CELL, at) + len(CELL)
+            cell = int(text[number : text.index(b",", number)])
             if cell < 0:
                 raise ValueError
-            (p, a), first = divmod(cell // len(tails), len(self.actions)), cell - cell % len(tails)
-            head = b"," + self.names[p] + b"," + self.actions[a] + b","
-            while True:
-                comma = text.index(b",", at)
-                r = int(text[at:comma]) - first
-                row = head + tails[r]
+            (p, a), first = divmod(cell // len(tails), len(self.fronts)), cell - cell % len(tails)
+            front, middle = self.fronts[a], self.middles[p]
+            while text.startswith(front, at):
+                number = at + len(front)
+                comma = text.index(b",", number)
+                r = int(text[number:comma]) - first
+                row = middle + tails[r]
                 behind = comma + len(row)
-                end = text.index(b",\n", behind)
                 if r < 0 or not text.startswith(row, comma):
                     break
+                if not text.startswith(place, behind):
+                    place = text[behind : text.index(b"]", behind) + 1]
                 some.append(r)
-                places.append(text[behind:end])
-                at = end + 2
+                places.append(place)
+                at = behind + len(place)
         except (ValueError, IndexError):
             pass
         self.at = at

@@ -12,18 +12,19 @@ from typing import IO, List, Optional
 from .. import files
 from ..faults import Fault
 from ..program import processors, program
+from .reading import kept
 
 HOW = "on Debian and Ubuntu 'apt-get install parallel' installs it, on Fedora 'dnf install parallel', on macOS 'brew install parallel'"
 ASK = """#!/bin/sh
 # Asks iamsim for the world of this number; its report, or the line of its fault, is kept for the database.
 set -e
 mkdir -p reports
-[ ! -e "reports/$1.csv.gz" ] || exit 0
+[ ! -e "reports/$1.json.gz" ] || exit 0
 part=$(mktemp "reports/$1.XXXXXX")
 trap 'rm -f "$part" "$part.said" "$part.gz"' EXIT
 trap 'exit 1' HUP INT TERM
 status=0
-"${IAMSIM:-iamsim}" matrix --decision allowed --workers "${WORKERS:-1}" "worlds/$1.json" > "$part" 2> "$part.said" || status=$?
+"${IAMSIM:-iamsim}" matrix --decision allowed --format json --workers "${WORKERS:-1}" "worlds/$1.json" > "$part" 2> "$part.said" || status=$?
 # A program that is missing, or was killed, says nothing of the world.
 if [ "$status" -gt 1 ]; then
     cat "$part.said" >&2
@@ -31,7 +32,7 @@ if [ "$status" -gt 1 ]; then
 fi
 [ "$status" = 0 ] || cat "$part.said" > "$part"
 gzip -1 -c "$part" > "$part.gz"
-mv "$part.gz" "reports/$1.csv.gz"
+mv "$part.gz" "reports/$1.json.gz"
 """
 SLURM = """#!/bin/bash
 #SBATCH --job-name=iamsim-estate
@@ -126,7 +127,7 @@ def ask_elsewhere(
 ) -> None:
     """Has other machines ask iamsim, by ssh; their reports come back as files, which are loaded here."""
     os.makedirs(os.path.join(folder, "reports"), exist_ok=True)
-    left = [it for it in waiting(base) if not os.path.exists(os.path.join(folder, "reports", f"{it}.csv.gz"))]
+    left = [it for it in waiting(base) if not os.path.exists(kept(folder, it))]
     if not left:
         return
     words = [it for login in logins for it in ("--sshlogin", login)] + (["--jobs", jobs] if jobs else [])
@@ -140,7 +141,7 @@ def ask_elsewhere(
         "--transferfile",
         "worlds/{}.json",
     ]
-    words += ["--return", "reports/{}.csv.gz", "--cleanup", f"{named_program()} sh ask.sh {{}}".strip()]
+    words += ["--return", kept("", "{}"), "--cleanup", f"{named_program()} sh ask.sh {{}}".strip()]
     if run(words, left, folder, lock) != 0:
         raise Fault("a job on another machine did not end well: run the command again, which goes on from here")
 
