@@ -1,6 +1,6 @@
 """What changes between two sources: requests that are lost, and those that are gained."""
 
-from typing import Any, Dict, Iterable, Iterator, List, NamedTuple, Optional, Sequence, Tuple
+from typing import Any, Callable, Dict, Iterable, Iterator, List, NamedTuple, Optional, Sequence, Tuple
 
 from . import hanging, kinds
 from .arns import principal_text
@@ -69,22 +69,34 @@ def is_limit(it: Place) -> bool:
     """Whether a document may keep from somebody what others allow."""
     member, statements = it.path.split("/")[2], statements_of(it.policy.document)
     is_deny = any(isinstance(one, dict) and one.get("Effect") == "Deny" for one in statements)
-    return it.policy is not NOTHING and (member not in ("identity", "policy") or is_deny)
+    return is_there(it) and (member not in ("identity", "policy") or is_deny)
 
 
-def speaking(changed: World, world: World) -> World:
-    """The world with the changed documents, and with all of those whom a changed limit binds: what changes is what these allow."""
-    bounds = {tuple(it.path.split("/")[:2]) for it in places(changed) if is_limit(it)}
+def is_there(it: Place) -> bool:
+    return it.policy is not NOTHING
+
+
+def speaking(changed: World, world: World, widens: Callable[[Place], bool]) -> World:
+    """The world with the changed documents, and with all that decide besides a changed one that widens: of principals those
+    whom it binds alone."""
+    bounds = {tuple(it.path.split("/")[:2]) for it in places(changed) if widens(it)}
     if any(axis != "principals" for axis, _ in bounds):
         return world
-    own = {it.path for it in places(changed) if it.policy is not NOTHING}
+    own = {it.path for it in places(changed) if is_there(it)}
 
     def keep(_kind: str, path: str, policy: Any) -> Any:
         axis, n = path.split("/")[:2]
-        is_met = (axis, n) in bounds or (axis == "resources" and bounds)
+        is_met = (axis, n) in bounds or (axis != "principals" and bounds)
         return policy if is_met or path in own else NOTHING
 
     return mapped(world, keep)
+
+
+def all_speaking(before: World, after: World, widens: Callable[[Place], bool]) -> List[World]:
+    """Both worlds with the documents that decide what changes: with all where anything else changes, as a tag."""
+    if rest_of(before) != rest_of(after):
+        return [before, after]
+    return [speaking(of, it, widens) for of, it in zip(differing(before, after), (before, after))]
 
 
 def rest_of(world: World) -> Dict[str, Any]:
@@ -272,8 +284,9 @@ def witnesses_of(worlds: Sequence[World], pattern: str) -> Dict[Tuple[str, str],
     """The ARNs and accounts of texts for the patterns of the documents that speak, with what they stand for: for one of a
     changed document if there is one."""
     found: Dict[Tuple[str, str], Origin] = {}
-    changed = differing(*worlds)
-    for some in (changed, [speaking(*it) for it in zip(changed, worlds)]):
+    before, after = worlds
+    # What a changed limit kept back is what others allow.
+    for some in (differing(before, after), all_speaking(before, after, is_limit)):
         for world in some:
             for it in kinds.resources(world, pattern, world["actions"])[0]:
                 key = it.resource["arn"], it.resource["account"]
@@ -311,17 +324,22 @@ def with_named(scope: Scope, world: World, arn: str, account: str) -> World:
 
 
 def with_keys(before: World, after: World) -> List[Tuple[str, World, World]]:
-    """The worlds with each key that requests lack and the changed documents ask for, one at a time, with that in words."""
-    asked: Dict[str, List[str]] = {}
-    for it in differing(before, after):
+    """The worlds with each key that requests lack and documents ask for which decide what changes, one at a time, with that
+    in words; those of the changed documents first, and no more than can be asked."""
+    asked: Dict[Tuple[str, str], str] = {}
+    for it in [*differing(before, after), *all_speaking(before, after, is_there)]:
         for key, texts in hanging.wanted(it).items():
-            asked.setdefault(key, []).extend(text for text in texts if text not in asked.get(key, []))
-    pairs = [(key, text) for key, texts in asked.items() for text in texts]
+            for text in texts:
+                asked.setdefault((key.lower(), text), key)
     cells = hanging.cells_of(before) + hanging.cells_of(after)
-    if len(pairs) * cells > hanging.MOST:
-        tell(f"what changes with these keys alone was not asked, since it is too much: {', '.join(asked)}")
-        return []
-    return [(f"`{key}` is `{text}`", with_key(before, key, text), with_key(after, key, text)) for key, text in pairs]
+    most = hanging.MOST // max(cells, 1)
+    pairs = [(key, text) for (_, text), key in asked.items()]
+    if pairs[most:]:
+        left = ", ".join(dict.fromkeys(key for key, _ in pairs[most:]))
+        tell(f"what changes with these keys alone was not asked, since it is too much: {left}")
+    return [
+        (f"`{key}` is `{text}`", with_key(before, key, text), with_key(after, key, text)) for key, text in pairs[:most]
+    ]
 
 
 def as_services_have(references: References, changes: Changes) -> Changes:

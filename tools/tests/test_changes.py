@@ -656,3 +656,40 @@ def test_changes_with_a_key_alone():
             "+ arn:aws:iam::111122223333:user/ann s3:GetObject arn:aws:s3:::b/k, if `aws:MultiFactorAuthPresent` is `true`",
         ],
     )
+
+
+def test_what_is_freed_with_a_key_alone():
+    """A limit goes, and a policy that did not change allows with a key that nothing gives."""
+    with_key = document(statement(action="s3:GetObject", Condition={"Bool": {"aws:MultiFactorAuthPresent": "true"}}))
+    plain, denying = document(statement()), document(statement("Deny", "s3:GetObject"))
+    reading = small_world(with_key)
+    # A policy of a resource that grants to ann with the key, and that grants to her.
+    grant = {"Principal": {"AWS": f"{ACCOUNT}user/ann"}, "Action": "s3:GetObject", "Resource": "*"}
+    guarding = {**grant, "Effect": "Deny", "Condition": {"BoolIfExists": {"aws:MultiFactorAuthPresent": "false"}}}
+    guarded = {**reading, "resources": [{**reading["resources"][0], "policy": document(guarding)}]}
+    (ann,), (one,) = reading["principals"], reading["accounts"]
+    for before, after in (
+        ({**reading, "principals": [{**ann, "identity": [with_key, denying]}]}, reading),
+        ({**reading, "principals": [{**ann, "boundary": document(statement(action="sts:*"))}]}, reading),
+        (
+            {**reading, "accounts": [{**one, "org": [[plain, denying]]}]},
+            {**reading, "accounts": [{**one, "org": [[plain]]}]},
+        ),
+        # What she may do from now on, a deny of the resource that stays keeps from her without the key.
+        (
+            {**guarded, "principals": [{**ann, "identity": []}]},
+            {**guarded, "principals": [{**ann, "identity": [plain]}]},
+        ),
+    ):
+        out, _ = aws("changes", "--before", file(before), "--after", file(after), "--action", "s3:GetObject")
+        line = f"+ {ACCOUNT}user/ann s3:GetObject arn:aws:s3:::b/k, if `aws:MultiFactorAuthPresent` is `true`"
+        same(out.splitlines()[:3], ["0 lost and 1 gained, of 1 requests", "gained:", line], str(before))
+
+
+def test_a_tag_alone_opens_what_no_resource_names():
+    """Where a tag changes, texts stand for the patterns of policies that did not."""
+    after = load(EXPORT)
+    after["UserDetailList"][0]["Tags"] = [{"Key": "team", "Value": "blue"}]
+    found = changes("--before", EXPORT, "--after", file(after), "--action", "s3:PutObject")
+    wanted = [("lost", "red", ("allowed", "implicitDeny")), ("gained", "blue", ("implicitDeny", "allowed"))]
+    same(found, {(way, ALICE, "s3:PutObject", f"arn:aws:s3:::teams/{of}/x"): it for way, of, it in wanted})
