@@ -67,12 +67,12 @@ def actions(scope: Scope, pattern: str) -> Dict[str, Optional[Origin]]:
 
 
 def account_for(scope: Scope, world: World, arn: str) -> str:
-    """The account of a resource that the world does not have."""
-    found = account_of(arn) or scope.account
+    """The account of a resource that the world does not have; an object of a bucket that it has is of the bucket's."""
+    found = account_of(arn) or kinds.beside(world, arn, scope.account or "")["account"]
     ids = [it["id"] for it in world["accounts"]]
-    if found is None and len(ids) == 1:
+    if not found and scope.account is None and len(ids) == 1:
         return str(ids[0])
-    if found is None or not re.fullmatch(r"[0-9]{12}", found):
+    if not re.fullmatch(r"[0-9]{12}", found):
         raise Fault(f"{arn}: which account is it of? Say it by --account, or name the resource in --resources")
     return found
 

@@ -115,6 +115,15 @@ def test_a_bucket_has_one_policy():
     )
 
 
+def test_an_object_is_of_the_account_of_its_bucket():
+    further = file([{"arn": "arn:aws:s3:::homes", "account": "444455556666"}])
+    words = ["s3:GetObject", "arn:aws:s3:::homes/other", *BOTH, "--resources", further]
+    # alice is of another account, and the bucket grants to nobody.
+    same(rows("can", "alice", *words, status=3)[0]["decision"], "implicitDeny")
+    _, said = aws("can", "alice", "s3:GetObject", "arn:aws:s3:::another/other", *BOTH, status=1)
+    assert "which account is it of? Say it by --account" in said, said
+
+
 def test_what_an_answer_hangs_on():
     found = rows("who-can", "sts:AssumeRole", "role/app/partner", *BOTH)
     carol = [it for it in found if it["principal"] == "arn:aws:iam::444455556666:user/carol"][0]
