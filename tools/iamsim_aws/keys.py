@@ -2,6 +2,7 @@
 
 from typing import Any, Dict, Iterator, List, Set, Tuple
 
+from .arns import account_of, principal_arn
 from .documents import World, conditions_of, each, places, statements_of
 from .patterns import variables_of
 
@@ -15,6 +16,8 @@ DERIVED = [
     "aws:CurrentTime",
     "aws:EpochTime",
 ]
+# The account of who calls KMS.
+CALLER = "kms:CallerAccount"
 
 
 def plain_operator(operator: str) -> str:
@@ -92,6 +95,19 @@ def with_key(world: World, key: str, value: Any) -> World:
         return world
     some = [it if n in numbers else {**it, "context": {**context_of(it), key: value}} for n, it in enumerate(world[by])]
     return {**world, by: some}
+
+
+def with_callers(world: World) -> World:
+    """The world in which each principal gives its own account as that of who calls KMS, where a document asks for it and
+    the world does not give it."""
+    by, numbers = givers(world).get(CALLER.lower(), ("principals", set()))
+    if by != "principals" or not any(key.lower() == CALLER.lower() for key, _, _ in asked(world)):
+        return world
+    some = [
+        it if n in numbers else {**it, "context": {**context_of(it), CALLER: account_of(principal_arn(it))}}
+        for n, it in enumerate(world["principals"])
+    ]
+    return {**world, "principals": some}
 
 
 def lacking(world: World) -> Dict[str, List[str]]:

@@ -7,6 +7,7 @@ from .arns import account_of, bucket_of, names_of_principal, names_of_resource, 
 from .documents import World
 from .exports import ACCOUNT, Account, is_service_linked, policy, role_of, tags, text, user_of
 from .faults import Fault
+from .keys import with_callers
 from .naming import control_policy, resource_policy, trust_policy
 from .organizations import Organization
 from .patterns import any_matches, is_pattern, matcher
@@ -176,14 +177,8 @@ def world_of(
     ids = {account_of(principal_arn(it)) for it in some} | {it["account"] for it in of}
     accounts = [estate.organization.account(it) for it in sorted(ids)]
     context = {} if estate.context is None else {"context": estate.context}
-    return {
-        "moment": estate.moment,
-        **context,
-        "accounts": accounts,
-        "principals": some,
-        "actions": actions,
-        "resources": of,
-    }
+    axes = {"accounts": accounts, "principals": some, "actions": actions, "resources": of}
+    return with_callers({"moment": estate.moment, **context, **axes})
 
 
 def outside(estate: Estate) -> List[str]:

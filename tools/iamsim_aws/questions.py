@@ -108,9 +108,8 @@ def asked_in(scope: Scope, world: World, question: Question) -> Asked:
     resources = [bound(estate, dressed(scope, it)) if estate else dressed(scope, it) for it in found]
     narrow = {**world, "principals": principals(world["principals"], question), "resources": resources}
     narrow["accounts"] = with_account(scope, world, resources)
-    if scope.outside:
-        some = strangers(scope.source, [narrow], question.principal)
-        narrow = with_strangers(scope.source, narrow, principals(some, question))
+    some = strangers(scope.source, [narrow], question.principal) if scope.outside else []
+    narrow = with_strangers(scope.source, narrow, principals(some, question))
     stand: Origins = {}
     for it in witnesses:
         stand.setdefault(it.resource["arn"], it.origin)

@@ -10,7 +10,7 @@ from typing import Any, Dict, Iterable, Iterator, List, Optional, Set, Tuple
 from .arns import account_of, names_of_principal, principal_arn, principal_text
 from .documents import Policy, World, conditions_of, each, statements_of
 from .exports import ACCOUNT
-from .keys import plain_operator
+from .keys import CALLER, plain_operator, with_callers
 from .kinds import filled
 from .making import keep_context
 from .patterns import any_matches
@@ -88,7 +88,7 @@ def named_by(statement: Any) -> List[str]:
 def conditioned(statement: Any, nobody: str) -> Iterator[str]:
     """Those whom the conditions of a statement choose out of everybody, or of an account."""
     for operator, key, value in conditions_of(statement):
-        is_arn, is_account = key.lower() == "aws:principalarn", key.lower() == "aws:principalaccount"
+        is_arn, is_account = key.lower() == "aws:principalarn", key.lower() in ("aws:principalaccount", CALLER.lower())
         for text in each(value) if plain_operator(operator) in EQUAL and (is_arn or is_account) else ():
             if isinstance(text, str) and "${" not in text:
                 yield (filled(text, nobody) or "") if is_arn else text
@@ -155,4 +155,5 @@ def with_strangers(source: Source, world: World, some: List[Principal]) -> World
     ids = {it["id"] for it in world["accounts"]}
     new = sorted({account_of(principal_arn(it)) for it in some} - ids)
     accounts = [source.estate.organization.account(it) if source.estate else {"id": it} for it in new]
-    return {**world, "accounts": world["accounts"] + accounts, "principals": world["principals"] + some}
+    made = {**world, "accounts": world["accounts"] + accounts, "principals": world["principals"] + some}
+    return with_callers(made) if source.estate else made

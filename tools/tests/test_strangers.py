@@ -80,6 +80,25 @@ def test_who_is_chosen_by_a_condition():
         same(outside("s3:GetObject", bucket(one)), wanted, one)
 
 
+def test_whose_account_calls_a_key():
+    """kms:CallerAccount is the account of each principal, also of who is outside."""
+    key = "arn:aws:kms:eu-west-1:111122223333:key/7c1d"
+    condition = {"StringEquals": {"kms:CallerAccount": ["111122223333", "999988887777"]}}
+    given = {"Principal": "*", "Action": "kms:Decrypt", "Condition": condition}
+    policy = file(document({"Effect": "Allow", "Resource": "*", **given}))
+    words = ["who-can", "kms:Decrypt", key, EXPORT, PARTNER, "--policy", policy, "--sealed"]
+    # alice is of the account of the key, to which its policy grants; carol, and whoever is of no account there is, are of others.
+    alice, carol = f"{ACCOUNT}user/alice", "arn:aws:iam::444455556666:user/carol"
+    wanted = {alice: "allowed", carol: "implicitDeny", OUT: "allowed", ANY: "implicitDeny"}
+    found = json.loads(aws(*words, "--format", "json")[0])
+    same({it["principal"]: it["decision"] for it in found if it["principal"] in wanted}, wanted)
+    same([it["principal"] for it in found if it["hangsOn"]], [])
+    # What --context says stands in its place.
+    given = file({"kms:CallerAccount": "444455556666"})
+    found = json.loads(aws(*words, "--format", "json", "--context", given)[0])
+    same([it["principal"] for it in found if it["decision"] == "allowed"], [])
+
+
 def test_its_own_account_decides_nothing():
     """What a stand-in may in its own account nobody knows: a bucket there that trusts its account lets nobody in by that, and who is
     named by its ARN is let in."""
