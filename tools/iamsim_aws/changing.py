@@ -1,5 +1,6 @@
 """What changes between two sources: requests that are lost, and those that are gained."""
 
+import functools
 from typing import Any, Callable, Dict, Iterable, Iterator, List, NamedTuple, Optional, Sequence, Tuple
 
 from . import hanging, kinds
@@ -323,23 +324,33 @@ def with_named(scope: Scope, world: World, arn: str, account: str) -> World:
     return {**world, "resources": resources, "accounts": with_account(scope, world, resources)}
 
 
-def with_keys(before: World, after: World) -> List[Tuple[str, World, World]]:
-    """The worlds with each key that requests lack and documents ask for which decide what changes, one at a time, with that
-    in words; those of the changed documents first, and no more than can be asked."""
+def keys_in(before: World, after: World) -> List[Dict[str, str]]:
+    """The keys that requests lack and documents ask for which decide what changes, each with a value: one at a time, those
+    of the changed documents first, and behind these all of a statement that asks for several."""
+    worlds = [*differing(before, after), *all_speaking(before, after, is_there)]
     asked: Dict[Tuple[str, str], str] = {}
-    for it in [*differing(before, after), *all_speaking(before, after, is_there)]:
-        for key, texts in hanging.wanted(it).items():
-            for text in texts:
-                asked.setdefault((key.lower(), text), key)
-    cells = hanging.cells_of(before) + hanging.cells_of(after)
-    most = hanging.MOST // max(cells, 1)
-    pairs = [(key, text) for (_, text), key in asked.items()]
-    if pairs[most:]:
-        left = ", ".join(dict.fromkeys(key for key, _ in pairs[most:]))
-        tell(f"what changes with these keys alone was not asked, since it is too much: {left}")
-    return [
-        (f"`{key}` is `{text}`", with_key(before, key, text), with_key(after, key, text)) for key, text in pairs[:most]
+    for key, texts in (it for world in worlds for it in hanging.wanted(world).items()):
+        for text in texts:
+            asked.setdefault((key.lower(), text), key)
+    several = [it for world in worlds for it in hanging.together(world)]
+    return [{key: text} for (_, text), key in asked.items()] + [
+        it for n, it in enumerate(several) if it not in several[:n]
     ]
+
+
+def with_keys(before: World, after: World) -> List[Tuple[str, World, World]]:
+    """The worlds with the keys that nothing gives, with these in words; no more than can be asked."""
+    asked = keys_in(before, after)
+    most = hanging.MOST // max(hanging.cells_of(before) + hanging.cells_of(after), 1)
+    if asked[most:]:
+        left = ", ".join(dict.fromkeys(key for it in asked[most:] for key in it))
+        tell(f"what changes with these keys alone was not asked, since it is too much: {left}")
+
+    def given(world: World, keys: Dict[str, str]) -> World:
+        return functools.reduce(lambda made, key: with_key(made, key, keys[key]), keys, world)
+
+    words = [" and ".join(f"`{key}` is `{text}`" for key, text in it.items()) for it in asked[:most]]
+    return [(text, given(before, it), given(after, it)) for text, it in zip(words, asked)]
 
 
 def as_services_have(references: References, changes: Changes) -> Changes:

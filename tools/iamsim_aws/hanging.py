@@ -1,6 +1,6 @@
 """What answers hang on: keys that requests lack, each given a value that the policies ask for, and iamsim asked again."""
 
-from typing import Any, Dict, Iterator, List, NamedTuple, Tuple
+from typing import Any, Dict, Iterator, List, NamedTuple, Optional, Tuple
 
 from .asking import ask_all
 from .documents import World, conditions_of, each
@@ -49,21 +49,57 @@ def texts_for(operator: str, value: Any) -> List[str]:
     return [text]
 
 
+def text_that_meets(operator: str, values: List[Any]) -> Optional[str]:
+    """A value of a key with which a condition holds that does not hold without one."""
+    plain, texts = plain_operator(operator), texts_for(operator, values[0] if values else None)
+    is_met = "Not" in plain or operator.endswith("IfExists") or operator.startswith("ForAllValues:")
+    if is_met or not texts:
+        return None
+    text = str(first_text(values[0]))
+    if plain == "Null":
+        return texts[0] if text.lower() == "false" else None
+    if plain == "Bool":
+        return text
+    # Behind the text itself stand one that is less, and one that is greater.
+    n = 1 if plain.endswith("LessThan") else 2 if plain.endswith("GreaterThan") else 0
+    return texts[n] if n < len(texts) else None
+
+
+Condition = Tuple[str, str, List[Any]]
+
+
+def lacked(world: World) -> Iterator[List[Condition]]:
+    """Of each statement on the world's actions the conditions on keys that requests lack: operator, key and values."""
+    given = givers(world)
+    for place, statement, is_new in statements(world, world["actions"]):
+        of = values_of(world, place.path)[0] if is_new else {}
+        yield [
+            (operator, key, [resolved(it, of) if is_new and isinstance(it, str) else it for it in each(asked)])
+            for operator, key, asked in conditions_of(statement)
+            if lacks(world, given, place.path, key)
+        ]
+
+
 def wanted(world: World) -> Dict[str, List[str]]:
     """The keys that requests lack and statements on the world's actions ask for, with the values that they ask for."""
-    given = givers(world)
     names: Dict[str, str] = {}
     found: Dict[str, Dict[str, None]] = {}
-    for place, statement, is_new in statements(world, world["actions"]):
-        values = values_of(world, place.path)[0] if is_new else {}
-        for operator, key, asked in conditions_of(statement):
-            if not lacks(world, given, place.path, key):
-                continue
-            texts = found.setdefault(names.setdefault(key.lower(), key), {})
-            for value in each(asked):
-                text = resolved(value, values) if is_new and isinstance(value, str) else value
-                texts.update(dict.fromkeys(texts_for(operator, text)))
+    for operator, key, values in (it for conditions in lacked(world) for it in conditions):
+        texts = found.setdefault(names.setdefault(key.lower(), key), {})
+        for value in values:
+            texts.update(dict.fromkeys(texts_for(operator, value)))
     return {key: list(texts) for key, texts in found.items()}
+
+
+def together(world: World) -> List[Dict[str, str]]:
+    """The keys of each statement that holds with two or more keys alone that requests lack, each with a value."""
+    found: List[Dict[str, str]] = []
+    for conditions in lacked(world):
+        texts = {key: text_that_meets(operator, values) for operator, key, values in conditions}
+        keys = {key: text for key, text in texts.items() if text is not None}
+        if len(keys) > 1 and keys not in found:
+            found.append(keys)
+    return found
 
 
 def questions(world: World) -> Iterator[Tuple[str, str, World]]:

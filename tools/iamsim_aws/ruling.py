@@ -6,8 +6,9 @@ from typing import Dict, List, NamedTuple, Optional, Tuple
 from . import files
 from .arns import principal_arn, principal_text
 from .asking import ask_all
+from .documents import World
 from .faults import Fault, tell
-from .hanging import Turn, is_too_much, turns
+from .hanging import Turn, is_too_much, together, turns
 from .keys import with_key
 from .kinds import Origins
 from .patterns import is_pattern, near
@@ -132,6 +133,8 @@ def check(scope: Scope, rules: List[Rule], as_given: bool = False, before: Optio
     asked = [asked_by(scope, rule) for rule in rules]
     flat = [it for of in asked for it in of]
     answers: Dict[int, Answers] = {id(it): found for it, found in zip(flat, ask_all([it.world for it in flat]))}
+    if not as_given:
+        tell_several([it.world for rule, of in zip(rules, asked) for it in of if rule.kind == "never"])
     outcomes = []
     for rule, of in zip(rules, asked):
         kept = [(answers[id(it)], cells_of(scope, answers[id(it)])) for it in of]
@@ -141,6 +144,13 @@ def check(scope: Scope, rules: List[Rule], as_given: bool = False, before: Optio
         broken = sorted(since(before, rule, broken) if before else broken, key=Break.is_mixed)
         outcomes.append(Outcome(rule, requests, broken, of, why, scope.source.giver))
     return outcomes
+
+
+def tell_several(some: List[World]) -> None:
+    """Says that statements ask for several keys that nothing gives, since these are given one at a time."""
+    keys = sorted({key for world in some for it in together(world) for key in it})
+    if keys:
+        tell(f"keys were given one at a time: {', '.join(keys)}")
 
 
 def since(before: Scope, rule: Rule, broken: List[Break]) -> List[Break]:

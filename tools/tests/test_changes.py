@@ -693,3 +693,14 @@ def test_a_tag_alone_opens_what_no_resource_names():
     found = changes("--before", EXPORT, "--after", file(after), "--action", "s3:PutObject")
     wanted = [("lost", "red", ("allowed", "implicitDeny")), ("gained", "blue", ("implicitDeny", "allowed"))]
     same(found, {(way, ALICE, "s3:PutObject", f"arn:aws:s3:::teams/{of}/x"): it for way, of, it in wanted})
+
+
+def test_changes_with_the_keys_of_a_statement():
+    """A statement that asks for several keys is asked with all of them, where none does alone."""
+    bounds = {"NumericLessThan": {"aws:MultiFactorAuthAge": "60"}, "Bool": {"aws:SecureTransport": "false"}}
+    address = {"IpAddress": {"aws:SourceIp": "203.0.113.0/24"}, "StringNotEquals": {"aws:SourceVpc": "vpc-1"}}
+    after = small_world(document(statement(Condition={**bounds, **address})))
+    out, _ = aws("changes", "--before", file(small_world(document())), "--after", file(after))
+    given = "`aws:MultiFactorAuthAge` is `59` and `aws:SecureTransport` is `false` and `aws:SourceIp` is `203.0.113.0`"
+    line = f"+ {ACCOUNT}user/ann s3:GetObject arn:aws:s3:::b/k, if {given}"
+    same(out.splitlines()[:3], ["0 lost and 1 gained, of 1 requests", "gained:", line])

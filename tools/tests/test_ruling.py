@@ -121,6 +121,23 @@ def test_never_holds_with_a_key_too():
     aws("rules", file("always ann s3:GetObject arn:aws:s3:::b/k\n"), "--world", file(unless))
 
 
+def test_keys_that_a_never_was_not_asked_with_are_told():
+    both = {"IpAddress": {"aws:SourceIp": "203.0.113.0/24"}, "Bool": {"aws:MultiFactorAuthPresent": "true"}}
+    given = file(small_world(document(statement(Condition=both))))
+    line = "keys were given one at a time: aws:MultiFactorAuthPresent, aws:SourceIp\n"
+    for rule, words, said in (
+        ("never * s3:GetObject arn:aws:s3:::b/k", [], line),
+        ("never * s3:GetObject arn:aws:s3:::b/k", ["--as-given"], ""),
+        (
+            "never * s3:GetObject arn:aws:s3:::b/k",
+            ["--world", file(small_world(document(statement(action="sqs:*"))))],
+            "",
+        ),
+    ):
+        world = [] if "--world" in words else ["--world", given]
+        same(aws("rules", file(f"{rule}\n"), *world, *words)[1].replace("iamsim-aws: ", ""), said, str(words))
+
+
 def test_rules_that_meet_nothing():
     text = "never *:role/none s3:GetObject *\nalways alice s3:GetObject *.none\n"
     out, _ = rules(text, status=4)
