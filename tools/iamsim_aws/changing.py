@@ -302,18 +302,19 @@ def with_witnesses(scopes: Sequence[Scope], worlds: Sequence[World], pattern: st
     if is_named(worlds, pattern):
         account = account_for(scopes[0], worlds[0], pattern)
         return [with_named(scope, world, pattern, account) for scope, world in zip(scopes, worlds)], {}
-    found = witnesses_of(worlds, pattern) if scopes[0].source.estate and is_pattern(pattern) else {}
+    named = {it["arn"] for world in worlds for it in world["resources"]}
+    every = witnesses_of(worlds, pattern) if scopes[0].source.estate and is_pattern(pattern) else {}
+    # A resource that one of the worlds has is not made up in the other.
+    found = {key: origin for key, origin in every.items() if key[0] not in named}
 
     def joined(estate: Optional[Estate], world: World) -> World:
-        known = {it["arn"] for it in world["resources"]}
         ids = {it["id"] for it in world["accounts"]}
-        more = [kinds.beside(world, arn, account) for arn, account in found if arn not in known and account in ids]
+        more = [kinds.beside(world, arn, account) for arn, account in found if account in ids]
         more = [bound(estate, it) if estate else it for it in more]
         chosen = [it for it in [*world["resources"], *more] if matcher(pattern)(it["arn"])]
         return {**world, "resources": chosen}
 
-    named = {it["arn"] for world in worlds for it in world["resources"]}
-    stand = {arn: origin for (arn, _), origin in found.items() if arn not in named}
+    stand = {arn: origin for (arn, _), origin in found.items()}
     return [joined(scope.source.estate, world) for scope, world in zip(scopes, worlds)], stand
 
 
