@@ -126,8 +126,7 @@ impl<T: Item> Kept<T> {
         ensures ok { (item : T) → slice_get self.old place ≡ Some item → OnOk result (self.new ≡ self.old ++ item ∷ []) }
         ensures err { OnErr result (self.new ≡ self.old) }
     {
-        let number = self.numbers.at(place);
-        self.numbers.push(number)
+        self.numbers.push_again(place)
     }
 
     /// The different items, and the number of each item among them.

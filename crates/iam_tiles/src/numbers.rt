@@ -1,5 +1,5 @@
 // Numbers in as few bytes as serve.
-ghost use Rattle.std.specs.Prelude.{◌≡◌, ◌++◌, ◌∷◌, ◌<◌, ℕ, List, [], IfOk, OnErr, OnOk, Some, length, slice_get};
+ghost use Rattle.std.specs.Prelude.{◌≡◌, ◌++◌, ◌∷◌, ◌<◌, ℕ, List, [], IfOk, OnErr, OnOk, Some, get_or, length, slice_get};
 
 use iam_text::OutOfMemory;
 use std::alloc::Global;
@@ -72,6 +72,22 @@ impl Numbers {
         let Ok(byte) = u8::try_from(number) else {
             return self.widen(number);
         };
+        self.narrow.push(byte)?;
+        Ok(())
+    }
+
+    /// Puts number i of these once more behind all.
+    #[inline(always)]
+    pub fn push_again(&mut self, i: usize) -> Result<(), OutOfMemory>
+        requires { i < length self.old }
+        ensures ok { OnOk result (self.new ≡ self.old ++ get_or self.old i 0 ∷ []) }
+        ensures err { OnErr result (self.new ≡ self.old) }
+    {
+        if !self.wide.is_empty() {
+            let number = self.at(i);
+            return self.push(number);
+        }
+        let byte = self.narrow[i];
         self.narrow.push(byte)?;
         Ok(())
     }
