@@ -1,8 +1,8 @@
 -- Bytes in which the front of a row is made.
-use Rattle.std.proofs.Common.{◌≡◌, ◌+◌, ◌-◌, ◌/◌, ◌%◌, ◌^◌, ◌<◌, ◌≤◌, ◌⊎◌, inl, inr, ℕ, zero, suc, List, [], ◌∷◌, ◌++◌, refl, get_or, set, decimal, append-nil, drop, length, take, sym, ap, ◌∙◌, arith, append_assoc, length-append, take-add, take-take}
-use Rattle.std.proofs.Math.Seq.{drop-append_seam, take-append-add, take-append_seam}
+use Rattle.std.proofs.Common.{◌≡◌, ◌+◌, ◌-◌, ◌/◌, ◌%◌, ◌^◌, ◌<◌, ◌≤◌, ◌⊎◌, inl, inr, ℕ, zero, suc, List, [], ◌∷◌, ◌++◌, refl, get_or, set, decimal, append-nil, drop, length, take, sym, ap, ◌∙◌, arith, append_assoc, length-append, subst, take-add, take-take}
+use Rattle.std.proofs.Math.Seq.{drop-append_seam, set-append_seam, take-append-add, take-append_seam}
 use Rattle.std.proofs.lemmas.Fmt.{decimal_digit, decimal_nonempty, decimal_step}
-use Rattle.std.proofs.lemmas.List.{drop-drop, drop-set-add, drop-take, get_or-drop, length-drop, length-take-le, same_from_push, set_split, take-set-le, take_more}
+use Rattle.std.proofs.lemmas.List.{drop-drop, drop-set-add, drop-take, get_or-drop, length-drop, length-set, length-take-le, same_from_push, take-append-drop, take-set-le, take_more}
 use Rattle.iam_report.specs.Code.Front.{FrontValue, IsOrdered, IsPut, between, front_of_bytes}
 
 -- the texts behind the room for a number stand there as one
@@ -107,19 +107,20 @@ refilled old new behind start stop before end long order put =
     ∙ text_at new head behind [] end (put.bytes ∙ ap (λ l. head ++ l) (sym (append-nil behind))) (omega (arith, head_is, put.end_is)) in
     same_parts front mid back
 
+-- below a number, or not
+sized : (n m : ℕ) → (n < m) ⊎ (m ≤ n)
+sized n zero = inr (omega arith)
+sized zero (suc m) = inl (omega arith)
+sized (suc n) (suc m) = one_more n m (sized n m)
+  where
+    one_more : (n m : ℕ) → (n < m) ⊎ (m ≤ n) → (suc n < suc m) ⊎ (suc m ≤ suc n)
+    one_more n m (inl below) = inl (omega arith)
+    one_more n m (inr above) = inr (omega arith)
+
 -- a number whose last digit is no 9, and the next one
 counted_digits : (n : ℕ) (ds : List ℕ) (d : ℕ) → n + 1 < 2 ^ 64 → decimal n ≡ ds ++ (d ∷ []) → d < 57 → decimal (n + 1) ≡ ds ++ ((d + 1) ∷ [])
 counted_digits n ds d small is nine = by_size n ds d small is nine (sized n 10)
   where
-    sized : (n m : ℕ) → (n < m) ⊎ (m ≤ n)
-    sized n zero = inr (omega arith)
-    sized zero (suc m) = inl (omega arith)
-    sized (suc n) (suc m) = one_more n m (sized n m)
-      where
-        one_more : (n m : ℕ) → (n < m) ⊎ (m ≤ n) → (suc n < suc m) ⊎ (suc m ≤ suc n)
-        one_more n m (inl below) = inl (omega arith)
-        one_more n m (inr above) = inr (omega arith)
-
     by_size : (n : ℕ) (ds : List ℕ) (d : ℕ) → n + 1 < 2 ^ 64 → decimal n ≡ ds ++ (d ∷ []) → d < 57 → (n < 10) ⊎ (10 ≤ n)
         → decimal (n + 1) ≡ ds ++ ((d + 1) ∷ [])
     by_size n ds d small is nine (inl one) =
@@ -136,32 +137,102 @@ counted_digits n ds d small is nine = by_size n ds d small is nine (sized n 10)
         decimal_step (n + 1) (omega arith) small ∙ ap (λ m. decimal m ++ ((48 + (n + 1) % 10) ∷ [])) tens
         ∙ ap (λ l. l ++ ((48 + (n + 1) % 10) ∷ [])) (sym same.0) ∙ ap (λ c. ds ++ (c ∷ [])) last
 
+-- a number whose last digit is a 9 and the one before it is none, and the next one
+carried_digits : (n : ℕ) (ds : List ℕ) (d : ℕ) → n + 1 < 2 ^ 64 → decimal n ≡ ds ++ (d ∷ 57 ∷ []) → d < 57
+    → decimal (n + 1) ≡ (ds ++ ((d + 1) ∷ [])) ++ (48 ∷ [])
+carried_digits n ds d small is nine = by_size n ds d small is nine (sized n 10)
+  where
+    by_size : (n : ℕ) (ds : List ℕ) (d : ℕ) → n + 1 < 2 ^ 64 → decimal n ≡ ds ++ (d ∷ 57 ∷ []) → d < 57 → (n < 10) ⊎ (10 ≤ n)
+        → decimal (n + 1) ≡ (ds ++ ((d + 1) ∷ [])) ++ (48 ∷ [])
+    by_size n ds d small is nine (inl one) =
+        absurd (omega (arith, ap length (sym is ∙ decimal_digit n one), length-append ds (d ∷ 57 ∷ [])))
+    by_size n ds d small is nine (inr more) =
+        let same = same_from_push (ds ++ (d ∷ [])) (decimal (n / 10)) 57 (48 + n % 10)
+        (append_assoc ds (d ∷ []) (57 ∷ []) ∙ sym is ∙ decimal_step n more (omega arith)) in
+        let digit : 57 ≡ 48 + n % 10 = same.1 in
+        let tens : (n + 1) / 10 ≡ n / 10 + 1 = omega (arith, digit) in
+        let last : 48 + (n + 1) % 10 ≡ 48 = omega (arith, digit) in
+        decimal_step (n + 1) (omega arith) small ∙ ap (λ m. decimal m ++ ((48 + (n + 1) % 10) ∷ [])) tens
+        ∙ ap (λ l. l ++ ((48 + (n + 1) % 10) ∷ [])) (counted_digits (n / 10) ds d (omega (arith, small)) (sym same.0) nine)
+        ∙ ap (λ c. (ds ++ ((d + 1) ∷ [])) ++ (c ∷ [])) last
+
+-- another digit in the number
+set_digit : (old xs ys : List ℕ) (c d start stop end i : ℕ) → IsOrdered start stop end → length old ≡ 1024 → between old start stop ≡ xs ++ (c ∷ ys)
+    → i ≡ start + length xs → front_of_bytes (set old i d) start stop end ≡ record (front_of_bytes old start stop end) { number = xs ++ (d ∷ ys) }
+set_digit old xs ys c d start stop end i order long is at =
+    let left = drop start old in
+    let many : length (between old start stop) ≡ stop - start =
+    length-take-le (stop - start) left (omega (arith, length-drop start old, long, order.behind, order.most)) in
+    let then : start + (stop - start) ≡ stop = omega (arith, order.number) in
+    let whole : left ≡ xs ++ (c ∷ (ys ++ drop stop old)) =
+    sym (take-append-drop (stop - start) left) ∙ ap (λ l. l ++ drop (stop - start) left) is ∙ append_assoc xs (c ∷ ys) (drop (stop - start) left)
+    ∙ ap (λ l. xs ++ (c ∷ (ys ++ l))) (drop-drop (stop - start) start old ∙ ap (λ n. drop n old) then) in
+    let puts : drop start (set old i d) ≡ (xs ++ (d ∷ ys)) ++ drop stop old =
+    ap (λ m. drop start (set old m d)) at ∙ drop-set-add start old (length xs) d ∙ ap (λ l. set l (length xs) d) whole
+    ∙ set-append_seam xs c (ys ++ drop stop old) d ∙ sym (append_assoc xs (d ∷ ys) (drop stop old)) in
+    let ends : start + length (xs ++ (d ∷ ys)) ≡ stop =
+    omega (arith, length-append xs (d ∷ ys), length-append xs (c ∷ ys), ap length is, many, order.number) in
+    renumbered old (set old i d) (xs ++ (d ∷ ys)) start start stop end order refl ends puts (take-set-le start old i d (omega (arith, at)))
+
+-- the digits of a number but the last, and the last
+last_digit : (old : List ℕ) (start end k : ℕ) → IsOrdered start (start + (k + 1)) end → length old ≡ 1024
+    → between old start (start + (k + 1)) ≡ take k (drop start old) ++ (get_or old (start + k) 0 ∷ [])
+last_digit old start end k order long =
+    let left = drop start old in
+    let count : start + (k + 1) - start ≡ k + 1 = omega arith in
+    ap (λ m. take m left) count ∙ take_more left k 0 (omega (arith, length-drop start old, long, order.behind, order.most))
+    ∙ ap (λ c. take k left ++ (c ∷ [])) (get_or-drop start old k 0)
+
 -- the number counted up in place
 pub counted : (old : List ℕ) (digit start stop end n : ℕ) → IsOrdered start stop end → length old ≡ 1024 → digit ≡ get_or old (stop - 1) 0 → digit < 57
     → n + 1 < 2 ^ 64 → between old start stop ≡ decimal n
     → front_of_bytes (set old (stop - 1) (digit + 1)) start stop end ≡ record (front_of_bytes old start stop end) { number = decimal (n + 1) }
 counted old digit start stop end n order long read nine small is =
     let left = drop start old in
-    let left_is : length left ≡ 1024 - start = length-drop start old ∙ ap (λ m. m - start) long in
-    let many : length (between old start stop) ≡ stop - start = length-take-le (stop - start) left (omega (arith, left_is, order.behind, order.most)) in
+    let many : length (between old start stop) ≡ stop - start =
+    length-take-le (stop - start) left (omega (arith, length-drop start old, long, order.behind, order.most)) in
     let some : 0 < stop - start = omega (arith, sym many ∙ ap length is, decimal_nonempty n (omega (arith, small))) in
     let k = stop - 1 - start in
+    let ends : start + (k + 1) ≡ stop = omega (arith, some) in
     let at : start + k ≡ stop - 1 = omega (arith, some) in
-    let count : stop - start ≡ k + 1 = omega (arith, some) in
+    let S : ℕ → Type 0 = λ m. IsOrdered start m end in
+    let B : ℕ → Type 0 = λ m. between old start m ≡ take k left ++ (get_or old (start + k) 0 ∷ []) in
+    let split : between old start stop ≡ take k left ++ (digit ∷ []) =
+    subst B ends (last_digit old start end k (subst S (sym ends) order) long)
+    ∙ ap (λ c. take k left ++ (c ∷ [])) (ap (λ m. get_or old m 0) at ∙ sym read) in
+    let count : length (take k left) ≡ k = length-take-le k left (omega (arith, length-drop start old, long, order.behind, order.most, some)) in
+    set_digit old (take k left) [] digit (digit + 1) start stop end (stop - 1) order long split (omega (arith, count, some))
+    ∙ ap (λ m. record (front_of_bytes old start stop end) { number = m }) (sym (counted_digits n (take k left) digit small (sym is ∙ split) nine))
+
+-- the same with a carry
+pub carried : (old : List ℕ) (tens start stop end n : ℕ) → IsOrdered start stop end → length old ≡ 1024 → 2 ≤ stop - start
+    → tens ≡ get_or old (stop - 2) 0 → tens < 57 → get_or old (stop - 1) 0 ≡ 57 → n + 1 < 2 ^ 64 → between old start stop ≡ decimal n
+    → front_of_bytes (set (set old (stop - 2) (tens + 1)) (stop - 1) 48) start stop end ≡ record (front_of_bytes old start stop end) { number = decimal (n + 1) }
+carried old tens start stop end n order long two read nine last small is =
+    let left = drop start old in
+    let k = stop - 2 - start in
     let ds = take k left in
-    let here : get_or left k 0 ≡ digit = get_or-drop start old k 0 ∙ ap (λ m. get_or old m 0) at ∙ sym read in
-    let split : between old start stop ≡ ds ++ (digit ∷ []) =
-    ap (λ m. take m left) count ∙ take_more left k 0 (omega (arith, left_is, count, order.behind, order.most, some)) ∙ ap (λ c. ds ++ (c ∷ [])) here in
-    let next : decimal (n + 1) ≡ ds ++ ((digit + 1) ∷ []) = counted_digits n ds digit small (sym is ∙ split) nine in
-    let new = set old (stop - 1) (digit + 1) in
-    let puts : drop start new ≡ decimal (n + 1) ++ drop stop old =
-    ap (λ m. drop start (set old m (digit + 1))) (sym at) ∙ drop-set-add start old k (digit + 1)
-    ∙ set_split left k (digit + 1) (omega (arith, left_is, count, order.behind, order.most, some))
-    ∙ ap (λ l. ds ++ ((digit + 1) ∷ l)) (drop-drop (suc k) start old ∙ ap (λ m. drop m old) (omega (arith, some)))
-    ∙ sym (append_assoc ds ((digit + 1) ∷ []) (drop stop old)) ∙ ap (λ l. l ++ drop stop old) (sym next) in
-    let ds_is : length ds ≡ k = length-take-le k left (omega (arith, left_is, count, order.behind, order.most, some)) in
-    let ends : start + length (decimal (n + 1)) ≡ stop = omega (arith, ap length next, length-append ds ((digit + 1) ∷ []), ds_is, some) in
-    renumbered old new (decimal (n + 1)) start start stop end order refl ends puts (take-set-le start old (stop - 1) (digit + 1) (omega (arith, some)))
+    let ends : start + (k + 1 + 1) ≡ stop = omega (arith, two) in
+    let at : start + (k + 1) ≡ stop - 1 = omega (arith, two) in
+    let before : start + k ≡ stop - 2 = omega (arith, two) in
+    let S : ℕ → Type 0 = λ m. IsOrdered start m end in
+    let B : ℕ → Type 0 = λ m. between old start m ≡ take (k + 1) left ++ (get_or old (start + (k + 1)) 0 ∷ []) in
+    let more : take (k + 1) left ≡ ds ++ (tens ∷ []) =
+    take_more left k 0 (omega (arith, length-drop start old, long, order.behind, order.most, two))
+    ∙ ap (λ c. ds ++ (c ∷ [])) (get_or-drop start old k 0 ∙ ap (λ m. get_or old m 0) before ∙ sym read) in
+    let split : between old start stop ≡ ds ++ (tens ∷ 57 ∷ []) =
+    subst B ends (last_digit old start end (k + 1) (subst S (sym ends) order) long)
+    ∙ ap (λ c. take (k + 1) left ++ (c ∷ [])) (ap (λ m. get_or old m 0) at ∙ last) ∙ ap (λ l. l ++ (57 ∷ [])) more ∙ append_assoc ds (tens ∷ []) (57 ∷ []) in
+    let count : length ds ≡ k = length-take-le k left (omega (arith, length-drop start old, long, order.behind, order.most, two)) in
+    let mid = set old (stop - 2) (tens + 1) in
+    let first : front_of_bytes mid start stop end ≡ record (front_of_bytes old start stop end) { number = ds ++ ((tens + 1) ∷ 57 ∷ []) } =
+    set_digit old ds (57 ∷ []) tens (tens + 1) start stop end (stop - 2) order long split (omega (arith, count, before)) in
+    let now : between mid start stop ≡ (ds ++ ((tens + 1) ∷ [])) ++ (57 ∷ []) =
+    ap (λ (v : FrontValue). v.number) first ∙ sym (append_assoc ds ((tens + 1) ∷ []) (57 ∷ [])) in
+    let place : stop - 1 ≡ start + length (ds ++ ((tens + 1) ∷ [])) = omega (arith, length-append ds ((tens + 1) ∷ []), count, at) in
+    set_digit mid (ds ++ ((tens + 1) ∷ [])) [] 57 48 start stop end (stop - 1) order (length-set old (stop - 2) (tens + 1) ∙ long) now place
+    ∙ ap (λ (v : FrontValue). record v { number = (ds ++ ((tens + 1) ∷ [])) ++ (48 ∷ []) }) first
+    ∙ ap (λ m. record (front_of_bytes old start stop end) { number = m }) (sym (carried_digits n ds tens small (sym is ∙ split) nine))
 
 -- how many bytes the texts have
 pub whole_len : (bytes : List ℕ) (start stop end : ℕ) → length bytes ≡ 1024 → IsOrdered start stop end

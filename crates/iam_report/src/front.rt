@@ -103,7 +103,7 @@ impl Front {
         start == self.start
     }
 
-    /// Counts the number up in place, where its last digit is no 9.
+    /// Counts the number up in place, where at most its last digit is a 9.
     #[inline(always)]
     pub fn count_up(&mut self) -> bool
         ensures counted { IsTrue result → (n : ℕ) → n + 1 < 2 ^ 64 → self.old.number ≡ decimal n → self.new ≡ record self.old { number = decimal (n + 1) } }
@@ -111,9 +111,26 @@ impl Front {
     {
         let digit = self.bytes[self.stop - 1];
         if digit >= b'9' {
-            return false;
+            return self.carry();
         }
         self.bytes[self.stop - 1] = digit + 1;
+        true
+    }
+
+    /// The same where the last digit is a 9, and the one before it is none.
+    fn carry(&mut self) -> bool
+        ensures counted { IsTrue result → (n : ℕ) → n + 1 < 2 ^ 64 → self.old.number ≡ decimal n → self.new ≡ record self.old { number = decimal (n + 1) } }
+        ensures none { result ≡ false → self.new ≡ self.old }
+    {
+        if self.stop - self.start < 2 || self.bytes[self.stop - 1] != b'9' {
+            return false;
+        }
+        let tens = self.bytes[self.stop - 2];
+        if tens >= b'9' {
+            return false;
+        }
+        self.bytes[self.stop - 2] = tens + 1;
+        self.bytes[self.stop - 1] = b'0';
         true
     }
 

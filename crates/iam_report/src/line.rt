@@ -396,6 +396,8 @@ impl<'a> Line<'a> {
             self.put_run::<96>(block, at, numbers)
         } else if count <= 128 {
             self.put_run::<128>(block, at, numbers)
+        } else if count <= 160 {
+            self.put_run::<160>(block, at, numbers)
         } else {
             self.put_run::<256>(block, at, numbers)
         }
