@@ -10,13 +10,6 @@ gains_set (s ∷ slots) zero kept (suc j) other at = inr at
 gains_set (s ∷ slots) (suc i) kept zero other at = inr at
 gains_set (s ∷ slots) (suc i) kept (suc j) other at = gains_set slots i kept j other at
 
--- one more slot, which keeps nothing
-pub empty_more : {T : Type 0} (slots : List (Option T)) → AreEmpty slots → AreEmpty (slots ++ None ∷ [])
-empty_more [] empty zero kept at = let wrong : ⊥ = cc in wrong
-empty_more [] empty (suc i) kept at = let wrong : ⊥ = cc in wrong
-empty_more (s ∷ slots) empty zero kept at = empty zero kept at
-empty_more (s ∷ slots) empty (suc i) kept at = empty_more slots (λ k x here. empty (suc k) x here) i kept at
-
 -- the slots below a number keep nothing
 abbrev pub EmptyBelow : {T : Type 0} → ℕ → List (Option T) → Type 0
 EmptyBelow {T} n slots = (i : ℕ) (kept : T) → i < n → ¬ Keeps slots i kept

@@ -1,5 +1,6 @@
 // Tables of slots, each of which holds what was kept there last.
-ghost use Rattle.std.specs.Prelude.{IfOk, IfSome};
+ghost use Rattle.std.specs.Prelude.{◌≡◌, ◌<◌, ◌≤◌, ◌≢◌, ℕ, IfOk, IfSome, Some, length};
+ghost use Rattle.std.specs.List.{slice_get};
 ghost use Rattle.iam_index.specs.Slots.{AreEmpty, GainsOnly, Keeps};
 
 use iam_text::OutOfMemory;
@@ -9,13 +10,17 @@ use std::alloc::Global;
 pub const WIDTH: u64 = 1021;
 
 /// A slot for these two numbers among so many, a power of two; several may have the same.
-pub fn slot_of(one: u64, other: u64, slots: usize) -> u64 {
+pub fn slot_of(one: u64, other: u64, slots: usize) -> u64
+    ensures { 0 < slots → result < slots }
+{
     slot_at(one, WIDTH, other, slots)
 }
 
 /// A slot for column `other` of row `one` in a table so many columns wide, which goes round where there are fewer slots than
 /// places: rows that follow one another lie side by side.
-pub fn slot_at(one: u64, width: u64, other: u64, slots: usize) -> u64 {
+pub fn slot_at(one: u64, width: u64, other: u64, slots: usize) -> u64
+    ensures { 0 < slots → result < slots }
+{
     let mask = (slots as u64).wrapping_sub(1);
     one.wrapping_mul(width).wrapping_add(other) & mask
 }
@@ -25,10 +30,11 @@ const MOST_SLOTS: u64 = 16_777_216;
 
 /// At least so many slots, a power of two, which keep nothing.
 pub fn empty_slots<T: Copy>(alloc: Global, count: u64) -> Result<Vec<Option<T>>, OutOfMemory>
-    ensures { IfOk result (λ slots. AreEmpty slots.items) }
+    ensures empty { IfOk result (λ slots. AreEmpty slots.items) }
+    ensures many { IfOk result (λ slots. count ≤ 16777216 → count ≤ length slots.items) }
 {
     let mut slots = Vec::new(alloc);
-    'slots: for _ in 0..count.min(MOST_SLOTS).next_power_of_two() {
+    for _slot in 0..count.min(MOST_SLOTS).next_power_of_two() {
         slots.push(None)?;
     }
     Ok(slots)
@@ -36,7 +42,8 @@ pub fn empty_slots<T: Copy>(alloc: Global, count: u64) -> Result<Vec<Option<T>>,
 
 /// What a slot keeps.
 pub fn kept<T: Copy>(slots: &[Option<T>], slot: u64) -> Option<T>
-    ensures { IfSome result (Keeps slots.now slot) }
+    ensures found { IfSome result (Keeps slots.now slot) }
+    ensures all { (it : T) → Keeps slots.now slot it → result ≡ Some it }
 {
     match slots.get(slot as usize) {
         Some(kept) => *kept,
@@ -46,7 +53,10 @@ pub fn kept<T: Copy>(slots: &[Option<T>], slot: u64) -> Option<T>
 
 /// Puts this into a slot, if there is such a slot.
 pub fn keep<T: Copy>(slots: &mut Vec<Option<T>>, slot: u64, kept: T)
-    ensures { GainsOnly slots.old.items slots.new.items kept }
+    ensures gains { GainsOnly slots.old.items slots.new.items kept }
+    ensures put { slot < length slots.old.items → Keeps slots.new.items slot kept }
+    ensures others { (i : ℕ) → i ≢ slot → slice_get slots.new.items i ≡ slice_get slots.old.items i }
+    ensures slots { length slots.new.items ≡ length slots.old.items }
 {
     let slot = slot as usize;
     if slot < slots.len() {
@@ -56,7 +66,8 @@ pub fn keep<T: Copy>(slots: &mut Vec<Option<T>>, slot: u64, kept: T)
 
 /// Empties all slots.
 pub fn empty<T: Copy>(slots: &mut [Option<T>])
-    ensures { AreEmpty slots.new }
+    ensures empty { AreEmpty slots.new }
+    ensures slots { length slots.new ≡ length slots.old }
 {
     for slot in 0..slots.len() {
         slots[slot] = None;

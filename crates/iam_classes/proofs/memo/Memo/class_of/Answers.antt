@@ -15,4 +15,4 @@ returns-then-pair-r c =
     let E : EngineValue → Type 0 = λ engine. IsClassAt engine c.args.p c.args.r pair.class in
     subst E c.self.view_is
     (subst R c.if-pair-r.true
-    (subst P c.if-pair-p.true (c.self.invariant.pairs_are c.slot_at.result pair (subst K c.as_slice.ensures.value c.in_ok-pair.ensures))))
+    (subst P c.if-pair-p.true (c.self.invariant.pairs_are c.slot_at.result pair (subst K c.as_slice.ensures.value c.in_ok-pair.ensures.found))))

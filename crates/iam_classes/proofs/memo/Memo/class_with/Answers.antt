@@ -14,7 +14,7 @@ invariant_of-self c =
     let new = c.keep.new.slots.items in
     let n = c.in_ok-found.found.class in
     let pair : Pair = record { principal = c.args.p; resource = c.args.r; class = n } in
-    let gains : GainsOnly own.pairs.items new pair = subst (GainsOnly own.pairs.items new) c.in-Some.ensures c.keep.ensures in
+    let gains : GainsOnly own.pairs.items new pair = subst (GainsOnly own.pairs.items new) c.in-Some.ensures c.keep.ensures.gains in
     let P : Pair → Type 0 = λ p. HasClass own.world.now own.classes.items p.principal p.resource p.class in
     let E : EngineValue → Type 0 = λ engine. IsClassAt engine c.args.p c.args.r n in
     let is = shared_class c.args.self.now c.class_sharing.new.self c.args.p c.args.r n c.args.shared c.in_ok-found.ensures.same c.requires c.in_ok-found.ensures.class in

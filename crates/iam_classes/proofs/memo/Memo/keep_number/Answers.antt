@@ -12,7 +12,7 @@ invariant_of-self c =
     let right = c.self.invariant in
     let new = c.keep.new.slots.items in
     let answer : Answer = record { class = c.args.class; action = c.args.a; number = c.args.number } in
-    let gains : GainsOnly own.answers.items new answer = subst (GainsOnly own.answers.items new) c.in-Some.ensures c.keep.ensures in
+    let gains : GainsOnly own.answers.items new answer = subst (GainsOnly own.answers.items new) c.in-Some.ensures c.keep.ensures.gains in
     let E : EngineValue → Type 0 = λ engine. IsNumberOf engine c.args.class c.args.a c.args.number in
     let P : Answer → Type 0 = λ a. HasNumber own.world.now own.classes.items own.rulings.items a.class a.action a.number in
     record {

@@ -15,10 +15,10 @@ invariant_of-result c =
     let rulings = c.new-2.result.items in
     let W : WorldValue → Type 0 = λ w. AreElements w c.elements.result.now.elements.items in
     record {
-      pairs_are = all_empty (λ (p : Pair). HasClass world classes p.principal p.resource p.class) c.in_ok-empty_slots.field-0.items c.in_ok-empty_slots.ensures;
+      pairs_are = all_empty (λ (p : Pair). HasClass world classes p.principal p.resource p.class) c.in_ok-empty_slots.field-0.items c.in_ok-empty_slots.ensures.empty;
       answers_are =
           all_empty (λ (a : Answer). HasNumber world classes rulings a.class a.action a.number) c.in_ok-empty_slots-2.field-0.items
-          c.in_ok-empty_slots-2.ensures;
+          c.in_ok-empty_slots-2.ensures.empty;
       elements_are = subst W (sym c.world-world.ensures) c.elements.ensures;
       rows_are = no_rows c.elements.result.now.elements.items classes c.new.ensures.items;
     }

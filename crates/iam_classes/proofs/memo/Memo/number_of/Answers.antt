@@ -15,4 +15,4 @@ returns-then-answer-a c =
     let E : EngineValue → Type 0 = λ engine. IsNumberOf engine c.args.class c.args.a answer.number in
     subst E c.self.view_is
     (subst C c.if-answer-class.true
-    (subst A c.if-answer-a.true (c.self.invariant.answers_are c.slot_of.result answer (subst K c.as_slice.ensures.value c.in_ok-answer.ensures))))
+    (subst A c.if-answer-a.true (c.self.invariant.answers_are c.slot_of.result answer (subst K c.as_slice.ensures.value c.in_ok-answer.ensures.found))))
