@@ -1,10 +1,11 @@
 -- What is kept stays right where classes and verdicts are added.
-use Rattle.std.proofs.Common.{◌≡◌, inl, inr, List, [], ◌∷◌, ◌++◌, Option, Some, sym, subst, arith}
+use Rattle.std.proofs.Common.{◌≡◌, inl, inr, ℕ, zero, suc, List, [], ◌∷◌, ◌++◌, Option, Some, drop, sym, subst, arith}
 use Rattle.std.proofs.lemmas.Option.{slice_get_within}
 use Rattle.std.specs.List.{slice_get}
 use Rattle.iam_decision.specs.Ruling.{RulingValue}
 use Rattle.iam_world.specs.World.{WorldValue}
 use Rattle.iam_index.specs.Elements.{AreElementNumbers}
+use Rattle.iam_index.specs.Slots.{AllAre}
 use Rattle.iam_classes.specs.Memo.{AreAnswers, ArePairs, HasClass, HasNumber, HaveRows}
 use Rattle.iam_index.specs.declared.elements.Element.{Element}
 use Rattle.iam_classes.specs.declared.memo.Answer.{Answer}
@@ -46,3 +47,9 @@ no_rows elements classes none n class at =
     let H : List Class → Type 0 = λ cs. slice_get cs n ≡ Some class in
     let within = slice_get_within [] n class (subst H none at) in
     absurd (omega (arith, within))
+
+-- what holds of each pair holds of those from one on
+pub pairs_behind : (P : Pair → Type 0) (n : ℕ) (pairs : List (Option Pair)) → AllAre P pairs → AllAre P (drop n pairs)
+pairs_behind P zero pairs all = all
+pairs_behind P (suc n) [] all = all
+pairs_behind P (suc n) (pair ∷ pairs) all = pairs_behind P n pairs (λ i kept at. all (suc i) kept at)

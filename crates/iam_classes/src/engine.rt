@@ -1,7 +1,7 @@
 // The engine as its callers see it.
 ghost use Rattle.std.specs.Prelude.{◌≡◌};
 
-use crate::memo::{Found, Memo};
+use crate::memo::{Found, Memo, Pair};
 use crate::source::Source;
 use crate::survey::Survey;
 use iam_index::Index;
@@ -32,9 +32,10 @@ impl<'a> Model for ClassEngine<'a> {
 }
 
 impl<'a> ClassEngine<'a> {
-    ghost use Rattle.std.specs.Prelude.{◌≡◌, ◌<◌, ℕ, IfOk, IfSome, false, length};
+    ghost use Rattle.std.specs.Prelude.{◌≡◌, ◌<◌, ℕ, IfOk, IfSome, false, length, true};
     ghost use Rattle.iam_world.specs.World.{world_cells};
     ghost use Rattle.iam_layers.specs.Cell.{IsDecisionOf, IsVerdictAt, IsVerdictOf};
+    ghost use Rattle.iam_index.specs.Slots.{AllAre};
     ghost use Rattle.iam_classes.specs.Engine.{HasMore, IsClassAt, IsNumberAt, OfClass};
 
     /// An engine of the world of an index, one of so many that share the bounds on what is kept.
@@ -123,12 +124,12 @@ impl<'a> ClassEngine<'a> {
         self.number(alloc, found.class, a)
     }
 
-    /// The class of principal p and resource r, where it is known. The requests of a class share the same.
-    #[inline(always)]
-    pub fn known(&self, p: u64, r: u64) -> Option<usize>
-        ensures { IfSome result (IsClassAt self.now p r) }
+    /// The pairs whose classes are known, from principal p and resource r on, as they lie side by side. Where the class of one is
+    /// not known stands none, or another. The requests of a class share the same.
+    pub fn known_from(&self, p: u64, r: u64) -> &[Option<Pair>]
+        ensures { AllAre (λ pair. IsClassAt self.now pair.principal pair.resource pair.class) result.now }
     {
-        self.memo.class_of(p, r)
+        self.memo.pairs_from(p, r)
     }
 
     /// The class of principal p and resource r, each below the number of its kind. Where all classes that were known are let go
@@ -139,6 +140,7 @@ impl<'a> ClassEngine<'a> {
         requires resource { r < length self.old.world.resources }
         ensures class { IfOk result (λ found. IsClassAt self.new p r found.class) }
         ensures kept { IfOk result (λ found. found.cleared ≡ false → HasMore self.old.classes self.new.classes) }
+        ensures let_go { IfOk result (λ found. found.cleared ≡ true → length self.new.classes ≡ 1) }
         ensures same { self.new.world ≡ self.old.world }
     {
         match self.memo.class_of(p, r) {
@@ -157,6 +159,7 @@ impl<'a> ClassEngine<'a> {
         requires resource { r < length self.old.world.resources }
         ensures class { IfOk result (λ found. IsClassAt self.new p r found.class) }
         ensures kept { IfOk result (λ found. found.cleared ≡ false → HasMore self.old.classes self.new.classes) }
+        ensures let_go { IfOk result (λ found. found.cleared ≡ true → length self.new.classes ≡ 1) }
         ensures same { self.new.world ≡ self.old.world }
     {
         let shared = self.source.shared(alloc, p, r)?;

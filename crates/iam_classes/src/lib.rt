@@ -13,5 +13,5 @@ pub use engine::ClassEngine;
 pub use iam_index::Index;
 pub use iam_layers::{Decision, Shared, Verdict, World};
 pub use iam_text::OutOfMemory;
-pub use memo::Found;
+pub use memo::{Found, Pair};
 pub use survey::{Block, Survey, Surveyor, wants_survey};

@@ -38,7 +38,9 @@ pub struct Pair {
 }
 
 impl Pair {
-    ghost use Rattle.std.specs.Prelude.{◌≡◌, IfSome};
+    ghost use Rattle.std.specs.Prelude.{◌≡◌, IfSome, Some};
+    ghost use Rattle.iam_index.specs.Slots.{Keeps};
+    ghost use Rattle.iam_classes.specs.declared.memo.Pair.{Pair};
 
     /// The pair, where its numbers have 32 bits.
     fn of(p: u64, r: u64, class: usize) -> Option<Pair>
@@ -49,6 +51,20 @@ impl Pair {
             resource: u32::try_from(r).ok()?,
             class: u32::try_from(class).ok()?,
         })
+    }
+
+    /// The class of principal p and resource r, where a slot keeps this pair.
+    #[inline(always)]
+    pub fn class_in(pairs: &[Option<Pair>], slot: u64, p: u64, r: u64) -> Option<usize>
+        ensures found { IfSome result (λ class. Keeps pairs.now slot (record { principal = p; resource = r; class = class })) }
+        ensures all { (pair : Pair) → Keeps pairs.now slot pair → pair.principal ≡ p → pair.resource ≡ r → result ≡ Some pair.class }
+    {
+        let pair = kept(pairs, slot)?;
+        if pair.principal as u64 == p && pair.resource as u64 == r {
+            Some(pair.class as usize)
+        } else {
+            None
+        }
     }
 }
 
@@ -61,7 +77,9 @@ pub struct Answer {
 }
 
 impl Answer {
-    ghost use Rattle.std.specs.Prelude.{◌≡◌, IfSome};
+    ghost use Rattle.std.specs.Prelude.{◌≡◌, IfSome, Some};
+    ghost use Rattle.iam_index.specs.Slots.{Keeps};
+    ghost use Rattle.iam_classes.specs.declared.memo.Answer.{Answer};
 
     /// The answer, where its numbers have 32 bits.
     fn of(class: usize, a: u64, number: usize) -> Option<Answer>
@@ -72,6 +90,21 @@ impl Answer {
             action: u32::try_from(a).ok()?,
             number: u32::try_from(number).ok()?,
         })
+    }
+
+    /// The number of the verdict on requests of a class for action a, where a slot keeps this answer.
+    #[inline(always)]
+    fn number_in(answers: &[Option<Answer>], slot: u64, class: usize, a: u64) -> Option<usize>
+        ensures found { IfSome result (λ number. Keeps answers.now slot (record { class = class; action = a; number = number })) }
+        ensures all { (answer : Answer) → Keeps answers.now slot answer → answer.class ≡ class → answer.action ≡ a
+            → result ≡ Some answer.number }
+    {
+        let answer = kept(answers, slot)?;
+        if answer.class as usize == class && answer.action as u64 == a {
+            Some(answer.number as usize)
+        } else {
+            None
+        }
     }
 }
 
@@ -90,19 +123,23 @@ struct Room {
 }
 
 impl Room {
-    ghost use Rattle.std.specs.Prelude.{◌≡◌, ◌+◌, ◌<◌, ◌≤◌, false, true};
+    ghost use Rattle.std.specs.Prelude.{◌≡◌, ◌+◌, ◌<◌, ◌≤◌, false, length, true};
 
-    /// Takes room for so many statements; where there is none, all of it is free again before. Whether it was so.
-    fn take(&mut self, statements: usize) -> bool
+    /// Takes room for a class of requests that share this, for each of its statements and for itself; where there is none, all of
+    /// it is free again before. Whether it was so.
+    fn take(&mut self, shared: &Shared<'_>) -> bool
         ensures most { self.new.most ≡ self.old.most }
-        ensures taken { statements ≤ self.old.left → (result ≡ false) × (self.new.left + statements ≡ self.old.left) }
-        ensures freed { self.old.left < statements → (result ≡ true) × (statements ≤ self.old.most → self.new.left + statements ≡ self.old.most) }
+        ensures taken { length shared.now.living < self.old.left
+            → (result ≡ false) × (self.new.left + length shared.now.living + 1 ≡ self.old.left) }
+        ensures freed { self.old.left ≤ length shared.now.living → (result ≡ true)
+            × (length shared.now.living < self.old.most → self.new.left + length shared.now.living + 1 ≡ self.old.most) }
     {
-        if statements <= self.left {
-            self.left -= statements;
+        let statements = shared.living().len();
+        if statements < self.left {
+            self.left -= statements + 1;
             return false;
         }
-        self.left = self.most.saturating_sub(statements);
+        self.left = self.most.saturating_sub(statements).saturating_sub(1);
         true
     }
 }
@@ -138,9 +175,10 @@ impl<'a> Model for Memo<'a> {
 }
 
 impl<'a> Memo<'a> {
-    ghost use Rattle.std.specs.Prelude.{◌≡◌, ◌<◌, ℕ, IfOk, IfSome, OnOk, Some, false, length};
+    ghost use Rattle.std.specs.Prelude.{◌≡◌, ◌<◌, ◌+◌, ℕ, [], IfOk, IfSome, OnOk, Some, false, length, true};
     ghost use Rattle.std.specs.List.{slice_get};
     ghost use Rattle.iam_layers.specs.Cell.{IsAction, IsSharedAt, IsVerdictAt};
+    ghost use Rattle.iam_index.specs.Slots.{AllAre};
     ghost use Rattle.iam_classes.specs.Engine.{HasMore, IsClassAt, IsNumberAt, IsNumberOf};
     ghost use Rattle.iam_classes.specs.Memo.{Finds, HasRuling, HasShared};
     ghost use Rattle.iam_classes.specs.declared.memo.Class.{Class};
@@ -180,14 +218,21 @@ impl<'a> Memo<'a> {
     pub fn class_of(&self, p: u64, r: u64) -> Option<usize>
         ensures { IfSome result (IsClassAt self.now p r) }
     {
-        let pair = kept(
-            self.pairs.as_slice(),
-            slot_at(p, self.resources, r, self.pairs.len()),
-        )?;
-        if pair.principal as u64 == p && pair.resource as u64 == r {
-            Some(pair.class as usize)
+        let slot = slot_at(p, self.resources, r, self.pairs.len());
+        Pair::class_in(self.pairs.as_slice(), slot, p, r)
+    }
+
+    /// The pairs whose classes are known, from principal p and resource r on, as they lie side by side. Where the class of one is
+    /// not known stands none, or another.
+    pub fn pairs_from(&self, p: u64, r: u64) -> &[Option<Pair>]
+        ensures { AllAre (λ pair. IsClassAt self.now pair.principal pair.resource pair.class) result.now }
+    {
+        let pairs = self.pairs.as_slice();
+        let slot = slot_at(p, self.resources, r, pairs.len()) as usize;
+        if slot < pairs.len() {
+            &pairs[slot..]
         } else {
-            None
+            &[]
         }
     }
 
@@ -202,6 +247,7 @@ impl<'a> Memo<'a> {
         requires { IsSharedAt self.old.world p r shared }
         ensures class { IfOk result (λ found. IsClassAt self.new p r found.class) }
         ensures kept { IfOk result (λ found. found.cleared ≡ false → HasMore self.old.classes self.new.classes) }
+        ensures let_go { IfOk result (λ found. found.cleared ≡ true → length self.new.classes ≡ 1) }
         ensures same { self.new.world ≡ self.old.world }
     {
         let found = self.class_sharing(alloc, shared)?;
@@ -217,6 +263,7 @@ impl<'a> Memo<'a> {
     fn class_sharing(&mut self, alloc: Global, shared: Held<'a>) -> Result<Found, OutOfMemory>
         ensures class { IfOk result (λ found. HasShared self.new.classes shared.entry found.class) }
         ensures kept { IfOk result (λ found. found.cleared ≡ false → HasMore self.old.classes self.new.classes) }
+        ensures let_go { IfOk result (λ found. found.cleared ≡ true → length self.new.classes ≡ 1) }
         ensures same { self.new.world ≡ self.old.world }
     {
         let print = shared.get().print();
@@ -226,10 +273,7 @@ impl<'a> Memo<'a> {
                 cleared: false,
             });
         }
-        // A class without statements takes room too.
-        let cleared = self
-            .room
-            .take(shared.get().living().len().saturating_add(1));
+        let cleared = self.room.take(shared.get());
         self.clear_if(cleared);
         let class = self.add(alloc, print, shared)?;
         Ok(Found { class, cleared })
@@ -253,6 +297,8 @@ impl<'a> Memo<'a> {
     /// Lets go everything that is kept, where that has to be.
     fn clear_if(&mut self, cleared: bool)
         ensures kept { cleared ≡ false → self.new.classes ≡ self.old.classes }
+        ensures cleared { cleared ≡ true → self.new.classes ≡ [] }
+        ensures rulings { cleared ≡ true → self.new.rulings ≡ [] }
         ensures same { self.new.world ≡ self.old.world }
     {
         if cleared {
@@ -267,6 +313,7 @@ impl<'a> Memo<'a> {
     fn add(&mut self, alloc: Global, print: u64, shared: Held<'a>) -> Result<usize, OutOfMemory>
         ensures class { IfOk result (HasShared self.new.classes shared.entry) }
         ensures kept { OnOk result (HasMore self.old.classes self.new.classes) }
+        ensures count { OnOk result (length self.new.classes ≡ length self.old.classes + 1) }
         ensures same { self.new.world ≡ self.old.world }
     {
         let rows = self.elements.rows(alloc, shared.get().living())?;
@@ -306,15 +353,8 @@ impl<'a> Memo<'a> {
     fn number_of(&self, class: usize, a: u64) -> Option<usize>
         ensures { IfSome result (IsNumberOf self.now class a) }
     {
-        let answer = kept(
-            self.answers.as_slice(),
-            slot_of(a, class as u64, self.answers.len()),
-        )?;
-        if answer.class as usize == class && answer.action as u64 == a {
-            Some(answer.number as usize)
-        } else {
-            None
-        }
+        let slot = slot_of(a, class as u64, self.answers.len());
+        Answer::number_in(self.answers.as_slice(), slot, class, a)
     }
 
     /// The same where it is not known, from the statements of the class that act on it.

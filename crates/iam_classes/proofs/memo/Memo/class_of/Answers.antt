@@ -1,18 +1,20 @@
-use Rattle.std.proofs.Common.{ℕ, List, Option, subst}
+use Rattle.std.proofs.Common.{ℕ, List, Option, IfSome, subst}
+use Rattle.iam_index.specs.Slots.{Keeps}
 use Rattle.iam_classes.specs.Engine.{EngineValue, IsClassAt}
 use Rattle.iam_classes.specs.Memo.{HasClass}
-use Rattle.iam_index.specs.Slots.{Keeps}
 use Rattle.iam_classes.specs.declared.memo.Pair.{Pair}
+use Rattle.iam_index.proofs.ListLemmas.{if_some}
 use Rattle.iam_classes.proofs.memo.Memo.class_of.Goals as goal
 
-pub returns-then-pair-r : goal.returns-then-pair-r
-returns-then-pair-r c =
+pub returns : goal.returns
+returns c =
     let own = c.self.inside in
-    let pair = c.in_ok-pair.pair in
-    let K : List (Option Pair) → Type 0 = λ pairs. Keeps pairs c.slot_at.result pair in
-    let P : ℕ → Type 0 = λ p. HasClass own.world.now own.classes.items p pair.resource pair.class in
-    let R : ℕ → Type 0 = λ r. HasClass own.world.now own.classes.items c.args.p r pair.class in
-    let E : EngineValue → Type 0 = λ engine. IsClassAt engine c.args.p c.args.r pair.class in
+    let p = c.args.p in
+    let r = c.args.r in
+    let slot = c.slot_at-slot.result in
+    let of : ℕ → Pair = λ class. record { principal = p; resource = r; class = class } in
+    let E : EngineValue → Type 0 = λ engine. IfSome c.class_in.result (IsClassAt engine p r) in
+    let K : List (Option Pair) → Type 0 = λ pairs. IfSome c.class_in.result (λ class. Keeps pairs slot (of class)) in
     subst E c.self.view_is
-    (subst R c.if-pair-r.true
-    (subst P c.if-pair-p.true (c.self.invariant.pairs_are c.slot_at.result pair (subst K c.as_slice.ensures.value c.in_ok-pair.ensures.found))))
+    (if_some (λ class. Keeps own.pairs.items slot (of class)) (λ class. HasClass own.world.now own.classes.items p r class) c.class_in.result
+    (λ class kept. c.self.invariant.pairs_are slot (of class) kept) (subst K c.as_slice.ensures.value c.class_in.ensures.found))

@@ -1,18 +1,20 @@
-use Rattle.std.proofs.Common.{ℕ, List, Option, subst}
+use Rattle.std.proofs.Common.{ℕ, List, Option, IfSome, subst}
+use Rattle.iam_index.specs.Slots.{Keeps}
 use Rattle.iam_classes.specs.Engine.{EngineValue, IsNumberOf}
 use Rattle.iam_classes.specs.Memo.{HasNumber}
-use Rattle.iam_index.specs.Slots.{Keeps}
 use Rattle.iam_classes.specs.declared.memo.Answer.{Answer}
+use Rattle.iam_index.proofs.ListLemmas.{if_some}
 use Rattle.iam_classes.proofs.memo.Memo.number_of.Goals as goal
 
-pub returns-then-answer-a : goal.returns-then-answer-a
-returns-then-answer-a c =
+pub returns : goal.returns
+returns c =
     let own = c.self.inside in
-    let answer = c.in_ok-answer.answer in
-    let K : List (Option Answer) → Type 0 = λ answers. Keeps answers c.slot_of.result answer in
-    let C : ℕ → Type 0 = λ class. HasNumber own.world.now own.classes.items own.rulings.items class c.args.a answer.number in
-    let A : ℕ → Type 0 = λ a. HasNumber own.world.now own.classes.items own.rulings.items answer.class a answer.number in
-    let E : EngineValue → Type 0 = λ engine. IsNumberOf engine c.args.class c.args.a answer.number in
+    let n = c.args.class in
+    let a = c.args.a in
+    let slot = c.slot_of-slot.result in
+    let of : ℕ → Answer = λ number. record { class = n; action = a; number = number } in
+    let E : EngineValue → Type 0 = λ engine. IfSome c.number_in.result (IsNumberOf engine n a) in
+    let K : List (Option Answer) → Type 0 = λ answers. IfSome c.number_in.result (λ number. Keeps answers slot (of number)) in
     subst E c.self.view_is
-    (subst C c.if-answer-class.true
-    (subst A c.if-answer-a.true (c.self.invariant.answers_are c.slot_of.result answer (subst K c.as_slice.ensures.value c.in_ok-answer.ensures.found))))
+    (if_some (λ number. Keeps own.answers.items slot (of number)) (λ number. HasNumber own.world.now own.classes.items own.rulings.items n a number)
+    c.number_in.result (λ number kept. c.self.invariant.answers_are slot (of number) kept) (subst K c.as_slice.ensures.value c.number_in.ensures.found))

@@ -1,0 +1,10 @@
+use Rattle.std.proofs.Common.{subst}
+use Rattle.iam_index.specs.Slots.{AllAre}
+use Rattle.iam_classes.specs.Engine.{EngineValue, IsClassAt}
+use Rattle.iam_classes.specs.declared.memo.Pair.{Pair}
+use Rattle.iam_classes.proofs.engine.ClassEngine.known_from.Goals as goal
+
+pub returns : goal.returns
+returns c =
+    let E : EngineValue → Type 0 = λ engine. AllAre (λ (pair : Pair). IsClassAt engine pair.principal pair.resource pair.class) c.pairs_from.result.now in
+    subst E c.self.view_is c.pairs_from.ensures

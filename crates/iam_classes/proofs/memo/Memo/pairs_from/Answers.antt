@@ -1,0 +1,21 @@
+use Rattle.std.proofs.Common.{◌-◌, List, Option, drop, length, subst, sym, take}
+use Rattle.std.proofs.lemmas.List.{take_rest}
+use Rattle.iam_index.specs.Slots.{AllAre}
+use Rattle.iam_classes.specs.Engine.{EngineValue, IsClassAt}
+use Rattle.iam_classes.specs.Memo.{HasClass}
+use Rattle.iam_classes.specs.declared.memo.Pair.{Pair}
+use Rattle.iam_classes.proofs.MemoLemmas.{pairs_behind}
+use Rattle.iam_classes.proofs.memo.Memo.pairs_from.Goals as goal
+
+pub returns-then-slot-pairs : goal.returns-then-slot-pairs
+returns-then-slot-pairs c =
+    let own = c.self.inside in
+    let pairs = c.as_slice-pairs.result.now in
+    let slot = c.slot_at-slot.result in
+    let P : Pair → Type 0 = λ pair. HasClass own.world.now own.classes.items pair.principal pair.resource pair.class in
+    let S : List (Option Pair) → Type 0 = AllAre P in
+    let rest : S (take (length pairs - slot) (drop slot pairs)) =
+    subst S (sym (take_rest pairs slot)) (pairs_behind P slot pairs (subst S (sym c.as_slice-pairs.ensures.value) c.self.invariant.pairs_are)) in
+    let E : EngineValue → Type 0 = λ engine.
+    AllAre (λ (pair : Pair). IsClassAt engine pair.principal pair.resource pair.class) (take (length pairs - slot) (drop slot pairs)) in
+    subst E c.self.view_is rest
