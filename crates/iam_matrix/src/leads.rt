@@ -1,11 +1,13 @@
 // Where a tile has what was said of cells of a class, so that it is said again of the next.
-ghost use Rattle.std.specs.Prelude.{◌≡◌, Bool, List, IfSome};
+ghost use Rattle.std.specs.Prelude.{◌≡◌, ◌+◌, ◌<◌, ◌≤◌, ◌^◌, Bool, List, IfOk, IfSome};
 ghost use Rattle.iam_classes.specs.Engine.{EngineValue};
 ghost use Rattle.iam_decision.specs.declared.verdict.Verdict.{Verdict};
-ghost use Rattle.iam_matrix.specs.Code.Leads.{AreLeads, HasEntry, IsLead};
+ghost use Rattle.iam_matrix.specs.Code.Leads.{AreKnown, AreLeads, HasEntry, IsLead};
+ghost use Rattle.iam_matrix.specs.Code.Tiles.{AddsEntries};
 
-use iam_classes::ClassEngine;
+use iam_classes::{ClassEngine, Pair};
 use iam_index::{empty_slots, keep, kept, slot_of};
+use iam_report::Entries;
 use iam_row::Position;
 use iam_text::OutOfMemory;
 use std::alloc::Global;
@@ -46,19 +48,54 @@ pub fn no_leads(alloc: Global, cells: u64) -> Vec<Option<Lead>>
     }
 }
 
-/// The place of what has to be said of a cell, where its class has led to it.
+/// The place of what has to be said of the request of principal p for action a on resource r, where pair i of these is theirs and
+/// its class has led to it.
 #[inline(always)]
-pub fn place_of(engine: &ClassEngine<'_>, leads: &[Option<Lead>], at: Position) -> Option<usize>
-    ensures { (brief : Bool) (entries : List Verdict) → AreLeads brief engine.now leads.now entries
-        → IfSome result (HasEntry brief engine.now.world at.principal at.action at.resource entries) }
+fn place_of(
+    pairs: &[Option<Pair>],
+    leads: &[Option<Lead>],
+    i: u64,
+    p: u64,
+    a: u64,
+    r: u64,
+) -> Option<usize>
+    ensures { (brief : Bool) (engine : EngineValue) (entries : List Verdict) → AreKnown engine pairs.now → AreLeads brief engine leads.now entries
+        → IfSome result (HasEntry brief engine.world p a r entries) }
 {
-    let class = engine.known(at.principal, at.resource)?;
+    let class = Pair::class_in(pairs, i, p, r)?;
     let lead = kept(leads, slot_of(0, class as u64, leads.len()))?;
-    if lead.class as usize == class && lead.action as u64 == at.action {
+    if lead.class as usize == class && lead.action as u64 == a {
         Some(lead.place as usize)
     } else {
         None
     }
+}
+
+/// Puts what has to be said of so many cells of a row, from a position on, behind the entries, as long as the class of each is
+/// known and has led to it; how many.
+#[inline(never)]
+pub fn put_known(
+    engine: &ClassEngine<'_>,
+    leads: &[Option<Lead>],
+    at: Position,
+    most: u64,
+    entries: &mut Entries,
+) -> Result<u64, OutOfMemory>
+    requires few { at.resource + most < 2 ^ 64 }
+    requires leads { (brief : Bool) × AreLeads brief engine.now leads.now entries.old }
+    ensures most { IfOk result (λ count. count ≤ most) }
+    ensures entries { (brief : Bool) → AreLeads brief engine.now leads.now entries.old
+        → IfOk result (λ count. AddsEntries brief engine.now.world at count entries.old entries.new) }
+{
+    let pairs = engine.known_from(at.principal, at.resource);
+    for i in 0..most {
+        let r = at.resource + i;
+        let Some(place) = place_of(pairs, leads, i, at.principal, at.action, r) else {
+            return Ok(i);
+        };
+        entries.push_again(place)?;
+    }
+    Ok(most)
 }
 
 /// Keeps the place of what has to be said of requests of a class for action a.

@@ -1,5 +1,5 @@
 // The tails of the rows of each tile.
-ghost use Rattle.std.specs.Prelude.{◌≡◌, ◌+◌, ◌<◌, ◌≤◌, ◌^◌, ◌++◌, ◌∷◌, [], Bool, List, IfOk, OnOk, length};
+ghost use Rattle.std.specs.Prelude.{◌≡◌, ◌+◌, ◌<◌, ◌≤◌, ◌⊎◌, ◌^◌, ◌++◌, ◌∷◌, [], Bool, List, IfOk, OnOk, length};
 ghost use Rattle.iam_classes.specs.Engine.{IsClassAt};
 ghost use Rattle.iam_decision.specs.declared.verdict.Verdict.{Verdict};
 ghost use Rattle.iam_layers.specs.Cell.{IsCell};
@@ -9,11 +9,11 @@ ghost use Rattle.iam_matrix.specs.Code.Tiles.{AreEntriesOf, AreTailsOf};
 
 use crate::cut::{Cells, Cut};
 use crate::each::end_of;
-use crate::leads::{Lead, keep_lead, no_leads, place_of};
+use crate::leads::{Lead, keep_lead, no_leads, put_known};
 use iam_classes::{ClassEngine, Survey};
 use iam_crew::{Bound, Crew};
 use iam_index::empty;
-use iam_layers::Verdict;
+use iam_layers::{Verdict, World};
 use iam_report::{Entries, Tile};
 use iam_row::{Format, Position};
 use iam_text::OutOfMemory;
@@ -107,36 +107,50 @@ fn entries_of(
     let mut leads = no_leads(alloc, tile.count);
     let mut at = Position::of(world, tile.from);
     while at.cell < end {
-        put(alloc, engine, brief, at, &mut leads, &mut entries)?;
-        at = at.next_in(world);
+        let most = left_in_row(world, at, end);
+        let count = put_known(engine, leads.as_slice(), at, most, &mut entries)?;
+        at = along(world, at, count);
+        if count < most {
+            add(alloc, engine, brief, at, &mut leads, &mut entries)?;
+            at = at.next_in(world);
+        }
     }
     Ok(entries)
 }
 
-/// Puts what has to be said of a cell behind the entries.
-#[inline(always)]
-fn put(
-    alloc: Global,
-    engine: &mut ClassEngine<'_>,
-    brief: bool,
-    at: Position,
-    leads: &mut Vec<Option<Lead>>,
-    entries: &mut Entries,
-) -> Result<(), OutOfMemory>
-    requires is { IsCell engine.old.world at.cell at.principal at.action at.resource }
-    requires few { length entries.old < 2 ^ 32 }
-    requires leads { AreLeads brief engine.old leads.old.items entries.old }
-    ensures entry { OnOk result (AddsEntry brief engine.old.world at.principal at.action at.resource entries.old entries.new) }
-    ensures leads { OnOk result (AreLeads brief engine.new leads.new.items entries.new) }
-    ensures same { engine.new.world ≡ engine.old.world }
+/// How many cells from a position on, up to an end, have the same principal and action.
+fn left_in_row(world: &World, at: Position, end: u64) -> u64
+    requires is { IsCell world.now at.cell at.principal at.action at.resource }
+    requires some { at.cell < end }
+    ensures some { 1 ≤ result }
+    ensures few { at.resource + result < 2 ^ 64 }
+    ensures cells { at.cell + result ≤ end }
+    ensures resources { at.resource + result ≤ length world.now.resources }
+    ensures all { (at.cell + result ≡ end) ⊎ (at.resource + result ≡ length world.now.resources) }
 {
-    match place_of(engine, leads.as_slice(), at) {
-        Some(place) => entries.push_again(place),
-        None => add(alloc, engine, brief, at, leads, entries),
-    }
+    (end - at.cell).min(world.resources() - at.resource)
 }
 
-/// The same where no cell of its class has led to it, and keeps where it stands for the next.
+/// The position behind so many cells of a row.
+fn along(world: &World, at: Position, count: u64) -> Position
+    requires is { IsCell world.now at.cell at.principal at.action at.resource }
+    requires row { at.resource + count ≤ length world.now.resources }
+    ensures cell { result.cell ≡ at.cell + count }
+    ensures is { at.cell + count < world_cells world.now → IsCell world.now result.cell result.principal result.action result.resource }
+{
+    let _cells = world.cells();
+    if count == 0 {
+        return at;
+    }
+    let last = Position {
+        cell: at.cell + count - 1,
+        resource: at.resource + count - 1,
+        ..at
+    };
+    last.next_in(world)
+}
+
+/// Puts what has to be said of a cell behind the entries, and keeps where it stands for the next of its class.
 #[inline(never)]
 fn add(
     alloc: Global,

@@ -7,7 +7,8 @@ use Rattle.iam_row.specs.Piece.{bare}
 use Rattle.iam_world.specs.World.{WorldValue}
 use Rattle.iam_layers.specs.Cell.{IsCell, IsDecisionAt, IsVerdictAt}
 use Rattle.iam_index.specs.Slots.{AllAre}
-use Rattle.iam_classes.specs.Engine.{EngineValue, OfClass}
+use Rattle.iam_classes.specs.Engine.{EngineValue, IsClassAt, OfClass}
+use Rattle.iam_classes.specs.declared.memo.Pair.{Pair}
 use Rattle.iam_matrix.specs.declared.leads.Lead.{Lead}
 
 -- this is what a tile says of principal p's request for action a on resource r: the verdict, or in brief the decision, as a verdict
@@ -41,3 +42,7 @@ AreLeads brief engine leads entries = AllAre (λ lead. IsLead brief engine entri
 -- one more is said, of this request
 abbrev pub AddsEntry : Bool → WorldValue → ℕ → ℕ → ℕ → List Verdict → List Verdict → Type 0
 AddsEntry brief world p a r old new = (entry : Verdict) × IsEntryAt brief world p a r entry × (new ≡ old ++ entry ∷ [])
+
+-- each of these pairs is of its class
+abbrev pub AreKnown : EngineValue → List (Option Pair) → Type 0
+AreKnown engine pairs = AllAre (λ pair. IsClassAt engine pair.principal pair.resource pair.class) pairs

@@ -1,5 +1,5 @@
 -- What the workers make of a tile, and of tiles that follow one another.
-use Rattle.std.specs.Prelude.{◌≡◌, ℕ, ◌+◌, ◌<◌, ◌≤◌, List, [], ◌∷◌, ⊤, Bool, Option, Some, None, MatchBool, length, map, sum}
+use Rattle.std.specs.Prelude.{◌≡◌, ℕ, ◌+◌, ◌<◌, ◌≤◌, List, [], ◌∷◌, ◌++◌, ⊤, Bool, Option, Some, None, MatchBool, length, map, sum}
 use Rattle.iam_decision.specs.declared.verdict.Decision.{Decision}
 use Rattle.iam_decision.specs.declared.verdict.Decision.TheVariants.{Allowed}
 use Rattle.iam_decision.specs.declared.verdict.Verdict.{Verdict}
@@ -10,7 +10,8 @@ use Rattle.iam_world.specs.World.{WorldValue, world_cells}
 use Rattle.iam_lanes.specs.Lanes.{no_cell}
 use Rattle.iam_layers.specs.Cell.{IsDecisionOf, IsVerdictOf}
 use Rattle.iam_matrix.specs.Matrix.{AreEntriesFrom, IsNotAllowed}
-use Rattle.iam_matrix.specs.Code.Leads.{IsEntryOf}
+use Rattle.iam_row.specs.declared.position.Position.{Position}
+use Rattle.iam_matrix.specs.Code.Leads.{IsEntryAt, IsEntryOf}
 
 -- the cut has this tile, and is one of the world's cells
 abbrev pub IsTileOf : WorldValue → List ℕ → ℕ → Type 0
@@ -31,6 +32,12 @@ AreDecisions world from count decisions = AreEntries (IsDecisionOf world) from c
 -- what a tile says of these cells
 abbrev pub AreEntriesOf : Bool → WorldValue → ℕ → ℕ → List Verdict → Type 0
 AreEntriesOf brief world from count entries = AreEntries (IsEntryOf brief world) from count entries
+
+-- so many more are said, of the requests of a row from a position on
+abbrev pub AddsEntries : Bool → WorldValue → Position → ℕ → List Verdict → List Verdict → Type 0
+AddsEntries brief world at count old new =
+    (more : List Verdict) × (new ≡ old ++ more)
+    × AreEntries (λ r entry. IsEntryAt brief world at.principal at.action r entry) at.resource count more
 
 -- the tails of the rows of the entries of these cells
 abbrev pub AreTails : {X : Type 0} → (ℕ → X → Type 0) → (X → Tail) → ℕ → ℕ → List Tail → Type 0
