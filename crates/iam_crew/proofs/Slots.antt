@@ -82,9 +82,6 @@ module _ {O : Type 0} where
         (get_set slots one.tile tile (Some one.output) (Some output) h);
   }
 
-  pub completed_none : (gives : ℕ → O → ℕ → Type 0) (floor : ℕ) → IsCompleted gives floor (let slots : List (Option O) = [] in slots) []
-  completed_none gives floor = record { each = λ tile output h. absurd (none-some output h); kept = λ tile output h. absurd (none-some (Some output) h) }
-
   -- the output of one more slot, at a floor that has not risen
   pub completed_more : (gives : ℕ → O → ℕ → Type 0) (floor lower : ℕ) (slots : List (Option O)) (outputs : List O) (slot : Option O) (output : O)
       → ((tile : ℕ) (o : O) → gives tile o floor → gives tile o lower)

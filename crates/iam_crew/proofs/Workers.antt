@@ -1,13 +1,12 @@
 -- What a worker keeps from turn to turn, and what all workers together bring back.
-use Rattle.std.proofs.Common.{◌≡◌, ℕ, zero, suc, ◌+◌, ◌*◌, ◌<◌, ◌⊎◌, ◌≤◌, List, [], ◌∷◌, ◌++◌, map, All, inl, inr, ⊎_elim, refl, sym, subst, ◌∙◌, arith}
+use Rattle.std.proofs.Common.{◌≡◌, ℕ, zero, suc, ◌+◌, ◌*◌, ◌<◌, ◌⊎◌, ◌≤◌, List, [], ◌∷◌, map, All, inl, inr, ⊎_elim, refl, sym, subst, arith}
 use Rattle.std.specs.List.{flat_map, range_with_len}
 use Rattle.std.proofs.lemmas.List.Elements.{All-head, All-tail, All-map, All-push, All-append, All-weaker, All-nil}
 use Rattle.iam_lanes.specs.Lanes.{LanesId, SeatView}
 use Rattle.iam_lanes.specs.Work.{WorkId, fresh}
 use Rattle.iam_crew.specs.declared.worker.Made.{Made}
 use Rattle.iam_crew.specs.declared.worker.Done.{Done}
-use Rattle.iam_crew.specs.Bound.{BoundView, floor_of, Lowers}
-use Rattle.iam_crew.specs.Code.Order.{made_of}
+use Rattle.iam_crew.specs.Bound.{BoundView, floor_of}
 use Rattle.iam_crew.specs.Code.Worker.{AreGiven, IsDone, IsFresh, IsOwn, IsReady, IsUntouched}
 use Rattle.iam_crew.specs.Code.Runs.{IsDealt}
 use Rattle.iam_crew.specs.declared.seats.Seats.{Seats}
@@ -52,25 +51,6 @@ module _ {O : Type 0} (tiles : ℕ) (lanes : LanesId) (offers : ℕ → Type 0) 
         within = subst (λ (ms : List (Made O)). All Below ms) (sym none) (All-nil Below);
         given = subst (λ (ms : List (Made O)). All Given ms) (sym none) (All-nil Given);
         offered = subst (λ (cells : List ℕ). All offers cells) (sym nothing) (All-nil offers);
-      }
-
-  -- the output of one more tile, at a floor that has not risen
-  pub makes_one : (before after : BoundView) (made : List (Made O)) (tile : ℕ) (output : O)
-      → tile < tiles
-      → Lowers before after
-      → All offers after.offers
-      → ((low : ℕ) → low ≤ after.floor → gives tile output low)
-      → AreGiven tiles lanes offers gives before made
-      → AreGiven tiles lanes offers gives after (made ++ made_of tile output ∷ [])
-  makes_one before after made tile output below lower offered given so_far =
-      let At : ℕ → Made O → Type 0 = λ floor m. (low : ℕ) → low ≤ floor → gives m.tile m.output low in
-      record {
-        same = lower.0 ∙ so_far.same;
-        within = All-push (λ (m : Made O). m.tile < tiles) made (made_of tile output) so_far.within below;
-        given = All-push (At after.floor) made (made_of tile output)
-            (All-weaker (At before.floor) (At after.floor) (λ m h low below_floor. h low (let l = lower.1 in omega arith)) made so_far.given)
-            given;
-        offered = offered;
       }
 
   -- the seats of the workers are of these lanes

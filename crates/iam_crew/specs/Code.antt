@@ -1,3 +1,4 @@
+pub mod Job
 pub mod Order
 pub mod Runs
 pub mod Shares

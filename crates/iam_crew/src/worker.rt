@@ -1,8 +1,8 @@
-// A worker and its turns.
-ghost use Rattle.std.specs.Prelude.{◌≡◌, ℕ, ◌+◌, ◌<◌, ◌≤◌, IfOk, OnOk};
+// A job, its workers and their turns.
+ghost use Rattle.std.specs.Prelude.{◌≡◌, ◌+◌, ◌<◌, ◌≤◌, All, IfOk, OnOk, vec_len};
 ghost use Rattle.iam_lanes.specs.Work.{IsWithin};
 ghost use Rattle.iam_crew.specs.Code.Runs.{IsAsReady, IsMarked, IsOver, IsTurn};
-ghost use Rattle.iam_crew.specs.Code.Worker.{IsAtWork, IsDone, IsReady};
+ghost use Rattle.iam_crew.specs.Code.Worker.{AreDone, IsAtWork, IsDone, IsReady};
 
 use crate::bound::Bound;
 use crate::crew::{Crew, Gate, output_at};
@@ -12,6 +12,7 @@ use crate::shares::Shares;
 use iam_lanes::{LaneSeat, Lanes, Run, Work, WorkSeat};
 use iam_text::OutOfMemory;
 use std::alloc::Global;
+use std::marker::Model;
 
 /// The output of a tile.
 #[derive(Drop)]
@@ -20,8 +21,8 @@ pub struct Made<O> {
     pub output: O,
 }
 
-/// What a worker brings back: its seats, at the lanes and at the work, the outputs that it made, and what was left to it when
-/// it stopped.
+/// What a worker brings back: its seats, at the lanes and at the work, the outputs that it made, and what was left to
+/// it when it stopped.
 #[derive(Drop)]
 pub struct Done<O> {
     pub seat: LaneSeat,
@@ -46,142 +47,149 @@ struct Worker<'a, T, O> {
     halves: bool,
 }
 
-// Marks a tile, and makes its output where no other worker had marked it.
-fn work_tile<G: Gate, C: Crew>(
-    alloc: Global,
-    crew: &C,
-    work: &Work,
-    gate: &G,
-    worker: &mut Worker<'_, C::Tools, C::Output>,
-    tile: u64,
-) -> Result<(), OutOfMemory>
-    requires takes { (tile : ℕ) → tile < work.now.grains → C.takes crew.now tile }
-    requires worker { IsAtWork work.now worker.old.bound.of (C.fits crew.now) (C.offers crew.now) (C.gives crew.now) worker.old }
-    requires tile { tile < work.now.grains }
-    ensures worker { OnOk result (IsAtWork work.now worker.old.bound.of (C.fits crew.now) (C.offers crew.now) (C.gives crew.now) worker.new) }
-    ensures marked { OnOk result (IsMarked tile worker.old worker.new) }
-    ensures ready { OnOk result (IsAsReady worker.old worker.new) }
-{
-    if !work.mark(&mut worker.seat, tile) {
-        return Ok(());
-    }
-    let output = output_at(
-        alloc,
-        crew,
-        &mut worker.tools,
-        gate,
-        &mut worker.bound,
-        tile,
-    )?;
-    worker.made.push(Made { tile, output })?;
-    Ok(())
+/// What the workers of a crew are at: the crew, the lanes of the bound, the work, the gate, and the shares of tiles.
+///
+/// A contract sees the crew, the lanes, the work and how many tiles there are. That these belong together is said here
+/// once: the work has a grain for each tile and a seat for each worker, and the crew takes each tile.
+#[derive(Drop)]
+pub struct Job<'a, C: Crew, G> {
+    pub crew: &'a C,
+    pub lanes: &'a Lanes,
+    pub work: &'a Work,
+    pub gate: &'a G,
+    pub shares: Shares,
 }
 
-// A turn with a run in hand: halves it, or works its first tile. The answer is what is in hand afterwards.
-fn take_turn<G: Gate, C: Crew>(
-    alloc: Global,
-    crew: &C,
-    work: &Work,
-    gate: &G,
-    worker: &mut Worker<'_, C::Tools, C::Output>,
-    run: Run,
-) -> Result<Run, OutOfMemory>
-    requires takes { (tile : ℕ) → tile < work.now.grains → C.takes crew.now tile }
-    requires worker { IsAtWork work.now worker.old.bound.of (C.fits crew.now) (C.offers crew.now) (C.gives crew.now) worker.old }
-    requires few { work.now.grains ≤ 4096 }
-    requires run { IsWithin work.now.grains run }
-    ensures worker { OnOk result (IsAtWork work.now worker.old.bound.of (C.fits crew.now) (C.offers crew.now) (C.gives crew.now) worker.new) }
-    ensures inside { IfOk result (λ left. left.first + left.count ≤ work.now.grains) }
-    ensures turn { IfOk result (IsTurn worker.old run worker.new) }
-{
-    if worker.halves && run.count > 1 {
-        return Ok(halve(work, &mut worker.seat, &mut worker.halves, run));
-    }
-    work_tile(alloc, crew, work, gate, worker, run.first)?;
-    Ok(Run {
-        first: run.first + 1,
-        count: run.count - 1,
-    })
+impl<'a, C: Crew, G> Model for Job<'a, C, G> {
+    ghost use Rattle.iam_crew.specs.Code.Job.{IsJob, JobView};
+
+    ghost Value = { JobView C };
+
+    ghost view = { λ j. record { crew = j.crew.now; lanes = j.lanes.now; work = j.work.now; tiles = j.shares.tiles } };
+
+    ghost invariant = { λ j. IsJob C.takes j.crew.now j.work.now j.shares };
 }
 
-// The turns of a worker that begins with this run in hand, until it finds no further run. At most `2 * tiles + 1` of them
-// have a run in hand that is not empty.
-fn take_turns<G: Gate, C: Crew>(
-    alloc: Global,
-    crew: &C,
-    work: &Work,
-    gate: &G,
-    shares: Shares,
-    worker: &mut Worker<'_, C::Tools, C::Output>,
-    in_hand: Run,
-) -> Result<(), OutOfMemory>
-    requires tiles { work.now.grains ≡ shares.tiles }
-    requires workers { work.now.seats ≡ shares.workers }
-    requires takes { (tile : ℕ) → tile < work.now.grains → C.takes crew.now tile }
-    requires worker { IsAtWork work.now worker.old.bound.of (C.fits crew.now) (C.offers crew.now) (C.gives crew.now) worker.old }
-    requires in_hand { in_hand.first + in_hand.count ≤ work.now.grains }
-    ensures worker { OnOk result (IsAtWork work.now worker.old.bound.of (C.fits crew.now) (C.offers crew.now) (C.gives crew.now) worker.new) }
-    ensures over { OnOk result (IsOver shares.tiles worker.old worker.new) }
-{
-    let mut run = in_hand;
-    for _turn in 0..2 * shares.tiles + 1 {
-        let Some(next) = next_run(
-            work,
-            &mut worker.seat,
-            shares.workers,
-            &mut worker.idle,
-            run,
-        ) else {
+impl<'a, G: Gate, C: Crew> Job<'a, C, G> {
+    // Marks a tile, and makes its output where no other worker had marked it.
+    fn work_tile(
+        &self,
+        alloc: Global,
+        worker: &mut Worker<'_, C::Tools, C::Output>,
+        tile: u64,
+    ) -> Result<(), OutOfMemory>
+        requires worker { IsAtWork C.fits C.offers C.gives self.now worker.old }
+        requires tile { tile < self.now.work.grains }
+        ensures worker { OnOk result (IsAtWork C.fits C.offers C.gives self.now worker.new) }
+        ensures marked { OnOk result (IsMarked tile worker.old worker.new) }
+        ensures ready { OnOk result (IsAsReady worker.old worker.new) }
+    {
+        if !self.work.mark(&mut worker.seat, tile) {
             return Ok(());
-        };
-        run = take_turn(alloc, crew, work, gate, worker, next)?;
+        }
+        let output = output_at(
+            alloc,
+            self.crew,
+            &mut worker.tools,
+            self.gate,
+            &mut worker.bound,
+            tile,
+        )?;
+        worker.made.push(Made { tile, output })?;
+        Ok(())
     }
-    Ok(())
-}
 
-/// A worker, from its first turn to its last.
-pub fn work_by_turns<G: Gate, C: Crew>(
-    alloc: Global,
-    crew: &C,
-    lanes: &Lanes,
-    work: &Work,
-    gate: &G,
-    shares: Shares,
-    seats: Seats,
-) -> Result<Done<C::Output>, OutOfMemory>
-    requires tiles { work.now.grains ≡ shares.tiles }
-    requires workers { work.now.seats ≡ shares.workers }
-    requires takes { (tile : ℕ) → tile < shares.tiles → C.takes crew.now tile }
-    requires seats { IsReady lanes.now work.now seats }
-    ensures { IfOk result (IsDone shares.tiles lanes.now (C.offers crew.now) (C.gives crew.now)) }
-{
-    let Seats {
-        bound,
-        work: seat,
-        in_hand,
-    } = seats;
-    let mut worker = Worker {
-        seat,
-        bound: Bound::new(lanes, bound),
-        tools: crew.tools(alloc)?,
-        made: Vec::new(alloc),
-        idle: IDLE_IN_ALL,
-        halves: true,
-    };
-    take_turns(alloc, crew, work, gate, shares, &mut worker, in_hand)?;
-    let Worker {
-        seat,
-        bound,
-        tools: _,
-        made,
-        idle,
-        halves,
-    } = worker;
-    Ok(Done {
-        seat: bound.into_seat(),
-        work: seat,
-        made,
-        idle,
-        halves,
-    })
+    // A turn with a run in hand: halves it, or works its first tile. The answer is what is in hand afterwards.
+    fn take_turn(
+        &self,
+        alloc: Global,
+        worker: &mut Worker<'_, C::Tools, C::Output>,
+        run: Run,
+    ) -> Result<Run, OutOfMemory>
+        requires worker { IsAtWork C.fits C.offers C.gives self.now worker.old }
+        requires run { IsWithin self.now.work.grains run }
+        ensures worker { OnOk result (IsAtWork C.fits C.offers C.gives self.now worker.new) }
+        ensures inside { IfOk result (λ left. left.first + left.count ≤ self.now.work.grains) }
+        ensures turn { IfOk result (IsTurn worker.old run worker.new) }
+    {
+        if worker.halves && run.count > 1 {
+            return Ok(halve(self.work, &mut worker.seat, &mut worker.halves, run));
+        }
+        self.work_tile(alloc, worker, run.first)?;
+        Ok(Run {
+            first: run.first + 1,
+            count: run.count - 1,
+        })
+    }
+
+    // The turns of a worker that begins with this run in hand, until it finds no further run. At most `2 * tiles + 1`
+    // of them have a run in hand that is not empty.
+    fn take_turns(
+        &self,
+        alloc: Global,
+        worker: &mut Worker<'_, C::Tools, C::Output>,
+        in_hand: Run,
+    ) -> Result<(), OutOfMemory>
+        requires worker { IsAtWork C.fits C.offers C.gives self.now worker.old }
+        requires in_hand { in_hand.first + in_hand.count ≤ self.now.work.grains }
+        ensures worker { OnOk result (IsAtWork C.fits C.offers C.gives self.now worker.new) }
+        ensures over { OnOk result (IsOver self.now.tiles worker.old worker.new) }
+    {
+        let mut run = in_hand;
+        for _turn in 0..2 * self.shares.tiles + 1 {
+            let Some(next) = next_run(
+                self.work,
+                &mut worker.seat,
+                self.shares.workers,
+                &mut worker.idle,
+                run,
+            ) else {
+                return Ok(());
+            };
+            run = self.take_turn(alloc, worker, next)?;
+        }
+        Ok(())
+    }
+
+    // A worker, from its first turn to its last.
+    fn work_by_turns(&self, alloc: Global, seats: Seats) -> Result<Done<C::Output>, OutOfMemory>
+        requires { IsReady self.now.lanes self.now.work seats }
+        ensures { IfOk result (IsDone self.now.tiles self.now.lanes (C.offers self.now.crew) (C.gives self.now.crew)) }
+    {
+        let mut worker = Worker {
+            seat: seats.work,
+            bound: Bound::new(self.lanes, seats.bound),
+            tools: self.crew.tools(alloc)?,
+            made: Vec::new(alloc),
+            idle: IDLE_IN_ALL,
+            halves: true,
+        };
+        self.take_turns(alloc, &mut worker, seats.in_hand)?;
+        Ok(Done {
+            seat: worker.bound.into_seat(),
+            work: worker.seat,
+            made: worker.made,
+            idle: worker.idle,
+            halves: worker.halves,
+        })
+    }
+
+    /// The worker of the only seats.
+    pub fn run_alone(
+        &self,
+        alloc: Global,
+        mut seats: Vec<Seats>,
+    ) -> Result<Vec<Done<C::Output>>, OutOfMemory>
+        requires seats { All (IsReady self.now.lanes self.now.work) seats.items }
+        requires few { vec_len seats ≤ 1 }
+        ensures done { IfOk result (AreDone C.offers C.gives self.now.crew self.now.lanes self.now.tiles) }
+        ensures len { IfOk result (λ v. vec_len v ≡ vec_len seats) }
+    {
+        let mut all = Vec::new(alloc);
+        let Some(own) = seats.pop() else {
+            return Ok(all);
+        };
+        all.push(self.work_by_turns(alloc, own)?)?;
+        Ok(all)
+    }
 }

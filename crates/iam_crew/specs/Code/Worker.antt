@@ -1,5 +1,6 @@
 -- What a worker begins with, keeps from turn to turn, and brings back.
-use Rattle.std.specs.Prelude.{◌≡◌, ℕ, ◌+◌, ◌<◌, ◌≤◌, All, [], List, map}
+use Rattle.std.specs.Prelude.{◌≡◌, ℕ, ◌+◌, ◌<◌, ◌≤◌, All, [], List, map, Vec}
+use Rattle.std.specs.Global.{Global}
 use Rattle.iam_lanes.specs.Lanes.{LanesId, SeatView as LaneView}
 use Rattle.iam_lanes.specs.Work.{WorkId, SeatView as WorkView}
 use Rattle.iam_crew.specs.declared.worker.Made.{Made}
@@ -7,6 +8,7 @@ use Rattle.iam_crew.specs.declared.worker.Done.{Done}
 use Rattle.iam_crew.specs.declared.worker.Worker.{Worker}
 use Rattle.iam_crew.specs.declared.seats.Seats.{Seats}
 use Rattle.iam_crew.specs.Bound.{BoundView, view_of}
+use Rattle.iam_crew.specs.Code.Job.{JobView}
 use Rattle.iam_crew.specs.Code.Runs.{IsDealt, HasStopped}
 
 -- a seat of these lanes that has offered nothing
@@ -38,16 +40,20 @@ pub record AreGiven {O : Type 0} (tiles : ℕ) (lanes : LanesId) (offers : ℕ �
   pub given : All (λ m. (low : ℕ) → low ≤ bound.floor → gives m.tile m.output low) made
   pub offered : All offers bound.offers
 
--- a worker with a seat of this work and tools that fit, and what it made so far
-pub record IsAtWork {T O : Type 0} (work : WorkId) (lanes : LanesId) (fits : T → Type 0) (offers : ℕ → Type 0) (gives : ℕ → O → ℕ → Type 0) (worker : Worker T O) : Type 0 where
-  pub seat : worker.seat.work ≡ work
-  pub number : worker.seat.number < work.seats
-  pub tools : fits worker.tools
+-- a worker at a job, with a seat of its work and tools that fit its crew, and what it made so far
+pub record IsAtWork {C T O : Type 0} (fits : C → T → Type 0) (offers : C → ℕ → Type 0) (gives : C → ℕ → O → ℕ → Type 0) (job : JobView C) (worker : Worker T O) : Type 0 where
+  pub seat : worker.seat.work ≡ job.work
+  pub number : worker.seat.number < job.work.seats
+  pub tools : fits job.crew worker.tools
   pub marked : AreOfMarked worker.seat worker.made.items
-  pub made : AreGiven work.grains lanes offers gives worker.bound worker.made.items
+  pub made : AreGiven job.work.grains job.lanes (offers job.crew) (gives job.crew) worker.bound worker.made.items
 
 -- what a worker brings back: all that it made, an output of each tile that it marked; and it stopped because it might
 pub record IsDone {O : Type 0} (tiles : ℕ) (lanes : LanesId) (offers : ℕ → Type 0) (gives : ℕ → O → ℕ → Type 0) (done : Done O) : Type 0 where
   pub given : AreGiven tiles lanes offers gives (view_of done.seat) done.made.items
   pub marked : AreOfMarked done.work done.made.items
   pub stopped : HasStopped tiles done.work done.halves done.idle
+
+-- what all workers bring back
+abbrev pub AreDone : {C O : Type 0} → (C → ℕ → Type 0) → (C → ℕ → O → ℕ → Type 0) → C → LanesId → ℕ → Vec (Done O) Global → Type 0
+AreDone offers gives crew lanes tiles all = All (IsDone tiles lanes (offers crew) (gives crew)) all.items
