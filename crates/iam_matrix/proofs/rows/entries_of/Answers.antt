@@ -147,4 +147,3 @@ returns-clause-entries c =
     let P : ℕ → Type 0 = λ n. AreEntries (IsEntryOf c.args.brief world) from n c.loop-at.entries in
     let Q : WorldValue → Type 0 = λ w. AreEntries (IsEntryOf c.args.brief w) from c.args.tile.count c.loop-at.entries in
     subst Q c.world-world.ensures (subst P count so_far.so_far)
-
