@@ -27,6 +27,7 @@ from harness import (
     data,
     document,
     file,
+    matrix,
     on_all_processors,
     run,
     same,
@@ -258,6 +259,71 @@ def test_hostile_names():
     same({row[2] for row in csv.reader(io.StringIO(out))}, {"resource", arn})
     out, _ = aws("who-can", "s3:GetObject", arn, "--database", base)
     same(out.count("\n"), 1 + 3 + 2 + 1)
+
+
+def test_names_of_users_policies_and_resources():
+    """Each user has a bucket, called so with some letters more: names are as they were given, and as in the program's report."""
+    names = ["=a", "a,b", 'a"b', "a\\b", '=,"\\']  # of users, which are ASCII without spaces
+    mine = {f"{it} é日\U0001f600": f"arn:aws:iam::{A}:user/{it}" for it in names}
+    keys = {it: f"arn:aws:s3:::{it}/{it}" for it in mine}
+    people, rest = [], []
+    for (it, arn), name in zip(mine.items(), names):
+        people.append(user(A, name, document(statement(action="s3:GetObject", resource=keys[it], Sid=it))))
+        people[-1]["UserPolicyList"][0]["PolicyName"] = it
+        grant = {"Effect": "Allow", "Principal": "*", "Action": "s3:GetObject", "Resource": keys[it], "Sid": it}
+        grant["Condition"] = {"StringEquals": {"aws:PrincipalArn": arn}}
+        rest.append({"arn": keys[it], "account": A, "policy": document(grant)})
+    where, wanted = folder(), sorted((arn, "s3:GetObject", keys[it]) for it, arn in mine.items())
+    given = words(where, [{"UserDetailList": people}], "--moment", "0", resources=rest, actions=["s3:GetObject"])
+    same(ended(given, 0), ("1 worlds, 25 requests asked for, 5 allowed\n", ""))
+    same(allowed(where), wanted)
+    same(sorted(it for it, row in matrix(world(*given[2:7])).items() if row[0] == "allowed"), wanted)
+    causes = [(arn, "identity", f"{arn} inline {it}", it) for it, arn in mine.items()]
+    causes += [(arn, "resource", f"arn:aws:s3:::{it} policy", it) for it, arn in mine.items()]
+    found = rows(where, "SELECT principal, layer, policy, sid FROM allowed JOIN causes USING (reason)")
+    same(sorted(found), sorted(causes))
+    base = ["--database", os.path.join(where, "access.db")]
+    for (it, arn), name in zip(mine.items(), names):
+        out, _ = aws("who-can", "s3:GetObject", keys[it], *base, "--format", "csv")
+        same([row[:3] for row in list(csv.reader(io.StringIO(out)))[1:]], [[arn, "s3:GetObject", keys[it]]])
+        out, _ = aws("can", name, "s3:GetObject", keys[it], *base)
+        same(out.splitlines()[0], f"allowed: {arn} s3:GetObject {keys[it]}")
+
+
+def test_two_accounts_with_the_same_names():
+    """Users, roles, policies and queues that are called alike: who is of one account has its queue, and the other's role."""
+    exports_of, wanted, causes = [], [], []
+    for it, other, action in ((A, B, "sqs:ReceiveMessage"), (B, A, "sqs:SendMessage")):
+        queue, theirs = f"arn:aws:sqs:eu-west-1:{it}:q", f"arn:aws:iam::{other}:role/own"
+        may = document(
+            statement(action=action, resource="arn:aws:sqs:*:*:q"),
+            statement(action="sts:AssumeRole", resource="arn:aws:iam::*:role/own"),
+        )
+        people, roles = [user(it, "ann", may)], [role(it, "own", trusts(other), may)]
+        exports_of.append({"UserDetailList": people, "RoleDetailList": roles})
+        for who, arn in (
+            (people[0]["Arn"], people[0]["Arn"]),
+            (f"arn:aws:sts::{it}:assumed-role/own/s1", roles[0]["Arn"]),
+        ):
+            wanted += [(who, it, action, queue, it), (who, it, "sts:AssumeRole", theirs, other)]
+            causes += [(who, action, f"{arn} inline p0", 0), (who, "sts:AssumeRole", f"{arn} inline p0", 1)]
+            causes.append((who, "sts:AssumeRole", f"{theirs} trust policy", 0))
+    queues = [{"arn": f"arn:aws:sqs:eu-west-1:{it}:q", "account": it} for it in (A, B)]
+    where, actions = folder(), ["sqs:ReceiveMessage", "sqs:SendMessage", "sts:AssumeRole"]
+    out, _ = ended(words(where, exports_of, resources=queues, actions=actions), 0)
+    same(out, "1 worlds, 48 requests asked for, 8 allowed\n")
+    of = """SELECT p.name, o.id, a.name, r.arn, c.id FROM access JOIN principals p USING (principal) JOIN actions a USING (action)
+      JOIN resources r USING (resource) JOIN accounts o ON o.account = p.account JOIN accounts c ON c.account = r.account"""
+    same(sorted(rows(where, of)), sorted(wanted))
+    found = rows(where, "SELECT principal, action, policy, statement FROM allowed JOIN causes USING (reason)")
+    same(sorted(found), sorted(causes))
+    out, _ = aws("can", "*:user/ann", "sqs:*", "q", "--database", os.path.join(where, "access.db"), status=3)
+    same(
+        sorted(it for it in out.splitlines() if it.startswith("allowed: ")),
+        sorted(
+            f"allowed: {who} {action} {it}" for who, _, action, it, _ in wanted if ":user/" in who and "sqs:" in action
+        ),
+    )
 
 
 def limited(given, size):
