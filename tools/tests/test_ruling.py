@@ -15,6 +15,11 @@ def rules(text, *words, status=0):
     return aws("rules", file(text), EXPORT, "--resources", file(FURTHER), *words, status=status)
 
 
+def rules_of(made, text, *words, status=0):
+    """What rules say of a world."""
+    return aws("rules", file(text), "--world", file(made), *words, status=status)
+
+
 def states(out):
     return [line.split(":")[0] for line in out.splitlines() if line.split(":")[0] in ("kept", "broken", "empty")]
 
@@ -66,13 +71,13 @@ def test_exceptions_by_name_mean_one():
     made = small_world(document(statement()))
     made["principals"].append({"user": "arn:aws:iam::111122223333:user/ops/ann", "identity": [document(statement())]})
     rule = "never * s3:GetObject arn:aws:s3:::b/k except"
-    _, said = aws("rules", file(f"{rule} ann\n"), "--world", file(made), status=1)
+    _, said = rules_of(made, f"{rule} ann\n", status=1)
     assert (
         "several principals are called ann, name one by its ARN: arn:aws:iam::111122223333:user/ann, arn" in said
     ), said
-    out, _ = aws("rules", file(f"{rule} *:user/ann\n"), "--world", file(made), status=3)
+    out, _ = rules_of(made, f"{rule} *:user/ann\n", status=3)
     assert "user/ops/ann may" in out and "user/ann may" not in out, out
-    _, said = aws("rules", file(f"{rule} *ann none\n"), "--world", file(made), status=4)
+    _, said = rules_of(made, f"{rule} *ann none\n", status=4)
     assert "the exception none matches no principal" in said, said
 
 
@@ -101,41 +106,32 @@ def test_what_is_named_does_not_hide_the_rest():
         [{"Effect": "Allow", "NotAction": "s3:GetObject", "Resource": "*"}],
     ):
         given = document(*[{key: it for key, it in one.items() if it is not None} for one in statements])
-        made = file(small_world(given))
-        out, _ = aws("rules", file("never * s3:* arn:aws:s3:::b/*\n"), "--world", made, status=3)
+        made = small_world(given)
+        out, _ = rules_of(made, "never * s3:* arn:aws:s3:::b/*\n", status=3)
         assert "ann may s3:" in out, out
-        aws("rules", file("never * s3:GetObject arn:aws:s3:::b/k\n"), "--world", made)
+        rules_of(made, "never * s3:GetObject arn:aws:s3:::b/k\n")
 
 
 def test_never_holds_with_a_key_too():
     with_code = small_world(document(statement(Condition={"Bool": {"aws:MultiFactorAuthPresent": "true"}})))
-    rule = file("never * s3:GetObject arn:aws:s3:::b/k\n")
-    out, _ = aws("rules", rule, "--world", file(with_code), status=3)
+    rule = "never * s3:GetObject arn:aws:s3:::b/k\n"
+    out, _ = rules_of(with_code, rule, status=3)
     assert (
         "ann may s3:GetObject arn:aws:s3:::b/k if `aws:MultiFactorAuthPresent` is `true`, which nothing gives" in out
     ), out
-    aws("rules", rule, "--world", file(with_code), "--as-given")
-    aws("rules", rule, "--world", file({**with_code, "context": {"aws:MultiFactorAuthPresent": False}}))
+    rules_of(with_code, rule, "--as-given")
+    rules_of({**with_code, "context": {"aws:MultiFactorAuthPresent": False}}, rule)
     # What is always allowed is asked for as it is given.
     unless = small_world(document(statement(), statement("Deny", Condition={"Bool": {"aws:SecureTransport": "false"}})))
-    aws("rules", file("always ann s3:GetObject arn:aws:s3:::b/k\n"), "--world", file(unless))
+    rules_of(unless, "always ann s3:GetObject arn:aws:s3:::b/k\n")
 
 
 def test_keys_that_a_never_was_not_asked_with_are_told():
     both = {"IpAddress": {"aws:SourceIp": "203.0.113.0/24"}, "Bool": {"aws:MultiFactorAuthPresent": "true"}}
-    given = file(small_world(document(statement(Condition=both))))
-    line = "keys were given one at a time: aws:MultiFactorAuthPresent, aws:SourceIp\n"
-    for rule, words, said in (
-        ("never * s3:GetObject arn:aws:s3:::b/k", [], line),
-        ("never * s3:GetObject arn:aws:s3:::b/k", ["--as-given"], ""),
-        (
-            "never * s3:GetObject arn:aws:s3:::b/k",
-            ["--world", file(small_world(document(statement(action="sqs:*"))))],
-            "",
-        ),
-    ):
-        world = [] if "--world" in words else ["--world", given]
-        same(aws("rules", file(f"{rule}\n"), *world, *words)[1].replace("iamsim-aws: ", ""), said, str(words))
+    line = "iamsim-aws: keys were given one at a time: aws:MultiFactorAuthPresent, aws:SourceIp\n"
+    asks, none = (small_world(document(it)) for it in (statement(Condition=both), statement(action="sqs:*")))
+    for made, words, said in ((asks, [], line), (asks, ["--as-given"], ""), (none, [], "")):
+        same(rules_of(made, "never * s3:GetObject arn:aws:s3:::b/k\n", *words)[1], said, str(words))
 
 
 def test_rules_that_meet_nothing():
@@ -146,16 +142,10 @@ def test_rules_that_meet_nothing():
     rules(text, "--allow-empty")
     # A slip in a pattern: nothing is named so, and no policy speaks of it. Where a policy would allow it all the same, it is broken.
     slip = small_world(document(statement(action="s3:GetObject", resource="arn:aws:s3:::b/*")))
-    out, _ = aws(
-        "rules",
-        file("never * s3:GetObject arn:aws:s3:::bb/*\nnever * s4:* arn:aws:s3:::b/k\n"),
-        "--world",
-        file(slip),
-        status=4,
-    )
+    out, _ = rules_of(slip, "never * s3:GetObject arn:aws:s3:::bb/*\nnever * s4:* arn:aws:s3:::b/k\n", status=4)
     same(states(out), ["empty", "empty"])
     wide = small_world(document({"Effect": "Allow", "NotAction": "iam:*", "NotResource": "arn:aws:s3:::b/*"}))
-    aws("rules", file("never * s3:GetObject arn:aws:s3:::bb/*\n"), "--world", file(wide), status=3)
+    rules_of(wide, "never * s3:GetObject arn:aws:s3:::bb/*\n", status=3)
     # A broken one says more than an empty one.
     rules(text + "always alice s3:PutObject arn:aws:s3:::releases/app.zip\n", status=3)
     rules(text + "always alice s3:PutObject arn:aws:s3:::releases/app.zip\n", "--allow-empty", status=3)
@@ -243,8 +233,8 @@ def test_texts_that_are_made_up():
     )
     assert found[0].endswith(f"; {home} inline Homes"), found
     # Of what no pattern of a policy names.
-    rest = file(small_world(document({"Effect": "Allow", "NotAction": "iam:*", "Resource": "*"})))
-    out, _ = aws("rules", file("never ann s3:* arn:aws:s3:::b/k\n"), "--world", rest, status=3)
+    rest = small_world(document({"Effect": "Allow", "NotAction": "iam:*", "Resource": "*"}))
+    out, _ = rules_of(rest, "never ann s3:* arn:aws:s3:::b/k\n", status=3)
     assert out.splitlines()[2].endswith("; s3:x stands for what else s3:* means"), out
 
 
@@ -260,13 +250,8 @@ def test_an_action_of_one_service_on_a_resource_of_another():
 
 def test_spaces_and_signs_in_rules():
     made = small_world(document(statement()), resources=[{"arn": "arn:aws:s3:::b/a b#c", "account": "111122223333"}])
-    out, _ = aws(
-        "rules",
-        file("always ann s3:GetObject arn:aws:s3:::b/a\\ b#c\nnever \\#x* s3:GetObject * # none\n"),
-        "--world",
-        file(made),
-        status=4,
-    )
+    text = "always ann s3:GetObject arn:aws:s3:::b/a\\ b#c\nnever \\#x* s3:GetObject * # none\n"
+    out, _ = rules_of(made, text, status=4)
     same(states(out), ["kept", "empty"])
 
 
