@@ -1,9 +1,11 @@
 """What answers hang on: keys that requests lack, each given a value that the policies ask for, and iamsim asked again."""
 
+import datetime
+import re
 from typing import Any, Dict, Iterator, List, NamedTuple, Optional, Tuple
 
 from .asking import ask_all
-from .documents import World, conditions_of, each
+from .documents import World, conditions_of, each, statements_of
 from .keys import givers, lacks, plain_operator, with_key
 from .kinds import first_text, statements, values_of
 from .patterns import common, resolved
@@ -12,6 +14,7 @@ from .reports import Answers
 # Requests that are asked at most.
 MOST = 50_000_000
 FAR = ["1970-01-01T00:00:01Z", "9999-12-31T23:59:59Z"]
+DATE = re.compile(r"(\d{4}-\d\d-\d\d)(?:T(\d\d:\d\d)(:\d\d)?(?:\.\d+)?(?:Z|([+-]\d\d:\d\d)))?")
 
 
 class Turn(NamedTuple):
@@ -100,6 +103,32 @@ def together(world: World) -> List[Dict[str, str]]:
         if len(keys) > 1 and keys not in found:
             found.append(keys)
     return found
+
+
+def seconds_of(date: str) -> Optional[int]:
+    """The moment that a text of docs/LOGIC.md, 8.3, stands for, in whole seconds since 1970."""
+    found = DATE.fullmatch(date)
+    try:
+        if found is None:
+            return int(date)
+        day, minute, second, zone = found.groups()
+        text = f"{day}T{minute or '00:00'}{second or ':00'}{zone or '+00:00'}"
+        return int(datetime.datetime.fromisoformat(text).timestamp())
+    except ValueError:
+        return None
+
+
+def later(world: World) -> List[str]:
+    """The statements on the world's actions that ask for a moment after the world's, each with its date."""
+    found: Dict[str, None] = {}
+    for place, statement, _ in statements(world, world["actions"]):
+        for _, key, asked in conditions_of(statement):
+            for it in each(asked) if key.lower() in ("aws:currenttime", "aws:epochtime") else ():
+                seconds = seconds_of(str(it))
+                if seconds is not None and seconds > world["moment"]:
+                    number = statements_of(place.policy.document).index(statement)
+                    found[f"{it} ({place.policy.name}, statement {number})"] = None
+    return list(found)
 
 
 def questions(world: World) -> Iterator[Tuple[str, str, World]]:

@@ -40,9 +40,14 @@ def stand_words(origins: Origins, *texts: str) -> List[str]:
     return [f"{it} {words}" for it, words in stands(origins).items() if it in texts]
 
 
+def made_up(origins: Origins) -> Origins:
+    """The texts that are made up; one that is a pattern of a policy as it is stands for itself."""
+    return {it: of for it, of in origins.items() if of.pattern != it}
+
+
 def stands(origins: Origins) -> Dict[str, str]:
-    """What the texts stand for that are made up, in words; one that is a pattern of a policy as it is stands for itself."""
-    return {it: f"stands for {of.words()}" for it, of in origins.items() if of.pattern != it}
+    """What the texts stand for that are made up, in words."""
+    return {it: f"stands for {of.words()}" for it, of in made_up(origins).items()}
 
 
 def texts_of(statement: Any, *elements: str) -> List[str]:

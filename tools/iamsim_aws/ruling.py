@@ -8,7 +8,7 @@ from .arns import principal_arn, principal_text
 from .asking import ask_all
 from .documents import World
 from .faults import Fault, tell
-from .hanging import Turn, is_too_much, together, turns
+from .hanging import Turn, is_too_much, later, together, turns
 from .keys import with_key
 from .kinds import Origins
 from .patterns import is_pattern, near
@@ -133,6 +133,7 @@ def check(scope: Scope, rules: List[Rule], as_given: bool = False, before: Optio
     asked = [asked_by(scope, rule) for rule in rules]
     flat = [it for of in asked for it in of]
     answers: Dict[int, Answers] = {id(it): found for it, found in zip(flat, ask_all([it.world for it in flat]))}
+    tell_later([it.world for it in flat])
     if not as_given:
         tell_several([it.world for rule, of in zip(rules, asked) for it in of if rule.kind == "never"])
     outcomes = []
@@ -151,6 +152,13 @@ def tell_several(some: List[World]) -> None:
     keys = sorted({key for world in some for it in together(world) for key in it})
     if keys:
         tell(f"keys were given one at a time: {', '.join(keys)}")
+
+
+def tell_later(some: List[World]) -> None:
+    """Says that policies ask for dates that come after the moment of the requests."""
+    dates = sorted({it for world in some for it in later(world)})
+    if dates:
+        tell(f"policies ask for dates after the moment of the requests: {', '.join(dates)}")
 
 
 def since(before: Scope, rule: Rule, broken: List[Break]) -> List[Break]:

@@ -7,6 +7,7 @@ from .arns import account_of, principal_arn
 from .documents import Policy, World, statements_of
 from .faults import line_of
 from .hanging import Turn
+from .kinds import Origins
 from .reports import Answers
 from .strangers import is_stranger
 
@@ -107,7 +108,8 @@ def told(answers: Answers, cell: int, turns: List[Turn], is_long: bool) -> List[
     return [line_of(it) for it in lines]
 
 
-def as_json(answers: Answers, cell: int, turns: List[Turn]) -> Dict[str, Any]:
+def as_json(answers: Answers, cell: int, turns: List[Turn], made_up: Origins) -> Dict[str, Any]:
+    """An answer, with what its texts stand for that are made up."""
     row = answers.row(cell)
     statements = [
         {"place": it.place, "policy": it.policy, "statement": it.number, "sid": it.sid, "json": it.statement}
@@ -122,6 +124,7 @@ def as_json(answers: Answers, cell: int, turns: List[Turn]) -> Dict[str, Any]:
         "statements": statements,
         "lacks": list(row.answer.lacks),
         "hangsOn": [it._asdict() for it in turns],
+        "standsFor": [{"text": it, **made_up[it]._asdict()} for it in (row.action, row.resource) if it in made_up],
     }
 
 

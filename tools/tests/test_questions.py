@@ -191,6 +191,9 @@ def test_texts_that_stand_for_patterns():
         [(it["resource"], it["decision"]) for it in found if it["resource"] != "*"], [(it, "allowed") for it in wanted]
     )
     same([it["decision"] for it in found if it["resource"] == "*"], ["implicitDeny"])
+    patterns = {wanted[1]: "arn:aws:kms:*:111122223333:key/a*", wanted[2]: "arn:aws:kms:*:*:key/ann"}
+    stand = [{"text": it, "pattern": of, "policy": "principals/0/identity/0"} for it, of in patterns.items()]
+    same([more for it in found for more in it["standsFor"]], stand)
     out, _ = aws("who-can", "kms:Decrypt", "*", "--world", file(made), "--kinds")
     assert f"{wanted[1]} stands for arn:aws:kms:*:111122223333:key/a* of principals/0/identity/0\n" in out, out
     assert "the answer covers such texts as were asked for" in out, out

@@ -134,6 +134,21 @@ def test_keys_that_a_never_was_not_asked_with_are_told():
         same(rules_of(made, "never * s3:GetObject arn:aws:s3:::b/k\n", *words)[1], said, str(words))
 
 
+def test_dates_that_come_later_are_told():
+    """What a grant or a deny says from a later moment on; of another action, or of a moment that is past, nothing."""
+    future = {"DateGreaterThan": {"aws:CurrentTime": ["2026-01-02T01:00+01:00", "1970-01-01"]}}
+    ends = statement("Deny", Condition={"NumericLessThan": {"aws:EpochTime": "1767312001"}})
+    made = small_world(document(statement(Condition=future), ends, statement(action="sqs:*", Condition=future)))
+    said = "iamsim-aws: policies ask for dates after the moment of the requests: "
+    dates = ["1767312001 (principals/0/identity/0, statement 1)"]
+    dates.append("2026-01-02T01:00+01:00 (principals/0/identity/0, statement 0)")
+    for moment, wanted in ((0, dates), (1767312000, dates[:1]), (1767312001, [])):
+        ended = rules_of(
+            {**made, "moment": moment}, "never * s3:GetObject arn:aws:s3:::b/k\n", status=0 if wanted else 3
+        )
+        same(ended[1], f"{said}{', '.join(wanted)}\n" if wanted else "", str(moment))
+
+
 def test_rules_that_meet_nothing():
     text = "never *:role/none s3:GetObject *\nalways alice s3:GetObject *.none\n"
     out, _ = rules(text, status=4)

@@ -9,7 +9,7 @@ from ..covering import tell_strangers
 from ..exports import policy
 from ..faults import Fault, line_of, tell
 from ..hanging import Turn
-from ..kinds import stand_words
+from ..kinds import made_up, stand_words
 from ..questions import Asked, Question, Scope, missing, worlds
 from ..reports import Answers, csv_text
 from ..sources import add_source, source_of
@@ -131,12 +131,16 @@ def write(options: argparse.Namespace, found: List[Found], text: List[str]) -> N
         return
     for line in notes(found):
         tell(line)
-    cells = [(it, cell) for it in found for cell in range(len(it.answers.numbers))]
-    if options.format == "json":
-        rows = [as_json(it.answers, cell, it.turns.get(cell, [])) for it, cell in cells]
-        files.write(files.compact(rows) + "\n")
-    else:
-        files.write(csv_text(HEADER, [as_fields(it.answers, cell, it.turns.get(cell, [])) for it, cell in cells]))
+    values: List[Dict[str, Any]] = []
+    fields: List[List[str]] = []
+    for asked, answers, turns in found:
+        made = made_up(asked.witnesses)
+        for cell in range(len(answers.numbers)):
+            if options.format == "json":
+                values.append(as_json(answers, cell, turns.get(cell, []), made))
+            else:
+                fields.append(as_fields(answers, cell, turns.get(cell, [])))
+    files.write(files.compact(values) + "\n" if options.format == "json" else csv_text(HEADER, fields))
 
 
 def can(options: argparse.Namespace) -> int:
