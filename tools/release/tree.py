@@ -13,7 +13,7 @@ from .manual import pages
 from .proof import Refused, sum_of
 
 DOCUMENTS = ["README.md", "CHANGELOG.md", "CONTRIBUTING.md", "bench/README.md", "docs/*", "examples/*.json"]
-DOCUMENTS += ["tools/tests/data/account.json"]
+DOCUMENTS += [f"tools/tests/data/{it}.json" for it in ("account", "draft", "partner")]  # of which docs/AWS.md speaks
 TOOLS = ["tools/iamsim-aws", "tools/install", "tools/iamsim_aws/**/*"]
 
 
