@@ -5,7 +5,7 @@ import os
 import shutil
 import tarfile
 from gzip import GzipFile
-from typing import Dict, List
+from typing import IO, Dict, List, cast
 
 from .commands import of_aws, of_program
 from .completions import completions
@@ -78,7 +78,7 @@ def archive(tree: str, path: str, moment: int) -> None:
         return it
 
     with open(path, "wb") as raw, GzipFile("", "wb", 9, raw, moment) as packed:
-        with tarfile.open(fileobj=packed, mode="w", format=tarfile.GNU_FORMAT) as it:
+        with tarfile.open(fileobj=cast(IO[bytes], packed), mode="w", format=tarfile.GNU_FORMAT) as it:
             it.add(tree, name, recursive=False, filter=plain)
             folders = {os.path.dirname(one) for one in all_files(tree)} - {""}
             folders |= {os.path.dirname(one) for one in folders} - {""}
