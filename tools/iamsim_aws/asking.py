@@ -7,7 +7,7 @@ from typing import Any, Dict, Iterator, List, Tuple
 
 from . import decimals
 from .checking import lines, refused_documents, with_name
-from .documents import World
+from .documents import World, cells_of
 from .faults import Fault
 from .program import Refused, each_of, side_by_side, world_bytes
 from .reports import Answers, read_report, rows_of
@@ -24,13 +24,12 @@ def whole(world: World) -> World:
 
 def put(all_of: Answers, principal: int, resource: int, part: Answers) -> None:
     """Puts the answers of a part in their place."""
-    _, actions, resources = all_of.shape
-    count, _, width = part.shape
+    count, actions, width = part.shape
     new = [all_of.number(it, lambda it=it: it) for it in part.table]
     numbers = array.array("I", map(new.__getitem__, part.numbers))
     for p in range(count):
         for a in range(actions):
-            first, of = ((principal + p) * actions + a) * resources + resource, (p * actions + a) * width
+            first, of = all_of.cell(principal + p, a, resource), part.cell(p, a, 0)
             all_of.numbers[first : first + width] = numbers[of : of + width]
 
 
@@ -46,9 +45,7 @@ def explained(world: World, refused: Refused) -> Fault:
 def ask_all(worlds: List[World], brief: bool = False) -> List[Answers]:
     """The answers to all requests of each world."""
     several = [(n, part) for n, world in enumerate(worlds) for part in parts(whole(world))]
-    found = []
-    for world in worlds:
-        found.append(Answers(world, len(world["principals"]) * len(world["actions"]) * len(world["resources"])))
+    found = [Answers(world, cells_of(world)) for world in worlds]
     command = ["matrix", "--format", "json", *(["--brief"] if brief else [])]
     texts = side_by_side(command, (world_bytes(part.world) for _, part in several), len(several))
     for n, part in several:

@@ -7,7 +7,7 @@ from . import hanging, kinds
 from .arns import principal_text
 from .asking import ask_all, ask_changes, whole
 from .checking import NOTHING
-from .documents import Place, World, bare, mapped, places, statements_of
+from .documents import Place, World, bare, cells_of, mapped, places, statements_of
 from .faults import tell
 from .files import compact
 from .keys import with_key
@@ -214,10 +214,7 @@ def compared(first: Answers, second: Answers, given: str = "") -> Changes:
         for cell in one.allowed():
             there = [numbers[axis].get(axes[axis][n]) for axis, n in enumerate(one.place(cell))]
             place = [n for n in there if n is not None]
-            if (
-                len(place) < 3
-                or other.at((place[0] * other.shape[1] + place[1]) * other.shape[2] + place[2]).decision != "allowed"
-            ):
+            if len(place) < 3 or other.at(other.cell(*place)).decision != "allowed":
                 found.append(cell)
         return found
 
@@ -238,12 +235,12 @@ def listed(before: World, after: World, rows: List[Dict[str, Any]], given: str) 
     sides = []
     for world, side in ((before, "before"), (after, "after")):
         numbers = [{text: n for n, text in enumerate(axis)} for axis in axes_of(world)]
-        answers = Answers(world, len(world["principals"]) * len(world["actions"]) * len(world["resources"]))
+        answers = Answers(world, cells_of(world))
         answers.number("", lambda: Answer("", (), ()))
         cells: Dict[str, List[int]] = {"lost": [], "gained": []}
         for row in (it for it in rows if it[side]):
             p, a, r = (of[row[name]] for of, name in zip(numbers, ("principal", "action", "resource")))
-            cell = (p * answers.shape[1] + a) * answers.shape[2] + r
+            cell = answers.cell(p, a, r)
             answer = Answer(row[side], tuple(row[f"statements_{side}"]), tuple(row[f"lacks_{side}"]))
             answers.numbers[cell] = answers.number(answer, lambda it=answer: it)
             cells[row["change"]].append(cell)
@@ -272,7 +269,7 @@ def same_cell(changes: Changes, cell: int, is_before: bool) -> Any:
         p, a, r = (others[axis].index(axes[axis][n]) for axis, n in enumerate(one.place(cell)))
     except ValueError:
         return None
-    return (p * other.shape[1] + a) * other.shape[2] + r
+    return other.cell(p, a, r)
 
 
 def is_named(worlds: Sequence[World], asked: str) -> bool:
@@ -342,7 +339,7 @@ def keys_in(before: World, after: World) -> List[Dict[str, str]]:
 def with_keys(before: World, after: World) -> List[Tuple[str, World, World]]:
     """The worlds with the keys that nothing gives, with these in words; no more than can be asked."""
     asked = keys_in(before, after)
-    most = hanging.MOST // max(hanging.cells_of(before) + hanging.cells_of(after), 1)
+    most = hanging.MOST // max(cells_of(before) + cells_of(after), 1)
     if asked[most:]:
         left = ", ".join(dict.fromkeys(key for it in asked[most:] for key in it))
         tell(f"what changes with these keys alone was not asked, since it is too much: {left}")

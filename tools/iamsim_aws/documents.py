@@ -9,6 +9,11 @@ from typing import Any, Callable, Dict, Iterator, List, NamedTuple, Tuple
 World = Dict[str, Any]
 
 
+def cells_of(world: World) -> int:
+    """How many requests a world has."""
+    return len(world["principals"]) * len(world["actions"]) * len(world["resources"])
+
+
 class Policy(NamedTuple):
     name: str
     document: Any

@@ -5,7 +5,7 @@ import re
 from typing import Any, Dict, Iterator, List, NamedTuple, Optional, Tuple
 
 from .asking import ask_all
-from .documents import World, conditions_of, each, statements_of
+from .documents import World, cells_of, conditions_of, each, statements_of
 from .keys import givers, lacks, plain_operator, with_key
 from .kinds import first_text, statements, values_of
 from .patterns import common, resolved
@@ -140,10 +140,6 @@ def questions(world: World) -> Iterator[Tuple[str, str, World]]:
 def is_too_much(world: World) -> bool:
     """Whether the questions are too many to be asked within minutes."""
     return sum(map(len, wanted(world).values())) * cells_of(world) > MOST
-
-
-def cells_of(world: World) -> int:
-    return len(world["principals"]) * len(world["actions"]) * len(world["resources"])
 
 
 def turns(world: World, answers: Answers) -> Dict[int, List[Turn]]:

@@ -100,15 +100,12 @@ def spread(answers: Answers, axes: List[List[Any]], table: Table) -> Any:
     absent = table.number(ABSENT)
     numbers = [{key: n for n, key in enumerate(axis)} for axis in own]
     places = [[numbers[axis].get(key) for key in axes[axis]] for axis in range(3)]
-    _, actions, resources = answers.shape
     made = array.array("I")
     for p in places[0]:
         for a in places[1]:
+            first = None if p is None or a is None else answers.cell(p, a, 0)
             for r in places[2]:
-                if p is None or a is None or r is None:
-                    made.append(absent)
-                else:
-                    made.append(new[answers.numbers[(p * actions + a) * resources + r]])
+                made.append(absent if first is None or r is None else new[answers.numbers[first + r]])
     return made
 
 

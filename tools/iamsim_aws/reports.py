@@ -8,7 +8,7 @@ import re
 from typing import Any, Dict, Iterator, List, NamedTuple, Tuple
 
 from .arns import principal_text
-from .documents import World
+from .documents import World, cells_of
 from .faults import Fault
 from .strangers import shown
 
@@ -67,6 +67,10 @@ class Answers:
     def place(self, cell: int) -> Tuple[int, int, int]:
         _, actions, resources = self.shape
         return cell // (actions * resources), cell // resources % actions, cell % resources
+
+    def cell(self, principal: int, action: int, resource: int) -> int:
+        """The cell at a place."""
+        return (principal * self.shape[1] + action) * self.shape[2] + resource
 
     def row(self, cell: int) -> Row:
         p, a, r = self.place(cell)
@@ -173,7 +177,7 @@ def read_report(world: World, text: str) -> Answers:
     if not read_program(answers, text):
         answers = Answers(world)
         read_rows(answers, text)
-    if len(answers.numbers) != len(world["principals"]) * len(world["actions"]) * len(world["resources"]):
+    if len(answers.numbers) != cells_of(world):
         raise Fault("the report has fewer cells than the world: make both of the same world")
     return answers
 

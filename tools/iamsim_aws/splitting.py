@@ -3,7 +3,7 @@
 from typing import Any, Dict, Iterable, List, NamedTuple, Tuple
 
 from .arns import account_of, principal_arn, principal_text
-from .documents import MEMBERS, World, changed, statements_of
+from .documents import MEMBERS, World, cells_of, changed, statements_of
 from .faults import Fault
 from .files import compact
 
@@ -59,7 +59,7 @@ def limits(world: World) -> List[str]:
     """A line for each limit of a world that this one is past."""
     every = [it for axis in weights(world) for it in axis]
     statements, size = sum(it.statements for it in every), sum(it.size for it in every) + room_of(world)
-    cells = len(world["principals"]) * len(world["actions"]) * len(world["resources"])
+    cells = cells_of(world)
     past = [(statements, STATEMENTS, "statements"), (cells, CELLS, "cells"), (size, BYTES, "bytes")]
     return [
         f"the world has {n} {what}, and at most {most} are read: iamsim-aws split makes several worlds of it"
@@ -96,8 +96,7 @@ def parts(world: World, cells: int = CELLS) -> List[Part]:
         raise Fault("the organisation's policies and the actions alone are too large for several worlds")
     free = Weight(STATEMENTS - kept, BYTES - room, "")
     whole = total([*principals, *resources])
-    count = len(world["principals"]) * len(world["actions"]) * len(world["resources"])
-    if whole.statements <= free.statements and whole.size <= free.size and count <= cells:
+    if whole.statements <= free.statements and whole.size <= free.size and cells_of(world) <= cells:
         return [Part(world, 0, 0)]
     of_resources = runs(resources, Weight(free.statements // 2, free.size // 2, "resource"), 4096)
     largest = [total(resources[first:end]) for first, end in of_resources]
