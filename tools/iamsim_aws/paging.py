@@ -13,30 +13,17 @@ from .documents import Policy, World, statements_of
 from .files import compact
 from .hanging import Turn
 from .kinds import Origins, stands
-from .reports import DECISIONS, Answer, Answers, keys_of
+from .reports import DECISIONS, Answer, Answers, Numbers, keys_of
 
 PARTS = os.path.join(os.path.dirname(os.path.realpath(__file__)), "parts")
 ABSENT = Answer("absent", (), ())
-
-
-class Table:
-    """Numbers for values, in the order in which they come."""
-
-    def __init__(self) -> None:
-        self.numbers: Dict[Any, int] = {}
-
-    def number(self, value: Any) -> int:
-        return self.numbers.setdefault(value, len(self.numbers))
-
-    def values(self) -> List[Any]:
-        return list(self.numbers)
 
 
 class Layers:
     """Of each principal and each resource the policies that apply to it, by layer, level and number; a policy is the
     number of its name and those of its statements."""
 
-    def __init__(self, statements: Table, names: Table):
+    def __init__(self, statements: Numbers, names: Numbers):
         self.statements, self.names = statements, names
         self.known: Dict[int, Tuple[Any, Any]] = {}
         self.seen: Dict[str, int] = {}
@@ -45,13 +32,13 @@ class Layers:
         key = id(policy.document)
         if key not in self.known or self.known[key][0] is not policy.document:
             self.known[key] = policy.document, [self.statement(it) for it in statements_of(policy.document)]
-        return [self.names.number(policy.name), self.known[key][1]]
+        return [self.names[policy.name], self.known[key][1]]
 
     def statement(self, it: Any) -> int:
         text = compact(it)
         if text not in self.seen:
             sid = it.get("Sid", "") if isinstance(it, dict) else ""
-            self.seen[text] = self.statements.number((str(sid), json.dumps(it, indent=2, ensure_ascii=False)))
+            self.seen[text] = self.statements[str(sid), json.dumps(it, indent=2, ensure_ascii=False)]
         return self.seen[text]
 
     def policies(self, some: List[Policy]) -> List[Any]:
@@ -91,13 +78,13 @@ def packed(numbers: Any, count: int) -> Tuple[int, str]:
     return width, base64.b64encode(few.tobytes()).decode()
 
 
-def spread(answers: Answers, axes: List[List[Any]], table: Table) -> Any:
+def spread(answers: Answers, axes: List[List[Any]], table: Numbers) -> Any:
     """The numbers of a world's answers on wider axes."""
     own = keys_of(answers.world)
-    new = [table.number(it) for it in answers.table]
+    new = [table[it] for it in answers.table]
     if own == axes:
         return array.array("I", map(new.__getitem__, answers.numbers))
-    absent = table.number(ABSENT)
+    absent = table[ABSENT]
     numbers = [{key: n for n, key in enumerate(axis)} for axis in own]
     places = [[numbers[axis].get(key) for key in axes[axis]] for axis in range(3)]
     made = array.array("I")
@@ -109,7 +96,7 @@ def spread(answers: Answers, axes: List[List[Any]], table: Table) -> Any:
     return made
 
 
-def side(answers: Answers, axes: List[List[Any]], table: Table, layers: Layers) -> Tuple[Any, Any]:
+def side(answers: Answers, axes: List[List[Any]], table: Numbers, layers: Layers) -> Tuple[Any, Any]:
     return spread(answers, axes, table), layers.all_of(answers.world, axes[0], axes[2])
 
 
@@ -125,11 +112,11 @@ def data(
     for axis, more in enumerate(keys_of(before.world)) if before else ():
         there = set(axes[axis])
         axes[axis] += [it for it in more if it not in there]
-    statements, names, table = Table(), Table(), Table()
+    statements, names, table = Numbers(), Numbers(), Numbers()
     layers = Layers(statements, names)
     numbers, own = side(answers, axes, table, layers)
     old = side(before, axes, table, layers) if before else None
-    every = table.values()
+    every = list(table)
     width, cells = packed(numbers, len(every))
     words = [*DECISIONS, "absent"]
     return {
@@ -141,8 +128,8 @@ def data(
         "before": old and {"cells": packed(old[0], len(every))[1], "layers": old[1]},
         "turns": {str(cell): [list(it) for it in of] for cell, of in (turns or {}).items()},
         "stand": list(stands(stand or {}).items()),
-        "statements": statements.values(),
-        "names": names.values(),
+        "statements": list(statements),
+        "names": list(names),
         "width": width,
         "cells": cells,
     }
