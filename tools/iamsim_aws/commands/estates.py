@@ -124,7 +124,7 @@ def estate(options: argparse.Namespace) -> int:
 
 
 def ask(options: argparse.Namespace, base: sqlite3.Connection, lock: Any) -> int:
-    count = base.execute("SELECT count(*) FROM worlds").fetchone()[0]
+    count = schema.count_of_worlds(base)
     running.write_jobs(options.folder, count)
     if options.slurm:
         where = os.path.join(options.folder, "estate.slurm")

@@ -33,7 +33,7 @@ class World:
             raise Fault(f"the estate has no world {n}")
         self.base, self.n, self.ended = base, n, str(found[1])
         self.firsts, self.ends = found[5::2], found[6::2]
-        self.count: int = base.execute("SELECT count(*) FROM worlds").fetchone()[0]
+        self.count = schema.count_of_worlds(base)
         self.principals = self.rows("name, account", "principals", "principal", 0)
         self.actions = self.rows("name", "actions", "action", 1)
         self.resources = self.rows("arn, account, NOT sealed", "resources", "resource", 2)

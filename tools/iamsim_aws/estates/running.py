@@ -12,6 +12,7 @@ from typing import IO, List, Optional
 from .. import files
 from ..faults import Fault
 from ..program import processors, program
+from . import schema
 from .reading import kept
 
 HOW = "on Debian and Ubuntu 'apt-get install parallel' installs it, on Fedora 'dnf install parallel', on macOS 'brew install parallel'"
@@ -79,9 +80,9 @@ def waiting(base: sqlite3.Connection) -> List[int]:
     return [it[0] for it in base.execute("SELECT world FROM worlds WHERE ended = 'waiting' ORDER BY world")]
 
 
-def log_of(base: sqlite3.Connection, folder: str, name: str) -> str:
+def log_of(base: sqlite3.Connection, folder: str) -> str:
     """The log by which a run goes on where an earlier one was stopped; one that tells of more than is there is put away."""
-    path = os.path.join(folder, name)
+    path = os.path.join(os.path.abspath(folder), "joblog")
     if os.path.exists(path):
         left = set(waiting(base))
         lines = [it.split("\t") for it in files.read_text(path).splitlines()[1:]]
@@ -151,13 +152,12 @@ def ask_here(base: sqlite3.Connection, folder: str, jobs: Optional[str], lock: I
     left = waiting(base)
     if not left:
         return True
-    count = base.execute("SELECT count(*) FROM worlds").fetchone()[0]
+    count = schema.count_of_worlds(base)
     workers = max(1, processors() // len(left))
     package = os.path.dirname(os.path.dirname(os.path.abspath(__file__)))
     command = ["env", f"PYTHONPATH={os.path.dirname(package)}", f"IAMSIM={os.path.abspath(program())}"]
     # The standard library is all that a job wants (-S), and each of them begins anew.
     command += [sys.executable, "-S", "-m", "iamsim_aws.estates", os.path.abspath(folder), str(workers)]
-    words = [*(["--jobs", jobs] if jobs else []), "--joblog", log_of(base, folder, "joblog"), "--resume-failed"]
-    words[words.index("--joblog") + 1] = os.path.abspath(words[words.index("--joblog") + 1])
+    words = [*(["--jobs", jobs] if jobs else []), "--joblog", log_of(base, folder), "--resume-failed"]
     words.append(" ".join(map(shlex.quote, command)) + " {}")
     return run(words, list(range(count)), folder, lock) == 0

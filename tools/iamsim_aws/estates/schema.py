@@ -99,10 +99,14 @@ def fill(base: sqlite3.Connection, table: str, rows: Sequence[Tuple[Any, ...]]) 
         base.executemany(f"INSERT INTO {table} VALUES ({', '.join('?' * len(rows[0]))})", rows)
 
 
+def count_of_worlds(base: sqlite3.Connection) -> int:
+    return int(base.execute("SELECT count(*) FROM worlds").fetchone()[0])
+
+
 def unfinished(base: sqlite3.Connection) -> List[str]:
     """What is to be told at each question: worlds that failed, and worlds that are not loaded."""
     lines = []
-    worlds = base.execute("SELECT count(*) FROM worlds").fetchone()[0]
+    worlds = count_of_worlds(base)
     for fault, count in base.execute(
         "SELECT fault, count(*) FROM worlds WHERE ended = 'failed' GROUP BY fault ORDER BY min(world)"
     ):
