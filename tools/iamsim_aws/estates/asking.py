@@ -22,6 +22,10 @@ class Request(NamedTuple):
     resource: str
     reason: Any
 
+    @property
+    def decision(self) -> str:
+        return "notAllowed" if self.reason is None else "allowed"
+
 
 class Cause(NamedTuple):
     layer: str
@@ -87,33 +91,36 @@ class Database:
           ORDER BY sp.n, sa.n, sr.n"""
         return (Request(*it) for it in self.base.execute(command))
 
-    def causes(self, reason: int) -> List[Cause]:
-        """The statements that allow; one that stands at several levels once."""
-        if reason not in self.known:
+    def causes(self, it: Request) -> List[Cause]:
+        """The statements that allow a request, none where it is not allowed; one that stands at several levels once."""
+        if it.reason is None:
+            return []
+        if it.reason not in self.known:
             command = "SELECT layer, policy, statement, sid, json FROM causes WHERE reason = ? ORDER BY number"
-            rows = self.base.execute(command, (reason,)).fetchall()
-            self.known[reason] = [Cause(layer, name, n, sid or "", json.loads(it)) for layer, name, n, sid, it in rows]
-        return self.known[reason]
+            rows = self.base.execute(command, (it.reason,)).fetchall()
+            self.known[it.reason] = [
+                Cause(layer, name, n, sid or "", json.loads(of)) for layer, name, n, sid, of in rows
+            ]
+        return self.known[it.reason]
 
     def told(self, it: Request, is_long: bool) -> List[str]:
         """An answer in lines."""
         word = "not allowed" if it.reason is None else "allowed"
         lines = [f"{word}: {it.principal} {it.action} {it.resource}"]
-        for cause in [] if it.reason is None else self.causes(it.reason):
+        for cause in self.causes(it):
             lines.append(f"  allowed by {cause.words()}")
             if is_long:
                 lines += [f"    {one}" for one in json.dumps(cause.json, indent=2, ensure_ascii=False).split("\n")]
         return [line_of(one) for one in lines]
 
     def as_json(self, it: Request) -> Dict[str, Any]:
-        found = [] if it.reason is None else self.causes(it.reason)
         statements = [
-            {"layer": c.layer, "policy": c.policy, "statement": c.number, "sid": c.sid, "json": c.json} for c in found
+            {"layer": c.layer, "policy": c.policy, "statement": c.number, "sid": c.sid, "json": c.json}
+            for c in self.causes(it)
         ]
         head = {"principal": it.principal, "action": it.action, "resource": it.resource}
-        return {**head, "decision": "notAllowed" if it.reason is None else "allowed", "statements": statements}
+        return {**head, "decision": it.decision, "statements": statements}
 
     def as_fields(self, it: Request) -> List[str]:
-        names = [] if it.reason is None else [cause.words() for cause in self.causes(it.reason)]
-        decision = "notAllowed" if it.reason is None else "allowed"
-        return [it.principal, it.action, it.resource, decision, "; ".join(names)]
+        names = [cause.words() for cause in self.causes(it)]
+        return [it.principal, it.action, it.resource, it.decision, "; ".join(names)]
