@@ -55,7 +55,7 @@ def differing(before: World, after: World) -> Tuple[World, World]:
     """The two worlds with those documents alone that their holders do not have in both."""
     of_before, of_after = holders(before), holders(after)
 
-    def left(world: World, own: Any, other: Any) -> World:
+    def left(world: World, other: Dict[Tuple[str, str], List[str]]) -> World:
         def keep(_kind: str, path: str, policy: Any) -> Any:
             axis, n = path.split("/")[:2]
             key = axis, name_of(axis, world[axis][int(n)])
@@ -63,7 +63,7 @@ def differing(before: World, after: World) -> Tuple[World, World]:
 
         return mapped(world, keep)
 
-    return left(before, of_before, of_after), left(after, of_after, of_before)
+    return left(before, of_after), left(after, of_before)
 
 
 def is_limit(it: Place) -> bool:
