@@ -1,6 +1,7 @@
 """The documents: their links lead somewhere, they stay short, and the program prints what they say."""
 
 import csv
+import glob
 import json
 import os
 import re
@@ -23,11 +24,39 @@ def read(path):
         return it.read()
 
 
+def anchors(path):
+    """What links to the headings of a document are called."""
+    headings = re.findall(r"^#+ (.*)$", read(path), re.M)
+    return {re.sub(r"[^\w -]", "", it.lower()).replace(" ", "-") for it in headings}
+
+
 def test_links_lead_somewhere():
     for path in DOCUMENTS:
-        for link in re.findall(r"\]\(([^)#]+)", read(path)):
-            to = os.path.join(TOP, os.path.dirname(path), link)
-            assert re.match(r"https?:", link) or os.path.exists(to), f"{path}: {link}"
+        for link, anchor in re.findall(r"\]\((?!https?:)([^)#]*)#?([^)]*)\)", read(path)):
+            to = os.path.normpath(os.path.join(os.path.dirname(path), link)) if link else path
+            assert os.path.exists(os.path.join(TOP, to)), f"{path}: {link}"
+            assert not anchor or anchor in anchors(to), f"{path}: {link}#{anchor}"
+
+
+def words_of(crate):
+    """The words of a crate's code and definitions, without comments, and the names of their files."""
+    paths = [
+        it
+        for of in ("src/**/*.rt", "specs/**/*.antt")
+        for it in glob.glob(f"{TOP}/crates/{crate}/{of}", recursive=True)
+    ]
+    texts = [os.path.basename(it) + re.sub(r"(//|-- ).*", "", read(it)) for it in paths]
+    return {word for it in texts for word in re.findall(r"\w+", it)}
+
+
+def test_crates_have_what_the_table_of_crates_names():
+    rows = dict(re.findall(r"^\| `(iam\w+)` \|(.*)", read("docs/architecture.md"), re.M))
+    crates = set(re.findall(r"^(\w+).*:", read("crates.txt"), re.M))
+    same(set(rows), crates)
+    for crate, row in rows.items():
+        named = {word for code in re.findall(r"`([^`]*)`", row) for word in re.findall(r"\w+", code)}
+        missing = named - words_of(crate) - crates - {"specs", "Code", "data", "args", "stdin", "stdout"}
+        assert not missing, f"{crate}: {missing}"
 
 
 def test_readme_is_short():
