@@ -7,9 +7,15 @@ import shutil
 import subprocess
 import tempfile
 
+from harness import Skipped
+
+CHROMIUM = os.environ.get("CHROMIUM") or shutil.which("chromium")
+
 
 class Browser:
-    def __init__(self, program):
+    def __init__(self):
+        if CHROMIUM is None:
+            raise Skipped("there is no chromium")
         self.home = tempfile.mkdtemp(prefix="page-test-")
         to_read, to_give = os.pipe()
         answers, to_answer = os.pipe()
@@ -21,7 +27,7 @@ class Browser:
             os.dup2(high, 4)
 
         words = [
-            program,
+            CHROMIUM,
             "--headless=new",
             "--no-sandbox",
             "--disable-gpu",

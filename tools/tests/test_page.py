@@ -2,7 +2,6 @@
 
 import json
 import os
-import shutil
 import subprocess
 import sys
 import time
@@ -11,7 +10,6 @@ from browser import Browser
 from harness import AWS, EXAMPLES, IAMSIM, aws, document, file, load, matrix, run, same, small_world, statement
 
 ROOM = os.environ["TOOLS_TEST_ROOM"]
-CHROMIUM = os.environ.get("CHROMIUM") or shutil.which("chromium")
 
 
 def page_of(value, name, *words):
@@ -32,7 +30,7 @@ class Opened:
         self.path = path
 
     def __enter__(self):
-        self.browser = Browser(CHROMIUM)
+        self.browser = Browser()
         self.browser.open(self.path)
         return self.browser
 
@@ -466,7 +464,7 @@ def test_a_million_cells():
             timeout=120,
         )
     made, size = time.monotonic() - started, os.path.getsize(f"{path}.html")
-    browser = Browser(CHROMIUM)
+    browser = Browser()
     try:
         started = time.monotonic()
         browser.open(f"{path}.html")
