@@ -532,18 +532,17 @@ def test_what_the_export_lacks():
             )
     rules = file("always alice s3:GetObject arn:aws:s3:::releases/app.zip\n")
     aws("rules", rules, EXPORT, "--terraform", plan(change("aws_iam_user.x", user, None)), status=1)
-    # A user and what it had may go in one plan, in any order.
-    bob = {"name": "bob", "path": "/ops/", "arn": BOB}
-    inline, attached = {"user": "bob", "name": "Anything", "policy": text(statement())}, {
-        "user": "bob",
-        "policy_arn": f"{ACCOUNT}policy/AssumeRoles",
-    }
-    gone = plan(
-        change("aws_iam_user.b", bob, None),
-        change("aws_iam_user_policy.b", inline, None),
-        change("aws_iam_user_policy_attachment.b", attached, None),
-    )
-    same(changes(gone), {("lost", BOB, OBJECT)})
+
+
+def test_a_user_goes_with_what_it_had():
+    """In one plan, in any order."""
+    gone = [
+        ("aws_iam_user.b", {"name": "bob", "path": "/ops/", "arn": BOB}),
+        ("aws_iam_user_policy.b", {"user": "bob", "name": "Anything", "policy": text(statement())}),
+        ("aws_iam_user_policy_attachment.b", {"user": "bob", "policy_arn": f"{ACCOUNT}policy/AssumeRoles"}),
+    ]
+    for some in (gone, gone[::-1]):
+        same(changes(plan(*(change(*it, None) for it in some))), {("lost", BOB, OBJECT)})
 
 
 def test_a_managed_policy_that_the_export_does_not_hold():
