@@ -5,14 +5,14 @@ use Rattle.std.specs.List.{slice_get}
 use Rattle.iam_decision.specs.Ruling.{RulingValue}
 use Rattle.iam_world.specs.World.{WorldValue}
 use Rattle.iam_index.specs.Elements.{AreElementNumbers}
-use Rattle.iam_index.specs.Slots.{AllAre}
+use Rattle.iam_slots.specs.Slots.{AllAre}
 use Rattle.iam_classes.specs.Memo.{AreAnswers, ArePairs, HasClass, HasNumber, HaveRows}
 use Rattle.iam_index.specs.declared.elements.Element.{Element}
 use Rattle.iam_classes.specs.declared.memo.Answer.{Answer}
 use Rattle.iam_classes.specs.declared.memo.Class.{Class}
 use Rattle.iam_classes.specs.declared.memo.Pair.{Pair}
 use Rattle.iam_index.proofs.ListLemmas.{get_back, get_more}
-use Rattle.iam_index.proofs.SlotLemmas.{all_weaker}
+use Rattle.iam_slots.proofs.SlotLemmas.{all_weaker}
 
 pub pairs_more : (world : WorldValue) (classes more : List Class) (pairs : List (Option Pair)) → ArePairs world classes pairs
     → ArePairs world (classes ++ more) pairs

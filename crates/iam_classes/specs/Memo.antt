@@ -14,7 +14,7 @@ use Rattle.iam_decision.specs.declared.verdict.Verdict.{Verdict}
 use Rattle.iam_layers.specs.Cell.{IsAction, IsSharedAt}
 use Rattle.iam_world.specs.World.{WorldValue}
 use Rattle.iam_index.specs.Elements.{AreElements, AreElementNumbers}
-use Rattle.iam_index.specs.Slots.{AllAre}
+use Rattle.iam_slots.specs.Slots.{AllAre}
 use Rattle.iam_index.specs.declared.elements.Element.{Element}
 use Rattle.iam_classes.specs.declared.memo.Answer.{Answer}
 use Rattle.iam_classes.specs.declared.memo.Class.{Class}

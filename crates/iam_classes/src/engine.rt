@@ -35,7 +35,7 @@ impl<'a> ClassEngine<'a> {
     ghost use Rattle.std.specs.Prelude.{◌≡◌, ◌<◌, ℕ, IfOk, IfSome, false, length, true};
     ghost use Rattle.iam_world.specs.World.{world_cells};
     ghost use Rattle.iam_layers.specs.Cell.{IsDecisionOf, IsVerdictAt, IsVerdictOf};
-    ghost use Rattle.iam_index.specs.Slots.{AllAre};
+    ghost use Rattle.iam_slots.specs.Slots.{AllAre};
     ghost use Rattle.iam_classes.specs.Engine.{HasMore, IsClassAt, IsNumberAt, OfClass};
 
     /// An engine of the world of an index, one of so many that share the bounds on what is kept.

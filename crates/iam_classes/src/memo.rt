@@ -3,8 +3,9 @@ ghost use Rattle.std.specs.Prelude.{◌≡◌};
 
 use crate::held::Held;
 use iam_decision::acting_are_found;
-use iam_index::{Elements, Index, WIDTH, empty, empty_slots, keep, kept, slot_at, slot_of};
+use iam_index::{Elements, Index};
 use iam_layers::{Frame, Matched, Ruling, Shared, Verdict, World};
+use iam_slots::{WIDTH, empty, empty_slots, keep, kept, slot_at, slot_of};
 use iam_text::OutOfMemory;
 use std::alloc::Global;
 use std::marker::Model;
@@ -39,7 +40,7 @@ pub struct Pair {
 
 impl Pair {
     ghost use Rattle.std.specs.Prelude.{◌≡◌, IfSome, Some};
-    ghost use Rattle.iam_index.specs.Slots.{Keeps};
+    ghost use Rattle.iam_slots.specs.Slots.{Keeps};
     ghost use Rattle.iam_classes.specs.declared.memo.Pair.{Pair};
 
     /// The pair, where its numbers have 32 bits.
@@ -78,7 +79,7 @@ pub struct Answer {
 
 impl Answer {
     ghost use Rattle.std.specs.Prelude.{◌≡◌, IfSome, Some};
-    ghost use Rattle.iam_index.specs.Slots.{Keeps};
+    ghost use Rattle.iam_slots.specs.Slots.{Keeps};
     ghost use Rattle.iam_classes.specs.declared.memo.Answer.{Answer};
 
     /// The answer, where its numbers have 32 bits.
@@ -178,7 +179,7 @@ impl<'a> Memo<'a> {
     ghost use Rattle.std.specs.Prelude.{◌≡◌, ◌<◌, ◌+◌, ℕ, [], IfOk, IfSome, OnOk, Some, false, length, true};
     ghost use Rattle.std.specs.List.{slice_get};
     ghost use Rattle.iam_layers.specs.Cell.{IsAction, IsSharedAt, IsVerdictAt};
-    ghost use Rattle.iam_index.specs.Slots.{AllAre};
+    ghost use Rattle.iam_slots.specs.Slots.{AllAre};
     ghost use Rattle.iam_classes.specs.Engine.{HasMore, IsClassAt, IsNumberAt, IsNumberOf};
     ghost use Rattle.iam_classes.specs.Memo.{Finds, HasRuling, HasShared};
     ghost use Rattle.iam_classes.specs.declared.memo.Class.{Class};

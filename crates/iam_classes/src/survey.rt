@@ -7,8 +7,9 @@ ghost use Rattle.iam_classes.specs.Keys.{AreKeys};
 ghost use Rattle.iam_classes.specs.Survey.{IsSharedBy};
 
 use crate::keys::{Keys, no_keys, shared_by};
-use iam_index::{Index, empty_slots, keep, kept, slot_of};
+use iam_index::Index;
 use iam_layers::{Shared, World};
+use iam_slots::{empty_slots, keep, kept, slot_of};
 use iam_text::OutOfMemory;
 use std::alloc::Global;
 use std::marker::Model;

@@ -1,5 +1,4 @@
 pub mod ListLemmas
-pub mod SlotLemmas
 mod ElementLemmas
 mod IndexLemmas
 mod ListedLemmas

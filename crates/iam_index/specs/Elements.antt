@@ -10,7 +10,7 @@ use Rattle.iam_match.specs.Statement.{ActionMatches}
 use Rattle.iam_decision.specs.Living.{LivingValue}
 use Rattle.iam_layers.specs.Cell.{IsAction}
 use Rattle.iam_world.specs.World.{WorldValue}
-use Rattle.iam_index.specs.Slots.{Keeps}
+use Rattle.iam_slots.specs.Slots.{Keeps}
 use Rattle.iam_index.specs.declared.elements.Element.{Element}
 use Rattle.iam_index.specs.declared.elements.Elements.{Elements}
 

@@ -2,4 +2,3 @@ pub mod Elements
 pub mod Index
 pub mod Parts
 pub mod Rows
-pub mod Slots

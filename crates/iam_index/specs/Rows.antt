@@ -6,7 +6,7 @@ use Rattle.iam_decision.specs.declared.scan.Standing.{Standing}
 use Rattle.iam_element.specs.Reading.{ResourceElement}
 use Rattle.iam_match.specs.Statement.{ResourceMatches}
 use Rattle.iam_world.specs.World.{ResourceValue, WorldValue}
-use Rattle.iam_index.specs.Slots.{Keeps}
+use Rattle.iam_slots.specs.Slots.{Keeps}
 use Rattle.iam_index.specs.declared.list_rows.ListRows.{ListRows}
 use Rattle.iam_index.specs.declared.rows.Row.{Row}
 

@@ -12,12 +12,12 @@ ghost use Rattle.iam_index.specs.Elements.{AreElements, AreElementNumbers, AreKe
 ghost use Rattle.iam_element.specs.Reading.{ActionElement};
 ghost use Rattle.iam_index.specs.declared.elements.Element.{Element};
 
-use crate::slots::{empty_slots, keep, kept, slot_of};
 use iam_decision::acting_are_found;
 use iam_layers::{Living, Matched, World};
 use iam_match::action_matches;
 use iam_policy::Actions;
 use iam_services::{Services, Tried};
+use iam_slots::{empty_slots, keep, kept, slot_of};
 use iam_text::{Glob, OutOfMemory};
 use std::alloc::Global;
 

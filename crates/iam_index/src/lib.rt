@@ -7,7 +7,6 @@ mod list_rows;
 mod lists;
 mod parts;
 mod rows;
-mod slots;
 mod texts;
 
 pub use elements::{Element, Elements};
@@ -15,5 +14,4 @@ pub use iam_layers::{Living, Place, Standing, World};
 pub use iam_text::OutOfMemory;
 pub use index::Index;
 pub use parts::Parts;
-pub use slots::{WIDTH, empty, empty_slots, keep, kept, slot_at, slot_of};
 pub use texts::Texts;

@@ -6,9 +6,9 @@ ghost use Rattle.iam_matrix.specs.Code.Leads.{AreKnown, AreLeads, HasEntry, IsLe
 ghost use Rattle.iam_matrix.specs.Code.Tiles.{AddsEntries};
 
 use iam_classes::{ClassEngine, Pair};
-use iam_index::{empty_slots, keep, kept, slot_of};
 use iam_report::Entries;
 use iam_row::Position;
+use iam_slots::{empty_slots, keep, kept, slot_of};
 use iam_text::OutOfMemory;
 use std::alloc::Global;
 

@@ -12,10 +12,10 @@ use crate::each::end_of;
 use crate::leads::{Lead, keep_lead, no_leads, put_known};
 use iam_classes::{ClassEngine, Survey};
 use iam_crew::{Bound, Crew};
-use iam_index::empty;
 use iam_layers::{Verdict, World};
 use iam_report::{Entries, Tile};
 use iam_row::{Format, Position};
+use iam_slots::empty;
 use iam_text::OutOfMemory;
 use std::alloc::Global;
 

@@ -6,7 +6,7 @@ use Rattle.iam_decision.specs.declared.verdict.Verdict.{Verdict}
 use Rattle.iam_row.specs.Piece.{bare}
 use Rattle.iam_world.specs.World.{WorldValue}
 use Rattle.iam_layers.specs.Cell.{IsCell, IsDecisionAt, IsVerdictAt}
-use Rattle.iam_index.specs.Slots.{AllAre}
+use Rattle.iam_slots.specs.Slots.{AllAre}
 use Rattle.iam_classes.specs.Engine.{EngineValue, IsClassAt, OfClass}
 use Rattle.iam_classes.specs.declared.memo.Pair.{Pair}
 use Rattle.iam_matrix.specs.declared.leads.Lead.{Lead}

@@ -1,6 +1,6 @@
 use Rattle.std.proofs.Common.{subst}
-use Rattle.iam_index.specs.Slots.{GainsOnly}
-use Rattle.iam_index.proofs.SlotLemmas.{all_gained}
+use Rattle.iam_slots.specs.Slots.{GainsOnly}
+use Rattle.iam_slots.proofs.SlotLemmas.{all_gained}
 use Rattle.iam_matrix.specs.Code.Leads.{IsLead}
 use Rattle.iam_matrix.specs.declared.leads.Lead.{Lead}
 use Rattle.iam_matrix.proofs.leads.keep_lead.Goals as goal

@@ -1,5 +1,5 @@
 use Rattle.std.proofs.Common.{subst}
-use Rattle.iam_index.specs.Slots.{AllAre}
+use Rattle.iam_slots.specs.Slots.{AllAre}
 use Rattle.iam_classes.specs.Engine.{EngineValue, IsClassAt}
 use Rattle.iam_classes.specs.declared.memo.Pair.{Pair}
 use Rattle.iam_classes.proofs.engine.ClassEngine.known_from.Goals as goal

@@ -1,9 +1,9 @@
 use Rattle.std.proofs.Common.{sym, subst}
 use Rattle.iam_classes.specs.Engine.{EngineValue, IsClassAt}
 use Rattle.iam_classes.specs.Memo.{HasClass}
-use Rattle.iam_index.specs.Slots.{GainsOnly}
+use Rattle.iam_slots.specs.Slots.{GainsOnly}
 use Rattle.iam_classes.specs.declared.memo.Pair.{Pair}
-use Rattle.iam_index.proofs.SlotLemmas.{all_gained}
+use Rattle.iam_slots.proofs.SlotLemmas.{all_gained}
 use Rattle.iam_classes.proofs.EngineLemmas.{shared_class}
 use Rattle.iam_classes.proofs.memo.Memo.class_with.Goals as goal
 

@@ -1,9 +1,9 @@
 use Rattle.std.proofs.Common.{sym, subst}
 use Rattle.iam_classes.specs.Engine.{EngineValue, IsNumberOf}
 use Rattle.iam_classes.specs.Memo.{HasNumber}
-use Rattle.iam_index.specs.Slots.{GainsOnly}
+use Rattle.iam_slots.specs.Slots.{GainsOnly}
 use Rattle.iam_classes.specs.declared.memo.Answer.{Answer}
-use Rattle.iam_index.proofs.SlotLemmas.{all_gained}
+use Rattle.iam_slots.proofs.SlotLemmas.{all_gained}
 use Rattle.iam_classes.proofs.memo.Memo.keep_number.Goals as goal
 
 pub invariant_of-self : goal.invariant_of-self

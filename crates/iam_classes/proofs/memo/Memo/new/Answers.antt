@@ -5,7 +5,7 @@ use Rattle.iam_classes.specs.Memo.{HasClass, HasNumber}
 use Rattle.iam_classes.specs.declared.memo.Answer.{Answer}
 use Rattle.iam_classes.specs.declared.memo.Pair.{Pair}
 use Rattle.iam_classes.proofs.MemoLemmas.{no_rows}
-use Rattle.iam_index.proofs.SlotLemmas.{all_empty}
+use Rattle.iam_slots.proofs.SlotLemmas.{all_empty}
 use Rattle.iam_classes.proofs.memo.Memo.new.Goals as goal
 
 pub invariant_of-result : goal.invariant_of-result

@@ -1,5 +1,5 @@
 use Rattle.std.proofs.Common.{ℕ, List, Option, IfSome, subst}
-use Rattle.iam_index.specs.Slots.{Keeps}
+use Rattle.iam_slots.specs.Slots.{Keeps}
 use Rattle.iam_classes.specs.Engine.{EngineValue, IsNumberOf}
 use Rattle.iam_classes.specs.Memo.{HasNumber}
 use Rattle.iam_classes.specs.declared.memo.Answer.{Answer}

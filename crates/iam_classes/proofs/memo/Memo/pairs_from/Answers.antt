@@ -1,6 +1,6 @@
 use Rattle.std.proofs.Common.{◌-◌, List, Option, drop, length, subst, sym, take}
 use Rattle.std.proofs.lemmas.List.{take_rest}
-use Rattle.iam_index.specs.Slots.{AllAre}
+use Rattle.iam_slots.specs.Slots.{AllAre}
 use Rattle.iam_classes.specs.Engine.{EngineValue, IsClassAt}
 use Rattle.iam_classes.specs.Memo.{HasClass}
 use Rattle.iam_classes.specs.declared.memo.Pair.{Pair}

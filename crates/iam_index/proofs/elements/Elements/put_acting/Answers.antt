@@ -7,7 +7,7 @@ use Rattle.iam_decision.specs.Living.{Acts, AreActing, LivingValue, living_value
 use Rattle.iam_decision.specs.declared.living.Living.{Living}
 use Rattle.iam_decision.specs.declared.living.Matched.{Matched}
 use Rattle.iam_index.specs.Elements.{HasElement}
-use Rattle.iam_index.specs.Slots.{Keeps}
+use Rattle.iam_slots.specs.Slots.{Keeps}
 use Rattle.iam_index.proofs.ListLemmas.{if_some, some_same}
 use Rattle.iam_index.proofs.elements.Elements.put_acting.Goals as goal
 use Rattle.iam_index.proofs.elements.Elements.put_acting.Goals.{then-acts+in_ok-push, else-acts}

@@ -1,7 +1,7 @@
 // Tables of slots, each of which holds what was kept there last.
 ghost use Rattle.std.specs.Prelude.{◌≡◌, ◌<◌, ◌≤◌, ◌≢◌, ℕ, IfOk, IfSome, Some, length};
 ghost use Rattle.std.specs.List.{slice_get};
-ghost use Rattle.iam_index.specs.Slots.{AreEmpty, GainsOnly, Keeps};
+ghost use Rattle.iam_slots.specs.Slots.{AreEmpty, GainsOnly, Keeps};
 
 use iam_text::OutOfMemory;
 use std::alloc::Global;
@@ -28,7 +28,7 @@ pub fn slot_at(one: u64, width: u64, other: u64, slots: usize) -> u64
 /// More slots than a world has cells are never wanted.
 const MOST_SLOTS: u64 = 16_777_216;
 
-/// At least so many slots, a power of two, which keep nothing.
+/// So many slots or more, a power of two, which keep nothing; where more than 16,777,216 are asked for, that many.
 pub fn empty_slots<T: Copy>(alloc: Global, count: u64) -> Result<Vec<Option<T>>, OutOfMemory>
     ensures empty { IfOk result (λ slots. AreEmpty slots.items) }
     ensures many { IfOk result (λ slots. count ≤ 16777216 → count ≤ length slots.items) }

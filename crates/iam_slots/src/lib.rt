@@ -1,0 +1,7 @@
+//! Tables of slots, for what may be found again: each slot holds what was kept there last.
+#![tactic(auto)]
+
+mod slots;
+
+pub use iam_text::OutOfMemory;
+pub use slots::{WIDTH, empty, empty_slots, keep, kept, slot_at, slot_of};
