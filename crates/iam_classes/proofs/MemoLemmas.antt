@@ -8,30 +8,29 @@ use Rattle.iam_index.specs.Elements.{AreElementNumbers}
 use Rattle.iam_slots.specs.Slots.{AllAre}
 use Rattle.iam_classes.specs.Memo.{AreAnswers, ArePairs, HasClass, HasNumber, HaveRows}
 use Rattle.iam_index.specs.declared.elements.Element.{Element}
-use Rattle.iam_classes.specs.declared.memo.Answer.{Answer}
+use Rattle.iam_slots.specs.declared.numbered.Numbered.{Numbered}
 use Rattle.iam_classes.specs.declared.memo.Class.{Class}
-use Rattle.iam_classes.specs.declared.memo.Pair.{Pair}
 use Rattle.iam_index.proofs.ListLemmas.{get_back, get_more}
 use Rattle.iam_slots.proofs.SlotLemmas.{all_weaker}
 
-pub pairs_more : (world : WorldValue) (classes more : List Class) (pairs : List (Option Pair)) → ArePairs world classes pairs
+pub pairs_more : (world : WorldValue) (classes more : List Class) (pairs : List (Option Numbered)) → ArePairs world classes pairs
     → ArePairs world (classes ++ more) pairs
 pairs_more world classes more pairs all =
-    all_weaker (λ (p : Pair). HasClass world classes p.principal p.resource p.class) (λ (p : Pair). HasClass world (classes ++ more) p.principal p.resource p.class)
-    pairs (λ p (class, at, is). (class, get_more classes more p.class class at, is)) all
+    all_weaker (λ (p : Numbered). HasClass world classes p.one p.other p.number) (λ (p : Numbered). HasClass world (classes ++ more) p.one p.other p.number)
+    pairs (λ p (class, at, is). (class, get_more classes more p.number class at, is)) all
 
-pub answers_more : (world : WorldValue) (classes more : List Class) (rulings : List RulingValue) (answers : List (Option Answer))
+pub answers_more : (world : WorldValue) (classes more : List Class) (rulings : List RulingValue) (answers : List (Option Numbered))
     → AreAnswers world classes rulings answers → AreAnswers world (classes ++ more) rulings answers
 answers_more world classes more rulings answers all =
-    all_weaker (λ (a : Answer). HasNumber world classes rulings a.class a.action a.number)
-    (λ (a : Answer). HasNumber world (classes ++ more) rulings a.class a.action a.number) answers
-    (λ a (class, at, is). (class, get_more classes more a.class class at, is)) all
+    all_weaker (λ (a : Numbered). HasNumber world classes rulings a.one a.other a.number)
+    (λ (a : Numbered). HasNumber world (classes ++ more) rulings a.one a.other a.number) answers
+    (λ a (class, at, is). (class, get_more classes more a.one class at, is)) all
 
-pub answers_behind : (world : WorldValue) (classes : List Class) (rulings more : List RulingValue) (answers : List (Option Answer))
+pub answers_behind : (world : WorldValue) (classes : List Class) (rulings more : List RulingValue) (answers : List (Option Numbered))
     → AreAnswers world classes rulings answers → AreAnswers world classes (rulings ++ more) answers
 answers_behind world classes rulings more answers all =
-    all_weaker (λ (a : Answer). HasNumber world classes rulings a.class a.action a.number)
-    (λ (a : Answer). HasNumber world classes (rulings ++ more) a.class a.action a.number) answers
+    all_weaker (λ (a : Numbered). HasNumber world classes rulings a.one a.other a.number)
+    (λ (a : Numbered). HasNumber world classes (rulings ++ more) a.one a.other a.number) answers
     (λ a (class, at, (ruling, here, is)). (class, at, (ruling, get_more rulings more a.number ruling here, is))) all
 
 pub class_rows_more : (elements : List Element) (classes : List Class) (class : Class) → AreElementNumbers elements class.shared.living class.rows.items
@@ -49,7 +48,7 @@ no_rows elements classes none n class at =
     absurd (omega (arith, within))
 
 -- what holds of each pair holds of those from one on
-pub pairs_behind : (P : Pair → Type 0) (n : ℕ) (pairs : List (Option Pair)) → AllAre P pairs → AllAre P (drop n pairs)
+pub pairs_behind : (P : Numbered → Type 0) (n : ℕ) (pairs : List (Option Numbered)) → AllAre P pairs → AllAre P (drop n pairs)
 pairs_behind P zero pairs all = all
 pairs_behind P (suc n) [] all = all
 pairs_behind P (suc n) (pair ∷ pairs) all = pairs_behind P n pairs (λ i kept at. all (suc i) kept at)

@@ -15,10 +15,9 @@ use Rattle.iam_layers.specs.Cell.{IsAction, IsSharedAt}
 use Rattle.iam_world.specs.World.{WorldValue}
 use Rattle.iam_index.specs.Elements.{AreElements, AreElementNumbers}
 use Rattle.iam_slots.specs.Slots.{AllAre}
+use Rattle.iam_slots.specs.declared.numbered.Numbered.{Numbered}
 use Rattle.iam_index.specs.declared.elements.Element.{Element}
-use Rattle.iam_classes.specs.declared.memo.Answer.{Answer}
 use Rattle.iam_classes.specs.declared.memo.Class.{Class}
-use Rattle.iam_classes.specs.declared.memo.Pair.{Pair}
 
 -- requests of the class share this
 abbrev pub HasShared : List Class → SharedValue → ℕ → Type 0
@@ -54,14 +53,14 @@ Finds world shared action frame found =
     (applicable : ApplicableValue) (access : AccessValue) → IsShared world.actions applicable access shared
     → (frame ≡ shared.frame) × AreFound (request_for access action) (placed applicable) found
 
--- each pair is of its class
-abbrev pub ArePairs : WorldValue → List Class → List (Option Pair) → Type 0
-ArePairs world classes pairs = AllAre (λ pair. HasClass world classes pair.principal pair.resource pair.class) pairs
+-- each pair of a principal and a resource is of its class
+abbrev pub ArePairs : WorldValue → List Class → List (Option Numbered) → Type 0
+ArePairs world classes pairs = AllAre (λ pair. HasClass world classes pair.one pair.other pair.number) pairs
 
--- each answer is the one on the requests of its class for its action
-abbrev pub AreAnswers : WorldValue → List Class → List RulingValue → List (Option Answer) → Type 0
+-- each answer, under a class and an action, is the one on the requests of that class for that action
+abbrev pub AreAnswers : WorldValue → List Class → List RulingValue → List (Option Numbered) → Type 0
 AreAnswers world classes rulings answers =
-    AllAre (λ answer. HasNumber world classes rulings answer.class answer.action answer.number) answers
+    AllAre (λ answer. HasNumber world classes rulings answer.one answer.other answer.number) answers
 
 -- the kept elements of each class are those of its statements
 abbrev pub HaveRows : List Element → List Class → Type 0
@@ -70,8 +69,8 @@ HaveRows elements classes =
 
 -- everything that is kept is right
 pub record IsRight
-    (world : WorldValue) (elements : List Element) (classes : List Class) (rulings : List RulingValue) (pairs : List (Option Pair))
-    (answers : List (Option Answer)) : Type 0 where
+    (world : WorldValue) (elements : List Element) (classes : List Class) (rulings : List RulingValue) (pairs : List (Option Numbered))
+    (answers : List (Option Numbered)) : Type 0 where
   pub pairs_are : ArePairs world classes pairs
   pub answers_are : AreAnswers world classes rulings answers
   pub elements_are : AreElements world elements

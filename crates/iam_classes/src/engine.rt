@@ -1,11 +1,12 @@
 // The engine as its callers see it.
 ghost use Rattle.std.specs.Prelude.{◌≡◌};
 
-use crate::memo::{Found, Memo, Pair};
+use crate::memo::{Found, Memo};
 use crate::source::Source;
 use crate::survey::Survey;
 use iam_index::Index;
 use iam_layers::{Decision, Matched, Verdict, World};
+use iam_slots::Numbered;
 use iam_text::OutOfMemory;
 use std::alloc::Global;
 use std::marker::Model;
@@ -126,8 +127,8 @@ impl<'a> ClassEngine<'a> {
 
     /// The pairs whose classes are known, from principal p and resource r on, as they lie side by side. Where the class of one is
     /// not known stands none, or another. The requests of a class share the same.
-    pub fn known_from(&self, p: u64, r: u64) -> &[Option<Pair>]
-        ensures { AllAre (λ pair. IsClassAt self.now pair.principal pair.resource pair.class) result.now }
+    pub fn known_from(&self, p: u64, r: u64) -> &[Option<Numbered>]
+        ensures { AllAre (λ pair. IsClassAt self.now pair.one pair.other pair.number) result.now }
     {
         self.memo.pairs_from(p, r)
     }

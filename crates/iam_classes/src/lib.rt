@@ -12,6 +12,7 @@ mod survey;
 pub use engine::ClassEngine;
 pub use iam_index::Index;
 pub use iam_layers::{Decision, Shared, Verdict, World};
+pub use iam_slots::Numbered;
 pub use iam_text::OutOfMemory;
-pub use memo::{Found, Pair};
+pub use memo::Found;
 pub use survey::{Block, Survey, Surveyor, wants_survey};

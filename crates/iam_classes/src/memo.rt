@@ -5,7 +5,9 @@ use crate::held::Held;
 use iam_decision::acting_are_found;
 use iam_index::{Elements, Index};
 use iam_layers::{Frame, Matched, Ruling, Shared, Verdict, World};
-use iam_slots::{WIDTH, empty, empty_slots, keep, kept, slot_at, slot_of};
+use iam_slots::{
+    Numbered, WIDTH, empty, empty_slots, keep, keep_number, kept, number_in, slot_at, slot_of,
+};
 use iam_text::OutOfMemory;
 use std::alloc::Global;
 use std::marker::Model;
@@ -28,85 +30,6 @@ const PRINTS: u64 = 4_096;
 pub struct Class<'a> {
     pub shared: Held<'a>,
     pub rows: Vec<Option<usize>>,
-}
-
-/// The class of a principal and a resource.
-#[derive(Clone, Copy)]
-pub struct Pair {
-    pub principal: u32,
-    pub resource: u32,
-    pub class: u32,
-}
-
-impl Pair {
-    ghost use Rattle.std.specs.Prelude.{◌≡◌, IfSome, Some};
-    ghost use Rattle.iam_slots.specs.Slots.{Keeps};
-    ghost use Rattle.iam_classes.specs.declared.memo.Pair.{Pair};
-
-    /// The pair, where its numbers have 32 bits.
-    fn of(p: u64, r: u64, class: usize) -> Option<Pair>
-        ensures { IfSome result (λ pair. pair ≡ record { principal = p; resource = r; class = class }) }
-    {
-        Some(Pair {
-            principal: u32::try_from(p).ok()?,
-            resource: u32::try_from(r).ok()?,
-            class: u32::try_from(class).ok()?,
-        })
-    }
-
-    /// The class of principal p and resource r, where a slot keeps this pair.
-    #[inline(always)]
-    pub fn class_in(pairs: &[Option<Pair>], slot: u64, p: u64, r: u64) -> Option<usize>
-        ensures found { IfSome result (λ class. Keeps pairs.now slot (record { principal = p; resource = r; class = class })) }
-        ensures all { (pair : Pair) → Keeps pairs.now slot pair → pair.principal ≡ p → pair.resource ≡ r → result ≡ Some pair.class }
-    {
-        let pair = kept(pairs, slot)?;
-        if pair.principal as u64 == p && pair.resource as u64 == r {
-            Some(pair.class as usize)
-        } else {
-            None
-        }
-    }
-}
-
-/// The number of the verdict on requests of a class for an action.
-#[derive(Clone, Copy)]
-pub struct Answer {
-    pub class: u32,
-    pub action: u32,
-    pub number: u32,
-}
-
-impl Answer {
-    ghost use Rattle.std.specs.Prelude.{◌≡◌, IfSome, Some};
-    ghost use Rattle.iam_slots.specs.Slots.{Keeps};
-    ghost use Rattle.iam_classes.specs.declared.memo.Answer.{Answer};
-
-    /// The answer, where its numbers have 32 bits.
-    fn of(class: usize, a: u64, number: usize) -> Option<Answer>
-        ensures { IfSome result (λ answer. answer ≡ record { class = class; action = a; number = number }) }
-    {
-        Some(Answer {
-            class: u32::try_from(class).ok()?,
-            action: u32::try_from(a).ok()?,
-            number: u32::try_from(number).ok()?,
-        })
-    }
-
-    /// The number of the verdict on requests of a class for action a, where a slot keeps this answer.
-    #[inline(always)]
-    fn number_in(answers: &[Option<Answer>], slot: u64, class: usize, a: u64) -> Option<usize>
-        ensures found { IfSome result (λ number. Keeps answers.now slot (record { class = class; action = a; number = number })) }
-        ensures all { (answer : Answer) → Keeps answers.now slot answer → answer.class ≡ class → answer.action ≡ a
-            → result ≡ Some answer.number }
-    {
-        let answer = kept(answers, slot)?;
-        if answer.class as usize == class && answer.action as u64 == a {
-            Some(answer.number as usize)
-        } else {
-            None
-        }
-    }
 }
 
 /// A class, and whether all that there were before were let go for it.
@@ -153,8 +76,9 @@ pub struct Memo<'a> {
     elements: &'a Elements<'a>,
     classes: Vec<Class<'a>>,
     rulings: Vec<Ruling>,
-    pairs: Vec<Option<Pair>>,
-    answers: Vec<Option<Answer>>,
+    // The class of a principal and a resource, and the number of the verdict on a class and an action.
+    pairs: Vec<Option<Numbered>>,
+    answers: Vec<Option<Numbered>>,
     // By a print the class, and the ruling, that was last found with it: a hint.
     class_prints: Vec<Option<usize>>,
     ruling_prints: Vec<Option<usize>>,
@@ -220,13 +144,13 @@ impl<'a> Memo<'a> {
         ensures { IfSome result (IsClassAt self.now p r) }
     {
         let slot = slot_at(p, self.resources, r, self.pairs.len());
-        Pair::class_in(self.pairs.as_slice(), slot, p, r)
+        number_in(self.pairs.as_slice(), slot, p, r)
     }
 
     /// The pairs whose classes are known, from principal p and resource r on, as they lie side by side. Where the class of one is
     /// not known stands none, or another.
-    pub fn pairs_from(&self, p: u64, r: u64) -> &[Option<Pair>]
-        ensures { AllAre (λ pair. IsClassAt self.now pair.principal pair.resource pair.class) result.now }
+    pub fn pairs_from(&self, p: u64, r: u64) -> &[Option<Numbered>]
+        ensures { AllAre (λ pair. IsClassAt self.now pair.one pair.other pair.number) result.now }
     {
         let pairs = self.pairs.as_slice();
         let slot = slot_at(p, self.resources, r, pairs.len()) as usize;
@@ -252,10 +176,8 @@ impl<'a> Memo<'a> {
         ensures same { self.new.world ≡ self.old.world }
     {
         let found = self.class_sharing(alloc, shared)?;
-        if let Some(pair) = Pair::of(p, r, found.class) {
-            let slot = slot_at(p, self.resources, r, self.pairs.len());
-            keep(&mut self.pairs, slot, pair);
-        }
+        let slot = slot_at(p, self.resources, r, self.pairs.len());
+        keep_number(&mut self.pairs, slot, p, r, found.class);
         Ok(found)
     }
 
@@ -355,7 +277,7 @@ impl<'a> Memo<'a> {
         ensures { IfSome result (IsNumberOf self.now class a) }
     {
         let slot = slot_of(a, class as u64, self.answers.len());
-        Answer::number_in(self.answers.as_slice(), slot, class, a)
+        number_in(self.answers.as_slice(), slot, class as u64, a)
     }
 
     /// The same where it is not known, from the statements of the class that act on it.
@@ -384,10 +306,8 @@ impl<'a> Memo<'a> {
         requires { IsNumberOf self.old class a number }
         ensures { self.new ≡ self.old }
     {
-        if let Some(answer) = Answer::of(class, a, number) {
-            let slot = slot_of(a, class as u64, self.answers.len());
-            keep(&mut self.answers, slot, answer);
-        }
+        let slot = slot_of(a, class as u64, self.answers.len());
+        keep_number(&mut self.answers, slot, class as u64, a, number);
     }
 
     /// Puts the statements that match requests of the class for action a, which has this text, into `found`, in place of what

@@ -1,45 +1,23 @@
-// Where a tile has what was said of cells of a class, so that it is said again of the next.
+// Leads: under a class and an action the place, among what a tile has, of what has to be said of its requests, so that it is said again
+// of the next.
 ghost use Rattle.std.specs.Prelude.{◌≡◌, ◌+◌, ◌<◌, ◌≤◌, ◌^◌, Bool, List, IfOk, IfSome};
 ghost use Rattle.iam_classes.specs.Engine.{EngineValue};
 ghost use Rattle.iam_decision.specs.declared.verdict.Verdict.{Verdict};
 ghost use Rattle.iam_matrix.specs.Code.Leads.{AreKnown, AreLeads, HasEntry, IsLead};
 ghost use Rattle.iam_matrix.specs.Code.Tiles.{AddsEntries};
 
-use iam_classes::{ClassEngine, Pair};
+use iam_classes::ClassEngine;
 use iam_report::Entries;
 use iam_row::Position;
-use iam_slots::{empty_slots, keep, kept, slot_of};
+use iam_slots::{Numbered, empty_slots, keep_number, number_in, slot_of};
 use iam_text::OutOfMemory;
 use std::alloc::Global;
 
 /// So many leads are kept at most, a power of two.
 const MOST: u64 = 1_024;
 
-/// The place, among what a tile has, of what has to be said of requests of a class for an action.
-#[derive(Clone, Copy)]
-pub struct Lead {
-    pub class: u32,
-    pub action: u32,
-    pub place: u32,
-}
-
-impl Lead {
-    ghost use Rattle.std.specs.Prelude.{◌≡◌, IfSome};
-
-    /// The lead, where its numbers have 32 bits.
-    fn of(class: usize, a: u64, place: usize) -> Option<Lead>
-        ensures { IfSome result (λ lead. lead ≡ record { class = class; action = a; place = place }) }
-    {
-        Some(Lead {
-            class: u32::try_from(class).ok()?,
-            action: u32::try_from(a).ok()?,
-            place: u32::try_from(place).ok()?,
-        })
-    }
-}
-
 /// No leads yet, for so many cells. Where there is no memory none is ever kept.
-pub fn no_leads(alloc: Global, cells: u64) -> Vec<Option<Lead>>
+pub fn no_leads(alloc: Global, cells: u64) -> Vec<Option<Numbered>>
     ensures { (brief : Bool) (engine : EngineValue) (entries : List Verdict) → AreLeads brief engine result.items entries }
 {
     match empty_slots(alloc, cells.min(MOST)) {
@@ -52,8 +30,8 @@ pub fn no_leads(alloc: Global, cells: u64) -> Vec<Option<Lead>>
 /// its class has led to it.
 #[inline(always)]
 fn place_of(
-    pairs: &[Option<Pair>],
-    leads: &[Option<Lead>],
+    pairs: &[Option<Numbered>],
+    leads: &[Option<Numbered>],
     i: u64,
     p: u64,
     a: u64,
@@ -62,13 +40,9 @@ fn place_of(
     ensures { (brief : Bool) (engine : EngineValue) (entries : List Verdict) → AreKnown engine pairs.now → AreLeads brief engine leads.now entries
         → IfSome result (HasEntry brief engine.world p a r entries) }
 {
-    let class = Pair::class_in(pairs, i, p, r)?;
-    let lead = kept(leads, slot_of(0, class as u64, leads.len()))?;
-    if lead.class as usize == class && lead.action as u64 == a {
-        Some(lead.place as usize)
-    } else {
-        None
-    }
+    let class = number_in(pairs, i, p, r)? as u64;
+    let slot = slot_of(0, class, leads.len());
+    number_in(leads, slot, class, a)
 }
 
 /// Puts what has to be said of so many cells of a row, from a position on, behind the entries, as long as the class of each is
@@ -76,7 +50,7 @@ fn place_of(
 #[inline(never)]
 pub fn put_known(
     engine: &ClassEngine<'_>,
-    leads: &[Option<Lead>],
+    leads: &[Option<Numbered>],
     at: Position,
     most: u64,
     entries: &mut Entries,
@@ -99,12 +73,10 @@ pub fn put_known(
 }
 
 /// Keeps the place of what has to be said of requests of a class for action a.
-pub fn keep_lead(leads: &mut Vec<Option<Lead>>, class: usize, a: u64, place: usize)
+pub fn keep_lead(leads: &mut Vec<Option<Numbered>>, class: usize, a: u64, place: usize)
     ensures { (brief : Bool) (engine : EngineValue) (entries : List Verdict) → AreLeads brief engine leads.old.items entries
-        → IsLead brief engine entries (record { class = class; action = a; place = place }) → AreLeads brief engine leads.new.items entries }
+        → IsLead brief engine entries (record { one = class; other = a; number = place }) → AreLeads brief engine leads.new.items entries }
 {
-    if let Some(lead) = Lead::of(class, a, place) {
-        let slot = slot_of(0, class as u64, leads.len());
-        keep(leads, slot, lead);
-    }
+    let slot = slot_of(0, class as u64, leads.len());
+    keep_number(leads, slot, class as u64, a, place);
 }

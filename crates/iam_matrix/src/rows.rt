@@ -9,13 +9,13 @@ ghost use Rattle.iam_matrix.specs.Code.Tiles.{AreEntriesOf, AreTailsOf};
 
 use crate::cut::{Cells, Cut};
 use crate::each::end_of;
-use crate::leads::{Lead, keep_lead, no_leads, put_known};
+use crate::leads::{keep_lead, no_leads, put_known};
 use iam_classes::{ClassEngine, Survey};
 use iam_crew::{Bound, Crew};
 use iam_layers::{Verdict, World};
 use iam_report::{Entries, Tile};
 use iam_row::{Format, Position};
-use iam_slots::empty;
+use iam_slots::{Numbered, empty};
 use iam_text::OutOfMemory;
 use std::alloc::Global;
 
@@ -157,7 +157,7 @@ fn add(
     engine: &mut ClassEngine<'_>,
     brief: bool,
     at: Position,
-    leads: &mut Vec<Option<Lead>>,
+    leads: &mut Vec<Option<Numbered>>,
     entries: &mut Entries,
 ) -> Result<(), OutOfMemory>
     requires is { IsCell engine.old.world at.cell at.principal at.action at.resource }
@@ -181,7 +181,7 @@ fn class_of(
     engine: &mut ClassEngine<'_>,
     p: u64,
     r: u64,
-    leads: &mut Vec<Option<Lead>>,
+    leads: &mut Vec<Option<Numbered>>,
 ) -> Result<usize, OutOfMemory>
     requires principal { p < length engine.old.world.principals }
     requires resource { r < length engine.old.world.resources }

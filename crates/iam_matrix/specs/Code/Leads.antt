@@ -7,9 +7,8 @@ use Rattle.iam_row.specs.Piece.{bare}
 use Rattle.iam_world.specs.World.{WorldValue}
 use Rattle.iam_layers.specs.Cell.{IsCell, IsDecisionAt, IsVerdictAt}
 use Rattle.iam_slots.specs.Slots.{AllAre}
+use Rattle.iam_slots.specs.declared.numbered.Numbered.{Numbered}
 use Rattle.iam_classes.specs.Engine.{EngineValue, IsClassAt, OfClass}
-use Rattle.iam_classes.specs.declared.memo.Pair.{Pair}
-use Rattle.iam_matrix.specs.declared.leads.Lead.{Lead}
 
 -- this is what a tile says of principal p's request for action a on resource r: the verdict, or in brief the decision, as a verdict
 -- without places and layers
@@ -30,13 +29,14 @@ entry_of true verdict = bare verdict.decision
 abbrev pub HasEntry : Bool → WorldValue → ℕ → ℕ → ℕ → List Verdict → ℕ → Type 0
 HasEntry brief world p a r entries place = (entry : Verdict) × (slice_get entries place ≡ Some entry) × IsEntryAt brief world p a r entry
 
--- at the place of the lead stands what a tile says of all requests of its class for its action
-abbrev pub IsLead : Bool → EngineValue → List Verdict → Lead → Type 0
+-- at the place of the lead, which is kept under a class and an action, stands what a tile says of all requests of that class for that
+-- action
+abbrev pub IsLead : Bool → EngineValue → List Verdict → Numbered → Type 0
 IsLead brief engine entries lead =
-    (entry : Verdict) × (slice_get entries lead.place ≡ Some entry)
-    × OfClass engine lead.class (λ p r. IsEntryAt brief engine.world p lead.action r entry)
+    (entry : Verdict) × (slice_get entries lead.number ≡ Some entry)
+    × OfClass engine lead.one (λ p r. IsEntryAt brief engine.world p lead.other r entry)
 
-abbrev pub AreLeads : Bool → EngineValue → List (Option Lead) → List Verdict → Type 0
+abbrev pub AreLeads : Bool → EngineValue → List (Option Numbered) → List Verdict → Type 0
 AreLeads brief engine leads entries = AllAre (λ lead. IsLead brief engine entries lead) leads
 
 -- one more is said, of this request
@@ -44,5 +44,5 @@ abbrev pub AddsEntry : Bool → WorldValue → ℕ → ℕ → ℕ → List Verd
 AddsEntry brief world p a r old new = (entry : Verdict) × IsEntryAt brief world p a r entry × (new ≡ old ++ entry ∷ [])
 
 -- each of these pairs is of its class
-abbrev pub AreKnown : EngineValue → List (Option Pair) → Type 0
-AreKnown engine pairs = AllAre (λ pair. IsClassAt engine pair.principal pair.resource pair.class) pairs
+abbrev pub AreKnown : EngineValue → List (Option Numbered) → Type 0
+AreKnown engine pairs = AllAre (λ pair. IsClassAt engine pair.one pair.other pair.number) pairs

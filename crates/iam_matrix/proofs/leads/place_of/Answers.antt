@@ -1,21 +1,20 @@
-use Rattle.std.proofs.Common.{ℕ, subst}
-use Rattle.iam_classes.specs.Engine.{OfClass}
+use Rattle.std.proofs.Common.{ℕ}
+use Rattle.iam_slots.specs.Slots.{Keeps}
+use Rattle.iam_slots.specs.declared.numbered.Numbered.{Numbered}
+use Rattle.iam_index.proofs.ListLemmas.{if_some}
 use Rattle.iam_classes.proofs.EngineLemmas.{of_class}
-use Rattle.iam_matrix.specs.Code.Leads.{IsEntryAt}
+use Rattle.iam_matrix.specs.Code.Leads.{HasEntry, IsEntryAt}
 use Rattle.iam_matrix.proofs.leads.place_of.Goals as goal
 
-pub returns-then-lead-a : goal.returns-then-lead-a
-returns-then-lead-a c = λ brief engine entries known leads.
+pub returns-in_ok : goal.returns-in_ok
+returns-in_ok c = λ brief engine entries known leads.
     let p = c.args.p in
     let a = c.args.a in
     let r = c.args.r in
-    let lead = c.in_ok-lead.lead in
+    let slot = c.slot_of-slot.result in
     let class = c.in_ok-class.class in
-    let of = known c.args.i (record { principal = p; resource = r; class = class }) c.in_ok-class.ensures.found in
-    let (entry, there, is) = leads c.slot_of.result lead c.in_ok-lead.ensures.found in
-    let C : ℕ → Type 0 = λ n. OfClass engine n (λ p r. IsEntryAt brief engine.world p lead.action r entry) in
-    let A : ℕ → Type 0 = λ a. OfClass engine class (λ p r. IsEntryAt brief engine.world p a r entry) in (
-      entry,
-      there,
-      of_class engine p r class (λ p r. IsEntryAt brief engine.world p a r entry) of (subst A c.if-lead-a.true (subst C c.if-lead-class.true is)),
-    )
+    let of = known c.args.i (record { one = p; other = r; number = class }) c.in_ok-class.ensures.found in
+    let lead : ℕ → Numbered = λ place. record { one = class; other = a; number = place } in
+    if_some (λ place. Keeps c.args.leads.now slot (lead place)) (HasEntry brief engine.world p a r entries) c.number_in-2.result
+    (λ place there. let (entry, at, is) = leads slot (lead place) there in
+    (entry, at, of_class engine p r class (λ p r. IsEntryAt brief engine.world p a r entry) of is)) c.number_in-2.ensures.found

@@ -2,8 +2,7 @@ use Rattle.std.proofs.Common.{sym, subst}
 use Rattle.iam_world.specs.World.{WorldValue}
 use Rattle.iam_index.specs.Elements.{AreElements}
 use Rattle.iam_classes.specs.Memo.{HasClass, HasNumber}
-use Rattle.iam_classes.specs.declared.memo.Answer.{Answer}
-use Rattle.iam_classes.specs.declared.memo.Pair.{Pair}
+use Rattle.iam_slots.specs.declared.numbered.Numbered.{Numbered}
 use Rattle.iam_classes.proofs.MemoLemmas.{no_rows}
 use Rattle.iam_slots.proofs.SlotLemmas.{all_empty}
 use Rattle.iam_classes.proofs.memo.Memo.new.Goals as goal
@@ -15,9 +14,9 @@ invariant_of-result c =
     let rulings = c.new-2.result.items in
     let W : WorldValue → Type 0 = λ w. AreElements w c.elements.result.now.elements.items in
     record {
-      pairs_are = all_empty (λ (p : Pair). HasClass world classes p.principal p.resource p.class) c.in_ok-empty_slots.field-0.items c.in_ok-empty_slots.ensures.empty;
+      pairs_are = all_empty (λ (p : Numbered). HasClass world classes p.one p.other p.number) c.in_ok-empty_slots.field-0.items c.in_ok-empty_slots.ensures.empty;
       answers_are =
-          all_empty (λ (a : Answer). HasNumber world classes rulings a.class a.action a.number) c.in_ok-empty_slots-2.field-0.items
+          all_empty (λ (a : Numbered). HasNumber world classes rulings a.one a.other a.number) c.in_ok-empty_slots-2.field-0.items
           c.in_ok-empty_slots-2.ensures.empty;
       elements_are = subst W (sym c.world-world.ensures) c.elements.ensures;
       rows_are = no_rows c.elements.result.now.elements.items classes c.new.ensures.items;

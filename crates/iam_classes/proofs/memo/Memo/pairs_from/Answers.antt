@@ -3,7 +3,7 @@ use Rattle.std.proofs.lemmas.List.{take_rest}
 use Rattle.iam_slots.specs.Slots.{AllAre}
 use Rattle.iam_classes.specs.Engine.{EngineValue, IsClassAt}
 use Rattle.iam_classes.specs.Memo.{HasClass}
-use Rattle.iam_classes.specs.declared.memo.Pair.{Pair}
+use Rattle.iam_slots.specs.declared.numbered.Numbered.{Numbered}
 use Rattle.iam_classes.proofs.MemoLemmas.{pairs_behind}
 use Rattle.iam_classes.proofs.memo.Memo.pairs_from.Goals as goal
 
@@ -12,10 +12,10 @@ returns-then-slot-pairs c =
     let own = c.self.inside in
     let pairs = c.as_slice-pairs.result.now in
     let slot = c.slot_at-slot.result in
-    let P : Pair → Type 0 = λ pair. HasClass own.world.now own.classes.items pair.principal pair.resource pair.class in
-    let S : List (Option Pair) → Type 0 = AllAre P in
+    let P : Numbered → Type 0 = λ pair. HasClass own.world.now own.classes.items pair.one pair.other pair.number in
+    let S : List (Option Numbered) → Type 0 = AllAre P in
     let rest : S (take (length pairs - slot) (drop slot pairs)) =
     subst S (sym (take_rest pairs slot)) (pairs_behind P slot pairs (subst S (sym c.as_slice-pairs.ensures.value) c.self.invariant.pairs_are)) in
     let E : EngineValue → Type 0 = λ engine.
-    AllAre (λ (pair : Pair). IsClassAt engine pair.principal pair.resource pair.class) (take (length pairs - slot) (drop slot pairs)) in
+    AllAre (λ (pair : Numbered). IsClassAt engine pair.one pair.other pair.number) (take (length pairs - slot) (drop slot pairs)) in
     subst E c.self.view_is rest
