@@ -8,7 +8,7 @@ use Rattle.iam_row.specs.declared.position.Position.{Position}
 use Rattle.iam_classes.specs.Engine.{EngineValue}
 use Rattle.iam_matrix.specs.Code.Leads.{AreLeads, IsEntryAt, IsEntryOf}
 use Rattle.iam_matrix.specs.Code.Tiles.{AddsEntries, AreEntries, AreEntriesOf}
-use Rattle.iam_matrix.specs.declared.leads.Lead.{Lead}
+use Rattle.iam_slots.specs.declared.numbered.Numbered.{Numbered}
 use Rattle.iam_matrix.proofs.LeadLemmas.{leads_entries}
 use Rattle.iam_matrix.proofs.Tiles.{along_one, join_entries, no_entries}
 
@@ -56,7 +56,7 @@ row_entries brief world at count from old new is row least so_far (more, behind,
     subst E (sym behind) (subst N many (join_entries Is from (at.cell - from) count old more so_far (subst F here next)))
 
 -- what cells of a class have led to stays where it is, and there are so many entries more
-pub leads_behind : (brief : Bool) (engine : EngineValue) (leads : List (Option Lead)) (at : Position) (count : ℕ) (old new : List Verdict)
+pub leads_behind : (brief : Bool) (engine : EngineValue) (leads : List (Option Numbered)) (at : Position) (count : ℕ) (old new : List Verdict)
     → AreLeads brief engine leads old → AddsEntries brief engine.world at count old new → AreLeads brief engine leads new
 leads_behind brief engine leads at count old new all (more, behind, are) =
     let E : List Verdict → Type 0 = λ es. AreLeads brief engine leads es in

@@ -47,7 +47,7 @@ fn place_of(
 
 /// Puts what has to be said of so many cells of a row, from a position on, behind the entries, as long as the class of each is
 /// known and has led to it; how many.
-#[inline(never)]
+#[inline(always)]
 pub fn put_known(
     engine: &ClassEngine<'_>,
     leads: &[Option<Numbered>],
@@ -62,6 +62,27 @@ pub fn put_known(
         → IfOk result (λ count. AddsEntries brief engine.now.world at count entries.old entries.new) }
 {
     let pairs = engine.known_from(at.principal, at.resource);
+    if pairs.is_empty() {
+        return Ok(0);
+    }
+    put_pairs(pairs, leads, at, most, entries)
+}
+
+/// The same, where the classes of these pairs are known.
+#[inline(never)]
+fn put_pairs(
+    pairs: &[Option<Numbered>],
+    leads: &[Option<Numbered>],
+    at: Position,
+    most: u64,
+    entries: &mut Entries,
+) -> Result<u64, OutOfMemory>
+    requires few { at.resource + most < 2 ^ 64 }
+    requires leads { (brief : Bool) × (engine : EngineValue) × AreKnown engine pairs.now × AreLeads brief engine leads.now entries.old }
+    ensures most { IfOk result (λ count. count ≤ most) }
+    ensures entries { (brief : Bool) (engine : EngineValue) → AreKnown engine pairs.now → AreLeads brief engine leads.now entries.old
+        → IfOk result (λ count. AddsEntries brief engine.world at count entries.old entries.new) }
+{
     for i in 0..most {
         let r = at.resource + i;
         let Some(place) = place_of(pairs, leads, i, at.principal, at.action, r) else {

@@ -4,7 +4,7 @@ use Rattle.iam_layers.specs.Cell.{IsCell}
 use Rattle.iam_world.specs.World.{WorldValue, world_cells}
 use Rattle.iam_matrix.specs.Code.Leads.{AreLeads, IsEntryAt, IsEntryOf}
 use Rattle.iam_matrix.specs.Code.Tiles.{AddsEntries, AreEntries}
-use Rattle.iam_matrix.specs.declared.leads.Lead.{Lead}
+use Rattle.iam_slots.specs.declared.numbered.Numbered.{Numbered}
 use Rattle.iam_matrix.proofs.RowLemmas.{adds_length, leads_behind, row_entries}
 use Rattle.iam_matrix.proofs.Tiles.{more_entries, no_entries}
 use Rattle.iam_matrix.proofs.rows.entries_of.Goals as goal
@@ -35,7 +35,7 @@ left_in_row-most-requires-clause-is c =
 
 pub put_known-requires-clause-leads : goal.put_known-requires-clause-leads
 put_known-requires-clause-leads c =
-    let L : List (Option Lead) → Type 0 = λ leads. AreLeads c.args.brief c.loop-at.engine leads c.loop-at.entries in
+    let L : List (Option Numbered) → Type 0 = λ leads. AreLeads c.args.brief c.loop-at.engine leads c.loop-at.entries in
     (c.args.brief, subst L (sym c.as_slice.ensures.value) c.loop-at.invariant.leads)
 
 pub along-at-requires-clause-row : goal.along-at-requires-clause-row
@@ -53,7 +53,7 @@ add-requires-clause-is c =
 pub add-requires-clause-few : goal.add-requires-clause-few
 add-requires-clause-few c =
     let so_far = c.loop-at.invariant in
-    let L : List (Option Lead) → Type 0 = λ leads. AreLeads c.args.brief c.loop-at.engine leads c.loop-at.entries in
+    let L : List (Option Numbered) → Type 0 = λ leads. AreLeads c.args.brief c.loop-at.engine leads c.loop-at.entries in
     let adds = c.in_ok-count.ensures.entries c.args.brief (subst L (sym c.as_slice.ensures.value) so_far.leads) in
     let many = adds_length c.args.brief c.loop-at.engine.world c.loop-at.at c.in_ok-count.count c.loop-at.entries c.put_known.new.entries adds in
     omega (arith, many, so_far.so_far.count_is, so_far.least, c.if-count-most.true, c.left_in_row-most.ensures.cells, c.end_of-end.ensures.few)
@@ -63,7 +63,7 @@ add-requires-clause-leads c =
     let brief = c.args.brief in
     let engine = c.loop-at.engine in
     let old = c.loop-at.entries in
-    let L : List (Option Lead) → Type 0 = λ leads. AreLeads brief engine leads old in
+    let L : List (Option Numbered) → Type 0 = λ leads. AreLeads brief engine leads old in
     let adds = c.in_ok-count.ensures.entries brief (subst L (sym c.as_slice.ensures.value) c.loop-at.invariant.leads) in
     leads_behind brief engine c.loop-at.leads.items c.loop-at.at c.in_ok-count.count old c.put_known.new.entries c.loop-at.invariant.leads adds
 
@@ -90,7 +90,7 @@ loop-at-preserved-then-count-most c =
     let few = subst F (sym c.world-world.ensures) c.requires in
     let here = so_far.there (omega (arith, c.loop-at-test.true, c.end_of-end.ensures.value, few)) in
     let there = c.along-at.ensures.is (omega (arith, c.if-count-most.true, c.left_in_row-most.ensures.cells, c.end_of-end.ensures.value, few)) in
-    let L : List (Option Lead) → Type 0 = λ leads. AreLeads brief c.loop-at.engine leads old in
+    let L : List (Option Numbered) → Type 0 = λ leads. AreLeads brief c.loop-at.engine leads old in
     let A : WorldValue → Type 0 = λ w. AddsEntries brief w at count old mid in
     let adds = subst A so_far.same (c.in_ok-count.ensures.entries brief (subst L (sym c.as_slice.ensures.value) so_far.leads)) in
     let row : at.resource + count ≤ length world.resources = omega (arith, c.left_in_row-most.ensures.resources, c.in_ok-count.ensures.most) in
@@ -125,7 +125,7 @@ loop-at-preserved c =
     let F : WorldValue → Type 0 = λ w. from + c.args.tile.count ≤ world_cells w in
     let few = subst F (sym c.world-world.ensures) c.requires in
     let here = so_far.there (omega (arith, c.loop-at-test.true, c.end_of-end.ensures.value, few)) in
-    let L : List (Option Lead) → Type 0 = λ leads. AreLeads brief engine leads old in
+    let L : List (Option Numbered) → Type 0 = λ leads. AreLeads brief engine leads old in
     let adds = c.in_ok-count.ensures.entries brief (subst L (sym c.as_slice.ensures.value) so_far.leads) in
     let A : WorldValue → Type 0 = λ w. AddsEntries brief w at count old mid in
     let row : at.resource + count ≤ length world.resources = omega (arith, c.left_in_row-most.ensures.resources, c.in_ok-count.ensures.most) in
