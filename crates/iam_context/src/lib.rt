@@ -17,5 +17,5 @@ pub use fault::ContextFault;
 pub use iam_text::{Draft, Glob, OutOfMemory, Text};
 pub use keys::Keys;
 pub use part::{Derived, Part, part_fault};
-pub use pattern::resolve;
+pub use pattern::{lone_value, resolve};
 pub use sought::Sought;

@@ -1,9 +1,10 @@
 // What a text with variables becomes in a context.
-ghost use Rattle.std.specs.Prelude.{◌≡◌, ◌++◌, Bool, Some, None, map, option_map, IfOk, IfSome, if◌then◌else◌};
+ghost use Rattle.std.specs.Prelude.{◌≡◌, ◌++◌, ◌∷◌, [], Bool, Some, None, map, option_map, IfOk, IfSome, IsTrue, if◌then◌else◌};
 ghost use Rattle.std.specs.List.{list_all};
 ghost use Rattle.std.specs.Str.{chars};
 ghost use Rattle.std.specs.String.{string_bytes};
-ghost use Rattle.iam_glob.specs.Glob.{sign_of};
+ghost use Rattle.iam_glob.specs.Glob.{plain_sign, sign_of};
+ghost use Rattle.iam_text.specs.declared.draft.Piece.TheVariants as piece;
 ghost use Rattle.iam_text.specs.Stretches.{piece_of};
 ghost use Rattle.iam_context.specs.Resolve.{one_or, piece_signs, resolved};
 ghost use Rattle.iam_context.specs.Code.Wildcards.{is_no_wildcard};
@@ -27,6 +28,40 @@ pub fn resolve<'a>(
     match text_of(alloc, whole, context)? {
         Some(text) => Ok(Some(pattern_of(alloc, text.as_str(), wild)?)),
         None => sign_by_sign(alloc, draft, context),
+    }
+}
+
+/// What a text that is one variable alone becomes, without a pattern made of it: its value, whose characters are all given,
+/// or `None` inside where it has none. `None` where the text is anything else.
+pub fn lone_value<'a: 'c, 'c>(draft: &'a Draft, context: &'c Context<'a>) -> Option<Option<&'c str>>
+    ensures { IfSome result (λ value. resolved context.now draft.now ≡ option_map (λ v. map plain_sign (chars v.now)) value) }
+{
+    let (key, default) = lone_variable(draft)?;
+    Some(one_or(context.values(key), default))
+}
+
+/// The key and the default of the variable that the text is, with nothing before it and nothing behind.
+fn lone_variable(draft: &Draft) -> Option<(&str, Option<&str>)>
+    ensures { IfSome result (λ p. draft.entry.now ≡ piece.Variable p.0.now (option_map (λ d. d.now) p.1) ∷ []) }
+{
+    let (front, form, behind) = draft.stretches().first_form()?;
+    let Form::Named(key, default) = form else {
+        return None;
+    };
+    if front.is_empty() && is_end(&behind) {
+        Some((key, default))
+    } else {
+        None
+    }
+}
+
+/// Whether nothing is left.
+fn is_end(left: &Stretches<'_>) -> bool
+    ensures { IsTrue result → left.now.pieces ≡ [] }
+{
+    match left.first_form() {
+        Some(_) => false,
+        None => left.text().is_empty(),
     }
 }
 
