@@ -2,8 +2,10 @@
 use Rattle.std.proofs.Common.{◌≡◌, ◌<◌, inl, inr, ℕ, List, [], ◌∷◌, ◌++◌, length, Some, refl, sym, subst, arith}
 use Rattle.std.proofs.lemmas.Option.{slice_get_within}
 use Rattle.std.specs.List.{slice_get}
-use Rattle.iam_decision.specs.Matched.{Placed}
+use Rattle.iam_decision.specs.Matched.{in_layer}
+use Rattle.iam_decision.specs.declared.place.Layer.TheVariants as layer
 use Rattle.iam_decision.specs.declared.scan.Standing.{Standing}
+use Rattle.iam_policy.specs.Reading.{PolicyValue}
 use Rattle.iam_world.specs.World.{WorldValue}
 use Rattle.iam_layers.specs.Applicable.{applicable_of}
 use Rattle.iam_layers.specs.Code.Statements.{HaveSameOrg}
@@ -51,7 +53,7 @@ pub same_org_lists : (world : WorldValue) (p q : ℕ) (listed : List Standing) �
 same_org_lists world p q listed below same lists r a (principal, p_at, (resource, r_at, is)) =
     let (other, q_at) = get_within world.principals q below in
     let b = applicable_of world other resource in
-    let P : List Placed → Type 0 = λ z. AreListed world z listed in
+    let P : List (List PolicyValue) → Type 0 = λ levels. AreListed world (in_layer layer.Org levels) listed in
     subst P (sym (same r r a b (principal, p_at, (resource, r_at, is)) (other, q_at, (resource, r_at, refl)))) (lists r b (other, q_at, (resource, r_at, refl)))
 
 no_place : {X : Type 0} (xs : List X) (i : ℕ) (x : X) → length xs ≡ 0 → slice_get xs i ≡ Some x → ⊥

@@ -1,16 +1,17 @@
 -- What the requests of a principal for a resource share, put together of what the calls of a world give.
-use Rattle.std.proofs.Common.{◌≡◌, ℕ, List, Option, Some, sym, ap, ◌∙◌}
+use Rattle.std.proofs.Common.{◌≡◌, ℕ, List, Option, Some, length, refl, sym, ap, ◌∙◌}
 use Rattle.std.specs.List.{slice_get}
+use Rattle.std.specs.Option.{is_some}
+use Rattle.std.specs.Str.{bytes_eq}
 use Rattle.iam_context.specs.Context.{ContextValue}
-use Rattle.iam_decision.specs.Applicable.{ApplicableValue}
+use Rattle.iam_decision.specs.Applicable.{ApplicableValue, frame_of, has_policies}
 use Rattle.iam_decision.specs.Code.Scan.{org_placed, requester_placed, resource_placed}
-use Rattle.iam_decision.specs.Matched.{in_layer}
-use Rattle.iam_decision.specs.declared.place.Layer.TheVariants.{Org}
+use Rattle.iam_decision.specs.declared.frame.Frame.{Frame}
 use Rattle.iam_match.specs.Requester.{RequesterValue}
 use Rattle.iam_match.specs.Statement.{AccessValue}
 use Rattle.iam_world.specs.World.{PrincipalValue, ResourceValue, WorldValue, account_with}
 use Rattle.iam_layers.specs.Applicable.{applicable_of, levels_unless, manages, org_of}
-use Rattle.iam_layers.specs.Code.Statements.{HaveSameOrg}
+use Rattle.iam_layers.specs.Code.Statements.{HasLevels, HaveSameOrg}
 use Rattle.iam_layers.specs.Cell.{IsAccessAt, IsApplicableAt, IsContextAt, IsDerivedAt, IsPrincipal, IsResource}
 use Rattle.iam_layers.specs.Derived.{context_of}
 
@@ -70,6 +71,28 @@ same_org world p q one other (p1, a1, e1) (q1, c1, f1) account r s a b (p2, a2, 
     let accounts : p2.requester.account ≡ q2.requester.account =
     sym (ap (λ (x : PrincipalValue). x.requester.account) p12) ∙ sym (ap (λ (x : RequesterValue). x.account) e1) ∙ account
     ∙ ap (λ (x : RequesterValue). x.account) f1 ∙ ap (λ (x : PrincipalValue). x.requester.account) q12 in
-    ap org_placed is
-    ∙ ap (λ id. in_layer Org (levels_unless (manages (account_with id world)) (org_of (account_with id world)))) accounts
-    ∙ sym (ap org_placed is')
+    ap (λ (x : ApplicableValue). x.org) is
+    ∙ ap (λ id. levels_unless (manages (account_with id world)) (org_of (account_with id world))) accounts
+    ∙ sym (ap (λ (x : ApplicableValue). x.org) is')
+
+-- what a decision asks beside the statements, where the levels of the organisation are found apart
+abbrev pub frame_from : WorldValue → PrincipalValue → ResourceValue → ℕ → Frame
+frame_from world principal resource levels = record {
+  org = levels;
+  control = length (levels_unless (manages (account_with resource.account world)) resource.control);
+  boundary = is_some principal.boundary;
+  session = has_policies principal.session;
+  same_account = bytes_eq principal.requester.account resource.account;
+  sealed = resource.sealed;
+}
+
+pub framed : (world : WorldValue) (p r levels : ℕ) (principal : PrincipalValue) (resource : ResourceValue) (applicable : ApplicableValue)
+    → slice_get world.principals p ≡ Some principal → slice_get world.resources r ≡ Some resource → HasLevels world p levels
+    → IsApplicableAt world p r applicable → frame_from world principal resource levels ≡ frame_of applicable
+framed world p r levels principal resource applicable a1 b1 has (p2, a2, (r2, b2, is)) =
+    let p12 : principal ≡ p2 = one_some (slice_get world.principals p) principal p2 a1 a2 in
+    let r12 : resource ≡ r2 = one_some (slice_get world.resources r) resource r2 b1 b2 in
+    let own : applicable ≡ applicable_of world principal resource =
+    is ∙ ap (λ x. applicable_of world x r2) (sym p12) ∙ ap (λ y. applicable_of world principal y) (sym r12) in
+    ap (frame_from world principal resource) (has r (applicable_of world principal resource) (principal, a1, (resource, b1, refl)))
+    ∙ sym (ap frame_of own)

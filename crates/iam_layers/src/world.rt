@@ -4,7 +4,7 @@ ghost use Rattle.std.specs.Prelude.{◌≡◌, ◌+◌, ◌*◌, ◌≤◌, ◌<
 use crate::applicable::{control_of, org_of};
 use crate::derived::{keys_with, stamp_of};
 use iam_context::{Context, Derived, Sought};
-use iam_decision::{Applicable, Shared, Verdict};
+use iam_decision::{Applicable, Frame, Shared, Verdict};
 use iam_match::{Access, OutOfMemory, Requester};
 use iam_world::{Principal, Resource, WorldFault, WorldParts};
 use std::alloc::Global;
@@ -51,9 +51,9 @@ impl World {
     ghost use Rattle.iam_world.specs.Invariants.{HasFewPolicies};
     ghost use Rattle.iam_world.specs.declared.fault.WorldFault.TheVariants as w;
     ghost use Rattle.iam_match.specs.Request.{access_of};
-    ghost use Rattle.iam_decision.specs.Applicable.{ApplicableValue};
+    ghost use Rattle.iam_decision.specs.Applicable.{ApplicableValue, frame_of};
     ghost use Rattle.iam_layers.specs.Cell.{IsAccessAt, IsAction, IsApplicableAt, IsCell, IsContextAt, IsDerivedAt, IsPrincipal, IsRequestContext, IsResource, IsSharedAt, IsVerdictAt, principal_text};
-    ghost use Rattle.iam_layers.specs.Code.Statements.{HaveSameOrg};
+    ghost use Rattle.iam_layers.specs.Code.Statements.{HasLevels, HaveSameOrg};
 
     /// The world of a JSON document, or the first fault of its bytes: `TooLarge` for over 8,388,608 of them, then 1
     /// to 8 by number, each at its first place, then `TooLarge` for over 16,777,216 cells or 4,096 statements.
@@ -252,6 +252,37 @@ impl World {
             session: principal.session(),
             same_account: account == resource.account(),
             sealed: resource.is_sealed(),
+        }
+    }
+
+    /// How many levels of policies the organisation has that binds principal p, which has to be below `principals()`.
+    pub fn org_levels(&self, p: u64) -> u32
+        requires { p < length self.now.principals }
+        ensures { HasLevels self.now p result }
+    {
+        org_of(self.parts.account(self.requester(p).account())).len() as u32
+    }
+
+    /// What a decision on principal p's requests for resource r, each below the number of its kind, asks beside the statements,
+    /// where the organisation that binds p has so many levels of policies.
+    pub fn frame_with(&self, p: u64, r: u64, levels: u32) -> Frame
+        requires principal { p < length self.now.principals }
+        requires resource { r < length self.now.resources }
+        requires levels { HasLevels self.now p levels }
+        ensures { (applicable : ApplicableValue) → IsApplicableAt self.now p r applicable → result ≡ frame_of applicable }
+    {
+        let principal = self.principal(p);
+        let resource = self.resource(r);
+        let account = resource.account();
+        let same_account = principal.requester().account() == account;
+        let sealed = resource.is_sealed();
+        Frame {
+            org: levels,
+            control: control_of(&self.parts, account, resource).len() as u32,
+            boundary: principal.boundary().is_some(),
+            session: !principal.session().is_empty(),
+            same_account,
+            sealed,
         }
     }
 

@@ -1,9 +1,8 @@
 -- Whose statements apply to a request: those of the organisation and of the requester are the same whatever it asks for, those
 -- that stand with the resource whoever asks.
-use Rattle.std.specs.Prelude.{◌≡◌, ℕ}
+use Rattle.std.specs.Prelude.{◌≡◌, ℕ, length}
 use Rattle.iam_decision.specs.Applicable.{ApplicableValue}
 use Rattle.iam_decision.specs.Code.Scan.{org_placed, requester_placed, resource_placed}
-use Rattle.iam_decision.specs.Matched.{placed}
 use Rattle.iam_world.specs.World.{WorldValue}
 use Rattle.iam_layers.specs.Cell.{IsApplicableAt}
 
@@ -17,8 +16,11 @@ ResourcesKeepTheirs =
     (world : WorldValue) (p q r : ℕ) (one other : ApplicableValue) → IsApplicableAt world p r one → IsApplicableAt world q r other
     → resource_placed one ≡ resource_placed other
 
--- these two principals are bound by the same statements of the organisation
+-- these two principals are bound by the same policies of the organisation
 abbrev pub HaveSameOrg : WorldValue → ℕ → ℕ → Type 0
 HaveSameOrg world p q =
-    (r s : ℕ) (one other : ApplicableValue) → IsApplicableAt world p r one → IsApplicableAt world q s other
-    → org_placed one ≡ org_placed other
+    (r s : ℕ) (one other : ApplicableValue) → IsApplicableAt world p r one → IsApplicableAt world q s other → one.org ≡ other.org
+
+-- the organisation that binds principal p has so many levels of policies, whatever it asks for
+abbrev pub HasLevels : WorldValue → ℕ → ℕ → Type 0
+HasLevels world p levels = (r : ℕ) (a : ApplicableValue) → IsApplicableAt world p r a → levels ≡ length a.org
