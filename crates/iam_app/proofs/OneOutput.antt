@@ -9,6 +9,7 @@ use Rattle.iam_options.specs.declared.options.Task.{Task}
 use Rattle.iam_options.specs.declared.options.Task.TheVariants as t
 use Rattle.iam_row.specs.CsvRow.{IsCsvRow}
 use Rattle.iam_row.specs.Laws.{OneRow}
+use Rattle.iam_row.specs.Report.{full_layout}
 use Rattle.iam_world.specs.Reads.{IsWorld}
 use Rattle.iam_world.specs.World.{WorldValue}
 use Rattle.iam_world.specs.WorldFault.{IsFirstWorldFault}
@@ -25,7 +26,7 @@ pub record Given : Type 0 where
   pub faults : (bytes : List ℕ) (fault other : WorldFault) → IsFirstWorldFault bytes fault → IsFirstWorldFault bytes other → fault ≡ other
   pub not_both : (bytes : List ℕ) (world : WorldValue) (fault : WorldFault) → IsWorld bytes world → ¬ IsFirstWorldFault bytes fault
   pub verdicts : OneVerdictAt
-  pub rows : OneRow
+  pub rows : OneRow full_layout
   pub reports : OneReport
   pub firsts : OneFirstReport
 
@@ -34,7 +35,7 @@ one_answer g world p a r text other (cell, is, (verdict, at, row)) (cell', is', 
     let number : cell ≡ cell' = is.number ∙ sym is'.number in
     let same : verdict ≡ verdict' = g.verdicts world p a r verdict verdict' at at' in
     g.rows world cell' p a r verdict' text other
-    (subst (λ v. IsCsvRow world cell' p a r v text) same (subst (λ c. IsCsvRow world c p a r verdict text) number row)) row'
+    (subst (λ v. IsCsvRow full_layout world cell' p a r v text) same (subst (λ c. IsCsvRow full_layout world c p a r verdict text) number row)) row'
 
 pub one_asked_report : Given → (task : Task) (options other : Options) (world : WorldValue) (text text' : List ℕ) → format_of options ≡ format_of other
     → options.brief ≡ other.brief → IsReportOf task options world text → IsReportOf task other world text' → text ≡ text'

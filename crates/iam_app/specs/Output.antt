@@ -9,6 +9,7 @@ use Rattle.iam_world.specs.WorldFault.{IsFirstWorldFault}
 use Rattle.iam_decision.specs.declared.verdict.Verdict.{Verdict}
 use Rattle.iam_world.specs.declared.fault.WorldFault.TheVariants as w
 use Rattle.iam_row.specs.CsvRow.{IsCsvRow}
+use Rattle.iam_row.specs.Report.{full_layout}
 use Rattle.iam_row.specs.declared.quoted.Format.{Format}
 use Rattle.iam_row.specs.declared.quoted.Format.TheVariants.{Csv, Json}
 use Rattle.iam_matrix.specs.Cut.{IsEvenCut, IsEvenFault}
@@ -38,7 +39,7 @@ pub record HasTriple (world : WorldValue) (p a r : ℕ) : Type 0 where
 abbrev pub IsAnswer : WorldValue → ℕ → ℕ → ℕ → List ℕ → Type 0
 IsAnswer world p a r text =
     (cell : ℕ) × IsCell world cell p a r
-    × ((verdict : Verdict) × IsVerdictAt world p a r verdict × IsCsvRow world cell p a r verdict text)
+    × ((verdict : Verdict) × IsVerdictAt world p a r verdict × IsCsvRow full_layout world cell p a r verdict text)
 
 -- how many there are of each
 unfoldable pub counts_text : ℕ → ℕ → ℕ → ℕ → ℕ → List ℕ

@@ -5,9 +5,9 @@ use Rattle.iam_decision.specs.declared.verdict.Decision.TheVariants.{Allowed}
 use Rattle.iam_world.specs.World.{WorldValue}
 use Rattle.iam_layers.specs.Cell.{IsDecisionOf, IsVerdictOf}
 use Rattle.iam_layers.specs.Laws.{OneDecisionOf, OneTriple, OneVerdictOf}
-use Rattle.iam_row.specs.CsvRow.{IsBriefCsvRow}
-use Rattle.iam_row.specs.Laws.{OneBriefRow, OneBriefText, OneText}
-use Rattle.iam_row.specs.Piece.{IsBriefReport, IsReport}
+use Rattle.iam_row.specs.CsvRow.{IsCsvRow}
+use Rattle.iam_row.specs.Laws.{OneRow, OneText}
+use Rattle.iam_row.specs.Report.{IsReport, brief_layout, full_layout}
 use Rattle.iam_matrix.specs.Laws
 use Rattle.iam_matrix.specs.Matrix.{AreEntriesFrom, IsNotAllowed}
 use Rattle.iam_matrix.specs.Report.{IsFirstText}
@@ -44,23 +44,23 @@ one_first decisions world (Some cell) (Some other) h k = elim (cases_order cell 
   | inr (inr higher) ↦ absurd (none_allowed decisions world other (h.2 other higher) k.1)
 ]
 
-pub one_report : Laws.OneMatrix → Laws.OneBriefMatrix → OneText → OneBriefText → Laws.OneReport
+pub one_report : Laws.OneMatrix → Laws.OneBriefMatrix → OneText full_layout → OneText brief_layout → Laws.OneReport
 one_report matrices briefs texts brief_texts format true world text other (decisions, h, is) (others, k, there) =
     let same : decisions ≡ others = briefs world decisions others h k in
-    brief_texts format world others text other k.count (subst (λ ds. IsBriefReport format world ds text) same is) there
+    brief_texts format world others text other k.count (subst (λ ds. IsReport brief_layout format world ds text) same is) there
 one_report matrices briefs texts brief_texts format false world text other (verdicts, h, is) (others, k, there) =
     let same : verdicts ≡ others = matrices world verdicts others h k in
-    texts format world others text other k.count (subst (λ vs. IsReport format world vs text) same is) there
+    texts format world others text other k.count (subst (λ vs. IsReport full_layout format world vs text) same is) there
 
-pub one_first_text : OneTriple → OneBriefRow → (world : WorldValue) (first : Option ℕ) (text other : List ℕ) → IsFirstText world first text → IsFirstText world first other
+pub one_first_text : OneTriple → OneRow brief_layout → (world : WorldValue) (first : Option ℕ) (text other : List ℕ) → IsFirstText world first text → IsFirstText world first other
     → text ≡ other
 one_first_text triples rows world None text other h k = h ∙ sym k
 one_first_text triples rows world (Some cell) text other (p, a, r, here, h) (q, b, s, there, k) =
     let same = triples world cell p a r q b s here there in
-    let Row : ℕ → ℕ → ℕ → Type 0 = λ x y z. IsBriefCsvRow world cell x y z Allowed text in
+    let Row : ℕ → ℕ → ℕ → Type 0 = λ x y z. IsCsvRow brief_layout world cell x y z Allowed text in
     rows world cell q b s Allowed text other
     (subst (λ n. Row q b n) same.2 (subst (λ n. Row q n r) same.1 (subst (λ n. Row n a r) same.0 h))) k
 
-pub one_first_report : Laws.OneFirst → OneTriple → OneBriefRow → Laws.OneFirstReport
+pub one_first_report : Laws.OneFirst → OneTriple → OneRow brief_layout → Laws.OneFirstReport
 one_first_report firsts triples rows world text other (first, h, is) (more, k, there) =
     one_first_text triples rows world more text other (subst (λ f. IsFirstText world f text) (firsts world first more h k) is) there

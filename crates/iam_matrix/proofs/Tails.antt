@@ -6,7 +6,8 @@ use Rattle.std.proofs.lemmas.List.Concat.{flat_map-cons}
 use Rattle.std.proofs.lemmas.List.Sums.{sum_by-cons}
 use Rattle.iam_decision.specs.declared.verdict.Decision.{Decision}
 use Rattle.iam_decision.specs.declared.verdict.Verdict.{Verdict}
-use Rattle.iam_row.specs.Piece.{IsBriefReport, IsQuotedOf, IsReport, bare, brief_tail, full_tail, tail_of, text_of}
+use Rattle.iam_row.specs.Piece.{IsQuotedOf, bare, brief_tail, full_tail, tail_of, text_of}
+use Rattle.iam_row.specs.Report.{IsReport, brief_layout, full_layout}
 use Rattle.iam_row.specs.declared.quoted.Format.{Format}
 use Rattle.iam_row.specs.declared.quoted.Quoted.{Quoted}
 use Rattle.iam_row.specs.declared.tail.Tail.{Tail}
@@ -81,16 +82,16 @@ count_tails format true world lengths outputs c =
 -- the report of all tiles, by the laws of reports, which the caller hands in
 pub report : (brief : Bool) (world : WorldValue) (quoted : Quoted) (lengths : List ℕ) (outputs : List (List Tail))
     → ((q : Quoted) (verdicts : List Verdict) → IsQuotedOf world q → length verdicts ≡ world_cells world
-    → IsReport q.format world verdicts (text_of (record { quoted = q; brief = false; tails = map (full_tail q.format) verdicts })))
+    → IsReport full_layout q.format world verdicts (text_of (record { quoted = q; brief = false; tails = map (full_tail q.format) verdicts })))
     → ((q : Quoted) (decisions : List Decision) → IsQuotedOf world q → length decisions ≡ world_cells world
-    → IsBriefReport q.format world decisions (text_of (record { quoted = q; brief = true; tails = map (brief_tail q.format) decisions })))
+    → IsReport brief_layout q.format world decisions (text_of (record { quoted = q; brief = true; tails = map (brief_tail q.format) decisions })))
     → IsQuotedOf world quoted → sum lengths ≡ world_cells world → Chain (λ f n output. AreTailsOf quoted.format brief world f n output) 0 lengths outputs
     → IsMatrixReport quoted.format brief world (text_of (record { quoted = quoted; brief = brief; tails = flat_map (λ tile. tile) outputs }))
 report false world quoted lengths outputs full bare same e c =
     let all = chain_tails (IsVerdictOf world) (full_tail quoted.format) 0 lengths outputs c in
-    let P : List Tail → Type 0 = λ tails. IsReport quoted.format world all.0 (text_of (record { quoted = quoted; brief = false; tails = tails })) in
+    let P : List Tail → Type 0 = λ tails. IsReport full_layout quoted.format world all.0 (text_of (record { quoted = quoted; brief = false; tails = tails })) in
     (all.0, whole world lengths all.0 e all.1, subst P (sym all.2) (full quoted all.0 same (all.1.count_is ∙ e)))
 report true world quoted lengths outputs full bare same e c =
     let all = chain_tails (IsDecisionOf world) (brief_tail quoted.format) 0 lengths outputs c in
-    let P : List Tail → Type 0 = λ tails. IsBriefReport quoted.format world all.0 (text_of (record { quoted = quoted; brief = true; tails = tails })) in
+    let P : List Tail → Type 0 = λ tails. IsReport brief_layout quoted.format world all.0 (text_of (record { quoted = quoted; brief = true; tails = tails })) in
     (all.0, whole_brief world lengths all.0 e all.1, subst P (sym all.2) (bare quoted all.0 same (all.1.count_is ∙ e)))

@@ -5,9 +5,8 @@ use Rattle.iam_decision.specs.declared.verdict.Decision.TheVariants.{Allowed}
 use Rattle.iam_decision.specs.declared.verdict.Verdict.{Verdict}
 use Rattle.iam_layers.specs.Cell.{IsCell}
 use Rattle.iam_world.specs.World.{WorldValue}
-use Rattle.iam_row.specs.CsvRow.{IsBriefCsvRow}
-use Rattle.iam_row.specs.Piece.{IsBriefReport, IsReport}
-use Rattle.iam_row.specs.Report.{brief_header, csv_line}
+use Rattle.iam_row.specs.CsvRow.{IsCsvRow}
+use Rattle.iam_row.specs.Report.{IsReport, brief_layout, full_layout}
 use Rattle.iam_row.specs.declared.quoted.Format.{Format}
 use Rattle.iam_matrix.specs.Matrix.{IsBriefMatrix, IsFirstAllowed, IsMatrix}
 
@@ -15,14 +14,14 @@ use Rattle.iam_matrix.specs.Matrix.{IsBriefMatrix, IsFirstAllowed, IsMatrix}
 abbrev pub IsMatrixReport : Format → Bool → WorldValue → List ℕ → Type 0
 IsMatrixReport format brief world text =
     MatchBool brief
-    ((decisions : List Decision) × IsBriefMatrix world decisions × IsBriefReport format world decisions text)
-    ((verdicts : List Verdict) × IsMatrix world verdicts × IsReport format world verdicts text)
+    ((decisions : List Decision) × IsBriefMatrix world decisions × IsReport brief_layout format world decisions text)
+    ((verdicts : List Verdict) × IsMatrix world verdicts × IsReport full_layout format world verdicts text)
 
 -- the brief header, and the brief row of the first allowed cell where there is one
 abbrev pub IsFirstText : WorldValue → Option ℕ → List ℕ → Type 0
-IsFirstText world None text = text ≡ csv_line brief_header
+IsFirstText world None text = text ≡ brief_layout.header
 IsFirstText world (Some cell) text =
-    (p : ℕ) × (a : ℕ) × (r : ℕ) × IsCell world cell p a r × IsBriefCsvRow world cell p a r Allowed text
+    (p : ℕ) × (a : ℕ) × (r : ℕ) × IsCell world cell p a r × IsCsvRow brief_layout world cell p a r Allowed text
 
 abbrev pub IsFirstReport : WorldValue → List ℕ → Type 0
 IsFirstReport world text = (first : Option ℕ) × IsFirstAllowed world first × IsFirstText world first text

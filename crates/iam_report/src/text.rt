@@ -1,8 +1,9 @@
 // Whole reports.
 ghost use Rattle.std.specs.Prelude.{◌≡◌, ◌<◌, ◌^◌, IfOk, false, length, map, true};
 ghost use Rattle.iam_world.specs.World.{world_cells};
-ghost use Rattle.iam_row.specs.Piece.{IsBriefReport, IsReport, IsTextOf, bare, text_of};
-ghost use Rattle.iam_row.specs.Report.{IsBriefCsvReport, IsBriefJsonReport, IsCsvReport, IsJsonReport};
+ghost use Rattle.iam_row.specs.Piece.{IsTextOf, bare, text_of};
+ghost use Rattle.iam_row.specs.Report.{IsReport, brief_layout, full_layout};
+ghost use Rattle.iam_row.specs.declared.quoted.Format.TheVariants.{Csv, Json};
 
 use crate::matrix::MatrixText;
 use crate::output::buffer;
@@ -71,7 +72,7 @@ fn full_report(
     verdicts: &[Verdict],
 ) -> Result<Vec<u8>, OutOfMemory>
     requires { length verdicts.now ≡ world_cells world.now }
-    ensures { IfOk result (λ text. IsReport format world.now verdicts.now text.items) }
+    ensures { IfOk result (λ text. IsReport full_layout format world.now verdicts.now text.items) }
 {
     full_texts();
     let _cells = world.cells();
@@ -86,7 +87,7 @@ fn brief_report(
     decisions: &[Decision],
 ) -> Result<Vec<u8>, OutOfMemory>
     requires { length decisions.now ≡ world_cells world.now }
-    ensures { IfOk result (λ text. IsBriefReport format world.now decisions.now text.items) }
+    ensures { IfOk result (λ text. IsReport brief_layout format world.now decisions.now text.items) }
 {
     brief_texts();
     let _cells = world.cells();
@@ -98,7 +99,7 @@ fn brief_report(
 /// in double quotes where one has to, each row ended by a line feed. `OutOfMemory` comes where the text finds no memory.
 pub fn csv_text(alloc: Global, world: &World, verdicts: &[Verdict]) -> Result<Vec<u8>, OutOfMemory>
     requires { length verdicts.now ≡ world_cells world.now }
-    ensures { IfOk result (λ text. IsCsvReport world.now verdicts.now text.items) }
+    ensures { IfOk result (λ text. IsReport full_layout Csv world.now verdicts.now text.items) }
 {
     full_report(alloc, world, Format::Csv, verdicts)
 }
@@ -107,7 +108,7 @@ pub fn csv_text(alloc: Global, world: &World, verdicts: &[Verdict]) -> Result<Ve
 /// `OutOfMemory` comes where the text finds no memory.
 pub fn json_text(alloc: Global, world: &World, verdicts: &[Verdict]) -> Result<Vec<u8>, OutOfMemory>
     requires { length verdicts.now ≡ world_cells world.now }
-    ensures { IfOk result (λ text. IsJsonReport world.now verdicts.now text.items) }
+    ensures { IfOk result (λ text. IsReport full_layout Json world.now verdicts.now text.items) }
 {
     full_report(alloc, world, Format::Json, verdicts)
 }
@@ -120,7 +121,7 @@ pub fn csv_brief(
     decisions: &[Decision],
 ) -> Result<Vec<u8>, OutOfMemory>
     requires { length decisions.now ≡ world_cells world.now }
-    ensures { IfOk result (λ text. IsBriefCsvReport world.now decisions.now text.items) }
+    ensures { IfOk result (λ text. IsReport brief_layout Csv world.now decisions.now text.items) }
 {
     brief_report(alloc, world, Format::Csv, decisions)
 }
@@ -133,7 +134,7 @@ pub fn json_brief(
     decisions: &[Decision],
 ) -> Result<Vec<u8>, OutOfMemory>
     requires { length decisions.now ≡ world_cells world.now }
-    ensures { IfOk result (λ text. IsBriefJsonReport world.now decisions.now text.items) }
+    ensures { IfOk result (λ text. IsReport brief_layout Json world.now decisions.now text.items) }
 {
     brief_report(alloc, world, Format::Json, decisions)
 }

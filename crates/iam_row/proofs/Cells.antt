@@ -7,8 +7,8 @@ use Rattle.iam_decision.specs.declared.verdict.Decision.{Decision}
 use Rattle.iam_decision.specs.declared.verdict.Verdict.{Verdict}
 use Rattle.iam_world.specs.World.{WorldValue, world_cells}
 use Rattle.iam_layers.specs.Cell.{IsCell}
-use Rattle.iam_row.specs.Piece.{IsBriefReport, IsQuotedOf, IsReport, brief_row, brief_tail, closing_text, first_position, full_row, full_tail, next_by, next_in, next_of, opening_text, pieces_of, row_at, row_text, rows_text, text_of}
-use Rattle.iam_row.specs.Report.{CellTexts}
+use Rattle.iam_row.specs.Piece.{IsQuotedOf, brief_tail, cell_row, closing_text, first_position, full_tail, next_by, next_in, next_of, opening_text, pieces_of, row_at, row_text, rows_text, text_of}
+use Rattle.iam_row.specs.Report.{CellTexts, IsReport, brief_layout, full_layout}
 use Rattle.iam_row.specs.declared.position.Position.{Position}
 use Rattle.iam_row.specs.declared.quoted.Quoted.{Quoted}
 use Rattle.iam_row.specs.declared.tail.Tail.{Tail}
@@ -130,19 +130,19 @@ all_rows {A} world quoted row tail same is at (x ∷ xs) start count there =
     (adds_both world row at.cell (x ∷ []) xs start mid _ first behind)
 
 pub full_are_report : (world : WorldValue) (quoted : Quoted) (verdicts : List Verdict) → IsQuotedOf world quoted → length verdicts ≡ world_cells world
-    → IsReport quoted.format world verdicts (text_of (record { quoted = quoted; brief = false; tails = map (full_tail quoted.format) verdicts }))
+    → IsReport full_layout quoted.format world verdicts (text_of (record { quoted = quoted; brief = false; tails = map (full_tail quoted.format) verdicts }))
 full_are_report world quoted verdicts same count =
     let opening = opening_text quoted.format false in
     let rows = rows_text quoted first_position (map (full_tail quoted.format) verdicts) in
-    let adds = all_rows world quoted (full_row quoted.format) (full_tail quoted.format) same (full_rendered quoted.format) first_position verdicts opening (omega (arith, count)) (first_is world) in
-    subst (IsReport quoted.format world verdicts) (append_assoc opening rows (closing_text quoted.format))
+    let adds = all_rows world quoted (cell_row full_layout quoted.format) (full_tail quoted.format) same (full_rendered quoted.format) first_position verdicts opening (omega (arith, count)) (first_is world) in
+    subst (IsReport full_layout quoted.format world verdicts) (append_assoc opening rows (closing_text quoted.format))
     (full_is_report world quoted.format verdicts (opening ++ rows) adds)
 
 pub brief_are_report : (world : WorldValue) (quoted : Quoted) (decisions : List Decision) → IsQuotedOf world quoted → length decisions ≡ world_cells world
-    → IsBriefReport quoted.format world decisions (text_of (record { quoted = quoted; brief = true; tails = map (brief_tail quoted.format) decisions }))
+    → IsReport brief_layout quoted.format world decisions (text_of (record { quoted = quoted; brief = true; tails = map (brief_tail quoted.format) decisions }))
 brief_are_report world quoted decisions same count =
     let opening = opening_text quoted.format true in
     let rows = rows_text quoted first_position (map (brief_tail quoted.format) decisions) in
-    let adds = all_rows world quoted (brief_row quoted.format) (brief_tail quoted.format) same (brief_rendered quoted.format) first_position decisions opening (omega (arith, count)) (first_is world) in
-    subst (IsBriefReport quoted.format world decisions) (append_assoc opening rows (closing_text quoted.format))
+    let adds = all_rows world quoted (cell_row brief_layout quoted.format) (brief_tail quoted.format) same (brief_rendered quoted.format) first_position decisions opening (omega (arith, count)) (first_is world) in
+    subst (IsReport brief_layout quoted.format world decisions) (append_assoc opening rows (closing_text quoted.format))
     (brief_is_report world quoted.format decisions (opening ++ rows) adds)

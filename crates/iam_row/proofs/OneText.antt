@@ -4,7 +4,7 @@ use Rattle.std.specs.List.{concat, slice_get}
 use Rattle.iam_world.specs.World.{WorldValue, world_cells}
 use Rattle.iam_layers.specs.Laws.{SomeTriple}
 use Rattle.iam_row.specs.Laws
-use Rattle.iam_row.specs.Report.{AreRows, CellTexts, HasTexts, IsCellTexts, brief_header, brief_line, brief_object, csv_line, full_header, full_line, full_object, json_text}
+use Rattle.iam_row.specs.Report.{AreRowsFrom, CellTexts, HasTexts, IsCellTexts, Layout, json_text}
 use Rattle.iam_row.specs.declared.quoted.Format.TheVariants.{Csv, Json}
 use Rattle.iam_row.proofs.Rows.{found, same_texts, texts_there}
 
@@ -27,7 +27,7 @@ each_has triples world n all i below =
     (texts.0, subst (λ c. IsCellTexts world c texts.0) number (p, a, r, is, texts.1))
 
 one_rows : {A B : Type 0} → SomeTriple → (world : WorldValue) (row : ℕ → CellTexts → A → B) (entries : List A) (rows others : List B)
-    → length entries ≡ world_cells world → AreRows world row entries rows → AreRows world row entries others → rows ≡ others
+    → length entries ≡ world_cells world → AreRowsFrom world row 0 entries rows → AreRowsFrom world row 0 entries others → rows ≡ others
 one_rows triples world row entries rows others all h k =
     same_items rows others (h.count ∙ sym k.count)
     (λ i below.
@@ -38,32 +38,22 @@ one_rows triples world row entries rows others all h k =
 
 -- a text that is put together from the rows of entries
 abbrev IsMadeOf : {A B : Type 0} → WorldValue → (ℕ → CellTexts → A → B) → (List B → List ℕ) → List A → List ℕ → Type 0
-IsMadeOf {A} {B} world row join entries text = (rows : List B) × AreRows world row entries rows × (text ≡ join rows)
+IsMadeOf {A} {B} world row join entries text = (rows : List B) × AreRowsFrom world row 0 entries rows × (text ≡ join rows)
 
 one_made : {A B : Type 0} → SomeTriple → (world : WorldValue) (row : ℕ → CellTexts → A → B) (join : List B → List ℕ) (entries : List A) (text other : List ℕ)
     → length entries ≡ world_cells world → IsMadeOf world row join entries text → IsMadeOf world row join entries other → text ≡ other
 one_made triples world row join entries text other all (rows, h, is) (others, k, same) =
     is ∙ ap join (one_rows triples world row entries rows others all h k) ∙ sym same
 
-pub one_full_text : SomeTriple → Laws.OneText
-one_full_text triples Csv world verdicts text other all h k =
-    one_made triples world full_line (λ lines. csv_line full_header ++ concat lines) verdicts text other all h k
-one_full_text triples Json world verdicts text other all h k = one_made triples world full_object json_text verdicts text other all h k
-
-pub one_brief_text : SomeTriple → Laws.OneBriefText
-one_brief_text triples Csv world decisions text other all h k =
-    one_made triples world brief_line (λ lines. csv_line brief_header ++ concat lines) decisions text other all h k
-one_brief_text triples Json world decisions text other all h k = one_made triples world brief_object json_text decisions text other all h k
+pub one_text : {A : Type 0} → SomeTriple → (layout : Layout A) → Laws.OneText layout
+one_text triples layout Csv world entries text other all h k =
+    one_made triples world layout.line (λ lines. layout.header ++ concat lines) entries text other all h k
+one_text triples layout Json world entries text other all h k = one_made triples world layout.object json_text entries text other all h k
 
 -- the row of a cell
 one_line : (world : WorldValue) (p a r : ℕ) (line : CellTexts → List ℕ) (text other : List ℕ) → ((texts : CellTexts) × HasTexts world p a r texts × (text ≡ line texts))
     → ((texts : CellTexts) × HasTexts world p a r texts × (other ≡ line texts)) → text ≡ other
 one_line world p a r line text other (t, has, is) (u, has', same) = is ∙ ap line (same_texts world p a r t u has has') ∙ sym same
 
-pub one_full_row : Laws.OneRow
-one_full_row world cell p a r verdict text other h k =
-    one_line world p a r (λ texts. csv_line full_header ++ full_line cell texts verdict) text other h k
-
-pub one_brief_row : Laws.OneBriefRow
-one_brief_row world cell p a r decision text other h k =
-    one_line world p a r (λ texts. csv_line brief_header ++ brief_line cell texts decision) text other h k
+pub one_row : {A : Type 0} → (layout : Layout A) → Laws.OneRow layout
+one_row layout world cell p a r entry text other h k = one_line world p a r (λ texts. layout.header ++ layout.line cell texts entry) text other h k

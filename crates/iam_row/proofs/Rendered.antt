@@ -9,8 +9,8 @@ use Rattle.serde_json.specs.View.{items_of}
 use Rattle.serde_json.specs.Written.{compact_text, items_text}
 use Rattle.iam_decision.specs.declared.verdict.Decision.{Decision}
 use Rattle.iam_decision.specs.declared.verdict.Verdict.{Verdict}
-use Rattle.iam_row.specs.Piece.{back_of, brief_row, brief_tail, comma_before, front_of, full_row, full_tail, pieces_of, row_text}
-use Rattle.iam_row.specs.Report.{CellTexts, brief_line, csv_line, full_line, words_of}
+use Rattle.iam_row.specs.Piece.{back_of, brief_tail, cell_row, comma_before, front_of, full_tail, pieces_of, row_text}
+use Rattle.iam_row.specs.Report.{CellTexts, brief_layout, csv_line, full_layout, words_of}
 use Rattle.iam_row.specs.Words.{decision_word, layer_word, marked, place_text}
 use Rattle.iam_row.specs.declared.quoted.Format.{Format}
 use Rattle.iam_row.specs.declared.quoted.Format.TheVariants.{Csv, Json}
@@ -48,7 +48,7 @@ line_parts : (n p a r b : List ℕ) → n ++ ((codes "," ++ (p ++ codes ",")) ++
     ≡ n ++ (codes "," ++ (p ++ (codes "," ++ (a ++ (codes "," ++ (r ++ b))))))
 line_parts n p a r b = simp append_assoc
 
-full_csv : (cell : ℕ) (texts : CellTexts) (verdict : Verdict) → row_text Csv cell (pieces_of Csv texts) (full_tail Csv verdict) ≡ full_line cell texts verdict
+full_csv : (cell : ℕ) (texts : CellTexts) (verdict : Verdict) → row_text Csv cell (pieces_of Csv texts) (full_tail Csv verdict) ≡ full_layout.line cell texts verdict
 unfolding back_of
 full_csv cell texts verdict =
     let parts = line_parts (decimal cell) (field_text default_writer texts.principal) (field_text default_writer texts.action) (field_text default_writer texts.resource)
@@ -63,7 +63,7 @@ full_csv cell texts verdict =
     let line = line_of_seven (decimal cell) texts.principal texts.action texts.resource (decision_word verdict.decision) (join_by place_text (codes " ") verdict.statements)
     (join_by layer_word (codes " ") verdict.lacks) in cc
 
-brief_csv : (cell : ℕ) (texts : CellTexts) (decision : Decision) → row_text Csv cell (pieces_of Csv texts) (brief_tail Csv decision) ≡ brief_line cell texts decision
+brief_csv : (cell : ℕ) (texts : CellTexts) (decision : Decision) → row_text Csv cell (pieces_of Csv texts) (brief_tail Csv decision) ≡ brief_layout.line cell texts decision
 unfolding back_of
 brief_csv cell texts decision =
     let parts = line_parts (decimal cell) (field_text default_writer texts.principal) (field_text default_writer texts.action) (field_text default_writer texts.resource)
@@ -141,7 +141,7 @@ parts_of_five : (c a n w p r : List ℕ) → c ++ ((codes "{\"action\":" ++ (a +
     ++ (p ++ (codes ",\"resource\":" ++ (r ++ codes "}"))))))))))
 parts_of_five c a n w p r = simp append_assoc
 
-full_json : (cell : ℕ) (texts : CellTexts) (verdict : Verdict) → row_text Json cell (pieces_of Json texts) (full_tail Json verdict) ≡ full_row Json cell texts verdict
+full_json : (cell : ℕ) (texts : CellTexts) (verdict : Verdict) → row_text Json cell (pieces_of Json texts) (full_tail Json verdict) ≡ cell_row full_layout Json cell texts verdict
 unfolding front_of back_of
 full_json cell texts verdict =
     parts_of_seven (comma_before cell) (compact_text (string texts.action)) (decimal cell) (decision_word verdict.decision) (marked layer_word (codes "\"") (codes ",") verdict.lacks)
@@ -153,7 +153,7 @@ full_json cell texts verdict =
     (word_text (decision_word verdict.decision) (plain_decision verdict.decision)) (words_text layer_word plain_layer verdict.lacks)
     (words_text place_text plain_place verdict.statements)))
 
-brief_json : (cell : ℕ) (texts : CellTexts) (decision : Decision) → row_text Json cell (pieces_of Json texts) (brief_tail Json decision) ≡ brief_row Json cell texts decision
+brief_json : (cell : ℕ) (texts : CellTexts) (decision : Decision) → row_text Json cell (pieces_of Json texts) (brief_tail Json decision) ≡ cell_row brief_layout Json cell texts decision
 unfolding front_of back_of
 brief_json cell texts decision =
     parts_of_five (comma_before cell) (compact_text (string texts.action)) (decimal cell) (decision_word decision) (compact_text (string texts.principal)) (compact_text (string texts.resource))
@@ -162,10 +162,10 @@ brief_json cell texts decision =
     (object_of_five (string texts.action) (number (unsigned cell)) (string (decision_word decision)) (string texts.principal) (string texts.resource) _
     (word_text (decision_word decision) (plain_decision decision))))
 
-pub full_rendered : (format : Format) (cell : ℕ) (texts : CellTexts) (verdict : Verdict) → row_text format cell (pieces_of format texts) (full_tail format verdict) ≡ full_row format cell texts verdict
+pub full_rendered : (format : Format) (cell : ℕ) (texts : CellTexts) (verdict : Verdict) → row_text format cell (pieces_of format texts) (full_tail format verdict) ≡ cell_row full_layout format cell texts verdict
 full_rendered Csv cell texts verdict = full_csv cell texts verdict
 full_rendered Json cell texts verdict = full_json cell texts verdict
 
-pub brief_rendered : (format : Format) (cell : ℕ) (texts : CellTexts) (decision : Decision) → row_text format cell (pieces_of format texts) (brief_tail format decision) ≡ brief_row format cell texts decision
+pub brief_rendered : (format : Format) (cell : ℕ) (texts : CellTexts) (decision : Decision) → row_text format cell (pieces_of format texts) (brief_tail format decision) ≡ cell_row brief_layout format cell texts decision
 brief_rendered Csv cell texts decision = brief_csv cell texts decision
 brief_rendered Json cell texts decision = brief_json cell texts decision

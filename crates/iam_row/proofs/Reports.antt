@@ -8,8 +8,8 @@ use Rattle.serde_json.specs.Written.{comma_if, compact_text, items_text}
 use Rattle.iam_decision.specs.declared.verdict.Decision.{Decision}
 use Rattle.iam_decision.specs.declared.verdict.Verdict.{Verdict}
 use Rattle.iam_world.specs.World.{WorldValue}
-use Rattle.iam_row.specs.Piece.{IsBriefReport, IsReport, brief_row, closing_text, comma_before, full_row, opening_text}
-use Rattle.iam_row.specs.Report.{AreRowsFrom, CellTexts, IsCellTexts, brief_object, full_object, json_text}
+use Rattle.iam_row.specs.Piece.{cell_row, closing_text, comma_before, opening_text}
+use Rattle.iam_row.specs.Report.{AreRowsFrom, CellTexts, IsCellTexts, IsReport, brief_layout, full_layout, json_text}
 use Rattle.iam_row.specs.declared.quoted.Format.{Format}
 use Rattle.iam_row.specs.declared.quoted.Format.TheVariants.{Csv, Json}
 use Rattle.iam_row.proofs.Rows.{AddsRows, both_rows, no_rows, one_row}
@@ -74,12 +74,12 @@ objects_report world object xs text adds =
       ap (λ t. t ++ codes "]\n") adds.text ∙ ap (λ t. codes "[" ++ t) (sym (append_assoc (concat adds.rows) (codes "]") (codes "\n")) ∙ ap (λ t. t ++ codes "\n") all.2),
     )
 
-pub full_is_report : (world : WorldValue) (format : Format) (verdicts : List Verdict) (text : List ℕ) → AddsRows world (full_row format) 0 verdicts (opening_text format false) text
-    → IsReport format world verdicts (text ++ closing_text format)
-full_is_report world Csv verdicts text adds = lines_report world (full_row Csv) verdicts _ text adds
-full_is_report world Json verdicts text adds = objects_report world full_object verdicts text adds
+pub full_is_report : (world : WorldValue) (format : Format) (verdicts : List Verdict) (text : List ℕ) → AddsRows world (cell_row full_layout format) 0 verdicts (opening_text format false) text
+    → IsReport full_layout format world verdicts (text ++ closing_text format)
+full_is_report world Csv verdicts text adds = lines_report world (cell_row full_layout Csv) verdicts _ text adds
+full_is_report world Json verdicts text adds = objects_report world full_layout.object verdicts text adds
 
-pub brief_is_report : (world : WorldValue) (format : Format) (decisions : List Decision) (text : List ℕ) → AddsRows world (brief_row format) 0 decisions (opening_text format true) text
-    → IsBriefReport format world decisions (text ++ closing_text format)
-brief_is_report world Csv decisions text adds = lines_report world (brief_row Csv) decisions _ text adds
-brief_is_report world Json decisions text adds = objects_report world brief_object decisions text adds
+pub brief_is_report : (world : WorldValue) (format : Format) (decisions : List Decision) (text : List ℕ) → AddsRows world (cell_row brief_layout format) 0 decisions (opening_text format true) text
+    → IsReport brief_layout format world decisions (text ++ closing_text format)
+brief_is_report world Csv decisions text adds = lines_report world (cell_row brief_layout Csv) decisions _ text adds
+brief_is_report world Json decisions text adds = objects_report world brief_layout.object decisions text adds

@@ -9,7 +9,7 @@ use Rattle.iam_decision.specs.declared.verdict.Decision.{Decision}
 use Rattle.iam_decision.specs.declared.verdict.Verdict.{Verdict}
 use Rattle.iam_world.specs.World.{WorldValue}
 use Rattle.iam_layers.specs.Cell.{principal_text}
-use Rattle.iam_row.specs.Report.{CellTexts, IsBriefCsvReport, IsBriefJsonReport, IsCsvReport, IsJsonReport, brief_header, brief_line, brief_object, csv_line, full_header, full_line, full_object}
+use Rattle.iam_row.specs.Report.{CellTexts, Layout, brief_layout, full_layout}
 use Rattle.iam_row.specs.Words.{decision_word, layer_word, marked, place_text}
 use Rattle.iam_row.specs.declared.position.Position.{Position}
 use Rattle.iam_row.specs.declared.quoted.Format.{Format}
@@ -19,8 +19,8 @@ use Rattle.iam_row.specs.declared.tail.Tail.{Tail}
 
 -- what stands before all rows: the header's line, or a bracket
 abbrev pub opening_text : Format → Bool → List ℕ
-opening_text Csv true = csv_line brief_header
-opening_text Csv false = csv_line full_header
+opening_text Csv true = brief_layout.header
+opening_text Csv false = full_layout.header
 opening_text Json brief = codes "["
 
 -- what stands after all rows
@@ -33,22 +33,9 @@ abbrev pub comma_before : ℕ → List ℕ
 comma_before cell = if cell == 0 then [] else codes ","
 
 -- the text of the row of a cell
-abbrev pub full_row : Format → ℕ → CellTexts → Verdict → List ℕ
-full_row Csv cell texts verdict = full_line cell texts verdict
-full_row Json cell texts verdict = comma_before cell ++ compact_text (full_object cell texts verdict)
-
-abbrev pub brief_row : Format → ℕ → CellTexts → Decision → List ℕ
-brief_row Csv cell texts decision = brief_line cell texts decision
-brief_row Json cell texts decision = comma_before cell ++ compact_text (brief_object cell texts decision)
-
--- the text is the report of all cells
-abbrev pub IsReport : Format → WorldValue → List Verdict → List ℕ → Type 0
-IsReport Csv world verdicts text = IsCsvReport world verdicts text
-IsReport Json world verdicts text = IsJsonReport world verdicts text
-
-abbrev pub IsBriefReport : Format → WorldValue → List Decision → List ℕ → Type 0
-IsBriefReport Csv world decisions text = IsBriefCsvReport world decisions text
-IsBriefReport Json world decisions text = IsBriefJsonReport world decisions text
+abbrev pub cell_row : {A : Type 0} → Layout A → Format → ℕ → CellTexts → A → List ℕ
+cell_row layout Csv cell texts entry = layout.line cell texts entry
+cell_row layout Json cell texts entry = comma_before cell ++ compact_text (layout.object cell texts entry)
 
 -- ---- texts that are made once
 

@@ -11,6 +11,8 @@ use Rattle.iam_decision.specs.declared.verdict.Verdict.{Verdict}
 use Rattle.iam_world.specs.World.{WorldValue}
 use Rattle.iam_layers.specs.Cell.{IsAction, IsCell, IsPrincipal, IsResource, principal_text}
 use Rattle.iam_row.specs.Words.{decision_word, layer_word, place_text}
+use Rattle.iam_row.specs.declared.quoted.Format.{Format}
+use Rattle.iam_row.specs.declared.quoted.Format.TheVariants.{Csv, Json}
 
 -- the texts of a request that stand in its row
 pub record CellTexts : Type 0 where
@@ -34,83 +36,63 @@ pub record AreRowsFrom {A B : Type 0} (world : WorldValue) (row : ℕ → CellTe
   pub each : (i : ℕ) (texts : CellTexts) (entry : A) → IsCellTexts world (from + i) texts
       → slice_get entries i ≡ Some entry → slice_get rows i ≡ Some (row (from + i) texts entry)
 
--- one row for the entry of each cell
-abbrev pub AreRows : {A B : Type 0} → WorldValue → (ℕ → CellTexts → A → B) → List A → List B → Type 0
-AreRows world row entries rows = AreRowsFrom world row 0 entries rows
-
--- ---- CSV
-
--- the names of the fields
-abbrev pub full_header : List (List ℕ)
-full_header =
-    codes "cell" ∷ codes "principal" ∷ codes "action" ∷ codes "resource" ∷ codes "decision" ∷ codes "statements" ∷ codes "lacks" ∷ []
-
-abbrev pub brief_header : List (List ℕ)
-brief_header = codes "cell" ∷ codes "principal" ∷ codes "action" ∷ codes "resource" ∷ codes "decision" ∷ []
-
--- the fields of the row of a cell: its statements and its lacks are joined by one space
-abbrev pub full_fields : ℕ → CellTexts → Verdict → List (List ℕ)
-full_fields cell texts verdict =
-    decimal cell ∷ texts.principal ∷ texts.action ∷ texts.resource ∷ decision_word verdict.decision
-    ∷ join_by place_text (codes " ") verdict.statements ∷ join_by layer_word (codes " ") verdict.lacks ∷ []
-
-abbrev pub brief_fields : ℕ → CellTexts → Decision → List (List ℕ)
-brief_fields cell texts decision =
-    decimal cell ∷ texts.principal ∷ texts.action ∷ texts.resource ∷ decision_word decision ∷ []
+-- ---- how a cell is shown
 
 -- the line of these fields
 abbrev pub csv_line : List (List ℕ) → List ℕ
 csv_line fields = row_text default_writer fields
 
--- the line of the row of a cell
-abbrev pub full_line : ℕ → CellTexts → Verdict → List ℕ
-full_line cell texts verdict = csv_line (full_fields cell texts verdict)
-
-abbrev pub brief_line : ℕ → CellTexts → Decision → List ℕ
-brief_line cell texts decision = csv_line (brief_fields cell texts decision)
-
--- the header, and the lines of all cells
-abbrev pub IsCsvReport : WorldValue → List Verdict → List ℕ → Type 0
-IsCsvReport world verdicts text =
-    (lines : List (List ℕ)) × AreRows world full_line verdicts lines × (text ≡ csv_line full_header ++ concat lines)
-
-abbrev pub IsBriefCsvReport : WorldValue → List Decision → List ℕ → Type 0
-IsBriefCsvReport world decisions text =
-    (lines : List (List ℕ)) × AreRows world brief_line decisions lines × (text ≡ csv_line brief_header ++ concat lines)
-
--- ---- JSON
-
 -- the list of the words of these
 abbrev pub words_of : {A : Type 0} → (A → List ℕ) → List A → Data
 words_of word xs = array (items_of (map (λ x. string (word x)) xs))
 
--- the object of a cell
-abbrev pub full_object : ℕ → CellTexts → Verdict → Data
-full_object cell texts verdict =
-    object (member (codes "action") (string texts.action)
-    (member (codes "cell") (number (unsigned cell))
-    (member (codes "decision") (string (decision_word verdict.decision))
-    (member (codes "lacks") (words_of layer_word verdict.lacks)
-    (member (codes "principal") (string texts.principal)
-    (member (codes "resource") (string texts.resource)
-    (member (codes "statements") (words_of place_text verdict.statements) no_members)))))))
+-- in CSV the header, and the line of a cell with its entry; in JSON the object of a cell with its entry
+pub record Layout (A : Type 0) : Type 0 where
+  pub header : List ℕ
+  pub line : ℕ → CellTexts → A → List ℕ
+  pub object : ℕ → CellTexts → A → Data
 
-abbrev pub brief_object : ℕ → CellTexts → Decision → Data
-brief_object cell texts decision =
-    object (member (codes "action") (string texts.action)
-    (member (codes "cell") (number (unsigned cell))
-    (member (codes "decision") (string (decision_word decision))
-    (member (codes "principal") (string texts.principal)
-    (member (codes "resource") (string texts.resource) no_members)))))
+-- a verdict in full: its statements and its lacks are joined by one space in a line
+abbrev pub full_layout : Layout Verdict
+full_layout = record {
+  header = csv_line (codes "cell" ∷ codes "principal" ∷ codes "action" ∷ codes "resource" ∷ codes "decision" ∷ codes "statements" ∷ codes "lacks" ∷ []);
+  line = λ cell texts verdict.
+      csv_line
+      (decimal cell ∷ texts.principal ∷ texts.action ∷ texts.resource ∷ decision_word verdict.decision
+      ∷ join_by place_text (codes " ") verdict.statements ∷ join_by layer_word (codes " ") verdict.lacks ∷ []);
+  object = λ cell texts verdict.
+      object (member (codes "action") (string texts.action)
+      (member (codes "cell") (number (unsigned cell))
+      (member (codes "decision") (string (decision_word verdict.decision))
+      (member (codes "lacks") (words_of layer_word verdict.lacks)
+      (member (codes "principal") (string texts.principal)
+      (member (codes "resource") (string texts.resource)
+      (member (codes "statements") (words_of place_text verdict.statements) no_members)))))));
+}
+
+-- a decision, in brief
+abbrev pub brief_layout : Layout Decision
+brief_layout = record {
+  header = csv_line (codes "cell" ∷ codes "principal" ∷ codes "action" ∷ codes "resource" ∷ codes "decision" ∷ []);
+  line = λ cell texts decision.
+      csv_line (decimal cell ∷ texts.principal ∷ texts.action ∷ texts.resource ∷ decision_word decision ∷ []);
+  object = λ cell texts decision.
+      object (member (codes "action") (string texts.action)
+      (member (codes "cell") (number (unsigned cell))
+      (member (codes "decision") (string (decision_word decision))
+      (member (codes "principal") (string texts.principal)
+      (member (codes "resource") (string texts.resource) no_members)))));
+}
+
+-- ---- reports
 
 -- the text of a list of objects, and a line feed
 abbrev pub json_text : List Data → List ℕ
 json_text objects = compact_text (array (items_of objects)) ++ codes "\n"
 
--- the list of the objects of all cells
-abbrev pub IsJsonReport : WorldValue → List Verdict → List ℕ → Type 0
-IsJsonReport world verdicts text = (objects : List Data) × AreRows world full_object verdicts objects × (text ≡ json_text objects)
-
-abbrev pub IsBriefJsonReport : WorldValue → List Decision → List ℕ → Type 0
-IsBriefJsonReport world decisions text =
-    (objects : List Data) × AreRows world brief_object decisions objects × (text ≡ json_text objects)
+-- the report of all cells: the header and the line of each, or the list of their objects
+abbrev pub IsReport : {A : Type 0} → Layout A → Format → WorldValue → List A → List ℕ → Type 0
+IsReport layout Csv world entries text =
+    (lines : List (List ℕ)) × AreRowsFrom world layout.line 0 entries lines × (text ≡ layout.header ++ concat lines)
+IsReport layout Json world entries text =
+    (objects : List Data) × AreRowsFrom world layout.object 0 entries objects × (text ≡ json_text objects)

@@ -3,8 +3,9 @@ ghost use Rattle.std.specs.Prelude.{◌≡◌, ℕ, ◌<◌, ◌++◌, IfOk, len
 ghost use Rattle.iam_layers.specs.Cell.{IsCell};
 ghost use Rattle.iam_world.specs.World.{world_cells};
 ghost use Rattle.iam_row.specs.Code.Parts.{HasPieces, IsRowOf, pieces_in};
-ghost use Rattle.iam_row.specs.CsvRow.{IsBriefCsvRow, IsCsvRow};
+ghost use Rattle.iam_row.specs.CsvRow.{IsCsvRow};
 ghost use Rattle.iam_row.specs.Piece.{row_text};
+ghost use Rattle.iam_row.specs.Report.{brief_layout, full_layout};
 ghost use Rattle.iam_row.specs.declared.quoted.Format.TheVariants as format;
 
 use crate::piece::opening;
@@ -82,7 +83,7 @@ pub fn csv_row(
 ) -> Result<Vec<u8>, OutOfMemory>
     requires { cell < world_cells world.now }
     ensures { IfOk result (λ text. (p a r : ℕ) → IsCell world.now cell p a r
-        → IsCsvRow world.now cell p a r verdict.now text.items) }
+        → IsCsvRow full_layout world.now cell p a r verdict.now text.items) }
 {
     row(alloc, world, cell, false, verdict)
 }
@@ -97,7 +98,7 @@ pub fn csv_row_brief(
 ) -> Result<Vec<u8>, OutOfMemory>
     requires { cell < world_cells world.now }
     ensures { IfOk result (λ text. (p a r : ℕ) → IsCell world.now cell p a r
-        → IsBriefCsvRow world.now cell p a r decision text.items) }
+        → IsCsvRow brief_layout world.now cell p a r decision text.items) }
 {
     row(alloc, world, cell, true, &bare(alloc, decision))
 }

@@ -3,8 +3,9 @@ ghost use Rattle.std.specs.Prelude.{◌≡◌, List, false, length, map, true};
 ghost use Rattle.iam_decision.specs.declared.verdict.Decision.{Decision};
 ghost use Rattle.iam_decision.specs.declared.verdict.Verdict.{Verdict};
 ghost use Rattle.iam_world.specs.World.{WorldValue, world_cells};
-ghost use Rattle.iam_row.specs.Laws.{OneBriefRow, OneBriefText, OneRow, OneText};
-ghost use Rattle.iam_row.specs.Piece.{IsBriefReport, IsQuotedOf, IsReport, brief_tail, full_tail, text_of};
+ghost use Rattle.iam_row.specs.Laws.{OneRow, OneText};
+ghost use Rattle.iam_row.specs.Piece.{IsQuotedOf, brief_tail, full_tail, text_of};
+ghost use Rattle.iam_row.specs.Report.{IsReport, brief_layout, full_layout};
 ghost use Rattle.iam_row.specs.declared.quoted.Quoted.{Quoted};
 
 use iam_layers::one_triple;
@@ -13,7 +14,7 @@ use iam_layers::one_triple;
 pub fn full_texts()
     ensures { (world : WorldValue) (quoted : Quoted) (verdicts : List Verdict)
         → IsQuotedOf world quoted → length verdicts ≡ world_cells world
-        → IsReport quoted.format world verdicts
+        → IsReport full_layout quoted.format world verdicts
         (text_of (record { quoted = quoted; brief = false; tails = map (full_tail quoted.format) verdicts })) }
 {}
 
@@ -21,20 +22,20 @@ pub fn full_texts()
 pub fn brief_texts()
     ensures { (world : WorldValue) (quoted : Quoted) (decisions : List Decision)
         → IsQuotedOf world quoted → length decisions ≡ world_cells world
-        → IsBriefReport quoted.format world decisions
+        → IsReport brief_layout quoted.format world decisions
         (text_of (record { quoted = quoted; brief = true; tails = map (brief_tail quoted.format) decisions })) }
 {}
 
 /// The verdicts of all cells have at most one report in a format, and so have the decisions, in brief.
 pub fn one_text()
-    ensures full { OneText }
-    ensures brief { OneBriefText }
+    ensures full { OneText full_layout }
+    ensures brief { OneText brief_layout }
 {
     one_triple()
 }
 
 /// The header and the row of a verdict on a cell are at most one text, and so are those of a decision, in brief.
 pub fn one_row()
-    ensures full { OneRow }
-    ensures brief { OneBriefRow }
+    ensures full { OneRow full_layout }
+    ensures brief { OneRow brief_layout }
 {}

@@ -13,7 +13,7 @@ use Rattle.iam_layers.specs.Cell.{IsCell, IsDecisionOf, IsVerdictOf}
 use Rattle.iam_layers.proofs.CellLemmas.{cell_parts}
 use Rattle.iam_world.specs.World.{ResourceValue, WorldValue, world_cells}
 use Rattle.iam_row.specs.Piece.{IsQuotedOf, action_piece, brief_tail, closing_text, comma_before, full_tail, opening_text, pieces_at, pieces_of, resource_piece, tail_of}
-use Rattle.iam_row.specs.Report.{CellTexts, IsCellTexts, brief_line, brief_object, csv_line, full_line, full_object, brief_header, full_header, json_text}
+use Rattle.iam_row.specs.Report.{CellTexts, IsCellTexts, brief_layout, full_layout, json_text}
 use Rattle.iam_row.specs.declared.quoted.Format.{Format}
 use Rattle.iam_row.specs.declared.quoted.Format.TheVariants.{Csv, Json}
 use Rattle.iam_row.specs.declared.quoted.Quoted.{Quoted}
@@ -66,11 +66,11 @@ pieces_in world quoted cell same below =
 
 -- what stands behind the comma of an object
 json_full : (comma : List ℕ) (cell : ℕ) (texts : CellTexts) (verdict : Verdict)
-    → text_behind Json comma cell (pieces_of Json texts) (full_tail Json verdict) ≡ comma ++ compact_text (full_object cell texts verdict)
+    → text_behind Json comma cell (pieces_of Json texts) (full_tail Json verdict) ≡ comma ++ compact_text (full_layout.object cell texts verdict)
 json_full comma cell texts verdict = ap (λ t. comma ++ t) (append_cancel_left (comma_before cell) _ _ (full_rendered Json cell texts verdict))
 
 json_brief : (comma : List ℕ) (cell : ℕ) (texts : CellTexts) (decision : Decision)
-    → text_behind Json comma cell (pieces_of Json texts) (brief_tail Json decision) ≡ comma ++ compact_text (brief_object cell texts decision)
+    → text_behind Json comma cell (pieces_of Json texts) (brief_tail Json decision) ≡ comma ++ compact_text (brief_layout.object cell texts decision)
 json_brief comma cell texts decision = ap (λ t. comma ++ t) (append_cancel_left (comma_before cell) _ _ (brief_rendered Json cell texts decision))
 
 -- a row of a cell that is there, with the tail of its entry
@@ -89,12 +89,12 @@ MakesObject world Is object quoted row =
     × ((comma : List ℕ) → row_behind quoted comma (position_in quoted row.cell) row.tail ≡ comma ++ compact_text made)
 
 full_csv : (world : WorldValue) (quoted : Quoted) (row : RowValue) → IsQuotedOf world quoted → quoted.format ≡ Csv → IsGood Csv false world row
-    → MakesLine world (IsVerdictOf world) full_line quoted row
+    → MakesLine world (IsVerdictOf world) full_layout.line quoted row
 full_csv world quoted row same format good =
     let has = pieces_in world quoted row.cell same good.below in
     let (verdict, is, tail) = good.tailed in
     let pieces = has.pieces ∙ ap (λ f. pieces_of f has.texts) format in (
-      full_line row.cell has.texts verdict,
+      full_layout.line row.cell has.texts verdict,
       (has.texts, verdict, has.are, is, refl),
       λ comma. ap (λ f. text_behind f comma row.cell (pieces_at quoted (position_in quoted row.cell)) row.tail) format
           ∙ ap (λ p. text_behind Csv comma row.cell p row.tail) pieces ∙ ap (text_behind Csv comma row.cell (pieces_of Csv has.texts)) tail
@@ -102,12 +102,12 @@ full_csv world quoted row same format good =
     )
 
 brief_csv : (world : WorldValue) (quoted : Quoted) (row : RowValue) → IsQuotedOf world quoted → quoted.format ≡ Csv → IsGood Csv true world row
-    → MakesLine world (IsDecisionOf world) brief_line quoted row
+    → MakesLine world (IsDecisionOf world) brief_layout.line quoted row
 brief_csv world quoted row same format good =
     let has = pieces_in world quoted row.cell same good.below in
     let (verdict, (decision, is, bare), tail) = good.tailed in
     let pieces = has.pieces ∙ ap (λ f. pieces_of f has.texts) format in (
-      brief_line row.cell has.texts decision,
+      brief_layout.line row.cell has.texts decision,
       (has.texts, decision, has.are, is, refl),
       λ comma. ap (λ f. text_behind f comma row.cell (pieces_at quoted (position_in quoted row.cell)) row.tail) format
           ∙ ap (λ p. text_behind Csv comma row.cell p row.tail) pieces
@@ -116,12 +116,12 @@ brief_csv world quoted row same format good =
     )
 
 full_json : (world : WorldValue) (quoted : Quoted) (row : RowValue) → IsQuotedOf world quoted → quoted.format ≡ Json → IsGood Json false world row
-    → MakesObject world (IsVerdictOf world) full_object quoted row
+    → MakesObject world (IsVerdictOf world) full_layout.object quoted row
 full_json world quoted row same format good =
     let has = pieces_in world quoted row.cell same good.below in
     let (verdict, is, tail) = good.tailed in
     let pieces = has.pieces ∙ ap (λ f. pieces_of f has.texts) format in (
-      full_object row.cell has.texts verdict,
+      full_layout.object row.cell has.texts verdict,
       (has.texts, verdict, has.are, is, refl),
       λ comma. ap (λ f. text_behind f comma row.cell (pieces_at quoted (position_in quoted row.cell)) row.tail) format
           ∙ ap (λ p. text_behind Json comma row.cell p row.tail) pieces ∙ ap (text_behind Json comma row.cell (pieces_of Json has.texts)) tail
@@ -129,12 +129,12 @@ full_json world quoted row same format good =
     )
 
 brief_json : (world : WorldValue) (quoted : Quoted) (row : RowValue) → IsQuotedOf world quoted → quoted.format ≡ Json → IsGood Json true world row
-    → MakesObject world (IsDecisionOf world) brief_object quoted row
+    → MakesObject world (IsDecisionOf world) brief_layout.object quoted row
 brief_json world quoted row same format good =
     let has = pieces_in world quoted row.cell same good.below in
     let (verdict, (decision, is, bare), tail) = good.tailed in
     let pieces = has.pieces ∙ ap (λ f. pieces_of f has.texts) format in (
-      brief_object row.cell has.texts decision,
+      brief_layout.object row.cell has.texts decision,
       (has.texts, decision, has.are, is, refl),
       λ comma. ap (λ f. text_behind f comma row.cell (pieces_at quoted (position_in quoted row.cell)) row.tail) format
           ∙ ap (λ p. text_behind Json comma row.cell p row.tail) pieces
@@ -234,19 +234,19 @@ pub listing : (format : Format) (brief : Bool) (selection : SelectionValue) (wor
     → IsSelectedReport format brief selection world (opening_text format brief ++ (rows_text quoted (lead_of rows) rows ++ closing_text format))
 listing Csv true selection world quoted rows same format found =
     let good = good_rows Csv true world rows (picked_each _ _ 0 (world_cells world) (cells_of rows) found.picked) found.tailed in
-    let made = lines_of world (IsDecisionOf world) brief_line quoted (lead_of rows) rows (each_row _ _ (λ row is. brief_csv world quoted row same format is) rows good) in
-    (cells_of rows, made.0, found.picked, made.1, line_text (csv_line brief_header) _ _ made.2)
+    let made = lines_of world (IsDecisionOf world) brief_layout.line quoted (lead_of rows) rows (each_row _ _ (λ row is. brief_csv world quoted row same format is) rows good) in
+    (cells_of rows, made.0, found.picked, made.1, line_text brief_layout.header _ _ made.2)
 listing Csv false selection world quoted rows same format found =
     let good = good_rows Csv false world rows (picked_each _ _ 0 (world_cells world) (cells_of rows) found.picked) found.tailed in
-    let made = lines_of world (IsVerdictOf world) full_line quoted (lead_of rows) rows (each_row _ _ (λ row is. full_csv world quoted row same format is) rows good) in
-    (cells_of rows, made.0, found.picked, made.1, line_text (csv_line full_header) _ _ made.2)
+    let made = lines_of world (IsVerdictOf world) full_layout.line quoted (lead_of rows) rows (each_row _ _ (λ row is. full_csv world quoted row same format is) rows good) in
+    (cells_of rows, made.0, found.picked, made.1, line_text full_layout.header _ _ made.2)
 listing Json true selection world quoted rows same format found =
     let good = good_rows Json true world rows (picked_each _ _ 0 (world_cells world) (cells_of rows) found.picked) found.tailed in
-    let made = objects_of world (IsDecisionOf world) brief_object quoted rows (each_row _ _ (λ row is. brief_json world quoted row same format is) rows good)
+    let made = objects_of world (IsDecisionOf world) brief_layout.object quoted rows (each_row _ _ (λ row is. brief_json world quoted row same format is) rows good)
     (rows_behind (IsAsked selection world) (IsPassed selection world) (world_cells world) rows found.picked) in
     (cells_of rows, made.0, found.picked, made.1, object_text _ made.0 made.2)
 listing Json false selection world quoted rows same format found =
     let good = good_rows Json false world rows (picked_each _ _ 0 (world_cells world) (cells_of rows) found.picked) found.tailed in
-    let made = objects_of world (IsVerdictOf world) full_object quoted rows (each_row _ _ (λ row is. full_json world quoted row same format is) rows good)
+    let made = objects_of world (IsVerdictOf world) full_layout.object quoted rows (each_row _ _ (λ row is. full_json world quoted row same format is) rows good)
     (rows_behind (IsAsked selection world) (IsPassed selection world) (world_cells world) rows found.picked) in
     (cells_of rows, made.0, found.picked, made.1, object_text _ made.0 made.2)

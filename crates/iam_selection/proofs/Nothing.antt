@@ -4,7 +4,7 @@ use Rattle.std.specs.List.{AllZip}
 use Rattle.iam_layers.specs.Cell.{IsDecisionOf, IsVerdictOf}
 use Rattle.iam_layers.specs.Laws.{SomeTriple}
 use Rattle.iam_world.specs.World.{WorldValue, world_cells}
-use Rattle.iam_row.specs.Report.{AreRowsFrom, CellTexts, brief_line, brief_object, full_line, full_object}
+use Rattle.iam_row.specs.Report.{AreRowsFrom, CellTexts, brief_layout, full_layout}
 use Rattle.iam_row.specs.declared.quoted.Format.TheVariants.{Csv, Json}
 use Rattle.iam_row.proofs.Rows.{both_rows, no_rows, one_row, texts_there}
 use Rattle.iam_matrix.specs.Matrix.{AreEntriesFrom, IsFirstAllowed}
@@ -79,16 +79,16 @@ lists_all {X} {B} P Q world Is row most from (suc n) within never cells rows (re
 
 pub selects_all : SomeTriple → Laws.NothingSelectsAll
 selects_all triples Csv true world text (cells, rows, picked, zip, e) =
-    let all = lists_all _ _ world (IsDecisionOf world) brief_line (world_cells world) 0 (world_cells world) (omega arith) (none_passed triples world) cells rows picked zip in
+    let all = lists_all _ _ world (IsDecisionOf world) brief_layout.line (world_cells world) 0 (world_cells world) (omega arith) (none_passed triples world) cells rows picked zip in
     (all.entries, record { count = all.count; each = all.each }, (rows, all.are, e))
 selects_all triples Csv false world text (cells, rows, picked, zip, e) =
-    let all = lists_all _ _ world (IsVerdictOf world) full_line (world_cells world) 0 (world_cells world) (omega arith) (none_passed triples world) cells rows picked zip in
+    let all = lists_all _ _ world (IsVerdictOf world) full_layout.line (world_cells world) 0 (world_cells world) (omega arith) (none_passed triples world) cells rows picked zip in
     (all.entries, record { count = all.count; each = all.each }, (rows, all.are, e))
 selects_all triples Json true world text (cells, rows, picked, zip, e) =
-    let all = lists_all _ _ world (IsDecisionOf world) brief_object (world_cells world) 0 (world_cells world) (omega arith) (none_passed triples world) cells rows picked zip in
+    let all = lists_all _ _ world (IsDecisionOf world) brief_layout.object (world_cells world) 0 (world_cells world) (omega arith) (none_passed triples world) cells rows picked zip in
     (all.entries, record { count = all.count; each = all.each }, (rows, all.are, e))
 selects_all triples Json false world text (cells, rows, picked, zip, e) =
-    let all = lists_all _ _ world (IsVerdictOf world) full_object (world_cells world) 0 (world_cells world) (omega arith) (none_passed triples world) cells rows picked zip in
+    let all = lists_all _ _ world (IsVerdictOf world) full_layout.object (world_cells world) 0 (world_cells world) (omega arith) (none_passed triples world) cells rows picked zip in
     (all.entries, record { count = all.count; each = all.each }, (rows, all.are, e))
 
 first_of_all : SomeTriple → (world : WorldValue) (first : Option ℕ) → IsFirstSelected nothing world first → IsFirstAllowed world first

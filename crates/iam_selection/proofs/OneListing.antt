@@ -5,8 +5,8 @@ use Rattle.std.proofs.lemmas.Bool.{cases_order}
 use Rattle.iam_layers.specs.Cell.{IsDecisionOf, IsVerdictOf}
 use Rattle.iam_layers.specs.Laws.{OneDecisionOf, OneTriple, OneVerdictOf}
 use Rattle.iam_world.specs.World.{WorldValue, world_cells}
-use Rattle.iam_row.specs.Laws.{OneBriefRow}
-use Rattle.iam_row.specs.Report.{CellTexts, IsCellTexts, brief_line, brief_object, full_line, full_object}
+use Rattle.iam_row.specs.Laws.{OneRow}
+use Rattle.iam_row.specs.Report.{CellTexts, IsCellTexts, brief_layout, full_layout}
 use Rattle.iam_row.specs.declared.quoted.Format.TheVariants.{Csv, Json}
 use Rattle.iam_row.proofs.Rows.{found, one_texts}
 use Rattle.iam_matrix.specs.Report.{IsFirstText}
@@ -47,13 +47,13 @@ one_listing selection world Is row whole decisions one text other (cells, rows, 
 
 pub one_selected : OneVerdictOf → OneDecisionOf → Laws.OneSelectedReport
 one_selected verdicts decisions Csv true selection world text other h k =
-    one_listing selection world (IsDecisionOf world) brief_line _ decisions (decisions world) text other h k
+    one_listing selection world (IsDecisionOf world) brief_layout.line _ decisions (decisions world) text other h k
 one_selected verdicts decisions Csv false selection world text other h k =
-    one_listing selection world (IsVerdictOf world) full_line _ decisions (verdicts world) text other h k
+    one_listing selection world (IsVerdictOf world) full_layout.line _ decisions (verdicts world) text other h k
 one_selected verdicts decisions Json true selection world text other h k =
-    one_listing selection world (IsDecisionOf world) brief_object _ decisions (decisions world) text other h k
+    one_listing selection world (IsDecisionOf world) brief_layout.object _ decisions (decisions world) text other h k
 one_selected verdicts decisions Json false selection world text other h k =
-    one_listing selection world (IsVerdictOf world) full_object _ decisions (verdicts world) text other h k
+    one_listing selection world (IsVerdictOf world) full_layout.object _ decisions (verdicts world) text other h k
 
 -- the first cell that is asked for and allowed
 one_first : OneDecisionOf → (selection : SelectionValue) (world : WorldValue) (first other : Option ℕ) → IsFirstSelected selection world first
@@ -67,7 +67,7 @@ one_first decisions selection world (Some cell) (Some other) h k = elim (cases_o
   | inr (inr higher) ↦ absurd (none_allowed decisions world other (h.3 other higher k.1) k.2)
 ]
 
-pub one_first_selected : OneDecisionOf → OneTriple → OneBriefRow → Laws.OneFirstSelectedReport
+pub one_first_selected : OneDecisionOf → OneTriple → OneRow brief_layout → Laws.OneFirstSelectedReport
 one_first_selected decisions triples rows selection world text other (first, h, is) (more, k, there) =
     one_first_text triples rows world more text other (subst (λ f. IsFirstText world f text) (one_first decisions selection world first more h k) is) there
 
@@ -83,8 +83,8 @@ stands Is row one world entries all cell made are rows inside (texts, entry, has
 
 pub each_stands : OneVerdictOf → OneDecisionOf → Laws.EachStandsInAll
 each_stands verdicts decisions = record {
-  lines = stands IsVerdictOf full_line verdicts;
-  brief_lines = stands IsDecisionOf brief_line decisions;
-  objects = stands IsVerdictOf full_object verdicts;
-  brief_objects = stands IsDecisionOf brief_object decisions;
+  lines = stands IsVerdictOf full_layout.line verdicts;
+  brief_lines = stands IsDecisionOf brief_layout.line decisions;
+  objects = stands IsVerdictOf full_layout.object verdicts;
+  brief_objects = stands IsDecisionOf brief_layout.object decisions;
 }

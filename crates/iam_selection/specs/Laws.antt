@@ -4,7 +4,7 @@ use Rattle.std.specs.Prelude.{◌≡◌, ℕ, ◌<◌, Bool, List, [], Some, len
 use Rattle.std.specs.List.{slice_get}
 use Rattle.iam_layers.specs.Cell.{IsDecisionOf, IsVerdictOf}
 use Rattle.iam_world.specs.World.{WorldValue}
-use Rattle.iam_row.specs.Report.{AreRows, CellTexts, brief_line, brief_object, full_line, full_object}
+use Rattle.iam_row.specs.Report.{AreRowsFrom, CellTexts, brief_layout, full_layout}
 use Rattle.iam_row.specs.declared.quoted.Format.{Format}
 use Rattle.iam_matrix.specs.Matrix.{AreEntriesFrom}
 use Rattle.iam_matrix.specs.Report.{IsFirstReport, IsMatrixReport}
@@ -25,15 +25,15 @@ OneFirstSelectedReport =
 abbrev pub StandsInAll : {X B : Type 0} → (WorldValue → ℕ → X → Type 0) → (ℕ → CellTexts → X → B) → Type 0
 StandsInAll {X} {B} Is row =
     (world : WorldValue) (entries : List X) (all : List B) (cell : ℕ) (made : B)
-    → AreEntriesFrom (Is world) 0 entries → AreRows world row entries all → cell < length entries → IsRowOf world (Is world) row cell made
+    → AreEntriesFrom (Is world) 0 entries → AreRowsFrom world row 0 entries all → cell < length entries → IsRowOf world (Is world) row cell made
     → slice_get all cell ≡ Some made
 
 -- so it is of lines and of objects, in full and in brief
 pub record EachStandsInAll : Type 0 where
-  pub lines : StandsInAll IsVerdictOf full_line
-  pub brief_lines : StandsInAll IsDecisionOf brief_line
-  pub objects : StandsInAll IsVerdictOf full_object
-  pub brief_objects : StandsInAll IsDecisionOf brief_object
+  pub lines : StandsInAll IsVerdictOf full_layout.line
+  pub brief_lines : StandsInAll IsDecisionOf brief_layout.line
+  pub objects : StandsInAll IsVerdictOf full_layout.object
+  pub brief_objects : StandsInAll IsDecisionOf brief_layout.object
 
 -- a selection that says nothing
 abbrev pub nothing : SelectionValue

@@ -3,7 +3,7 @@ use Rattle.std.specs.Prelude.{◌≡◌, ◌⊎◌, ℕ, zero, suc, ◌+◌, Lis
 use Rattle.std.specs.List.{AllZip, concat}
 use Rattle.iam_layers.specs.Cell.{IsDecisionOf, IsVerdictOf}
 use Rattle.iam_world.specs.World.{WorldValue, world_cells}
-use Rattle.iam_row.specs.Report.{CellTexts, IsCellTexts, brief_header, brief_line, brief_object, csv_line, full_header, full_line, full_object, json_text}
+use Rattle.iam_row.specs.Report.{CellTexts, IsCellTexts, brief_layout, full_layout, json_text}
 use Rattle.iam_row.specs.declared.quoted.Format.{Format}
 use Rattle.iam_row.specs.declared.quoted.Format.TheVariants.{Csv, Json}
 use Rattle.iam_matrix.specs.Report.{IsFirstText}
@@ -34,11 +34,11 @@ IsListing {X} {B} selection world Is row whole text =
 -- the report of the rows that are asked for, in full or in brief
 abbrev pub IsSelectedReport : Format → Bool → SelectionValue → WorldValue → List ℕ → Type 0
 IsSelectedReport Csv true selection world text =
-    IsListing selection world (IsDecisionOf world) brief_line (λ lines. csv_line brief_header ++ concat lines) text
+    IsListing selection world (IsDecisionOf world) brief_layout.line (λ lines. brief_layout.header ++ concat lines) text
 IsSelectedReport Csv false selection world text =
-    IsListing selection world (IsVerdictOf world) full_line (λ lines. csv_line full_header ++ concat lines) text
-IsSelectedReport Json true selection world text = IsListing selection world (IsDecisionOf world) brief_object json_text text
-IsSelectedReport Json false selection world text = IsListing selection world (IsVerdictOf world) full_object json_text text
+    IsListing selection world (IsVerdictOf world) full_layout.line (λ lines. full_layout.header ++ concat lines) text
+IsSelectedReport Json true selection world text = IsListing selection world (IsDecisionOf world) brief_layout.object json_text text
+IsSelectedReport Json false selection world text = IsListing selection world (IsVerdictOf world) full_layout.object json_text text
 
 -- the brief header, and the brief row of the first cell that is selected and allowed, where there is one
 abbrev pub IsFirstSelectedReport : SelectionValue → WorldValue → List ℕ → Type 0
