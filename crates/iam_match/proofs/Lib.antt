@@ -1,6 +1,7 @@
 pub mod ColonLemmas
 pub mod CompareLemmas
 pub mod FixedLemmas
+pub mod GivenLemmas
 pub mod GrantLemmas
 pub mod JoinLemmas
 pub mod PartsLemmas

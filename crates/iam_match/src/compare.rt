@@ -1,7 +1,9 @@
 // One value of the context against one value of a condition.
-ghost use Rattle.std.specs.Prelude.{◌≡◌, ◌↔◌, ℕ, ℤ, List, IsTrue, IfOk};
+ghost use Rattle.std.specs.Prelude.{◌≡◌, ◌↔◌, ℕ, ℤ, List, IsTrue, IfOk, map};
+ghost use Rattle.std.specs.Str.{chars};
 ghost use Rattle.iam_value.specs.Address.{Block, Holds};
 ghost use Rattle.iam_context.specs.Resolve.{resolved};
+ghost use Rattle.iam_glob.specs.Glob.{plain_sign, Equals, Matches};
 ghost use Rattle.iam_condition.specs.declared.operator.Base.{Base};
 ghost use Rattle.iam_condition.specs.declared.operand.Operand.TheVariants as operand;
 ghost use Rattle.iam_match.specs.Code.Asked.{IsAsked, IsComparison};
@@ -12,7 +14,7 @@ ghost use Rattle.iam_match.specs.Entry.{Ordered, PatternMatches};
 use crate::arn::arn_matches;
 use crate::asked::Asked;
 use iam_condition::{Operand, Order, TextTest};
-use iam_context::{Context, resolve};
+use iam_context::{Context, lone_value, resolve};
 use iam_text::{Arn, Draft, Glob, OutOfMemory, TemplateForm};
 use iam_value::{Address, Range};
 use std::alloc::Global;
@@ -60,6 +62,34 @@ fn compare_text<'c>(
 
 /// Compares a text with a value that has variables.
 fn open_text<'c>(
+    alloc: Global,
+    draft: &'c Draft,
+    text: &str,
+    test: TextTest,
+    context: &Context<'c>,
+) -> Result<Option<bool>, OutOfMemory>
+    ensures { IfOk result (TellsOfPattern (resolved context.now draft.now) (λ signs. PatternMatches test signs text.now)) }
+{
+    match test {
+        TextTest::Equals | TextTest::Like => match lone_value(draft, context) {
+            Some(Some(value)) => Ok(Some(is_value(value, text))),
+            Some(None) => Ok(None),
+            None => pattern_text(alloc, draft, text, test, context),
+        },
+        TextTest::EqualsIgnoreCase => pattern_text(alloc, draft, text, test, context),
+    }
+}
+
+/// Whether the value of a variable, all of whose characters are given, is the text.
+fn is_value(value: &str, text: &str) -> bool
+    ensures equals { IsTrue result ↔ Equals (map plain_sign (chars value.now)) (chars text.now) }
+    ensures matches { IsTrue result ↔ Matches (map plain_sign (chars value.now)) (chars text.now) }
+{
+    value == text
+}
+
+/// Compares a text with the pattern that a value with variables becomes.
+fn pattern_text<'c>(
     alloc: Global,
     draft: &'c Draft,
     text: &str,
