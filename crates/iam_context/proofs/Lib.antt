@@ -5,3 +5,4 @@ pub mod PlaceLemmas
 pub mod Shares
 pub mod Signs
 mod Wildcards
+pub mod WideLemmas

@@ -4,3 +4,4 @@ pub mod ContextFault
 pub mod Keys
 pub mod Order
 pub mod Resolve
+pub mod Wide

@@ -11,6 +11,7 @@ mod parts;
 mod pattern;
 mod places;
 mod sought;
+mod wide;
 
 pub use context::Context;
 pub use fault::ContextFault;
@@ -19,3 +20,4 @@ pub use keys::Keys;
 pub use part::{Derived, Part, part_fault};
 pub use pattern::{lone_value, resolve};
 pub use sought::Sought;
+pub use wide::wide_pattern;

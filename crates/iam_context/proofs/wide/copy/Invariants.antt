@@ -1,0 +1,7 @@
+use Rattle.std.proofs.Common.{◌≡◌, take}
+use Rattle.iam_glob.specs.Signs.{signs_in}
+use Rattle.iam_context.proofs.wide.copy.Given as goal
+
+-- the signs so far
+abbrev pub invariant-loop-i : goal.invariant-loop-i
+invariant-loop-i l = l.copied.items ≡ take l.i (signs_in l.signs)
