@@ -29,7 +29,7 @@ some_before f P Q on (x ∷ xs) (suc k, y, below, at, q) =
     let rest = some_before f P Q on xs (k, y, (let b : k < length (map f xs) = omega arith in b), at, q) in
     (suc rest.0, rest.1, (let b : rest.0 < length xs = rest.2 in omega arith), rest.3, rest.4)
 
-same_some : {X : Type 0} (x y : X) → Some x ≡ Some y → x ≡ y
+pub same_some : {X : Type 0} (x y : X) → Some x ≡ Some y → x ≡ y
 same_some x y e = cc
 
 -- some pattern matches

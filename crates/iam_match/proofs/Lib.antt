@@ -8,3 +8,4 @@ pub mod PartsLemmas
 pub mod PathLemmas
 pub mod RequesterLemmas
 pub mod StatementLemmas
+pub mod WideLemmas

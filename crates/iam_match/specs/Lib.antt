@@ -4,3 +4,4 @@ pub mod Principal
 pub mod Request
 pub mod Requester
 pub mod Statement
+pub mod Wide

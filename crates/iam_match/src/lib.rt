@@ -13,6 +13,7 @@ mod request;
 mod requester;
 mod resource;
 mod statement;
+mod wide;
 
 pub use entry::holds;
 pub use fixed::Fixed;
@@ -25,3 +26,4 @@ pub use principal::{Grant, grant_kind};
 pub use request::{Access, Request};
 pub use requester::Requester;
 pub use statement::{action_matches, rest_matches, rest_matches_with, statement_matches};
+pub use wide::Wide;
