@@ -2,7 +2,9 @@
 use Rattle.std.proofs.Common.{◌≡◌, ◌⊎◌, inl, inr, ℕ, zero, suc, ◌<◌, List, [], ◌∷◌, ◌++◌, length, Option, None, Some, IfSome, refl, sym, ap, subst, arith}
 use Rattle.std.proofs.lemmas.Option.{get_or_from_slice_get, slice_get_within}
 use Rattle.std.specs.List.{Contains, slice_get}
-use Rattle.iam_layers.specs.Cell.{IsAction}
+use Rattle.iam_decision.specs.Applicable.{ApplicableValue}
+use Rattle.iam_layers.specs.Applicable.{applicable_of}
+use Rattle.iam_layers.specs.Cell.{IsAction, IsApplicableAt}
 use Rattle.iam_world.specs.World.{WorldValue}
 use Rattle.iam_index.specs.Parts.{AreAt}
 
@@ -51,3 +53,11 @@ if_some P Q (Some x) weaker is = weaker x is
 -- an action of the world is one of its actions
 pub is_asked : (world : WorldValue) (a : ℕ) (text : List ℕ) → IsAction world a text → Contains world.actions text
 is_asked world a text at = (a, slice_get_within world.actions a text at, get_or_from_slice_get world.actions a text text at)
+
+-- policies apply to the requests of each principal for each resource, be they none
+pub some_apply : (world : WorldValue) (p r : ℕ) → p < length world.principals → r < length world.resources
+    → (a : ApplicableValue) × IsApplicableAt world p r a
+some_apply world p r p_below r_below =
+    let (principal, p_at) = get_within world.principals p p_below in
+    let (resource, r_at) = get_within world.resources r r_below in
+    (applicable_of world principal resource, (principal, p_at, (resource, r_at, refl)))

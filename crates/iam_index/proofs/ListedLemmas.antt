@@ -1,15 +1,17 @@
 -- Lists of statements, one more at a time.
-use Rattle.std.proofs.Common.{◌≡◌, ◌<◌, inl, inr, ℕ, List, [], ◌∷◌, ◌++◌, length, Some, refl, sym, subst, arith}
+use Rattle.std.proofs.Common.{◌≡◌, ◌<◌, inl, inr, ℕ, List, [], ◌∷◌, ◌++◌, length, Some, ap, refl, sym, subst, arith, ◌∙◌}
 use Rattle.std.proofs.lemmas.Option.{slice_get_within}
 use Rattle.std.specs.List.{slice_get}
+use Rattle.iam_decision.specs.Applicable.{ApplicableValue}
 use Rattle.iam_decision.specs.Matched.{in_layer}
 use Rattle.iam_decision.specs.declared.place.Layer.TheVariants as layer
 use Rattle.iam_decision.specs.declared.scan.Standing.{Standing}
 use Rattle.iam_policy.specs.Reading.{PolicyValue}
 use Rattle.iam_world.specs.World.{WorldValue}
 use Rattle.iam_layers.specs.Applicable.{applicable_of}
+use Rattle.iam_layers.specs.Cell.{IsApplicableAt}
 use Rattle.iam_layers.specs.Code.Statements.{HaveSameOrg}
-use Rattle.iam_index.specs.Index.{AreListed, AreLists, AreOrgs, HasOrg, HaveOrgs, ListsOrg, ListsRequester, ListsResource}
+use Rattle.iam_index.specs.Index.{AreListed, AreLists, AreOrgs, HasOrg, HaveOrgs, IsOrg, ListsOrg, ListsRequester, ListsResource}
 use Rattle.iam_index.specs.declared.lists.Listed.{Listed}
 use Rattle.iam_index.specs.declared.lists.Org.{Org}
 use Rattle.iam_index.proofs.ListLemmas.{get_back, get_more, get_within}
@@ -25,16 +27,16 @@ lists_more P lists listed is all i other at =
           subst R (sym same) (subst Q (sym last) is)
     ]
 
-pub orgs_more : (world : WorldValue) (orgs : List Org) (org : Org) → ListsOrg world org.principal org.statements.items → AreOrgs world orgs
+pub orgs_more : (world : WorldValue) (orgs : List Org) (org : Org) → IsOrg world org.principal org → AreOrgs world orgs
     → AreOrgs world (orgs ++ org ∷ [])
 orgs_more world orgs org is all n other at =
     elim (get_back orgs org n other at) [
       | inl before ↦ all n other before
-      | inr (last, same) ↦ let R : Org → Type 0 = λ o. ListsOrg world o.principal o.statements.items in subst R (sym same) is
+      | inr (last, same) ↦ let R : Org → Type 0 = λ o. IsOrg world o.principal o in subst R (sym same) is
     ]
 
 has_org_grows : (world : WorldValue) (orgs more : List Org) (p n : ℕ) → HasOrg world orgs p n → HasOrg world (orgs ++ more) p n
-has_org_grows world orgs more p n (org, at, lists) = (org, get_more orgs more n org at, lists)
+has_org_grows world orgs more p n (org, at, is) = (org, get_more orgs more n org at, is)
 
 pub have_orgs_more : (world : WorldValue) (orgs more : List Org) (numbers : List ℕ) (number : ℕ)
     → HasOrg world (orgs ++ more) (length numbers) number → HaveOrgs world orgs numbers → HaveOrgs world (orgs ++ more) (numbers ++ number ∷ [])
@@ -47,14 +49,24 @@ have_orgs_more world orgs more numbers number has all p other at =
           subst R (sym same) (subst Q (sym last) has)
     ]
 
--- what is listed of the organisation of a principal is that of another whom the same one binds
-pub same_org_lists : (world : WorldValue) (p q : ℕ) (listed : List Standing) → q < length world.principals → HaveSameOrg world p q
-    → ListsOrg world q listed → ListsOrg world p listed
-same_org_lists world p q listed below same lists r a (principal, p_at, (resource, r_at, is)) =
+-- the organisation of a principal is that of another whom the same one binds
+pub same_is_org : (world : WorldValue) (p q : ℕ) (org : Org) → q < length world.principals → HaveSameOrg world p q → IsOrg world q org
+    → IsOrg world p org
+same_is_org world p q org below same is =
+    let as_other : (r : ℕ) (a : ApplicableValue) → IsApplicableAt world p r a
+    → (b : ApplicableValue) × IsApplicableAt world q r b × (b.org ≡ a.org) =
+    λ r a (principal, p_at, (resource, r_at, e)).
     let (other, q_at) = get_within world.principals q below in
     let b = applicable_of world other resource in
-    let P : List (List PolicyValue) → Type 0 = λ levels. AreListed world (in_layer layer.Org levels) listed in
-    subst P (sym (same r r a b (principal, p_at, (resource, r_at, is)) (other, q_at, (resource, r_at, refl)))) (lists r b (other, q_at, (resource, r_at, refl)))
+    let there : IsApplicableAt world q r b = (other, q_at, (resource, r_at, refl)) in
+    (b, there, sym (same r r a b (principal, p_at, (resource, r_at, e)) there)) in
+    record {
+      levels = λ r a at. let (b, there, orgs) = as_other r a at in is.levels r b there ∙ ap (λ (levels : List (List PolicyValue)). length levels) orgs;
+      lists = λ r a at.
+          let (b, there, orgs) = as_other r a at in
+          let P : List (List PolicyValue) → Type 0 = λ levels. AreListed world (in_layer layer.Org levels) org.statements.items in
+          subst P orgs (is.lists r b there);
+    }
 
 no_place : {X : Type 0} (xs : List X) (i : ℕ) (x : X) → length xs ≡ 0 → slice_get xs i ≡ Some x → ⊥
 no_place xs i x none at = let within = slice_get_within xs i x at in omega (arith, within, none)

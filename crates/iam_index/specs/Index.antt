@@ -9,6 +9,7 @@ use Rattle.iam_decision.specs.Matched.{Placed, placed}
 use Rattle.iam_decision.specs.declared.place.Place.{Place}
 use Rattle.iam_decision.specs.declared.scan.Standing.{Standing}
 use Rattle.iam_layers.specs.Cell.{IsApplicableAt, IsCell, IsRequestAt}
+use Rattle.iam_layers.specs.Code.Statements.{HasLevels}
 use Rattle.iam_world.specs.World.{WorldValue}
 use Rattle.iam_index.specs.Elements.{AreElements}
 use Rattle.iam_index.specs.Rows.{AreListRows, AreRows}
@@ -37,9 +38,14 @@ ListsResource world r listed = (p : ℕ) (a : ApplicableValue) → IsApplicableA
 abbrev pub AreLists : (ℕ → List Standing → Type 0) → List Listed → Type 0
 AreLists P lists = (i : ℕ) (listed : Listed) → slice_get lists i ≡ Some listed → P i listed.statements.items
 
+-- this organisation binds principal p
+pub record IsOrg (world : WorldValue) (p : ℕ) (org : Org) : Type 0 where
+  pub levels : HasLevels world p org.levels
+  pub lists : ListsOrg world p org.statements.items
+
 -- the organisation of this number binds principal p
 abbrev pub HasOrg : WorldValue → List Org → ℕ → ℕ → Type 0
-HasOrg world orgs p n = (org : Org) × (slice_get orgs n ≡ Some org) × ListsOrg world p org.statements.items
+HasOrg world orgs p n = (org : Org) × (slice_get orgs n ≡ Some org) × IsOrg world p org
 
 -- these are the numbers of the organisations of principals
 abbrev pub HaveOrgs : WorldValue → List Org → List ℕ → Type 0
@@ -47,7 +53,7 @@ HaveOrgs world orgs numbers = (p n : ℕ) → slice_get numbers p ≡ Some n →
 
 -- each organisation is that of its principal
 abbrev pub AreOrgs : WorldValue → List Org → Type 0
-AreOrgs world orgs = (n : ℕ) (org : Org) → slice_get orgs n ≡ Some org → ListsOrg world org.principal org.statements.items
+AreOrgs world orgs = (n : ℕ) (org : Org) → slice_get orgs n ≡ Some org → IsOrg world org.principal org
 
 -- everything that an index has is right
 pub record IsIndex (world parts : WorldValue) (elements : List Element) (orgs : List Org) (numbers : List ℕ) (requesters resources : List Listed)

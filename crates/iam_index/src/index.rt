@@ -15,7 +15,7 @@ use crate::parts::Parts;
 use crate::rows::Rows;
 use crate::texts::Texts;
 use iam_decision::add_living;
-use iam_layers::{Living, Place, Standing, World};
+use iam_layers::{Frame, Living, Place, Standing, World};
 use iam_match::{Access, action_matches};
 use iam_text::OutOfMemory;
 use std::alloc::Global;
@@ -54,7 +54,7 @@ impl<'a> Model for Index<'a> {
 impl<'a> Index<'a> {
     ghost use Rattle.std.specs.Prelude.{[], ◌∷◌, ◌≡◌, ◌<◌, ℕ, IfOk, List, OnOk, length, map};
     ghost use Rattle.iam_match.specs.Request.{access_of};
-    ghost use Rattle.iam_decision.specs.Applicable.{ApplicableValue};
+    ghost use Rattle.iam_decision.specs.Applicable.{ApplicableValue, frame_of};
     ghost use Rattle.iam_decision.specs.Code.Scan.{placed_value};
     ghost use Rattle.iam_decision.specs.Living.{AreCandidates, living_value};
     ghost use Rattle.iam_decision.specs.Matched.{placed};
@@ -62,7 +62,7 @@ impl<'a> Index<'a> {
     ghost use Rattle.iam_layers.specs.Cell.{IsAction, IsApplicableAt, IsResource};
     ghost use Rattle.iam_index.specs.Elements.{AreElements};
     ghost use Rattle.iam_decision.specs.declared.scan.Standing.{Standing};
-    ghost use Rattle.iam_index.specs.Index.{AddsLiving, AllAct, AreCandidatesOf, AreLivingAt, ListsOrg, ListsRequester, ListsResource};
+    ghost use Rattle.iam_index.specs.Index.{AddsLiving, AllAct, AreCandidatesOf, AreLivingAt, IsOrg, ListsOrg, ListsRequester, ListsResource};
 
     /// The index of a world.
     pub fn build(alloc: Global, world: &'a World) -> Result<Index<'a>, OutOfMemory>
@@ -146,7 +146,7 @@ impl<'a> Index<'a> {
     {
         let action = self.world.action_text(a);
         let mut candidates = Vec::new(alloc);
-        add_candidates(&mut candidates, self.org(p), action)?;
+        add_candidates(&mut candidates, self.org(p).statements.as_slice(), action)?;
         add_candidates(&mut candidates, self.resource(r), action)?;
         add_candidates(&mut candidates, self.requester(p), action)?;
         Ok(candidates)
@@ -254,13 +254,22 @@ impl<'a> Index<'a> {
         &self.texts
     }
 
-    /// The statements of the organisation that binds principal p.
-    fn org(&self, p: u64) -> &[Standing<'a>]
+    /// What a decision on principal p's requests for resource r asks beside the statements, each below the number of its kind.
+    pub fn frame(&self, p: u64, r: u64) -> Frame
+        requires principal { p < length self.now.principals }
+        requires resource { r < length self.now.resources }
+        ensures { (applicable : ApplicableValue) → IsApplicableAt self.now p r applicable → result ≡ frame_of applicable }
+    {
+        self.world.frame_with(p, r, self.org(p).levels)
+    }
+
+    /// The organisation that binds principal p.
+    fn org(&self, p: u64) -> &Org<'a>
         requires { p < length self.now.principals }
-        ensures { ListsOrg self.now p result.now }
+        ensures { IsOrg self.now p result.now }
     {
         let number = self.orgs.numbers[p as usize];
-        self.orgs.orgs[number].statements.as_slice()
+        &self.orgs.orgs[number]
     }
 
     /// How many statements of principal p it lists.

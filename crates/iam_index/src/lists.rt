@@ -19,10 +19,12 @@ pub struct Listed<'a> {
     pub statements: Vec<Standing<'a>>,
 }
 
-/// Such statements of the organisation of a principal, which binds all principals of its account.
+/// The organisation of a principal, which binds all principals of its account: how many levels of policies it has, and such
+/// statements of it.
 #[derive(Drop)]
 pub struct Org<'a> {
     pub principal: u64,
+    pub levels: u32,
     pub statements: Vec<Standing<'a>>,
 }
 
@@ -229,6 +231,7 @@ fn org_number<'a>(
     let number = orgs.len();
     orgs.push(Org {
         principal: p,
+        levels: world.org_levels(p),
         statements,
     })?;
     accounts.insert(account_print(world, p), number)?;

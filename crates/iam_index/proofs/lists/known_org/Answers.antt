@@ -3,7 +3,7 @@ use Rattle.std.proofs.lemmas.Option.{slice_get-get_or}
 use Rattle.std.specs.List.{slice_get}
 use Rattle.iam_layers.specs.Code.Statements.{HaveSameOrg}
 use Rattle.iam_index.specs.declared.lists.Org.{Org}
-use Rattle.iam_index.proofs.ListedLemmas.{same_org_lists}
+use Rattle.iam_index.proofs.ListedLemmas.{same_is_org}
 use Rattle.iam_index.proofs.lists.known_org.Goals as goal
 
 pub returns-then-has_same_org : goal.returns-then-has_same_org
@@ -18,4 +18,4 @@ returns-then-has_same_org c =
     let inside : (get_or orgs n org).principal < length world.principals = omega (arith, c.principals.ensures, c.if-other-principals.true) in
     let B : Org → Type 0 = λ o. o.principal < length world.principals in
     let S : Org → Type 0 = λ o. HaveSameOrg world c.args.p o.principal in
-    (org, at, same_org_lists world c.args.p org.principal org.statements.items (subst B read inside) (subst S read (c.has_same_org.ensures c.if-has_same_org.true)) (c.requires.orgs n org at))
+    (org, at, same_is_org world c.args.p org.principal org (subst B read inside) (subst S read (c.has_same_org.ensures c.if-has_same_org.true)) (c.requires.orgs n org at))

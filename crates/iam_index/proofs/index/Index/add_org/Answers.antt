@@ -25,13 +25,13 @@ add_known-requires-clause-list c =
     let there = subst N (sym c.self.view_is) c.requires.principal in
     let within : p < length numbers = omega (arith, there, c.self.invariant.orgs_count) in
     let at : slice_get numbers p ≡ Some number = slice_get-get_or numbers p number within ∙ ap Some (sym c.index-number.ensures) in
-    let (org, found, lists) = c.self.invariant.orgs_are p number at in
+    let (org, found, is) = c.self.invariant.orgs_are p number at in
     let read : slice_get orgs number ≡ Some here = slice_get-get_or orgs number here (slice_get_within orgs number org found) ∙ ap Some (sym c.index-org.ensures) in
     if_some _ _ c.list_at.result
-    (λ list is.
+    (λ list at_list.
     let S : List ListRows → Type 0 = λ known. slice_get known number ≡ Some list.now in
     let T : List Standing → Type 0 = λ statements. AreStatementRows rows statements list.now.rows.items in
-    subst T (sym c.as_slice.ensures.value) (c.self.invariant.org_rows_are number here list.now read (subst S c.as_slice-2.ensures.value is)))
+    subst T (sym c.as_slice.ensures.value) (c.self.invariant.org_rows_are number here list.now read (subst S c.as_slice-2.ensures.value at_list)))
     c.list_at.ensures
 
 pub returns : goal.returns
@@ -48,9 +48,9 @@ returns c =
     let there = subst N (sym c.self.view_is) c.requires.principal in
     let within : p < length numbers = omega (arith, there, c.self.invariant.orgs_count) in
     let at : slice_get numbers p ≡ Some number = slice_get-get_or numbers p number within ∙ ap Some (sym c.index-number.ensures) in
-    let (org, found, lists) = c.self.invariant.orgs_are p number at in
+    let (org, found, is) = c.self.invariant.orgs_are p number at in
     let read : slice_get orgs number ≡ Some here = slice_get-get_or orgs number here (slice_get_within orgs number org found) ∙ ap Some (sym c.index-org.ensures) in
     let own : org ≡ here = some_same org here (sym found ∙ read) in
     let A : List Standing → Type 0 = λ listed.
     AddsLiving (access_of c.args.access) (map placed_value listed) (map living_value c.args.living.now.items) (map living_value c.add_known.new.living.items) in
-    (here.statements.items, subst W c.self.view_is (subst O own lists), subst A c.as_slice.ensures.value c.in_ok-add_known.ensures)
+    (here.statements.items, subst W c.self.view_is (subst O own is.lists), subst A c.as_slice.ensures.value c.in_ok-add_known.ensures)

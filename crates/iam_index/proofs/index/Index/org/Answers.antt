@@ -1,10 +1,8 @@
-use Rattle.std.proofs.Common.{◌≡◌, ◌<◌, ℕ, List, Some, length, ap, sym, ◌∙◌, subst, arith}
+use Rattle.std.proofs.Common.{◌≡◌, ◌<◌, Some, length, ap, sym, ◌∙◌, subst, arith}
 use Rattle.std.proofs.lemmas.Option.{slice_get-get_or, slice_get_within}
 use Rattle.std.specs.List.{slice_get}
-use Rattle.iam_decision.specs.declared.scan.Standing.{Standing}
 use Rattle.iam_world.specs.World.{WorldValue}
-use Rattle.iam_index.specs.Index.{ListsOrg}
-use Rattle.iam_index.specs.declared.lists.Org.{Org}
+use Rattle.iam_index.specs.Index.{IsOrg}
 use Rattle.iam_index.proofs.ListLemmas.{some_same}
 use Rattle.iam_index.proofs.index.Index.org.Goals as goal
 
@@ -17,13 +15,11 @@ returns c =
     let number = c.index-number.result.now in
     let here = c.index.result.now in
     let N : WorldValue → Type 0 = λ w. p < length w.principals in
-    let W : WorldValue → Type 0 = λ w. ListsOrg w p c.as_slice.result.now in
-    let L : List Standing → Type 0 = ListsOrg world p in
-    let O : Org → Type 0 = λ o. L o.statements.items in
+    let W : WorldValue → Type 0 = λ w. IsOrg w p here in
     let there = subst N (sym c.self.view_is) c.requires in
     let within : p < length numbers = omega (arith, there, c.self.invariant.orgs_count) in
     let at : slice_get numbers p ≡ Some number = slice_get-get_or numbers p number within ∙ ap Some (sym c.index-number.ensures) in
-    let (org, found, lists) = c.self.invariant.orgs_are p number at in
+    let (org, found, is) = c.self.invariant.orgs_are p number at in
     let read : slice_get orgs number ≡ Some here = slice_get-get_or orgs number here (slice_get_within orgs number org found) ∙ ap Some (sym c.index.ensures) in
     let own : org ≡ here = some_same org here (sym found ∙ read) in
-    subst W c.self.view_is (subst L (sym c.as_slice.ensures.value) (subst O own lists))
+    subst W c.self.view_is (subst (IsOrg world p) own is)
