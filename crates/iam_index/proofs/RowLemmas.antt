@@ -1,10 +1,11 @@
 -- Rows stay those of their elements where more are put behind them.
-use Rattle.std.proofs.Common.{◌≡◌, inl, inr, ℕ, List, [], ◌∷◌, ◌++◌, length, Option, Some, IfSome, arith, append_assoc, sym, ap, subst, ◌∙◌}
+use Rattle.std.proofs.Common.{◌≡◌, inl, inr, ℕ, Bool, true, false, ◌⊎◌, MatchBool, List, [], ◌∷◌, ◌++◌, length, Option, Some, IfSome, arith, append_assoc, sym, ap, subst, ◌∙◌}
 use Rattle.std.proofs.lemmas.Option.{slice_get_within}
 use Rattle.std.specs.List.{slice_get}
 use Rattle.iam_decision.specs.declared.scan.Standing.{Standing}
 use Rattle.iam_element.specs.Reading.{ResourceElement}
-use Rattle.iam_index.specs.Rows.{AreListRows, AreStatementRows, HasRow}
+use Rattle.iam_world.specs.World.{WorldValue}
+use Rattle.iam_index.specs.Rows.{AreListRows, AreStatementRows, HasRow, Tell, TellsMatch, TellsMayMatch}
 use Rattle.iam_index.specs.declared.list_rows.ListRows.{ListRows}
 use Rattle.iam_index.specs.declared.rows.Row.{Row}
 use Rattle.iam_index.proofs.ListLemmas.{get_back, get_more, some_same}
@@ -62,3 +63,12 @@ no_list_rows statements rows lists known none i list numbers there at =
 pub more_and_more : (rows some all : List Row) → ((more : List Row) × (some ≡ rows ++ more)) → ((more : List Row) × (all ≡ some ++ more))
     → (more : List Row) × (all ≡ rows ++ more)
 more_and_more rows some all (one, is) (two, last) = (one ++ two, last ∙ ap (λ (z : List Row). z ++ two) is ∙ append_assoc rows one two)
+
+-- what a row says of a resource, where it says it of the match itself, or that there can be none
+pub told : (world : WorldValue) (element : Option ResourceElement) (exact : Bool) (matches : List Bool) (r : ℕ) (matched : Bool)
+    → MatchBool exact (Tell (TellsMatch world element) matches) (Tell (TellsMayMatch world element) matches) → slice_get matches r ≡ Some matched
+    → (exact ≡ true) ⊎ (matched ≡ false) → TellsMatch world element r matched
+told world element true matches r matched are at sure = are r matched at
+told world element false matches r true are at (inl sure) = let wrong : ⊥ = cc in absurd wrong
+told world element false matches r true are at (inr sure) = let wrong : ⊥ = cc in absurd wrong
+told world element false matches r false are at sure = λ resource context there. (λ matched. let wrong : ⊥ = cc in absurd wrong, are r false at resource context there)

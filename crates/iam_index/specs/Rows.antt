@@ -1,5 +1,5 @@
--- Resource elements without variables of which it is kept which resources they match. LOGIC 2.4.
-use Rattle.std.specs.Prelude.{◌≡◌, ◌↔◌, ℕ, Bool, IsTrue, List, Option, Some}
+-- Resource elements of which it is kept which resources they match, or, where they have variables, which they may match. LOGIC 2.4.
+use Rattle.std.specs.Prelude.{◌≡◌, ◌↔◌, ℕ, Bool, IsTrue, List, MatchBool, Option, Some}
 use Rattle.std.specs.List.{slice_get}
 use Rattle.iam_context.specs.Context.{ContextValue}
 use Rattle.iam_decision.specs.declared.scan.Standing.{Standing}
@@ -16,12 +16,21 @@ TellsMatch world element r matched =
     (resource : ResourceValue) (context : ContextValue) → slice_get world.resources r ≡ Some resource
     → IsTrue matched ↔ ResourceMatches element resource.arn context
 
--- each of these says so of the resource at its place
-abbrev pub TellMatches : WorldValue → Option ResourceElement → List Bool → Type 0
-TellMatches world element matches = (r : ℕ) (matched : Bool) → slice_get matches r ≡ Some matched → TellsMatch world element r matched
+-- this says so where the element matches in some context
+abbrev pub TellsMayMatch : WorldValue → Option ResourceElement → ℕ → Bool → Type 0
+TellsMayMatch world element r matched =
+    (resource : ResourceValue) (context : ContextValue) → slice_get world.resources r ≡ Some resource
+    → ResourceMatches element resource.arn context → IsTrue matched
 
+-- each of these has the property, by its place
+abbrev pub Tell : (ℕ → Bool → Type 0) → List Bool → Type 0
+Tell P matches = (r : ℕ) (matched : Bool) → slice_get matches r ≡ Some matched → P r matched
+
+-- of an element without variables the row says of each resource whether it matches, of another whether it may
 abbrev pub IsRow : WorldValue → Row → Type 0
-IsRow world row = TellMatches world (Some row.element.now) row.matches.items
+IsRow world row =
+    let element = Some row.element.now in
+    MatchBool row.exact (Tell (TellsMatch world element) row.matches.items) (Tell (TellsMayMatch world element) row.matches.items)
 
 abbrev pub AreRows : WorldValue → List Row → Type 0
 AreRows world rows = (n : ℕ) (row : Row) → slice_get rows n ≡ Some row → IsRow world row

@@ -1,12 +1,13 @@
-// Resource elements without variables, and which resources of a world they match.
-ghost use Rattle.std.specs.Prelude.{◌≡◌, ◌++◌, IfOk, IfSome, List, Option, Some};
+// Resource elements, and which resources of a world they match, or may match.
+ghost use Rattle.std.specs.Prelude.{◌≡◌, ◌++◌, ℕ, IfOk, IfSome, List, Option, Some};
 ghost use Rattle.iam_element.specs.Reading.{ResourceElement};
+ghost use Rattle.iam_match.specs.Wide.{Covers};
 ghost use Rattle.iam_world.specs.World.{WorldValue};
-ghost use Rattle.iam_index.specs.Rows.{AreRows, AreStatementRows, HasRow, IsRow, TellMatches, TellsMatch};
+ghost use Rattle.iam_index.specs.Rows.{AreRows, AreStatementRows, HasRow, IsRow, Tell, TellsMatch, TellsMayMatch};
 ghost use Rattle.iam_index.specs.declared.rows.Row.{Row};
 
 use iam_layers::{Standing, World};
-use iam_match::Fixed;
+use iam_match::{Fixed, Wide};
 use iam_policy::Resources;
 use iam_text::OutOfMemory;
 use std::alloc::Global;
@@ -15,19 +16,21 @@ use std::collections::BTreeMap;
 /// How many answers are kept at most.
 const MOST_MATCHES: u64 = 16_777_216;
 
-/// A resource element without variables, and of each resource of a world whether it matches.
+/// A resource element, and of each resource of a world whether it matches; of an element with variables, whether it may match in
+/// some context.
 #[derive(Drop)]
 pub struct Row<'a> {
     pub element: &'a Resources,
+    pub exact: bool,
     pub matches: Vec<bool>,
 }
 
-/// The rows of the resource elements of a world's statements, each distinct one once. Where there is no room or no memory for
-/// another, it has none.
+/// The rows of the resource elements of a world's statements, each distinct one once; those with variables are not compared. Where
+/// there is no room or no memory for another, it has none; half of the room is left to those without variables.
 #[derive(Drop)]
 pub struct Rows<'a> {
     pub rows: Vec<Row<'a>>,
-    // By the print of an element its row.
+    // By the print of an element without variables its row.
     prints: BTreeMap<u64, usize>,
     // How many rows there is room for.
     most: usize,
@@ -91,13 +94,14 @@ impl<'a> Rows<'a> {
         ensures row { IfSome result (λ n. HasRow self.new.rows.items n (Some element.entry.now)) }
     {
         let print = element.print();
-        if self.prints.contains_key(&print) {
-            return self.known(print, element);
+        if let Some(number) = self.known(print, element) {
+            return Some(number);
         }
-        if self.rows.len() >= self.most {
+        let count = self.rows.len();
+        if count >= self.most {
             return None;
         }
-        match row_of(alloc, world, element) {
+        match row_of(alloc, world, element, count < self.most / 2) {
             Ok(Some(row)) => self.add(print, row),
             Ok(None) => None,
             Err(_) => None,
@@ -123,11 +127,12 @@ impl<'a> Rows<'a> {
         ensures row { IfSome result (λ n. HasRow self.new.rows.items n (Some row.entry.element.now)) }
     {
         let number = self.rows.len();
+        let exact = row.exact;
         match self.rows.push(row) {
             Ok(()) => (),
             Err(_) => return None,
         }
-        note(&mut self.prints, print, number);
+        note(&mut self.prints, exact, print, number);
         Some(number)
     }
 
@@ -140,41 +145,86 @@ impl<'a> Rows<'a> {
         let number = row?;
         let found = self.rows.get(number)?;
         let matched = *found.matches.get(r as usize)?;
+        if matched && !found.exact {
+            return None;
+        }
         Some(matched)
     }
 }
 
-/// Notes the row that has the print, where there is memory for it.
-fn note(prints: &mut BTreeMap<u64, usize>, print: u64, row: usize) {
+/// Notes the row that has the print, if it says which resources its element matches, and there is memory for it.
+fn note(prints: &mut BTreeMap<u64, usize>, exact: bool, print: u64, row: usize) {
+    if !exact {
+        return;
+    }
     match prints.insert(print, row) {
         Ok(_) => (),
         Err(_) => (),
     }
 }
 
-/// The row of a resource element; `None` where one of its texts has variables.
+/// The row of a resource element; of one with variables only where `open` says so.
 fn row_of<'a>(
+    alloc: Global,
+    world: &World,
+    element: &'a Resources,
+    open: bool,
+) -> Result<Option<Row<'a>>, OutOfMemory>
+    ensures { IfOk result (λ row. IfSome row (λ row. IsRow world.now row × (row.element.now ≡ element.entry.now))) }
+{
+    if let Some(fixed) = Fixed::of(alloc, element)? {
+        let matches = matches_of(alloc, world, &fixed)?;
+        return Ok(Some(Row {
+            element,
+            exact: true,
+            matches,
+        }));
+    }
+    if open {
+        open_row(alloc, world, element)
+    } else {
+        Ok(None)
+    }
+}
+
+/// The row of a resource element with variables; `None` where it is `NotResource`.
+fn open_row<'a>(
     alloc: Global,
     world: &World,
     element: &'a Resources,
 ) -> Result<Option<Row<'a>>, OutOfMemory>
     ensures { IfOk result (λ row. IfSome row (λ row. IsRow world.now row × (row.element.now ≡ element.entry.now))) }
 {
-    let fixed = match Fixed::of(alloc, element)? {
-        Some(fixed) => fixed,
-        None => return Ok(None),
-    };
-    let matches = matches_of(alloc, world, &fixed)?;
-    Ok(Some(Row { element, matches }))
+    match Wide::of(alloc, element)? {
+        Some(wide) => Ok(Some(Row {
+            element,
+            exact: false,
+            matches: open_matches(alloc, world, &wide)?,
+        })),
+        None => Ok(None),
+    }
 }
 
 /// Of each resource of the world whether the element matches it.
 fn matches_of(alloc: Global, world: &World, fixed: &Fixed<'_>) -> Result<Vec<bool>, OutOfMemory>
-    ensures { IfOk result (λ matches. TellMatches world.now (Some fixed.now) matches.items) }
+    ensures { IfOk result (λ matches. Tell (TellsMatch world.now (Some fixed.now)) matches.items) }
 {
     let mut matches = Vec::with_capacity(alloc, world.resources() as usize)?;
     for r in 0..world.resources() {
         let matched = fixed.matches(world.resource_text(r));
+        matches.push(matched)?;
+    }
+    Ok(matches)
+}
+
+/// Of each resource of the world whether an element that these patterns cover may match it.
+fn open_matches(alloc: Global, world: &World, wide: &Wide) -> Result<Vec<bool>, OutOfMemory>
+    ensures { (element : ResourceElement) → Covers wide.now element
+        → IfOk result (λ matches. Tell (TellsMayMatch world.now (Some element)) matches.items) }
+{
+    let mut matches = Vec::with_capacity(alloc, world.resources() as usize)?;
+    for r in 0..world.resources() {
+        let matched = wide.may_match(world.resource_text(r));
         matches.push(matched)?;
     }
     Ok(matches)

@@ -2,7 +2,7 @@ use Rattle.std.proofs.Common.{◌≡◌, ◌↔◌, ◌+◌, ◌++◌, ◌∷◌
 use Rattle.std.proofs.lemmas.List.{length-append}
 use Rattle.iam_match.specs.Statement.{ResourceMatches}
 use Rattle.iam_world.specs.World.{ResourceValue}
-use Rattle.iam_index.specs.Rows.{TellMatches, TellsMatch}
+use Rattle.iam_index.specs.Rows.{Tell, TellsMatch}
 use Rattle.iam_index.proofs.ListLemmas.{at_more, some_same}
 use Rattle.iam_index.proofs.rows.matches_of.Goals as goal
 
@@ -19,7 +19,7 @@ loop-r-preserved c =
     subst T (same ∙ ap (λ (x : ResourceValue). x.arn) (some_same resource other (sym at ∙ there))) (c.matches-matched.ensures context) in
     let P : ℕ → Bool → Type 0 = TellsMatch world element in
     let Q : ℕ → Type 0 = λ n. P n matched in
-    let L : List Bool → Type 0 = λ all. TellMatches world element all in
+    let L : List Bool → Type 0 = λ all. Tell (TellsMatch world element) all in
     record {
       count = ap (λ (all : List Bool). length all) c.in_ok-push.ensures.items ∙ length-append matches (matched ∷ []) ∙ ap (λ n. n + 1) so_far.count;
       are = subst L (sym c.in_ok-push.ensures.items) (at_more P matches matched (subst Q (sym so_far.count) own) so_far.are);

@@ -1,11 +1,13 @@
-use Rattle.std.proofs.Common.{◌≡◌, Bool, List, Option, Some, ap, sym, ◌∙◌, subst}
+use Rattle.std.proofs.Common.{◌≡◌, ◌⊎◌, inl, inr, Bool, false, true, List, Option, Some, ap, sym, ◌∙◌, subst}
 use Rattle.std.proofs.lemmas.Option.{slice_get-get_or}
 use Rattle.std.specs.List.{slice_get}
 use Rattle.iam_element.specs.Reading.{ResourceElement}
 use Rattle.iam_index.specs.Rows.{TellsMatch}
 use Rattle.iam_index.specs.declared.rows.Row.{Row}
 use Rattle.iam_index.proofs.ListLemmas.{some_same}
+use Rattle.iam_index.proofs.RowLemmas.{told}
 use Rattle.iam_index.proofs.rows.Rows.matches.Goals as goal
+use Rattle.iam_index.proofs.rows.Rows.matches.Goals.{else-matched-via-else-matched, else-matched-via-then-matched+else-not-found}
 
 pub returns : goal.returns
 returns c = λ world element right has.
@@ -22,4 +24,8 @@ returns c = λ world element right has.
     let (other, at, same) = rw c.in_ok-number.was at has in
     let own : found ≡ other = some_same found other (sym there ∙ at) in
     let A : Option ResourceElement → Type 0 = λ e. TellsMatch world e c.args.r matched in
-    subst A (ap (λ (x : Row). Some x.element.now) own ∙ same) (right n found there c.args.r matched here)
+    let sure : (found.exact ≡ true) ⊎ (matched ≡ false) = elim c.else-matched.branch [
+      | else-matched-via-then-matched+else-not-found w ↦ inl w.if-not-found.false
+      | else-matched-via-else-matched w ↦ inr w.if-matched.false
+    ] in
+    subst A (ap (λ (x : Row). Some x.element.now) own ∙ same) (told world (Some found.element.now) found.exact found.matches.items c.args.r matched (right n found there) here sure)
