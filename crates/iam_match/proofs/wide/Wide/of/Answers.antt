@@ -1,4 +1,4 @@
-use Rattle.std.proofs.Common.{map, take, sym, ap, ◌∙◌}
+use Rattle.std.proofs.Common.{map, sym, ap, ◌∙◌}
 use Rattle.std.proofs.lemmas.List.{take_all}
 use Rattle.iam_context.specs.Wide.{wide_of}
 use Rattle.iam_match.proofs.WideLemmas.{covers}
