@@ -126,7 +126,7 @@ fn find<'a>(
 {
     candidates_suffice();
     let world = index.world();
-    let frame = world.applicable(p, r).frame();
+    let frame = index.frame(p, r);
     let candidates = index.candidates_at(alloc, p, a, r)?;
     let derived = world.derived(alloc, p, r)?;
     let context = index.parts().context(p, r, &derived);
@@ -155,7 +155,7 @@ fn decide_at<'a>(
     candidates_suffice();
     deny_decides();
     let world = index.world();
-    let frame = world.applicable(p, r).frame();
+    let frame = index.frame(p, r);
     let candidates = index.candidates_at(alloc, p, a, r)?;
     let derived = world.derived(alloc, p, r)?;
     let context = index.parts().context(p, r, &derived);

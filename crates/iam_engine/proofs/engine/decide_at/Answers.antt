@@ -1,10 +1,9 @@
-use Rattle.std.proofs.Common.{◌≡◌, ◌∷◌, [], Bool, List, MatchBool, get_or, map, sym, subst}
+use Rattle.std.proofs.Common.{◌∷◌, [], Bool, List, MatchBool, get_or, map, sym, subst}
 use Rattle.std.proofs.lemmas.Option.{slice_get-get_or}
 use Rattle.std.specs.List.{Any}
 use Rattle.iam_policy.specs.declared.effect.Effect.TheVariants.{Deny}
 use Rattle.iam_match.specs.Request.{access_of}
 use Rattle.iam_match.specs.Statement.{request_for}
-use Rattle.iam_decision.specs.Applicable.{value_of}
 use Rattle.iam_decision.specs.Code.Scan.{placed_value}
 use Rattle.iam_decision.specs.Decision.{IsDecision, Says}
 use Rattle.iam_decision.specs.Early.{Tells}
@@ -15,30 +14,31 @@ use Rattle.iam_decision.specs.declared.scan.Standing.{Standing}
 use Rattle.iam_layers.specs.Cell.{IsAccessAt, IsApplicableAt}
 use Rattle.iam_world.specs.World.{WorldValue}
 use Rattle.iam_index.specs.Index.{AllAct}
+use Rattle.iam_index.proofs.ListLemmas.{some_apply}
 use Rattle.iam_engine.specs.Cache.{HasArn}
 use Rattle.iam_engine.proofs.EngineLemmas.{access_arn, denied_at, told_at}
 use Rattle.iam_engine.proofs.engine.decide_at.Goals as goal
 
 pub is_denied-requires : goal.is_denied-requires
 is_denied-requires c =
-    let world = c.world-world.result.now in
-    let a = value_of c.applicable.result in
+    let world = c.args.index.now in
+    let p = c.args.p in
+    let r = c.args.r in
+    let (a, applies) = some_apply world p r c.requires.principal c.requires.resource in
     let access = access_of c.access-access.result in
-    let H : WorldValue → Type 0 = λ w. HasArn w c.args.r access.resource in
-    subst H (sym c.requires.same)
-    (subst H c.world-world.ensures (access_arn world c.args.p c.args.r a access (c.access-access.ensures a c.applicable.ensures.value)))
+    let B : WorldValue → Type 0 = λ w. IsApplicableAt w p r a → IsAccessAt w p r a access in
+    let H : WorldValue → Type 0 = λ w. HasArn w r access.resource in
+    subst H (sym c.requires.same) (access_arn world p r a access (subst B c.world-world.ensures (c.access-access.ensures a) applies))
 
 pub returns-then-branch-clause-decision : goal.returns-then-branch-clause-decision
 returns-then-branch-clause-decision c =
     let world = c.args.index.now in
     let p = c.args.p in
     let r = c.args.r in
-    let a = value_of c.applicable.result in
+    let (a, applies) = some_apply world p r c.requires.principal c.requires.resource in
     let access = access_of c.access-access.result in
-    let A : WorldValue → Type 0 = λ w. IsApplicableAt w p r a in
-    let B : WorldValue → Type 0 = λ w. IsAccessAt w p r a access in
-    let applies = subst A c.world-world.ensures c.applicable.ensures.value in
-    let accessed = subst B c.world-world.ensures (c.access-access.ensures a c.applicable.ensures.value) in
+    let B : WorldValue → Type 0 = λ w. IsApplicableAt w p r a → IsAccessAt w p r a access in
+    let accessed = subst B c.world-world.ensures (c.access-access.ensures a) applies in
     let action = get_or world.actions c.args.a [] in
     let named = slice_get-get_or world.actions c.args.a [] c.requires.action in
     let q = request_for access action in
@@ -56,12 +56,10 @@ returns-clause-decision c =
     let world = c.args.index.now in
     let p = c.args.p in
     let r = c.args.r in
-    let a = value_of c.applicable.result in
+    let (a, applies) = some_apply world p r c.requires.principal c.requires.resource in
     let access = access_of c.access-access.result in
-    let A : WorldValue → Type 0 = λ w. IsApplicableAt w p r a in
-    let B : WorldValue → Type 0 = λ w. IsAccessAt w p r a access in
-    let applies = subst A c.world-world.ensures c.applicable.ensures.value in
-    let accessed = subst B c.world-world.ensures (c.access-access.ensures a c.applicable.ensures.value) in
+    let B : WorldValue → Type 0 = λ w. IsApplicableAt w p r a → IsAccessAt w p r a access in
+    let accessed = subst B c.world-world.ensures (c.access-access.ensures a) applies in
     let action = get_or world.actions c.args.a [] in
     let named = slice_get-get_or world.actions c.args.a [] c.requires.action in
     let q = request_for access action in
@@ -75,4 +73,4 @@ returns-clause-decision c =
     told_at world p c.args.a r a access action accessed named (map placed_value lent) (subst C same (c.in_ok-candidates.ensures.are action a named applies))
     c.candidates_suffice.ensures.decision c.is_denied.new.findings c.early_decision.result
     (subst D c.if-branch.false (c.in_ok-is_denied.ensures.told action act))
-    (subst T c.as_slice-2.ensures (c.early_decision.ensures a q c.frame-frame.ensures))
+    (subst T c.as_slice-2.ensures (c.early_decision.ensures a q (c.frame-frame.ensures a applies)))
