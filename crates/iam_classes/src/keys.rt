@@ -78,7 +78,7 @@ fn shared_with<'a: 'c, 'c>(
     let context = index.parts().context(p, r, derived);
     let access = world.access(p, r, &context);
     let living = index.living(alloc, p, r, access)?;
-    Ok(Shared::of(world.applicable(p, r).frame(), living))
+    Ok(Shared::of(index.frame(p, r), living))
 }
 
 /// Derived keys of principal p's requests for resource r, where some are found among these.
