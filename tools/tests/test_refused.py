@@ -219,13 +219,16 @@ def test_what_only_saves_work_refuses_no_answer():
     # What an action element matches takes as many bytes as there are actions, what a resource element matches as there are
     # resources; no other block of the program has such a size. Refused all of them, it answers as it does with them.
     allowed = document(
-        statement(action=["s3:Get*", "ec2:*"]), statement(action="s3:*1?"), statement(resource="arn:aws:s3:::b/*")
+        statement(action=["s3:Get*", "ec2:*"]),
+        statement(action="s3:*1?"),
+        statement(resource="arn:aws:s3:::b/*"),
+        statement(resource="arn:aws:s3:::b/${aws:username}*"),
     )
     actions = small_world(allowed, actions=[f"s3:Get{n}" for n in range(1013)])
     resources = small_world(
         allowed, resources=[{"arn": f"arn:aws:s3:::b/{n}", "account": "111122223333"} for n in range(977)]
     )
-    for world, size, least in [(actions, 1013, 3), (resources, 977, 2)]:
+    for world, size, least in [(actions, 1013, 3), (resources, 977, 3)]:
         text = json.dumps(world).encode()
         for words in (
             ["matrix", "--workers", "1"],
