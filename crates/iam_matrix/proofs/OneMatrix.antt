@@ -25,10 +25,10 @@ one_entries Is one from (x ∷ xs) (y ∷ ys) e h k =
     ap (λ z. z ∷ xs) (one (from + 0) x y (h 0 x refl) (k 0 y refl))
     ∙ ap (λ zs. y ∷ zs) (one_entries Is one (from + 1) xs ys (omega (arith, e)) (entries_behind Is from x xs h) (entries_behind Is from y ys k))
 
-pub one_matrix : OneVerdictOf → Laws.OneMatrix
+pub one_matrix : OneVerdictOf → Laws.OneMatrix IsVerdictOf
 one_matrix verdicts world xs ys h k = one_entries (IsVerdictOf world) (verdicts world) 0 xs ys (h.count ∙ sym k.count) h.each k.each
 
-pub one_brief_matrix : OneDecisionOf → Laws.OneBriefMatrix
+pub one_brief_matrix : OneDecisionOf → Laws.OneMatrix IsDecisionOf
 one_brief_matrix decisions world xs ys h k = one_entries (IsDecisionOf world) (decisions world) 0 xs ys (h.count ∙ sym k.count) h.each k.each
 
 pub none_allowed : OneDecisionOf → (world : WorldValue) (cell : ℕ) → IsNotAllowed world cell → ¬ IsDecisionOf world cell Allowed
@@ -44,7 +44,7 @@ one_first decisions world (Some cell) (Some other) h k = elim (cases_order cell 
   | inr (inr higher) ↦ absurd (none_allowed decisions world other (h.2 other higher) k.1)
 ]
 
-pub one_report : Laws.OneMatrix → Laws.OneBriefMatrix → OneText full_layout → OneText brief_layout → Laws.OneReport
+pub one_report : Laws.OneMatrix IsVerdictOf → Laws.OneMatrix IsDecisionOf → OneText full_layout → OneText brief_layout → Laws.OneReport
 one_report matrices briefs texts brief_texts format true world text other (decisions, h, is) (others, k, there) =
     let same : decisions ≡ others = briefs world decisions others h k in
     brief_texts format world others text other k.count (subst (λ ds. IsReport brief_layout format world ds text) same is) there

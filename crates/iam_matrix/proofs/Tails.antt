@@ -17,7 +17,7 @@ use Rattle.iam_matrix.specs.Matrix.{AreEntriesFrom}
 use Rattle.iam_matrix.specs.Report.{IsMatrixReport}
 use Rattle.iam_matrix.specs.Code.Leads.{IsEntryOf}
 use Rattle.iam_matrix.specs.Code.Tiles.{AreDecisions, AreEntries, AreEntriesOf, AreTails, AreTailsOf, Chain}
-use Rattle.iam_matrix.proofs.Tiles.{along_one, join_entries, no_entries, whole, whole_brief}
+use Rattle.iam_matrix.proofs.Tiles.{along_one, join_entries, no_entries, whole}
 
 chain_tails : {X : Type 0} (Is : ℕ → X → Type 0) (tail : X → Tail) (from : ℕ) (lengths : List ℕ) (outputs : List (List Tail))
     → Chain (λ f n output. AreTails Is tail f n output) from lengths outputs
@@ -90,8 +90,8 @@ pub report : (brief : Bool) (world : WorldValue) (quoted : Quoted) (lengths : Li
 report false world quoted lengths outputs full bare same e c =
     let all = chain_tails (IsVerdictOf world) (full_tail quoted.format) 0 lengths outputs c in
     let P : List Tail → Type 0 = λ tails. IsReport full_layout quoted.format world all.0 (text_of (record { quoted = quoted; brief = false; tails = tails })) in
-    (all.0, whole world lengths all.0 e all.1, subst P (sym all.2) (full quoted all.0 same (all.1.count_is ∙ e)))
+    (all.0, whole IsVerdictOf world lengths all.0 e all.1, subst P (sym all.2) (full quoted all.0 same (all.1.count_is ∙ e)))
 report true world quoted lengths outputs full bare same e c =
     let all = chain_tails (IsDecisionOf world) (brief_tail quoted.format) 0 lengths outputs c in
     let P : List Tail → Type 0 = λ tails. IsReport brief_layout quoted.format world all.0 (text_of (record { quoted = quoted; brief = true; tails = tails })) in
-    (all.0, whole_brief world lengths all.0 e all.1, subst P (sym all.2) (bare quoted all.0 same (all.1.count_is ∙ e)))
+    (all.0, whole IsDecisionOf world lengths all.0 e all.1, subst P (sym all.2) (bare quoted all.0 same (all.1.count_is ∙ e)))

@@ -4,12 +4,10 @@ use Rattle.std.specs.List.{flat_map, slice_get}
 use Rattle.std.proofs.lemmas.List.{length-append}
 use Rattle.std.proofs.lemmas.List.Concat.{flat_map-cons}
 use Rattle.std.proofs.lemmas.List.Sums.{sum_by-cons}
-use Rattle.iam_decision.specs.declared.verdict.Decision.{Decision}
-use Rattle.iam_decision.specs.declared.verdict.Verdict.{Verdict}
 use Rattle.iam_world.specs.World.{WorldValue, world_cells}
 use Rattle.iam_matrix.specs.Cut.{start_of}
-use Rattle.iam_matrix.specs.Matrix.{IsBriefMatrix, IsMatrix}
-use Rattle.iam_matrix.specs.Code.Tiles.{AreDecisions, AreEntries, AreVerdicts, Chain}
+use Rattle.iam_matrix.specs.Matrix.{IsMatrix}
+use Rattle.iam_matrix.specs.Code.Tiles.{AreEntries, Chain}
 
 -- facts of items that follow one another from a number on
 abbrev Along : {X : Type 0} → (ℕ → X → Type 0) → ℕ → List X → Type 0
@@ -85,13 +83,9 @@ chain_entries {O} {X} Is items from (n ∷ lengths) (output ∷ outputs) c =
     subst Q (sym (flat_map-cons items output outputs)) (subst P sums all)
 
 -- the entries of all cells
-pub whole : (world : WorldValue) (lengths : List ℕ) (verdicts : List Verdict) → sum lengths ≡ world_cells world → AreVerdicts world 0 (sum lengths) verdicts
-    → IsMatrix world verdicts
-whole world lengths verdicts e a = record { count = a.count_is ∙ e; each = a.each }
-
-pub whole_brief : (world : WorldValue) (lengths : List ℕ) (decisions : List Decision) → sum lengths ≡ world_cells world
-    → AreDecisions world 0 (sum lengths) decisions → IsBriefMatrix world decisions
-whole_brief world lengths decisions e a = record { count = a.count_is ∙ e; each = a.each }
+pub whole : {X : Type 0} (Is : WorldValue → ℕ → X → Type 0) (world : WorldValue) (lengths : List ℕ) (entries : List X) → sum lengths ≡ world_cells world
+    → AreEntries (Is world) 0 (sum lengths) entries → IsMatrix Is world entries
+whole Is world lengths entries e a = record { count = a.count_is ∙ e; each = a.each }
 
 -- the same from the first cell on
 pub chain_all : {O : Type 0} (Makes : ℕ → ℕ → O → Type 0) (lengths : List ℕ) (outputs : List O) → length outputs ≡ length lengths

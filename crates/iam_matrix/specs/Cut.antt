@@ -1,5 +1,6 @@
 -- How the cells of a matrix are cut into tiles, which follow one another. LOGIC 11.7.
 use Rattle.std.specs.Prelude.{◌≡◌, ◌≢◌, ℕ, ◌/◌, ◌%◌, ◌<◌, ◌≤◌, ◌==◌, List, [], ◌∷◌, ◌++◌, All, Any, length, sum, take, replicate, if◌then◌else◌}
+use Rattle.std.specs.Int.{div_ceil}
 use Rattle.iam_matrix.specs.declared.cut.CutFault.{CutFault}
 use Rattle.iam_matrix.specs.declared.cut.CutFault.TheVariants.{ZeroTile, WrongSum, TooMany, OutOfMemory}
 
@@ -32,13 +33,13 @@ IsFirstCutFault lengths cells OutOfMemory = ⊥
 abbrev pub even_lengths : ℕ → ℕ → List ℕ
 even_lengths tile cells = replicate (cells / tile) tile ++ (if cells % tile == 0 then [] else (cells % tile ∷ []))
 
--- tiles of this length, which has at least one cell, are a cut
+-- tiles of this length have at least one cell each, and there are at most 4,096
 abbrev pub IsEvenCut : ℕ → ℕ → Type 0
-IsEvenCut tile cells = (0 < tile) × IsCut cells (even_lengths tile cells)
+IsEvenCut tile cells = (0 < tile) × (div_ceil cells tile ≤ 4096)
 
 -- the first fault of tiles of one length: their sum is right
 abbrev pub IsEvenFault : ℕ → ℕ → CutFault → Type 0
 IsEvenFault tile cells ZeroTile = tile ≡ 0
 IsEvenFault tile cells WrongSum = ⊥
-IsEvenFault tile cells TooMany = (0 < tile) × (4096 < length (even_lengths tile cells))
+IsEvenFault tile cells TooMany = (0 < tile) × (4096 < div_ceil cells tile)
 IsEvenFault tile cells OutOfMemory = ⊥

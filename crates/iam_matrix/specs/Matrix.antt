@@ -4,23 +4,17 @@ use Rattle.std.specs.Prelude.{◌≡◌, ◌≢◌, ℕ, ◌+◌, ◌<◌, List,
 use Rattle.std.specs.List.{slice_get}
 use Rattle.iam_decision.specs.declared.verdict.Decision.{Decision}
 use Rattle.iam_decision.specs.declared.verdict.Decision.TheVariants.{Allowed}
-use Rattle.iam_decision.specs.declared.verdict.Verdict.{Verdict}
-use Rattle.iam_layers.specs.Cell.{IsDecisionOf, IsVerdictOf}
+use Rattle.iam_layers.specs.Cell.{IsDecisionOf}
 use Rattle.iam_world.specs.World.{WorldValue, world_cells}
 
 -- entries of cells that follow one another from this one, each as it has to be
 abbrev pub AreEntriesFrom : {X : Type 0} → (ℕ → X → Type 0) → ℕ → List X → Type 0
 AreEntriesFrom {X} Is from entries = (i : ℕ) (entry : X) → slice_get entries i ≡ Some entry → Is (from + i) entry
 
--- one verdict for each cell, in order
-pub record IsMatrix (world : WorldValue) (verdicts : List Verdict) : Type 0 where
-  pub count : length verdicts ≡ world_cells world
-  pub each : AreEntriesFrom (IsVerdictOf world) 0 verdicts
-
--- one decision for each cell, in order
-pub record IsBriefMatrix (world : WorldValue) (decisions : List Decision) : Type 0 where
-  pub count : length decisions ≡ world_cells world
-  pub each : AreEntriesFrom (IsDecisionOf world) 0 decisions
+-- one entry for each cell, in order: its verdict, or its decision alone
+pub record IsMatrix {X : Type 0} (Is : WorldValue → ℕ → X → Type 0) (world : WorldValue) (entries : List X) : Type 0 where
+  pub count : length entries ≡ world_cells world
+  pub each : AreEntriesFrom (Is world) 0 entries
 
 -- the cell is not allowed
 pub record IsNotAllowed (world : WorldValue) (cell : ℕ) : Type 0 where

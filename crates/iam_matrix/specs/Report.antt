@@ -3,19 +3,19 @@ use Rattle.std.specs.Prelude.{◌≡◌, ℕ, List, Option, Some, None, Bool, Ma
 use Rattle.iam_decision.specs.declared.verdict.Decision.{Decision}
 use Rattle.iam_decision.specs.declared.verdict.Decision.TheVariants.{Allowed}
 use Rattle.iam_decision.specs.declared.verdict.Verdict.{Verdict}
-use Rattle.iam_layers.specs.Cell.{IsCell}
+use Rattle.iam_layers.specs.Cell.{IsCell, IsDecisionOf, IsVerdictOf}
 use Rattle.iam_world.specs.World.{WorldValue}
 use Rattle.iam_row.specs.CsvRow.{IsCsvRow}
 use Rattle.iam_row.specs.Report.{IsReport, brief_layout, full_layout}
 use Rattle.iam_row.specs.declared.quoted.Format.{Format}
-use Rattle.iam_matrix.specs.Matrix.{IsBriefMatrix, IsFirstAllowed, IsMatrix}
+use Rattle.iam_matrix.specs.Matrix.{IsFirstAllowed, IsMatrix}
 
 -- the report of all verdicts, in full or in brief
 abbrev pub IsMatrixReport : Format → Bool → WorldValue → List ℕ → Type 0
 IsMatrixReport format brief world text =
     MatchBool brief
-    ((decisions : List Decision) × IsBriefMatrix world decisions × IsReport brief_layout format world decisions text)
-    ((verdicts : List Verdict) × IsMatrix world verdicts × IsReport full_layout format world verdicts text)
+    ((decisions : List Decision) × IsMatrix IsDecisionOf world decisions × IsReport brief_layout format world decisions text)
+    ((verdicts : List Verdict) × IsMatrix IsVerdictOf world verdicts × IsReport full_layout format world verdicts text)
 
 -- the brief header, and the brief row of the first allowed cell where there is one
 abbrev pub IsFirstText : WorldValue → Option ℕ → List ℕ → Type 0

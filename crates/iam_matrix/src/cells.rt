@@ -1,8 +1,9 @@
 // The verdicts, or the decisions, of all cells by many workers.
 ghost use Rattle.std.specs.Prelude.{◌≡◌, ◌+◌, ◌<◌, ◌≤◌, ◌↔◌, ℕ, IfOk, sum};
 ghost use Rattle.std.specs.List.{flat_map};
+ghost use Rattle.iam_layers.specs.Cell.{IsDecisionOf, IsVerdictOf};
 ghost use Rattle.iam_world.specs.World.{world_cells};
-ghost use Rattle.iam_matrix.specs.Matrix.{IsBriefMatrix, IsMatrix};
+ghost use Rattle.iam_matrix.specs.Matrix.{IsMatrix};
 ghost use Rattle.iam_matrix.specs.Code.Tiles.{AreEntries};
 ghost use Rattle.iam_matrix.specs.Workers.{IsUnlawful};
 
@@ -206,7 +207,7 @@ pub fn matrix<R: Threads + Sync, G: Gate + Sync>(
     gate: &G,
 ) -> Result<Vec<Verdict>, MatrixFault>
     requires { sum cut.now ≡ world_cells world.now }
-    ensures ok { IfOk result (λ verdicts. IsMatrix world.now verdicts.items) }
+    ensures ok { IfOk result (λ verdicts. IsMatrix IsVerdictOf world.now verdicts.items) }
     ensures workers { (result ≡ Err MatrixFault.Workers) ↔ IsUnlawful workers }
 {
     all_entries(rt, alloc, world, cut, workers, gate)
@@ -222,7 +223,7 @@ pub fn matrix_brief<R: Threads + Sync, G: Gate + Sync>(
     gate: &G,
 ) -> Result<Vec<Decision>, MatrixFault>
     requires { sum cut.now ≡ world_cells world.now }
-    ensures ok { IfOk result (λ decisions. IsBriefMatrix world.now decisions.items) }
+    ensures ok { IfOk result (λ decisions. IsMatrix IsDecisionOf world.now decisions.items) }
     ensures workers { (result ≡ Err MatrixFault.Workers) ↔ IsUnlawful workers }
 {
     all_entries(rt, alloc, world, cut, workers, gate)

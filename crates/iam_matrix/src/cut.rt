@@ -1,5 +1,6 @@
 // How the cells of a matrix are cut into tiles.
 ghost use Rattle.std.specs.Prelude.{◌≡◌, ◌≢◌, ◌↔◌, ℕ, ◌+◌, ◌/◌, ◌%◌, ◌^◌, ◌<◌, ◌≤◌, List, IsTrue, IfOk, IfErr, length, slice_index, sum, vec_len};
+ghost use Rattle.std.specs.Int.{div_ceil};
 ghost use Rattle.iam_matrix.specs.Code.Starts.{AreStarts};
 ghost use Rattle.iam_matrix.specs.Cut.{even_lengths};
 
@@ -127,7 +128,7 @@ impl Cut {
     /// The cut of so many cells into tiles of this length, of which the last may be shorter, or the first fault in the
     /// order of their numbers. No cells have the cut without tiles.
     pub fn even(alloc: Global, tile: u64, cells: u64) -> Result<Cut, CutFault>
-        ensures ok { IfOk result (λ cut. (cut ≡ even_lengths tile cells) × IsEvenCut tile cells) }
+        ensures ok { IfOk result (λ cut. (cut ≡ even_lengths tile cells) × IsCut cells cut × IsEvenCut tile cells) }
         ensures fault { IfErr result (λ fault. fault ≢ CutFault.OutOfMemory → IsEvenFault tile cells fault) }
     {
         if tile == 0 {
@@ -178,7 +179,7 @@ fn adds_up(lengths: &[u64], cells: u64) -> bool
 /// Whether so many cells have more tiles of this length than are allowed.
 fn is_too_many(tile: u64, cells: u64) -> bool
     requires { 0 < tile }
-    ensures { IsTrue result ↔ (4096 < length (even_lengths tile cells)) }
+    ensures { IsTrue result ↔ (4096 < div_ceil cells tile) }
 {
     cells.div_ceil(tile) > MOST_TILES as u64
 }
@@ -186,7 +187,7 @@ fn is_too_many(tile: u64, cells: u64) -> bool
 /// Tiles of this length, of which the last may be shorter.
 fn even_tiles(alloc: Global, tile: u64, cells: u64) -> Result<Vec<u64>, OutOfMemory>
     requires some { 0 < tile }
-    requires few { length (even_lengths tile cells) ≤ 4096 }
+    requires few { div_ceil cells tile ≤ 4096 }
     ensures { IfOk result (λ lengths. lengths.items ≡ even_lengths tile cells) }
 {
     let mut lengths = vec![in alloc; tile; (cells / tile) as usize]?;

@@ -1,19 +1,20 @@
 // That a world has one matrix, and one report of it.
-ghost use Rattle.iam_matrix.specs.Laws.{OneBriefMatrix, OneFirst, OneFirstReport, OneMatrix, OneReport};
+ghost use Rattle.iam_layers.specs.Cell.{IsDecisionOf, IsVerdictOf};
+ghost use Rattle.iam_matrix.specs.Laws.{OneFirst, OneFirstReport, OneMatrix, OneReport};
 
 use iam_layers::{one_decision_at, one_triple, one_verdict_at};
 use iam_row::{one_row, one_text};
 
 /// A world has at most one matrix: one list of verdicts, each with its deciding statements and its lacks.
 pub fn one_matrix()
-    ensures { OneMatrix }
+    ensures { OneMatrix IsVerdictOf }
 {
     one_verdict_at()
 }
 
 /// A world has at most one list of the decisions of all cells.
 pub fn one_brief_matrix()
-    ensures { OneBriefMatrix }
+    ensures { OneMatrix IsDecisionOf }
 {
     one_decision_at()
 }

@@ -22,10 +22,7 @@ pub record AreEntries {X : Type 0} (Is : ℕ → X → Type 0) (from count : ℕ
   pub count_is : length entries ≡ count
   pub each : AreEntriesFrom Is from entries
 
--- the verdicts, and the decisions, of these cells
-abbrev pub AreVerdicts : WorldValue → ℕ → ℕ → List Verdict → Type 0
-AreVerdicts world from count verdicts = AreEntries (IsVerdictOf world) from count verdicts
-
+-- the decisions of these cells
 abbrev pub AreDecisions : WorldValue → ℕ → ℕ → List Decision → Type 0
 AreDecisions world from count decisions = AreEntries (IsDecisionOf world) from count decisions
 
