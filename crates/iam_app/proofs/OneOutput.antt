@@ -1,5 +1,6 @@
 -- One report of the bytes, and one end of a run on them.
 use Rattle.std.proofs.Common.{◌≡◌, inl, inr, ℕ, List, ◌++◌, Some, take, drop, Ok, Err, refl, sym, ap, ◌∙◌, subst, append_assoc}
+use Rattle.std.specs.Io.KnownBytes.{Appends}
 use Rattle.std.proofs.lemmas.List.{take-append-drop}
 use Rattle.iam_layers.specs.Laws.{OneVerdictAt}
 use Rattle.iam_matrix.specs.Laws.{OneFirstReport, OneReport}
@@ -16,7 +17,7 @@ use Rattle.iam_world.specs.WorldFault.{IsFirstWorldFault}
 use Rattle.iam_world.specs.declared.fault.WorldFault.{WorldFault}
 use Rattle.iam_app.specs.Laws
 use Rattle.iam_app.specs.Laws.{AskTheSame, IsOfInput}
-use Rattle.iam_app.specs.Output.{EndsBy, IsAnswer, IsOutput, IsRefusal, IsReportOf, LacksCellOf, RefusesInput, WritesOutput, format_of}
+use Rattle.iam_app.specs.Output.{EndsBy, HasOutput, IsAnswer, IsOutput, IsRefusal, IsReportOf, IsWorldRefusal, RefusesInput, format_of}
 use Rattle.iam_app.specs.declared.fault.RunFault.{RunFault}
 use Rattle.iam_app.specs.declared.fault.RunFault.TheVariants.{World, NoSuchCell}
 
@@ -59,12 +60,12 @@ one_output g options other bytes text text' same (world, is, h) (world', is', k)
     (subst (λ w. IsReportOf options.task other w text') one (subst (λ x. IsReportOf x other world' text') task k))
 
 -- a command that has a report has its cell
-has_cell : (task : Task) (options : Options) (world : WorldValue) (text : List ℕ) → IsReportOf task options world text → ¬ LacksCellOf task world
-has_cell t.Check options world text h lacks = lacks
-has_cell (t.Decide p a r) options world text (cell, is, h) lacks =
-    lacks (record { principal = is.principal; action = is.action; resource = is.resource })
-has_cell t.Matrix options world text h lacks = lacks
-has_cell t.First options world text h lacks = lacks
+has_cell : (task : Task) (options other : Options) (world : WorldValue) (text : List ℕ) → IsReportOf task options world text
+    → ¬ IsWorldRefusal task other world NoSuchCell
+has_cell t.Check options other world text h is = let wrong : ⊥ = cc in wrong
+has_cell (t.Decide p a r) options other world text (cell, is, h) lacks = (lacks (λ e. let wrong : ⊥ = cc in wrong)).1 cell is
+has_cell t.Matrix options other world text h lacks = lacks
+has_cell t.First options other world text h lacks = lacks
 
 -- bytes that have a report have no fault
 no_fault : Given → (options other : Options) (bytes text : List ℕ) (fault : RunFault) → AskTheSame options other → IsOfInput fault
@@ -74,8 +75,9 @@ no_fault g options other bytes text fault same (inl (of_world, some, is)) (world
 no_fault g options other bytes text fault same (inr is) (world, read, h) refused =
     let (world', read', lacks) = subst (IsRefusal other bytes) is refused in
     let task : other.task ≡ options.task = ap (λ (o : Options). o.task) same in
-    has_cell options.task options world text h
-    (subst (λ w. LacksCellOf options.task w) (g.worlds bytes world' world read' read) (subst (λ x. LacksCellOf x world') task lacks))
+    has_cell options.task options other world text h
+    (subst (λ w. IsWorldRefusal options.task other w NoSuchCell) (g.worlds bytes world' world read' read)
+    (subst (λ x. IsWorldRefusal x other world' NoSuchCell) task lacks))
 
 -- bytes have one fault
 one_fault : Given → (options other : Options) (bytes : List ℕ) (fault fault' : RunFault) → IsOfInput fault → IsOfInput fault'
@@ -91,7 +93,7 @@ one_fault g options other bytes fault fault' (inr is) (inl (y, some', is')) h k 
 one_fault g options other bytes fault fault' (inr is) (inr is') h k = is ∙ sym is'
 
 -- what a run on these bytes left, where it had its report
-written : (options : Options) (input held new : List ℕ) → WritesOutput options (Some input) (Some held) (Some new)
+written : (options : Options) (input held new : List ℕ) → HasOutput options (Some input) (Appends (Some held) (Some new))
     → (text : List ℕ) × IsOutput options input text × (new ≡ held ++ text)
 written options input held new (bytes, all, (text, is, appends)) = (text, subst (λ b. IsOutput options b text) all is, appends)
 

@@ -5,7 +5,7 @@ use Rattle.iam_app.specs.Output.{IsRefusal, format_of}
 use Rattle.iam_app.specs.Selected.{EndsSelectedBy, IsSelectedOf}
 use Rattle.iam_app.specs.Streams.{AllRemained}
 use Rattle.iam_app.specs.declared.fault.RunFault.{RunFault}
-use Rattle.iam_app.specs.declared.fault.RunFault.TheVariants.{Read, World, Matrix, Write, NoSuchCell, Cut, OutOfMemory}
+use Rattle.iam_app.specs.declared.fault.RunFault.TheVariants.{Write}
 use Rattle.iam_options.specs.declared.options.Options.{Options}
 use Rattle.iam_options.specs.declared.options.Task.{Task}
 use Rattle.iam_options.specs.declared.options.Task.TheVariants as t
@@ -14,18 +14,13 @@ use Rattle.iam_selection.specs.Report.{IsSelectedReport}
 use Rattle.iam_selection.specs.Selection.{SelectionValue}
 use Rattle.iam_world.specs.World.{WorldValue}
 use Rattle.iam_app.proofs.OneOutput.{Given, one_asked_report}
-use Rattle.iam_app.proofs.Refusals.{refuses}
+use Rattle.iam_app.proofs.Refusals.{not_of_writer, refuses}
 
 -- a run that has no report writes nothing
 pub refuses_selected : (options : Options) (selection : SelectionValue) (input held : Option (List ℕ)) (bytes : List ℕ) → AllRemained input bytes → length bytes ≤ 8388608
     → (fault : RunFault) → IsRefusal options bytes fault → EndsSelectedBy options selection input held held fault
-refuses_selected options selection input held bytes all few Read h = absurd h
-refuses_selected options selection input held bytes all few (World fault) h = refuses options input held bytes all few (World fault) h
-refuses_selected options selection input held bytes all few (Matrix fault) h = refuses options input held bytes all few (Matrix fault) h
-refuses_selected options selection input held bytes all few Write h = absurd h
-refuses_selected options selection input held bytes all few NoSuchCell h = refuses options input held bytes all few NoSuchCell h
-refuses_selected options selection input held bytes all few (Cut fault) h = refuses options input held bytes all few (Cut fault) h
-refuses_selected options selection input held bytes all few OutOfMemory h = refuses options input held bytes all few OutOfMemory h
+refuses_selected options selection input held bytes all few Write (world, is, h) = absurd (not_of_writer options.task options world h)
+refuses_selected options selection input held bytes all few fault h = refuses options input held bytes all few fault h
 
 one_selected_of : Given → OneSelectedReport → OneFirstSelectedReport → (task : Task) (options other : Options) (selection : SelectionValue) (world : WorldValue)
     (text text' : List ℕ) → format_of options ≡ format_of other → options.brief ≡ other.brief → IsSelectedOf task options selection world text

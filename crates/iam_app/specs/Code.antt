@@ -1,3 +1,3 @@
+pub mod Cells
 pub mod Pieces
-pub mod Refusal
 pub mod Sides

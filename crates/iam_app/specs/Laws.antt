@@ -1,11 +1,13 @@
 -- That what a run writes hangs on its input and on what the options ask for alone: not on how many workers there are, nor on
 -- how the cells are cut into tiles. LOGIC 13.5.
 use Rattle.std.specs.Prelude.{◌≡◌, ◌≢◌, ◌⊎◌, ℕ, List, ◌++◌, Option, Some, Result, Ok, Err, ⊤}
+use Rattle.std.specs.Io.KnownBytes.{Appends}
 use Rattle.iam_options.specs.declared.options.Options.{Options}
+use Rattle.iam_report.specs.Streams.{AppendsBeginning}
 use Rattle.iam_world.specs.declared.fault.WorldFault.{WorldFault}
 use Rattle.iam_world.specs.declared.fault.WorldFault.TheVariants as w
 use Rattle.iam_selection.specs.Selection.{SelectionValue}
-use Rattle.iam_app.specs.Output.{EndsBy, IsOutput, WritesBeginning, WritesOutput}
+use Rattle.iam_app.specs.Output.{EndsBy, HasOutput, IsOutput}
 use Rattle.iam_app.specs.Selected.{IsSelectedOutput}
 use Rattle.iam_app.specs.declared.fault.RunFault.{RunFault}
 use Rattle.iam_app.specs.declared.fault.RunFault.TheVariants.{World, NoSuchCell}
@@ -33,7 +35,7 @@ IsOfInput fault = ((of_world : WorldFault) × (of_world ≢ w.OutOfMemory) × (f
 
 -- how a run ends, with its report or by a fault: what its contract says
 abbrev pub Ends : Options → Option (List ℕ) → Option (List ℕ) → Option (List ℕ) → Result (Unit {0}) RunFault → Type 0
-Ends options input old new (Ok done) = WritesOutput options input old new
+Ends options input old new (Ok done) = HasOutput options input (Appends old new)
 Ends options input old new (Err fault) = EndsBy options input old new fault
 
 -- with its report, or by a fault of the input
@@ -53,5 +55,6 @@ OneEnd =
 abbrev pub OneBeginning : Type 0
 OneBeginning =
     (options other : Options) (input held new new' : List ℕ) → AskTheSame options other
-    → WritesOutput options (Some input) (Some held) (Some new) → WritesBeginning other (Some input) (Some held) (Some new')
+    → HasOutput options (Some input) (Appends (Some held) (Some new))
+    → HasOutput other (Some input) (AppendsBeginning (Some held) (Some new'))
     → (rest : List ℕ) × (new ≡ new' ++ rest)

@@ -3,7 +3,6 @@
 use Rattle.std.specs.Prelude.{◌≡◌, ℕ, List, Option, String, map, string_bytes}
 use Rattle.std.specs.Global.{Global}
 use Rattle.std.specs.List.{AllZip}
-use Rattle.std.specs.Io.KnownBytes.{Appends}
 use Rattle.iam_glob.specs.declared.sign.Sign.{Sign}
 use Rattle.iam_decision.specs.declared.verdict.Decision.{Decision}
 use Rattle.iam_world.specs.Reads.{IsWorld}
@@ -19,7 +18,7 @@ use Rattle.iam_options.specs.declared.options.Task.TheVariants as t
 use Rattle.iam_app.specs.Output.{CanWork, EndsBy, IsReportOf, format_of}
 use Rattle.iam_app.specs.Streams.{AllRemained}
 use Rattle.iam_app.specs.declared.fault.RunFault.{RunFault}
-use Rattle.iam_app.specs.declared.fault.RunFault.TheVariants.{Read, World, Matrix, Write, NoSuchCell, Cut, OutOfMemory}
+use Rattle.iam_app.specs.declared.fault.RunFault.TheVariants.{Write}
 
 -- the patterns that words are
 abbrev pub patterns_in : List (String Global) → List (List Sign)
@@ -49,22 +48,12 @@ abbrev pub IsSelectedOutput : Options → SelectionValue → List ℕ → List �
 IsSelectedOutput options selection bytes text =
     (world : WorldValue) × IsWorld bytes world × IsSelectedOf options.task options selection world text
 
--- all input is these bytes, and the writer gained the report, or a beginning of it
-abbrev pub WritesSelected : Options → SelectionValue → Option (List ℕ) → Option (List ℕ) → Option (List ℕ) → Type 0
-WritesSelected options selection input old new =
-    (bytes : List ℕ) × AllRemained input bytes × ((text : List ℕ) × IsSelectedOutput options selection bytes text × Appends old new text)
-
-abbrev pub BeginsSelected : Options → SelectionValue → Option (List ℕ) → Option (List ℕ) → Option (List ℕ) → Type 0
-BeginsSelected options selection input old new =
-    (bytes : List ℕ) × AllRemained input bytes
-    × ((text : List ℕ) × IsSelectedOutput options selection bytes text × AppendsBeginning old new text)
+-- all input is these bytes, and P holds of what is asked of them
+abbrev pub HasSelectedOutput : Options → SelectionValue → Option (List ℕ) → (List ℕ → Type 0) → Type 0
+HasSelectedOutput options selection input P =
+    (bytes : List ℕ) × AllRemained input bytes × ((text : List ℕ) × IsSelectedOutput options selection bytes text × P text)
 
 -- how a run ends without its report: by the faults of a run without a selection
 abbrev pub EndsSelectedBy : Options → SelectionValue → Option (List ℕ) → Option (List ℕ) → Option (List ℕ) → RunFault → Type 0
-EndsSelectedBy options selection input old new Read = EndsBy options input old new Read
-EndsSelectedBy options selection input old new (World fault) = EndsBy options input old new (World fault)
-EndsSelectedBy options selection input old new (Matrix fault) = EndsBy options input old new (Matrix fault)
-EndsSelectedBy options selection input old new Write = BeginsSelected options selection input old new
-EndsSelectedBy options selection input old new NoSuchCell = EndsBy options input old new NoSuchCell
-EndsSelectedBy options selection input old new (Cut fault) = EndsBy options input old new (Cut fault)
-EndsSelectedBy options selection input old new OutOfMemory = EndsBy options input old new OutOfMemory
+EndsSelectedBy options selection input old new Write = HasSelectedOutput options selection input (AppendsBeginning old new)
+EndsSelectedBy options selection input old new fault = EndsBy options input old new fault

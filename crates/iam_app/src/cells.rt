@@ -1,11 +1,11 @@
 // The commands that are about all cells.
 ghost use Rattle.std.specs.Prelude.{◌≡◌, ◌≢◌, IfOk, IfErr, OnOk, sum};
 ghost use Rattle.iam_world.specs.World.{world_cells};
+ghost use Rattle.iam_matrix.specs.Cut.{IsEvenFault};
 ghost use Rattle.iam_matrix.specs.Report.{IsFirstReport, IsMatrixReport};
 ghost use Rattle.iam_matrix.specs.declared.cut.CutFault.TheVariants as c;
 ghost use Rattle.iam_app.specs.Code.Pieces.{report_text};
-ghost use Rattle.iam_app.specs.Code.Refusal.{IsCellsRefusal};
-ghost use Rattle.iam_app.specs.Output.{CanWork, HasCut, HasCutFault, format_of, tile_or_default};
+ghost use Rattle.iam_app.specs.Output.{CanWork, HasCut, IsCellsRefusal, format_of, tile_or_default};
 
 use crate::fault::RunFault;
 use crate::output::Report;
@@ -32,7 +32,8 @@ pub fn tile_length(tile: Option<u64>, cells: u64) -> u64
 pub fn cut_cells(alloc: Global, options: &Options, world: &World) -> Result<Cut, CutFault>
     ensures whole { IfOk result (λ cut. sum cut ≡ world_cells world.now) }
     ensures cut { OnOk result (HasCut options.now world.now) }
-    ensures fault { IfErr result (λ fault. fault ≢ c.OutOfMemory → HasCutFault options.now world.now fault) }
+    ensures fault { IfErr result (λ fault. fault ≢ c.OutOfMemory
+        → IsEvenFault (tile_or_default options.now.tile (world_cells world.now)) (world_cells world.now) fault) }
 {
     let cells = world.cells();
     Cut::even(alloc, tile_length(options.tile, cells), cells)

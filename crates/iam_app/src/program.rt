@@ -1,8 +1,11 @@
 // A run: the input is read, the world asked for, the report made and written.
-ghost use Rattle.std.specs.Prelude.{◌≡◌, ◌≢◌, ◌↔◌, IsTrue, IfOk, IfErr, OnOk, string_bytes};
+ghost use Rattle.std.specs.Prelude.{◌≡◌, ◌≢◌, ◌↔◌, ℕ, IsTrue, IfOk, IfErr, OnOk, length, string_bytes};
+ghost use Rattle.std.specs.Io.KnownBytes.{Appends};
+ghost use Rattle.iam_layers.specs.Cell.{IsCell};
+ghost use Rattle.iam_world.specs.World.{world_cells, world_statements};
 ghost use Rattle.iam_app.specs.Code.Pieces.{report_text};
-ghost use Rattle.iam_app.specs.Code.Refusal.{IsWorldRefusal};
-ghost use Rattle.iam_app.specs.Output.{EndsBy, HasTriple, IsAnswer, IsOutput, IsRefusal, IsAskedReport, WritesOutput, check_text, counts_text, fault_of_input};
+ghost use Rattle.iam_app.specs.Code.Cells.{HasTriple};
+ghost use Rattle.iam_app.specs.Output.{EndsBy, HasOutput, IsAnswer, IsOutput, IsRefusal, IsReportOf, IsWorldRefusal, counts_text, fault_of_input};
 ghost use Rattle.iam_app.specs.Streams.{ConsumesAtMost};
 ghost use Rattle.iam_app.specs.declared.fault.RunFault.TheVariants as f;
 
@@ -29,7 +32,7 @@ fn has_triple(world: &World, p: u64, a: u64, r: u64) -> bool
 /// The report of one cell.
 fn decide(alloc: Global, world: &World, p: u64, a: u64, r: u64) -> Result<Vec<u8>, RunFault>
     ensures ok { IfOk result (λ text. IsAnswer world.now p a r text.items) }
-    ensures fault { IfErr result (λ fault. fault ≢ f.OutOfMemory → (fault ≡ f.NoSuchCell) × ¬ HasTriple world.now p a r) }
+    ensures fault { IfErr result (λ fault. fault ≢ f.OutOfMemory → (fault ≡ f.NoSuchCell) × ((cell : ℕ) → ¬ IsCell world.now cell p a r)) }
 {
     if !has_triple(world, p, a, r) {
         return Err(RunFault::NoSuchCell);
@@ -57,7 +60,8 @@ fn counts_line(
 
 /// How many of each the world has.
 fn check(alloc: Global, world: &World) -> Result<Vec<u8>, OutOfMemory>
-    ensures { IfOk result (λ text. text.items ≡ check_text world.now) }
+    ensures { IfOk result (λ text. text.items ≡ counts_text (length world.now.principals) (length world.now.actions) (length world.now.resources)
+        (world_cells world.now) (world_statements world.now)) }
 {
     let line = counts_line(
         alloc,
@@ -77,8 +81,8 @@ pub fn report<T: Threads + Sync>(
     options: &Options,
     world: &World,
 ) -> Result<Report, RunFault>
-    ensures ok { IfOk result (λ report. IsAskedReport options.now world.now (report_text report)) }
-    ensures fault { IfErr result (λ fault. IsWorldRefusal options.now world.now fault) }
+    ensures ok { IfOk result (λ report. IsReportOf options.now.task options.now world.now (report_text report)) }
+    ensures fault { IfErr result (λ fault. IsWorldRefusal options.now.task options.now world.now fault) }
 {
     match options.task {
         Task::Check => Ok(Report::Whole(check(alloc, world)?)),
@@ -135,7 +139,7 @@ pub fn run<T: Threads + Sync, R: Read, W: Write>(
     writer: &mut W,
 ) -> Result<(), RunFault>
     ensures most { ConsumesAtMost (R.remaining reader.old) (R.remaining reader.new) 8388609 }
-    ensures done { OnOk result (WritesOutput options.now (R.remaining reader.old) (W.contents writer.old) (W.contents writer.new)) }
+    ensures done { OnOk result (HasOutput options.now (R.remaining reader.old) (Appends (W.contents writer.old) (W.contents writer.new))) }
     ensures fault { IfErr result (λ fault. EndsBy options.now (R.remaining reader.old) (W.contents writer.old) (W.contents writer.new) fault) }
 {
     let bytes = match read_input(alloc, reader) {

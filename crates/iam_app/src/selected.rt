@@ -1,10 +1,10 @@
 // A run with a selection: of the commands about all cells, what is asked for is decided and reported alone.
 ghost use Rattle.std.specs.Prelude.{◌≡◌, IfOk, IfErr, OnOk};
+ghost use Rattle.std.specs.Io.KnownBytes.{Appends};
 ghost use Rattle.std.specs.List.{AllZip};
 ghost use Rattle.iam_app.specs.Code.Pieces.{report_text};
-ghost use Rattle.iam_app.specs.Code.Refusal.{IsCellsRefusal, IsWorldRefusal};
-ghost use Rattle.iam_app.specs.Output.{CanWork, IsRefusal, format_of};
-ghost use Rattle.iam_app.specs.Selected.{EndsSelectedBy, IsSelectedOf, IsSelectedOutput, IsSelectionOf, Means, WritesSelected, patterns_in};
+ghost use Rattle.iam_app.specs.Output.{CanWork, IsCellsRefusal, IsRefusal, IsWorldRefusal, format_of};
+ghost use Rattle.iam_app.specs.Selected.{EndsSelectedBy, HasSelectedOutput, IsSelectedOf, IsSelectedOutput, IsSelectionOf, Means, patterns_in};
 ghost use Rattle.iam_app.specs.Streams.{ConsumesAtMost};
 ghost use Rattle.iam_decision.specs.declared.verdict.Decision.{Decision};
 ghost use Rattle.iam_row.specs.Words.{decision_word};
@@ -126,7 +126,7 @@ fn asked_report<T: Threads + Sync>(
     world: &World,
 ) -> Result<Report, RunFault>
     ensures ok { IfOk result (λ report. IsSelectedOf options.now.task options.now selection.now world.now (report_text report)) }
-    ensures fault { IfErr result (λ fault. IsWorldRefusal options.now world.now fault) }
+    ensures fault { IfErr result (λ fault. IsWorldRefusal options.now.task options.now world.now fault) }
 {
     match options.task {
         Task::Matrix => matrix(rt, alloc, options, selection, world),
@@ -168,7 +168,7 @@ pub fn run_selected<T: Threads + Sync, R: Read, W: Write>(
     writer: &mut W,
 ) -> Result<(), RunFault>
     ensures most { ConsumesAtMost (R.remaining reader.old) (R.remaining reader.new) 8388609 }
-    ensures done { OnOk result (WritesSelected options.now selection.now (R.remaining reader.old) (W.contents writer.old) (W.contents writer.new)) }
+    ensures done { OnOk result (HasSelectedOutput options.now selection.now (R.remaining reader.old) (Appends (W.contents writer.old) (W.contents writer.new))) }
     ensures fault { IfErr result (λ fault. EndsSelectedBy options.now selection.now (R.remaining reader.old) (W.contents writer.old) (W.contents writer.new) fault) }
 {
     let bytes = match read_input(alloc, reader) {
