@@ -103,7 +103,7 @@ impl Front {
         start == self.start
     }
 
-    /// Counts the number up in place, where at most its last digit is a 9.
+    /// Counts the number up in place, if not more than its last digit is a 9.
     #[inline(always)]
     pub fn count_up(&mut self) -> bool
         ensures counted { IsTrue result → (n : ℕ) → n + 1 < 2 ^ 64 → self.old.number ≡ decimal n → self.new ≡ record self.old { number = decimal (n + 1) } }
