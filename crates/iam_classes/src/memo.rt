@@ -1,5 +1,6 @@
 // What an engine keeps: the classes of pairs, the acts of action elements, and verdicts by their numbers.
-ghost use Rattle.std.specs.Prelude.{◌≡◌};
+ghost use Rattle.std.specs.Prelude.{◌≡◌, IfOk};
+ghost use Rattle.iam_slots.specs.Slots.{AreEmpty};
 
 use crate::held::Held;
 use iam_decision::acting_are_found;
@@ -30,6 +31,17 @@ const PRINTS: u64 = 4_096;
 pub struct Class<'a> {
     pub shared: Held<'a>,
     pub rows: Vec<Option<usize>>,
+}
+
+/// Slots for the classes of a world's pairs, about so many at most; none where there is one action, so that no requests share anything.
+fn pair_slots(alloc: Global, world: &World, most: u64) -> Result<Vec<Option<Numbered>>, OutOfMemory>
+    ensures { IfOk result (λ slots. AreEmpty slots.items) }
+{
+    if world.actions() < 2 {
+        return Ok(Vec::new(alloc));
+    }
+    let pairs = world.principals().saturating_mul(world.resources());
+    empty_slots(alloc, pairs.min(most))
 }
 
 /// A class, and whether all that there were before were let go for it.
@@ -115,12 +127,6 @@ impl<'a> Memo<'a> {
         let world = index.world();
         let memos = memos.max(1);
         let all = world.principals().saturating_mul(world.resources());
-        // Where there is one action, no requests share anything.
-        let pairs = if world.actions() > 1 {
-            all.min(MOST_PAIRS / memos as u64)
-        } else {
-            0
-        };
         let answers = all.max(WIDTH).saturating_mul(world.actions());
         let most = MOST_STATEMENTS / memos as usize;
         Ok(Memo {
@@ -128,7 +134,7 @@ impl<'a> Memo<'a> {
             elements: index.elements(),
             classes: Vec::new(alloc),
             rulings: Vec::new(alloc),
-            pairs: empty_slots(alloc, pairs)?,
+            pairs: pair_slots(alloc, world, MOST_PAIRS / memos as u64)?,
             answers: empty_slots(alloc, answers.min(MOST_ANSWERS / memos as u64))?,
             class_prints: empty_slots(alloc, PRINTS)?,
             ruling_prints: empty_slots(alloc, PRINTS)?,

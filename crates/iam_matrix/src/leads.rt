@@ -1,6 +1,6 @@
 // Leads: under a class and an action the place, among what a tile has, of what has to be said of its requests, so that it is said again
 // of the next.
-ghost use Rattle.std.specs.Prelude.{◌≡◌, ◌+◌, ◌<◌, ◌≤◌, ◌^◌, Bool, List, IfOk, IfSome};
+ghost use Rattle.std.specs.Prelude.{◌+◌, ◌<◌, ◌≤◌, ◌^◌, Bool, List, IfOk, IfSome};
 ghost use Rattle.iam_classes.specs.Engine.{EngineValue};
 ghost use Rattle.iam_decision.specs.declared.verdict.Verdict.{Verdict};
 ghost use Rattle.iam_matrix.specs.Code.Leads.{AreKnown, AreLeads, HasEntry, IsLead};

@@ -14,10 +14,10 @@ invariant_of-result c =
     let rulings = c.new-2.result.items in
     let W : WorldValue → Type 0 = λ w. AreElements w c.elements.result.now.elements.items in
     record {
-      pairs_are = all_empty (λ (p : Numbered). HasClass world classes p.one p.other p.number) c.in_ok-empty_slots.field-0.items c.in_ok-empty_slots.ensures.empty;
+      pairs_are = all_empty (λ (p : Numbered). HasClass world classes p.one p.other p.number) c.in_ok-pair_slots.field-0.items c.in_ok-pair_slots.ensures;
       answers_are =
-          all_empty (λ (a : Numbered). HasNumber world classes rulings a.one a.other a.number) c.in_ok-empty_slots-2.field-0.items
-          c.in_ok-empty_slots-2.ensures.empty;
+          all_empty (λ (a : Numbered). HasNumber world classes rulings a.one a.other a.number) c.in_ok-empty_slots.field-0.items
+          c.in_ok-empty_slots.ensures.empty;
       elements_are = subst W (sym c.world-world.ensures) c.elements.ensures;
       rows_are = no_rows c.elements.result.now.elements.items classes c.new.ensures.items;
     }
