@@ -6,8 +6,8 @@ use Rattle.iam_classes.proofs.EngineLemmas.{of_class}
 use Rattle.iam_matrix.specs.Code.Leads.{HasEntry, IsEntryAt}
 use Rattle.iam_matrix.proofs.leads.place_of.Goals as goal
 
-pub returns-in_ok : goal.returns-in_ok
-returns-in_ok c = λ brief engine entries known leads.
+pub returns : goal.returns
+returns c = λ brief engine entries known leads.
     let p = c.args.p in
     let a = c.args.a in
     let r = c.args.r in
