@@ -77,7 +77,7 @@ IsCellsRefusal options world (Matrix fault) =
     fault ≢ m.OutOfMemory → HasCut options world × ((fault ≡ m.Workers) × IsUnlawful options.workers)
 IsCellsRefusal options world fault = ⊥
 
--- why a command has no report: the world does not have the cell, or there is none of all cells
+-- why a command has no report: it wants memory, the world does not have the cell, or there is none of all cells
 abbrev pub IsWorldRefusal : Task → Options → WorldValue → RunFault → Type 0
 IsWorldRefusal t.Check options world fault = fault ≡ OutOfMemory
 IsWorldRefusal (t.Decide p a r) options world fault =
@@ -89,7 +89,8 @@ IsWorldRefusal t.First options world fault = IsCellsRefusal options world fault
 abbrev pub IsOutput : Options → List ℕ → List ℕ → Type 0
 IsOutput options bytes text = (world : WorldValue) × IsWorld bytes world × IsReportOf options.task options world text
 
--- why there is no report for these bytes: their first fault, or that they are a world of which the command has none
+-- why there is no report for these bytes: their first fault, or that they are a world of which the command has none; of want of
+-- memory nothing is said
 abbrev pub IsRefusal : Options → List ℕ → RunFault → Type 0
 IsRefusal options bytes (World fault) = fault ≢ w.OutOfMemory → IsFirstWorldFault bytes fault
 IsRefusal options bytes OutOfMemory = ⊤
