@@ -7,6 +7,7 @@ ghost use Rattle.iam_classes.specs.Keys.{AreKeys};
 use iam_context::Derived;
 use iam_index::Index;
 use iam_layers::{Shared, World};
+use iam_living::living;
 use iam_text::OutOfMemory;
 use std::alloc::Global;
 
@@ -77,7 +78,7 @@ fn shared_with<'a: 'c, 'c>(
     let world = index.world();
     let context = index.parts().context(p, r, derived);
     let access = world.access(p, r, &context);
-    let living = index.living(alloc, p, r, access)?;
+    let living = living(alloc, index, p, r, access)?;
     Ok(Shared::of(index.frame(p, r), living))
 }
 

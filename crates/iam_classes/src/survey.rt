@@ -299,7 +299,7 @@ pub fn wants_survey(index: &Index<'_>, workers: u32) -> bool {
     let mut most: usize = 0;
     let mut all: usize = 0;
     for p in 0..world.principals() {
-        let own = index.own_statements(p);
+        let own = index.own_statements(p).statements().len();
         most = most.max(own);
         all = all.saturating_add(own);
     }

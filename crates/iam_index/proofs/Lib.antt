@@ -1,6 +1,6 @@
 pub mod ListLemmas
 mod ElementLemmas
-mod IndexLemmas
+pub mod IndexLemmas
 mod ListedLemmas
 mod MarkLemmas
 mod RowLemmas

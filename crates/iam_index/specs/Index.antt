@@ -1,10 +1,10 @@
 -- An index of a world: of the statements that apply to requests those that may match one for some action of the world. LOGIC 1.1.
 use Rattle.std.specs.Prelude.{◌≡◌, ℕ, All, List, [], ◌∷◌, ◌++◌, Some, length, map}
 use Rattle.std.specs.List.{slice_get}
-use Rattle.iam_match.specs.Statement.{AccessValue, ActionMatches, RequestValue}
+use Rattle.iam_match.specs.Statement.{ActionMatches, RequestValue}
 use Rattle.iam_decision.specs.Applicable.{ApplicableValue}
 use Rattle.iam_decision.specs.Code.Scan.{org_placed, placed_value, requester_placed, resource_placed}
-use Rattle.iam_decision.specs.Living.{AreCandidates, AreLiving, LivingValue}
+use Rattle.iam_decision.specs.Living.{AreCandidates}
 use Rattle.iam_decision.specs.Matched.{Placed, placed}
 use Rattle.iam_decision.specs.declared.place.Place.{Place}
 use Rattle.iam_decision.specs.declared.scan.Standing.{Standing}
@@ -80,12 +80,3 @@ AreCandidatesOf world cell places =
 -- the action element of each of these matches the action
 abbrev pub AllAct : List ℕ → List Standing → Type 0
 AllAct action statements = All (λ s. ActionMatches s.statement.now.action action) statements
-
--- these are the living ones of the candidates of requests for this access, for actions of the world
-abbrev pub AreLivingAt : WorldValue → ApplicableValue → AccessValue → List LivingValue → Type 0
-AreLivingAt world a access living =
-    (candidates : List Placed) × AreCandidates world.actions (placed a) candidates × AreLiving access candidates living
-
--- behind the living ones of any statements stand now those of these statements too
-abbrev pub AddsLiving : AccessValue → List Placed → List LivingValue → List LivingValue → Type 0
-AddsLiving access statements old new = (before : List Placed) → AreLiving access before old → AreLiving access (before ++ statements) new

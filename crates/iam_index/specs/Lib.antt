@@ -1,4 +1,5 @@
 pub mod Elements
 pub mod Index
+pub mod Known
 pub mod Parts
 pub mod Rows

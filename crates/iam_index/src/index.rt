@@ -1,22 +1,19 @@
 // The statements of a world that may match requests for its actions, found once for all engines of a run.
-ghost use Rattle.std.specs.Prelude.{[], ◌∷◌, ◌≡◌, ◌++◌, IfOk, IfSome, List, OnOk, map};
-ghost use Rattle.iam_match.specs.Request.{access_of};
+ghost use Rattle.std.specs.Prelude.{[], ◌∷◌, ◌≡◌, ◌++◌, IfOk, List, OnOk, map};
 ghost use Rattle.iam_decision.specs.Code.Scan.{placed_value};
-ghost use Rattle.iam_decision.specs.Living.{AreCandidates, AreLiving, living_value};
+ghost use Rattle.iam_decision.specs.Living.{AreCandidates};
 ghost use Rattle.iam_decision.specs.Matched.{Placed};
-ghost use Rattle.iam_layers.specs.Cell.{IsResource};
-ghost use Rattle.iam_index.specs.Index.{AddsLiving, AllAct};
-ghost use Rattle.iam_index.specs.Rows.{AreRows, AreStatementRows};
+ghost use Rattle.iam_index.specs.Index.{AllAct};
 
 use crate::elements::Elements;
-use crate::list_rows::{ListRows, list_at, org_rows, requester_rows, row_at};
+use crate::known::Known;
+use crate::list_rows::{ListRows, list_at, org_rows, requester_rows};
 use crate::lists::{Listed, Org, Orgs, org_lists, requester_lists, resource_lists};
 use crate::parts::Parts;
 use crate::rows::Rows;
 use crate::texts::Texts;
-use iam_decision::add_living;
-use iam_layers::{Frame, Living, Place, Standing, World};
-use iam_match::{Access, action_matches};
+use iam_layers::{Frame, Place, Standing, World};
+use iam_match::action_matches;
 use iam_text::OutOfMemory;
 use std::alloc::Global;
 use std::marker::Model;
@@ -52,17 +49,15 @@ impl<'a> Model for Index<'a> {
 }
 
 impl<'a> Index<'a> {
-    ghost use Rattle.std.specs.Prelude.{[], ◌∷◌, ◌≡◌, ◌<◌, ℕ, IfOk, List, OnOk, length, map};
-    ghost use Rattle.iam_match.specs.Request.{access_of};
+    ghost use Rattle.std.specs.Prelude.{[], ◌∷◌, ◌≡◌, ◌<◌, ℕ, IfOk, List, length, map};
     ghost use Rattle.iam_decision.specs.Applicable.{ApplicableValue, frame_of};
     ghost use Rattle.iam_decision.specs.Code.Scan.{placed_value};
-    ghost use Rattle.iam_decision.specs.Living.{AreCandidates, living_value};
+    ghost use Rattle.iam_decision.specs.Living.{AreCandidates};
     ghost use Rattle.iam_decision.specs.Matched.{placed};
     ghost use Rattle.iam_world.specs.World.{world_cells};
-    ghost use Rattle.iam_layers.specs.Cell.{IsAction, IsApplicableAt, IsResource};
+    ghost use Rattle.iam_layers.specs.Cell.{IsAction, IsApplicableAt};
     ghost use Rattle.iam_index.specs.Elements.{AreElements};
-    ghost use Rattle.iam_decision.specs.declared.scan.Standing.{Standing};
-    ghost use Rattle.iam_index.specs.Index.{AddsLiving, AllAct, AreCandidatesOf, AreLivingAt, IsOrg, ListsOrg, ListsRequester, ListsResource};
+    ghost use Rattle.iam_index.specs.Index.{AllAct, AreCandidatesOf, IsOrg, ListsOrg, ListsRequester, ListsResource};
 
     /// The index of a world.
     pub fn build(alloc: Global, world: &'a World) -> Result<Index<'a>, OutOfMemory>
@@ -147,92 +142,40 @@ impl<'a> Index<'a> {
         let action = self.world.action_text(a);
         let mut candidates = Vec::new(alloc);
         add_candidates(&mut candidates, self.org(p).statements.as_slice(), action)?;
-        add_candidates(&mut candidates, self.resource(r), action)?;
+        add_candidates(&mut candidates, self.resource_statements(r), action)?;
         add_candidates(&mut candidates, self.requester(p), action)?;
         Ok(candidates)
     }
 
-    /// Those of the candidates of requests of principal p for resource r, for actions of the world, that live, in place order.
-    pub fn living<'c>(
-        &self,
-        alloc: Global,
-        p: u64,
-        r: u64,
-        access: Access<'_, 'c>,
-    ) -> Result<Vec<Living<'a>>, OutOfMemory>
-    where
-        'a: 'c,
-        requires principal { p < length self.now.principals }
-        requires resource { IsResource self.now r (λ resource. access.resource.now ≡ resource.arn) }
-        ensures { (applicable : ApplicableValue) → IsApplicableAt self.now p r applicable
-            → IfOk result (λ living. AreLivingAt self.now applicable (access_of access.entry) (map living_value living.items)) }
-    {
-        let mut living = Vec::new(alloc);
-        self.add_org(alloc, &mut living, p, r, access)?;
-        add_all(alloc, &mut living, self.resource(r), access)?;
-        self.add_requester(alloc, &mut living, p, r, access)?;
-        Ok(living)
-    }
-
-    /// Adds the living ones of the statements of the organisation that binds principal p.
-    fn add_org<'c>(
-        &self,
-        alloc: Global,
-        living: &mut Vec<Living<'a>>,
-        p: u64,
-        r: u64,
-        access: Access<'_, 'c>,
-    ) -> Result<(), OutOfMemory>
-    where
-        'a: 'c,
-        requires principal { p < length self.now.principals }
-        requires resource { IsResource self.now r (λ resource. access.resource.now ≡ resource.arn) }
-        ensures { OnOk result ((listed : List Standing) × ListsOrg self.now p listed
-            × AddsLiving (access_of access.entry) (map placed_value listed) (map living_value living.old.items) (map living_value living.new.items)) }
+    /// The statements of the organisation that binds principal p.
+    pub fn org_statements(&'a self, p: u64) -> Known<'a>
+        requires { p < length self.now.principals }
+        ensures world { result.world ≡ self.entry.now }
+        ensures lists { ListsOrg self.entry.now p result.statements }
     {
         let number = self.orgs.numbers[p as usize];
         let org = &self.orgs.orgs[number];
-        add_known(
-            alloc,
-            living,
+        Known::of(
             self.world,
-            &self.rows,
             org.statements.as_slice(),
+            &self.rows,
             list_at(self.org_rows.as_slice(), number),
-            r,
-            access,
-        )?;
-        Ok(())
+        )
     }
 
-    /// Adds the living ones of the statements of principal p.
-    fn add_requester<'c>(
-        &self,
-        alloc: Global,
-        living: &mut Vec<Living<'a>>,
-        p: u64,
-        r: u64,
-        access: Access<'_, 'c>,
-    ) -> Result<(), OutOfMemory>
-    where
-        'a: 'c,
-        requires principal { p < length self.now.principals }
-        requires resource { IsResource self.now r (λ resource. access.resource.now ≡ resource.arn) }
-        ensures { OnOk result ((listed : List Standing) × ListsRequester self.now p listed
-            × AddsLiving (access_of access.entry) (map placed_value listed) (map living_value living.old.items) (map living_value living.new.items)) }
+    /// The statements of principal p.
+    pub fn own_statements(&'a self, p: u64) -> Known<'a>
+        requires { p < length self.now.principals }
+        ensures world { result.world ≡ self.entry.now }
+        ensures lists { ListsRequester self.entry.now p result.statements }
     {
         let listed = &self.requesters[p as usize];
-        add_known(
-            alloc,
-            living,
+        Known::of(
             self.world,
-            &self.rows,
             listed.statements.as_slice(),
+            &self.rows,
             list_at(self.requester_rows.as_slice(), p as usize),
-            r,
-            access,
-        )?;
-        Ok(())
+        )
     }
 
     /// The keys that its world gives to requests.
@@ -272,14 +215,6 @@ impl<'a> Index<'a> {
         &self.orgs.orgs[number]
     }
 
-    /// How many statements of principal p it lists.
-    pub fn own_statements(&self, p: u64) -> usize {
-        match self.requesters.get(p as usize) {
-            Some(listed) => listed.statements.len(),
-            None => 0,
-        }
-    }
-
     /// The statements of principal p.
     fn requester(&self, p: u64) -> &[Standing<'a>]
         requires { p < length self.now.principals }
@@ -289,53 +224,12 @@ impl<'a> Index<'a> {
     }
 
     /// The statements that stand with resource r.
-    fn resource(&self, r: u64) -> &[Standing<'a>]
+    pub fn resource_statements(&self, r: u64) -> &[Standing<'a>]
         requires { r < length self.now.resources }
         ensures { ListsResource self.now r result.now }
     {
         self.resources[r as usize].statements.as_slice()
     }
-}
-
-/// Adds those of the statements that live to the living ones of those before them.
-fn add_all<'a: 'c, 'c>(
-    alloc: Global,
-    living: &mut Vec<Living<'a>>,
-    statements: &[Standing<'a>],
-    access: Access<'_, 'c>,
-) -> Result<(), OutOfMemory>
-    ensures { OnOk result (AddsLiving (access_of access.entry) (map placed_value statements.now) (map living_value living.old.items)
-        (map living_value living.new.items)) }
-{
-    for &standing in statements {
-        add_living(alloc, living, standing, access, None)?;
-    }
-    Ok(())
-}
-
-/// The same of a request for resource r of the world, where the rows tell of some of the statements whether their resource
-/// elements match.
-fn add_known<'a: 'c, 'c>(
-    alloc: Global,
-    living: &mut Vec<Living<'a>>,
-    world: &World,
-    rows: &Rows<'_>,
-    statements: &[Standing<'a>],
-    list: Option<&ListRows>,
-    r: u64,
-    access: Access<'_, 'c>,
-) -> Result<(), OutOfMemory>
-    requires rows { AreRows world.now rows.now.rows.items }
-    requires list { IfSome list (λ list. AreStatementRows rows.now.rows.items statements.now list.now.rows.items) }
-    requires resource { IsResource world.now r (λ resource. access.resource.now ≡ resource.arn) }
-    ensures { OnOk result (AddsLiving (access_of access.entry) (map placed_value statements.now) (map living_value living.old.items)
-        (map living_value living.new.items)) }
-{
-    for i in 0..statements.len() {
-        let matched = rows.matches(row_at(list, i), r);
-        add_living(alloc, living, statements[i], access, matched)?;
-    }
-    Ok(())
 }
 
 /// Adds the statement to those chosen before it, if its action element matches the action.

@@ -3,6 +3,7 @@
 
 mod elements;
 mod index;
+mod known;
 mod list_rows;
 mod lists;
 mod parts;
@@ -13,5 +14,6 @@ pub use elements::{Element, Elements};
 pub use iam_layers::{Living, Place, Standing, World};
 pub use iam_text::OutOfMemory;
 pub use index::Index;
+pub use known::Known;
 pub use parts::Parts;
 pub use texts::Texts;

@@ -15,7 +15,7 @@ returns-clause-are c = λ action applicable named at.
     let world = c.args.self.now in
     let text = c.action_text-action.result.now in
     let one = map placed_value c.as_slice.result.now in
-    let two = map placed_value c.resource.result.now in
+    let two = map placed_value c.resource_statements.result.now in
     let three = map placed_value c.requester.result.now in
     let found = map placed_value c.add_candidates-3.new.candidates.items in
     let L : List Standing → Type 0 = ListsOrg world c.args.p in
@@ -26,7 +26,7 @@ returns-clause-are c = λ action applicable named at.
     let own : text ≡ action = some_same text action (sym asked ∙ named) in
     let first = c.in_ok-add_candidates.ensures.are [] (ap (map placed_value) c.new-candidates.ensures.items) in
     let last = c.in_ok-add_candidates-3.ensures.are (one ++ two) (c.in_ok-add_candidates-2.ensures.are one first) in
-    let listed = parts_listed world.actions applicable one two three (subst L (sym c.as_slice.ensures.value) c.org.ensures.lists c.args.r applicable at) (c.resource.ensures c.args.p applicable at)
+    let listed = parts_listed world.actions applicable one two three (subst L (sym c.as_slice.ensures.value) c.org.ensures.lists c.args.r applicable at) (c.resource_statements.ensures c.args.p applicable at)
     (c.requester.ensures c.args.r applicable at) in
     subst T own
     (candidates_less world.actions text (is_asked world c.args.a text asked) (placed applicable) (one ++ (two ++ three)) found listed

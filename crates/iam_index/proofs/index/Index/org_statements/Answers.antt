@@ -1,20 +1,17 @@
-use Rattle.std.proofs.Common.{◌≡◌, ◌<◌, ◌∙◌, List, Some, length, map, ap, sym, subst, arith}
+use Rattle.std.proofs.Common.{◌≡◌, ◌<◌, ◌∙◌, List, Some, length, ap, sym, subst, arith}
 use Rattle.std.proofs.lemmas.Option.{slice_get-get_or, slice_get_within}
 use Rattle.std.specs.List.{slice_get}
-use Rattle.iam_match.specs.Request.{access_of}
-use Rattle.iam_decision.specs.Code.Scan.{placed_value}
-use Rattle.iam_decision.specs.Living.{living_value}
 use Rattle.iam_decision.specs.declared.scan.Standing.{Standing}
 use Rattle.iam_world.specs.World.{WorldValue}
-use Rattle.iam_index.specs.Index.{AddsLiving, ListsOrg}
+use Rattle.iam_index.specs.Index.{ListsOrg}
 use Rattle.iam_index.specs.Rows.{AreStatementRows}
 use Rattle.iam_index.specs.declared.list_rows.ListRows.{ListRows}
 use Rattle.iam_index.specs.declared.lists.Org.{Org}
 use Rattle.iam_index.proofs.ListLemmas.{if_some, some_same}
-use Rattle.iam_index.proofs.index.Index.add_org.Goals as goal
+use Rattle.iam_index.proofs.index.Index.org_statements.Goals as goal
 
-pub add_known-requires-clause-list : goal.add_known-requires-clause-list
-add_known-requires-clause-list c =
+pub of-requires-clause-list : goal.of-requires-clause-list
+of-requires-clause-list c =
     let p = c.args.p in
     let numbers = c.self.inside.orgs.numbers.items in
     let orgs = c.self.inside.orgs.orgs.items in
@@ -22,7 +19,7 @@ add_known-requires-clause-list c =
     let here = c.index-org.result.now in
     let rows = c.self.inside.rows.rows.items in
     let N : WorldValue → Type 0 = λ w. p < length w.principals in
-    let there = subst N (sym c.self.view_is) c.requires.principal in
+    let there = subst N (sym c.self.view_is) c.requires in
     let within : p < length numbers = omega (arith, there, c.self.invariant.orgs_count) in
     let at : slice_get numbers p ≡ Some number = slice_get-get_or numbers p number within ∙ ap Some (sym c.index-number.ensures) in
     let (org, found, is) = c.self.invariant.orgs_are p number at in
@@ -34,8 +31,8 @@ add_known-requires-clause-list c =
     subst T (sym c.as_slice.ensures.value) (c.self.invariant.org_rows_are number here list.now read (subst S c.as_slice-2.ensures.value at_list)))
     c.list_at.ensures
 
-pub returns : goal.returns
-returns c =
+pub returns-clause-lists : goal.returns-clause-lists
+returns-clause-lists c =
     let p = c.args.p in
     let world = c.self.inside.world.now in
     let numbers = c.self.inside.orgs.numbers.items in
@@ -45,12 +42,11 @@ returns c =
     let N : WorldValue → Type 0 = λ w. p < length w.principals in
     let W : WorldValue → Type 0 = λ w. ListsOrg w p here.statements.items in
     let O : Org → Type 0 = λ o. ListsOrg world p o.statements.items in
-    let there = subst N (sym c.self.view_is) c.requires.principal in
+    let there = subst N (sym c.self.view_is) c.requires in
     let within : p < length numbers = omega (arith, there, c.self.invariant.orgs_count) in
     let at : slice_get numbers p ≡ Some number = slice_get-get_or numbers p number within ∙ ap Some (sym c.index-number.ensures) in
     let (org, found, is) = c.self.invariant.orgs_are p number at in
     let read : slice_get orgs number ≡ Some here = slice_get-get_or orgs number here (slice_get_within orgs number org found) ∙ ap Some (sym c.index-org.ensures) in
     let own : org ≡ here = some_same org here (sym found ∙ read) in
-    let A : List Standing → Type 0 = λ listed.
-    AddsLiving (access_of c.args.access) (map placed_value listed) (map living_value c.args.living.now.items) (map living_value c.add_known.new.living.items) in
-    (here.statements.items, subst W c.self.view_is (subst O own is.lists), subst A c.as_slice.ensures.value c.in_ok-add_known.ensures)
+    let S : List Standing → Type 0 = ListsOrg c.args.self.now p in
+    subst S (sym c.of.ensures.statements) (subst S (sym c.as_slice.ensures.value) (subst W c.self.view_is (subst O own is.lists)))

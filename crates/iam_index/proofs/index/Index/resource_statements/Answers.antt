@@ -4,7 +4,7 @@ use Rattle.std.specs.List.{slice_get}
 use Rattle.iam_decision.specs.declared.scan.Standing.{Standing}
 use Rattle.iam_world.specs.World.{WorldValue}
 use Rattle.iam_index.specs.Index.{ListsResource}
-use Rattle.iam_index.proofs.index.Index.resource.Goals as goal
+use Rattle.iam_index.proofs.index.Index.resource_statements.Goals as goal
 
 pub returns : goal.returns
 returns c =

@@ -1,0 +1,18 @@
+-- The statements that an index lists for all requests of a principal. LOGIC 11.1.
+use Rattle.std.specs.Prelude.{ℕ, List, []}
+use Rattle.iam_decision.specs.Applicable.{ApplicableValue}
+use Rattle.iam_decision.specs.Living.{AreCandidates}
+use Rattle.iam_decision.specs.Matched.{Placed, placed}
+use Rattle.iam_layers.specs.Cell.{IsApplicableAt}
+use Rattle.iam_world.specs.World.{WorldValue}
+use Rattle.iam_index.specs.Index.{ListsResource}
+
+-- statements of a world
+pub record ListingValue : Type 0 where
+  pub world : WorldValue
+  pub statements : List Placed
+
+-- these statements are the candidates of principal p's requests for resources with which none is listed
+abbrev pub Lists : WorldValue → ℕ → List Placed → Type 0
+Lists world p statements =
+    (r : ℕ) (a : ApplicableValue) → IsApplicableAt world p r a → ListsResource world r [] → AreCandidates world.actions (placed a) statements

@@ -1,0 +1,13 @@
+//! Which of the statements that an index lists live in requests, as a list and as a number that tells such lists apart.
+#![tactic(auto)]
+
+mod listing;
+mod living;
+mod word;
+
+pub use iam_index::Index;
+pub use iam_layers::Living;
+pub use iam_text::OutOfMemory;
+pub use listing::Listing;
+pub use living::living;
+pub use word::same_word;
