@@ -67,16 +67,12 @@ abbrev pub operator_with : Option Quantifier → Bool → Row → Operator
 operator_with quantifier if_exists row =
     record { quantifier = quantifier; base = row.base; is_negated = row.negated; if_exists = if_exists }
 
--- `Null` stands alone
-abbrev pub null_operator : Operator
-null_operator = record { quantifier = None; base = Null; is_negated = false; if_exists = false }
-
 -- the operator of a row's name, with or without `IfExists`
 abbrev pub single_operator : Option Quantifier → List ℕ × Bool → Option Operator
 single_operator quantifier parts = option_map (operator_with quantifier parts.1) (find (λ row. bytes_eq parts.0 row.name) rows)
 
--- the operator of a name: `Null`, or `ForAllValues:`, `ForAnyValue:` or neither, a row's name, and `IfExists` or not
+-- the operator of a name: `Null` alone, or `ForAllValues:`, `ForAnyValue:` or neither, a row's name, and `IfExists` or not
 unfoldable pub operator_of : List ℕ → Option Operator
 operator_of name =
-    if bytes_eq name (codes "Null") then Some null_operator
+    if bytes_eq name (codes "Null") then Some (record { quantifier = None; base = Null; is_negated = false; if_exists = false })
     else single_operator (behind_quantifier name).0 (before_if_exists (behind_quantifier name).1)

@@ -60,10 +60,6 @@ is_context_value d = is_scalar d || option_map_or (list_all is_scalar) (values d
 abbrev pub is_context : Data → Bool
 is_context d = option_map_or (all_members is_context_value) (as_object d) false
 
--- a number of seconds from 1970 to 9999
-abbrev pub is_moment : ℕ → Bool
-is_moment seconds = nat_le seconds 253402300799
-
 -- twelve digits, and none of these ids
 abbrev pub is_new_id : List (List ℕ) → List ℕ → Bool
 is_new_id ids text = is_account text && not (is_one_of ids text)
@@ -179,11 +175,11 @@ resource_checks i resource =
 
 -- ---- the document
 
--- the document itself and its moment
+-- the document itself and its moment, a number of seconds from 1970 to 9999
 abbrev pub head_checks : Data → List Check
 head_checks d =
     (Root, is_object d)
-    ∷ ((Member Moment, option_map_or is_moment (number_at Moment d) false)
+    ∷ ((Member Moment, option_map_or (λ seconds. nat_le seconds 253402300799) (number_at Moment d) false)
     ∷ [])
 
 -- its context, and no other members

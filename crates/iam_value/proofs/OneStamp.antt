@@ -3,7 +3,8 @@ use Rattle.std.proofs.Common.{◌≡◌, ℕ, ◌<◌, List, ℤ, pos, sym, ◌�
 use Rattle.std.proofs.lemmas.Int.{ints}
 use Rattle.jiff_core.specs.declared.civil.date.Date.{Date}
 use Rattle.jiff_core.proofs.DateLemmas.{epoch_day_injective}
-use Rattle.iam_value.specs.Moment.{IsDateText, IsDayNumber, IsStamp, IsTimeText}
+use Rattle.iam_value.specs.Moment.{IsDayNumber, IsStamp}
+use Rattle.iam_value.proofs.Stamps.{IsDateText, IsTimeText, IsWritten, stamp_is_written}
 
 abbrev date_of : (year month day : ℕ) (number : ℤ) → IsDayNumber year month day number → Date
 date_of year month day number is = record {
@@ -36,8 +37,8 @@ same_time seconds text other a b =
 time_below : (seconds : ℕ) (text : List ℕ) → IsTimeText seconds text → seconds < 86400
 time_below seconds text is = omega (arith, is.sum, is.in_day)
 
-pub one_stamp : (seconds : ℤ) (text other : List ℕ) → IsStamp seconds text → IsStamp seconds other → text ≡ other
-one_stamp seconds text other a b =
+one_written : (seconds : ℤ) (text other : List ℕ) → IsWritten seconds text → IsWritten seconds other → text ≡ other
+one_written seconds text other a b =
     let low = time_below a.rest a.time a.time_is in
     let high = time_below b.rest b.time b.time_is in
     let number : a.number ≡ b.number = omega (arith, ints, a.instant, b.instant, low, high) in
@@ -45,3 +46,6 @@ one_stamp seconds text other a b =
     let date : a.date ≡ b.date = same_date b.number a.date b.date (rw number at a.date_is) b.date_is in
     let time : a.time ≡ b.time = same_time b.rest a.time b.time (rw rest at a.time_is) b.time_is in
     a.written ∙ rw (date, time) (sym b.written)
+
+pub one_stamp : (seconds : ℤ) (text other : List ℕ) → IsStamp seconds text → IsStamp seconds other → text ≡ other
+one_stamp seconds text other a b = one_written seconds text other (stamp_is_written seconds text a) (stamp_is_written seconds other b)

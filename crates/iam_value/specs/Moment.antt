@@ -132,40 +132,6 @@ IsMoment text nanos =
     ⊎ (((number : ℤ) × IsDay text number × (nanos ≡ number *ℤ pos 86_400_000_000_000))
     ⊎ IsDateTime text nanos)
 
--- a number below 100 in two digits
-abbrev pub two_digits : ℕ → List ℕ
-two_digits n = (48 + n / 10) ∷ (48 + n % 10) ∷ []
-
--- a number below 10000 in four digits
-abbrev pub four_digits : ℕ → List ℕ
-four_digits n = two_digits (n / 100) ++ two_digits (n % 100)
-
--- the text `YYYY-MM-DD` of a day with that number
-pub record IsDateText (number : ℤ) (text : List ℕ) : Type 0 where
-  pub year : ℕ
-  pub month : ℕ
-  pub day : ℕ
-  pub numbered : IsDayNumber year month day number
-  pub written :
-      text ≡ four_digits year ++ (codes "-" ++ (two_digits month ++ (codes "-" ++ two_digits day)))
-
--- the text `hh:mm:ss` of a time of day that many seconds from midnight
-pub record IsTimeText (seconds : ℕ) (text : List ℕ) : Type 0 where
-  pub hour : ℕ
-  pub minute : ℕ
-  pub second : ℕ
-  pub in_day : (hour ≤ 23) × (minute ≤ 59) × (second ≤ 59)
-  pub sum : seconds ≡ hour * 3_600 + minute * 60 + second
-  pub written :
-      text ≡ two_digits hour ++ (codes ":" ++ (two_digits minute ++ (codes ":" ++ two_digits second)))
-
--- the text `YYYY-MM-DDThh:mm:ssZ` of the instant that many seconds after 1970-01-01T00:00:00Z
-pub record IsStamp (seconds : ℤ) (text : List ℕ) : Type 0 where
-  pub date : List ℕ
-  pub time : List ℕ
-  pub number : ℤ
-  pub rest : ℕ
-  pub date_is : IsDateText number date
-  pub time_is : IsTimeText rest time
-  pub written : text ≡ date ++ (codes "T" ++ (time ++ codes "Z"))
-  pub instant : seconds ≡ number *ℤ pos 86_400 +ℤ pos rest
+-- the text `YYYY-MM-DDThh:mm:ssZ` of the instant that many seconds after 1970-01-01T00:00:00Z: the one of twenty characters
+abbrev pub IsStamp : ℤ → List ℕ → Type 0
+IsStamp seconds text = (length text ≡ 20) × IsDateTime text (seconds *ℤ pos 1_000_000_000)

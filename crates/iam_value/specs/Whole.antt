@@ -3,13 +3,10 @@ use Rattle.std.specs.Prelude.{◌≡◌, ◌⊎◌, ℕ, List, ◌∷◌, ℤ, p
 use Rattle.std.specs.Int.{w64}
 use Rattle.std.specs.Str.Parse.{IsNumeral, digits_value}
 
--- the digits alone, or `-`, which is 45, and the digits of the number's opposite
-abbrev pub IsSigned : List ℕ → List ℕ → ℤ → Type 0
-IsSigned text digits value =
-    ((text ≡ digits) × (value ≡ pos (digits_value 10 digits)))
-    ⊎ ((text ≡ 45 ∷ digits) × (value ≡ neg_ℤ (pos (digits_value 10 digits))))
-
--- an optional minus sign and decimal digits, leading zeros among them, and a number of 64 bits with a sign
+-- decimal digits, leading zeros among them, or `-`, which is 45, and the digits of the number's opposite; a number of 64 bits with a sign
 abbrev pub IsWhole : List ℕ → ℤ → Type 0
 IsWhole text value =
-    FitsSigned w64 value × ((digits : List ℕ) × IsNumeral 10 digits × IsSigned text digits value)
+    FitsSigned w64 value
+    × ((digits : List ℕ) × IsNumeral 10 digits
+    × (((text ≡ digits) × (value ≡ pos (digits_value 10 digits)))
+    ⊎ ((text ≡ 45 ∷ digits) × (value ≡ neg_ℤ (pos (digits_value 10 digits))))))

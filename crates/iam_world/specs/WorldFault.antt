@@ -240,10 +240,6 @@ WorldHasFault bytes (BadShape path) = (d : Data) × IsJson bytes d × (first_bad
 WorldHasFault bytes OutOfMemory = ⊥
 WorldHasFault bytes fault = HasView bytes (λ world. ViewHasFault world fault)
 
--- the set is empty
-abbrev pub HasNoFault : List ℕ → Type 0
-HasNoFault bytes = (fault : WorldFault) → ¬ WorldHasFault bytes fault
-
 -- the member with the least number
 pub record IsLeastWorldFault (bytes : List ℕ) (fault : WorldFault) : Type 0 where
   pub holds : WorldHasFault bytes fault
@@ -254,6 +250,6 @@ abbrev pub IsFirstWorldFault : List ℕ → WorldFault → Type 0
 IsFirstWorldFault bytes fault =
     ((8388608 < length bytes) × (fault ≡ TooLarge)) ⊎ ((length bytes ≤ 8388608) × IsLeastWorldFault bytes fault)
 
--- bytes without a fault
+-- bytes without a fault: the set is empty, and they are not too many
 abbrev pub IsAcceptable : List ℕ → Type 0
-IsAcceptable bytes = (length bytes ≤ 8388608) × HasNoFault bytes
+IsAcceptable bytes = (length bytes ≤ 8388608) × ((fault : WorldFault) → ¬ WorldHasFault bytes fault)
