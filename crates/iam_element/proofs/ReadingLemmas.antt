@@ -1,14 +1,17 @@
 -- Elements that are read text by text.
-use Rattle.std.proofs.Common.{◌≡◌, ℕ, suc, ◌+◌, ◌<◌, List, [], ◌∷◌, ◌++◌, Bool, true, Option, Some, None, is_some, IsSome, take, length, get_or, sym, ap, ◌∙◌, subst, drop, add-one, append_assoc}
+use Rattle.std.proofs.Common.{◌≡◌, ℕ, suc, ◌+◌, ◌<◌, List, [], ◌∷◌, ◌++◌, Bool, true, false, if◌then◌else◌, Option, Some, None, is_some, IsSome, take, length, get_or, sym, ap, ◌∙◌, subst, drop, add-one, append_assoc}
 use Rattle.std.proofs.Math.Seq.{drop-cons}
 use Rattle.std.proofs.lemmas.List.{append-nil}
+use Rattle.std.specs.Borrow.{Bor}
 use Rattle.std.specs.List.{AllZip, filter_map, flat_map, slice_get}
 use Rattle.std.specs.Option.{option_to_list}
 use Rattle.serde_json.specs.Data.{Data}
 use Rattle.serde_json.specs.Find.{get}
+use Rattle.serde_json.specs.declared.value.Value.{Value}
 use Rattle.iam_text.specs.declared.version.Version.{Version}
 use Rattle.iam_text.specs.Draft.{IsDraftIn}
 use Rattle.iam_element.specs.Element.{texts_of}
+use Rattle.iam_element.specs.Members.{data_of}
 use Rattle.iam_element.specs.Reading.{ResourceElement, ReadsResourceElement, ReadsText, resource_name}
 use Rattle.iam_element.proofs.ElementLemmas.{filter_map_next}
 
@@ -43,6 +46,12 @@ flat_map_next {K} {N} f ks i d whole done next here below all more is =
     append_assoc done (f (get_or ks i d)) (flat_map f (drop (i + 1) ks)) in
     let now : next ≡ done ++ f (get_or ks i d) = more ∙ ap (λ xs. done ++ xs) is in
     all ∙ ap (λ xs. done ++ xs) rest ∙ sym apart ∙ ap (λ xs. xs ++ flat_map f (drop (i + 1) ks)) (sym now)
+
+-- what was found under one of the two names
+pub resource_stands : (s : Data) (negated : Bool) (one other : Option (Bor Value)) → data_of one ≡ get (resource_name false) s → data_of other ≡ get (resource_name true) s
+    → get (resource_name negated) s ≡ data_of (if negated then other else one)
+resource_stands s false one other one_is other_is = sym one_is
+resource_stands s true one other one_is other_is = sym other_is
 
 -- the resource element that stands in a statement
 pub resource_read : (version : Version) (s : Data) (r : ResourceElement) (negated : Bool) (value : Data) → get (resource_name negated) s ≡ Some value → r.negated ≡ negated

@@ -8,6 +8,7 @@ ghost use Rattle.iam_element.specs.Reading.{ReadsAction, pattern_of};
 
 use crate::OutOfMemory;
 use crate::element::{Element, either, values_in};
+use crate::members::Members;
 use iam_text::Glob;
 use serde_json::Value;
 use std::alloc::Global;
@@ -72,11 +73,14 @@ impl Actions {
 }
 
 /// Reads the `Action` or the `NotAction` that stands in a statement.
-pub fn read_action(alloc: Global, statement: &Value) -> Result<Actions, OutOfMemory>
+pub fn read_action(alloc: Global, statement: &Members<'_>) -> Result<Actions, OutOfMemory>
     requires { neither (get (codes "Action") (view statement.now)) (get (codes "NotAction") (view statement.now)) ≡ false }
     ensures { IfOk result (λ r. ReadsAction (view statement.now) r) }
 {
-    Actions::read(alloc, either(statement, "Action", "NotAction").unwrap())
+    Actions::read(
+        alloc,
+        either(statement.action, statement.not_action).unwrap(),
+    )
 }
 
 /// The patterns of the texts among the values, in which `*` and `?` are wildcards.

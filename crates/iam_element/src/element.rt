@@ -1,10 +1,10 @@
 // Tests on the elements of a statement: which are there, and whether each is a text or a list of texts.
 ghost use Rattle.std.specs.Prelude.{◌≡◌, map, Some, MatchOption, true, if◌then◌else◌};
 ghost use Rattle.std.specs.List.{list_all, list_any};
-ghost use Rattle.serde_json.specs.Find.{get};
 ghost use Rattle.serde_json.specs.View.{view};
 ghost use Rattle.iam_element.specs.Form.{form_of};
 ghost use Rattle.iam_element.specs.Element.{both, neither, listed, is_text, is_no_text, are_texts, is_bad_list, has_text, is_this, is_too_long};
+ghost use Rattle.iam_element.specs.Members.{data_of};
 
 use crate::grammar::TextForm;
 use serde_json::Value;
@@ -14,24 +14,24 @@ use std::slice;
 pub const MOST: usize = 4096;
 
 /// Whether both elements stand there.
-pub fn has_both(of: &Value, name: &str, other: &str) -> bool
-    ensures { result ≡ both (get name.now (view of.now)) (get other.now (view of.now)) }
+pub fn has_both(one: Option<&Value>, other: Option<&Value>) -> bool
+    ensures { result ≡ both (data_of one.entry) (data_of other.entry) }
 {
-    of.get(name).is_some() && of.get(other).is_some()
+    one.is_some() && other.is_some()
 }
 
 /// Whether neither element stands there.
-pub fn has_neither(of: &Value, name: &str, other: &str) -> bool
-    ensures { result ≡ neither (get name.now (view of.now)) (get other.now (view of.now)) }
+pub fn has_neither(one: Option<&Value>, other: Option<&Value>) -> bool
+    ensures { result ≡ neither (data_of one.entry) (data_of other.entry) }
 {
-    of.get(name).is_none() && of.get(other).is_none()
+    one.is_none() && other.is_none()
 }
 
 /// What stands in a list of texts, where one text may stand without brackets.
-pub fn listed<'v>(of: &'v Value, name: &str) -> &'v [Value]
-    ensures { map view result.now ≡ listed (get name.now (view of.entry.now)) }
+pub fn listed(element: Option<&Value>) -> &[Value]
+    ensures { map view result.now ≡ listed (data_of element.entry) }
 {
-    of.get(name).map_or(&[], values_in)
+    element.map_or(&[], values_in)
 }
 
 /// The values of a list, or one text.
@@ -58,10 +58,10 @@ pub fn is_text(value: &Value, form: TextForm) -> bool
 }
 
 /// Whether the element stands there and is no text.
-pub fn is_no_text(of: &Value, name: &str) -> bool
-    ensures { result ≡ is_no_text (get name.now (view of.now)) }
+pub fn is_no_text(element: Option<&Value>) -> bool
+    ensures { result ≡ is_no_text (data_of element.entry) }
 {
-    of.get(name).is_some_and(|value| !value.is_string())
+    element.is_some_and(|value| !value.is_string())
 }
 
 fn all_texts(values: &[Value], form: TextForm) -> bool
@@ -83,32 +83,31 @@ fn any_text(values: &[Value], form: TextForm) -> bool
 }
 
 /// Whether the element stands there and is not one or more texts of the form.
-pub fn is_bad_list(of: &Value, name: &str, form: TextForm) -> bool
-    ensures { result ≡ is_bad_list (form_of form) (get name.now (view of.now)) }
+pub fn is_bad_list(element: Option<&Value>, form: TextForm) -> bool
+    ensures { result ≡ is_bad_list (form_of form) (data_of element.entry) }
 {
-    of.get(name).is_some() && !are_texts(listed(of, name), form)
+    element.is_some() && !are_texts(listed(element), form)
 }
 
 /// Whether some text of the element has the form.
-pub fn has_text(of: &Value, name: &str, form: TextForm) -> bool
-    ensures { result ≡ has_text (form_of form) (get name.now (view of.now)) }
+pub fn has_text(element: Option<&Value>, form: TextForm) -> bool
+    ensures { result ≡ has_text (form_of form) (data_of element.entry) }
 {
-    any_text(listed(of, name), form)
+    any_text(listed(element), form)
 }
 
 /// Whether the element is this text.
-pub fn is_this(of: &Value, name: &str, text: &str) -> bool
-    ensures { result ≡ is_this text.now (get name.now (view of.now)) }
+pub fn is_this(element: Option<&Value>, text: &str) -> bool
+    ensures { result ≡ is_this text.now (data_of element.entry) }
 {
-    of.get(name)
-        .is_some_and(|value| value.as_str().is_some_and(|found| found == text))
+    element.is_some_and(|value| value.as_str().is_some_and(|found| found == text))
 }
 
 /// Whether the element is a list of more members than it may have.
-pub fn is_too_long(of: &Value, name: &str) -> bool
-    ensures { result ≡ is_too_long (get name.now (view of.now)) }
+pub fn is_too_long(element: Option<&Value>) -> bool
+    ensures { result ≡ is_too_long (data_of element.entry) }
 {
-    listed(of, name).len() > MOST
+    listed(element).len() > MOST
 }
 
 /// One of two elements of a statement, such as `Action` and `NotAction`.
@@ -119,18 +118,18 @@ pub struct Element<'v> {
 }
 
 /// The first of two elements, or else the second, which is the negated one.
-pub fn either<'v>(of: &'v Value, name: &str, negated_name: &str) -> Option<Element<'v>>
+pub fn either<'v>(one: Option<&'v Value>, negated: Option<&'v Value>) -> Option<Element<'v>>
     ensures { MatchOption result
-        (neither (get name.now (view of.entry.now)) (get negated_name.now (view of.entry.now)) ≡ true)
-        (λ e. get (if e.is_negated then negated_name.now else name.now) (view of.entry.now) ≡ Some (view e.value.now)) }
+        (neither (data_of one.entry) (data_of negated.entry) ≡ true)
+        (λ e. data_of (if e.is_negated then negated.entry else one.entry) ≡ Some (view e.value.now)) }
 {
-    if let Some(value) = of.get(name) {
+    if let Some(value) = one {
         return Some(Element {
             is_negated: false,
             value,
         });
     }
-    of.get(negated_name).map(|value| Element {
+    negated.map(|value| Element {
         is_negated: true,
         value,
     })

@@ -6,6 +6,7 @@ ghost use Rattle.serde_json.specs.View.{view};
 ghost use Rattle.iam_json.specs.Look.{has_unknown};
 ghost use Rattle.iam_element.specs.Form.{form_of};
 ghost use Rattle.iam_element.specs.Element.{stands_as, is_too_long};
+ghost use Rattle.iam_element.specs.Members.{data_of};
 ghost use Rattle.iam_element.specs.Principal.{principal_kinds, kind_word, name_test, is_bad_kind, has_principals, is_everyone, is_principal, is_single_star, is_star, has_long_kind};
 
 use crate::element::{is_bad_list, is_too_long, listed};
@@ -15,10 +16,10 @@ use iam_json::has_unknown;
 use serde_json::Value;
 
 /// Whether the element stands there and is off the principal grammar.
-pub fn is_bad_principal(of: &Value, name: &str) -> bool
-    ensures { result ≡ stands_as (λ p. not (is_principal p)) (get name.now (view of.now)) }
+pub fn is_bad_principal(element: Option<&Value>) -> bool
+    ensures { result ≡ stands_as (λ p. not (is_principal p)) (data_of element.entry) }
 {
-    of.get(name).is_some_and(|element| !is_principal(element))
+    element.is_some_and(|element| !is_principal(element))
 }
 
 fn is_principal(element: &Value) -> bool
@@ -48,9 +49,7 @@ fn has_unknown_kind(element: &Value) -> bool
 fn has_bad_kind(element: &Value) -> bool
     ensures { result ≡ list_any (is_bad_kind (view element.now)) principal_kinds }
 {
-    KINDS
-        .iter()
-        .any(|&kind| is_bad_list(element, kind.word(), form_of(kind)))
+    KINDS.iter().any(|&kind| is_bad_list(element.get(kind.word()), form_of(kind)))
 }
 
 fn form_of(kind: PrincipalKind) -> TextForm
@@ -65,16 +64,17 @@ fn form_of(kind: PrincipalKind) -> TextForm
 }
 
 /// Whether the element stands there and is `*`, alone or as the one text under `AWS` and no other type.
-pub fn is_everyone(of: &Value, name: &str) -> bool
-    ensures { result ≡ stands_as is_everyone (get name.now (view of.now)) }
+pub fn is_everyone(element: Option<&Value>) -> bool
+    ensures { result ≡ stands_as is_everyone (data_of element.entry) }
 {
-    of.get(name).is_some_and(names_everyone)
+    element.is_some_and(names_everyone)
 }
 
 fn names_everyone(element: &Value) -> bool
     ensures { result ≡ is_everyone (view element.now) }
 {
-    is_star(element) || is_single_star(listed(element, "AWS")) && !has_unknown(element, &["AWS"])
+    is_star(element)
+        || is_single_star(listed(element.get("AWS"))) && !has_unknown(element, &["AWS"])
 }
 
 fn is_star(value: &Value) -> bool
@@ -93,14 +93,16 @@ fn is_single_star(values: &[Value]) -> bool
 }
 
 /// Whether the element has a type with more texts than it may have.
-pub fn has_long_kind(of: &Value, name: &str) -> bool
-    ensures { result ≡ stands_as has_long_kind (get name.now (view of.now)) }
+pub fn has_long_kind(element: Option<&Value>) -> bool
+    ensures { result ≡ stands_as has_long_kind (data_of element.entry) }
 {
-    of.get(name).is_some_and(is_long)
+    element.is_some_and(is_long)
 }
 
 fn is_long(element: &Value) -> bool
     ensures { result ≡ has_long_kind (view element.now) }
 {
-    KINDS.iter().any(|kind| is_too_long(element, kind.word()))
+    KINDS
+        .iter()
+        .any(|kind| is_too_long(element.get(kind.word())))
 }

@@ -7,6 +7,7 @@ ghost use Rattle.iam_element.specs.Reading.{ReadsPrincipalElement, names_of, typ
 
 use crate::OutOfMemory;
 use crate::element::{Element, either, listed, values_in};
+use crate::members::Members;
 use serde_json::Value;
 use std::alloc::Global;
 use std::marker::Model;
@@ -128,10 +129,13 @@ impl Principals {
 }
 
 /// Reads the `Principal` or the `NotPrincipal` of a statement; `None` where neither stands there.
-pub fn read_principal(alloc: Global, statement: &Value) -> Result<Option<Principals>, OutOfMemory>
+pub fn read_principal(
+    alloc: Global,
+    statement: &Members<'_>,
+) -> Result<Option<Principals>, OutOfMemory>
     ensures { IfOk result (λ r. ReadsPrincipalElement (view statement.now) r) }
 {
-    match either(statement, "Principal", "NotPrincipal") {
+    match either(statement.principal, statement.not_principal) {
         Some(element) => Ok(Some(Principals::read(alloc, element)?)),
         None => Ok(None),
     }
@@ -146,7 +150,7 @@ fn names_of(alloc: Global, element: &Value) -> Result<Vec<PrincipalName>, OutOfM
         return Ok(names);
     }
     for kind in KINDS {
-        add_names(alloc, &mut names, kind, listed(element, kind.word()))?;
+        add_names(alloc, &mut names, kind, listed(element.get(kind.word())))?;
     }
     Ok(names)
 }

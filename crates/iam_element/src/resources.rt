@@ -12,6 +12,7 @@ ghost use Rattle.iam_element.specs.Resource.{has_bad_variable};
 use crate::OutOfMemory;
 use crate::element::{Element, either, has_text, values_in};
 use crate::grammar::TextForm;
+use crate::members::Members;
 use iam_text::{Template, TemplateForm, Version};
 use serde_json::Value;
 use std::alloc::Global;
@@ -91,13 +92,13 @@ impl Resources {
 /// where neither stands there.
 pub fn read_resource(
     alloc: Global,
-    statement: &Value,
+    statement: &Members<'_>,
     version: Version,
 ) -> Result<Option<Resources>, OutOfMemory>
     requires { has_bad_variable version (view statement.now) ≡ false }
     ensures { IfOk result (λ r. ReadsResourceElement version (view statement.now) r) }
 {
-    match either(statement, "Resource", "NotResource") {
+    match either(statement.resource, statement.not_resource) {
         Some(element) => Ok(Some(Resources::read(alloc, element, version)?)),
         None => Ok(None),
     }
@@ -105,11 +106,11 @@ pub fn read_resource(
 
 /// Whether a text of `Resource` or `NotResource` has a variable off the grammar of the version, or one that stands too
 /// early.
-pub fn has_bad_variable(statement: &Value, version: Version) -> bool
+pub fn has_bad_variable(statement: &Members<'_>, version: Version) -> bool
     ensures { result ≡ has_bad_variable version (view statement.now) }
 {
     let form = TextForm::BadVariable(version);
-    has_text(statement, "Resource", form) || has_text(statement, "NotResource", form)
+    has_text(statement.resource, form) || has_text(statement.not_resource, form)
 }
 
 /// The templates of the texts among the values.

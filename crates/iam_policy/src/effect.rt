@@ -3,7 +3,7 @@ ghost use Rattle.std.specs.Prelude.{◌≡◌};
 ghost use Rattle.serde_json.specs.View.{view};
 ghost use Rattle.iam_policy.specs.Statement.{effect_named, effect_of};
 
-use serde_json::Value;
+use iam_element::Members;
 
 /// What a statement says of the requests that it matches.
 #[derive(Clone, Copy, Debug, PartialEq, Eq)]
@@ -13,10 +13,10 @@ pub enum Effect {
 }
 
 /// The effect of a statement, where it has one.
-pub fn effect_of(statement: &Value) -> Option<Effect>
+pub fn effect_of(statement: &Members<'_>) -> Option<Effect>
     ensures { result ≡ effect_of (view statement.now) }
 {
-    effect_named(statement.get("Effect")?.as_str()?)
+    effect_named(statement.effect?.as_str()?)
 }
 
 fn effect_named(word: &str) -> Option<Effect>

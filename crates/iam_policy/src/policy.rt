@@ -16,6 +16,7 @@ use crate::statement::Statement;
 use crate::statement_checks::has_bad_value;
 use crate::table::{StatementPlace, document_fault, statement_fault};
 use crate::version::version_of;
+use iam_element::Members;
 use iam_text::Version;
 use serde_json::Value;
 use std::alloc::Global;
@@ -111,21 +112,22 @@ fn read_statements(alloc: Global, document: &Value, kind: Kind) -> Result<Vec<St
     let version = version_of(document);
     let mut sids = BTreeSet::new(alloc);
     let mut read = Vec::new(alloc);
-    for (number, statement) in statements_in(document).iter().enumerate() {
-        let repeats = note_sid(&mut sids, statement)?;
-        let bad_value = has_bad_value(alloc, statement)?;
+    for (number, value) in statements_in(document).iter().enumerate() {
+        let statement = Members::of(value);
+        let repeats = note_sid(&mut sids, &statement)?;
+        let bad_value = has_bad_value(alloc, &statement)?;
         let place = StatementPlace {
             kind,
             version,
             repeats,
         };
-        if let Some(fault) = statement_fault(statement, place, bad_value) {
+        if let Some(fault) = statement_fault(&statement, place, bad_value) {
             return Err(Refused {
                 statement: Some(number as u32),
                 fault,
             });
         }
-        add(alloc, &mut read, statement, version)?;
+        add(alloc, &mut read, &statement, version)?;
     }
     Ok(read)
 }
@@ -134,7 +136,7 @@ fn read_statements(alloc: Global, document: &Value, kind: Kind) -> Result<Vec<St
 fn add(
     alloc: Global,
     read: &mut Vec<Statement>,
-    statement: &Value,
+    statement: &Members<'_>,
     version: Version,
 ) -> Result<(), OutOfMemory>
     requires { IsReadable version (view statement.now) }

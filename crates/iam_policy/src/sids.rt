@@ -7,21 +7,24 @@ ghost use Rattle.iam_policy.specs.Statement.{sid_of};
 ghost use Rattle.iam_policy.specs.Fault.{repeats_sid};
 
 use crate::OutOfMemory;
-use serde_json::Value;
+use iam_element::Members;
 use std::collections::BTreeSet;
 
 /// The `Sid` of a statement, where it is a text.
-pub fn sid_of(statement: &Value) -> Option<&str>
-    ensures { option_map (λ t. t.now) result ≡ sid_of (view statement.entry.now) }
+pub fn sid_of<'v>(statement: &Members<'v>) -> Option<&'v str>
+    ensures { option_map (λ t. t.now) result ≡ sid_of (view statement.now) }
 {
-    statement.get("Sid")?.as_str()
+    statement.sid?.as_str()
 }
 
 /// Adds the `Sid` of a statement; whether it is not empty and was there.
-pub fn note_sid<'v>(sids: &mut BTreeSet<&'v str>, statement: &'v Value) -> Result<bool, OutOfMemory>
+pub fn note_sid<'v>(
+    sids: &mut BTreeSet<&'v str>,
+    statement: &Members<'v>,
+) -> Result<bool, OutOfMemory>
     ensures { IfOk result (λ repeats. (earlier : List (List ℕ)) → HasSids sids.old earlier
-        → (repeats ≡ repeats_sid earlier (view statement.entry.now))
-        × HasSids sids.new (earlier ++ option_to_list (sid_of (view statement.entry.now)))) }
+        → (repeats ≡ repeats_sid earlier (view statement.now))
+        × HasSids sids.new (earlier ++ option_to_list (sid_of (view statement.now)))) }
 {
     match sid_of(statement) {
         Some(sid) => {

@@ -11,9 +11,10 @@ ghost use Rattle.iam_policy.specs.Statement.{sid_of};
 use crate::effect::{Effect, effect_of};
 use crate::sids::sid_of;
 use iam_condition::{Entry, read_entries};
-use iam_element::{Actions, Principals, Resources, read_action, read_principal, read_resource};
+use iam_element::{
+    Actions, Members, Principals, Resources, read_action, read_principal, read_resource,
+};
 use iam_text::{OutOfMemory, Version};
-use serde_json::Value;
 use std::alloc::Global;
 use std::marker::Model;
 
@@ -96,7 +97,7 @@ impl Statement {
     /// Reads a statement that has an effect and an action element, in a document of the version.
     pub(crate) fn read(
         alloc: Global,
-        statement: &Value,
+        statement: &Members<'_>,
         version: Version,
     ) -> Result<Statement, OutOfMemory>
         requires { IsReadable version (view statement.now) }
@@ -113,7 +114,7 @@ impl Statement {
     }
 }
 
-fn read_sid(alloc: Global, statement: &Value) -> Result<Option<String>, OutOfMemory>
+fn read_sid(alloc: Global, statement: &Members<'_>) -> Result<Option<String>, OutOfMemory>
     ensures { IfOk result (λ sid. option_map string_bytes sid ≡ sid_of (view statement.now)) }
 {
     match sid_of(statement) {
@@ -124,14 +125,14 @@ fn read_sid(alloc: Global, statement: &Value) -> Result<Option<String>, OutOfMem
 
 fn read_conditions(
     alloc: Global,
-    statement: &Value,
+    statement: &Members<'_>,
     version: Version,
 ) -> Result<Vec<Entry>, OutOfMemory>
     requires texts { stands_as (has_bad_text version) (get (codes "Condition") (view statement.now)) ≡ false }
     requires values { ¬ HasBadValueIn (view statement.now) }
     ensures { IfOk result (λ entries. ReadsConditions version (get (codes "Condition") (view statement.now)) entries.items) }
 {
-    match statement.get("Condition") {
+    match statement.condition {
         Some(condition) => read_entries(alloc, condition, version),
         None => Ok(Vec::new(alloc)),
     }

@@ -13,7 +13,7 @@ use crate::statement_checks::{
     has_principal, has_too_many, has_unknown_member, names_everyone,
 };
 use crate::version::version_named;
-use iam_element::{MOST, TextForm, has_bad_variable, has_both, has_neither, is_no_text};
+use iam_element::{MOST, Members, TextForm, has_bad_variable, has_both, has_neither, is_no_text};
 use iam_text::Version;
 use serde_json::Value;
 
@@ -56,7 +56,7 @@ fn document_line(document: &Value, kind: Kind, fault: Fault) -> bool
     ensures { result ≡ document_line kind (view document.now) fault }
 {
     match fault {
-        Fault::UnknownElement => has_unknown_element(document) || is_no_text(document, "Id"),
+        Fault::UnknownElement => has_unknown_element(document) || is_no_text(document.get("Id")),
         Fault::BadVersion => version_named(document).is_none(),
         Fault::NoStatement => document.get("Statement").is_none(),
         Fault::BadStatement => is_bad_statement(document),
@@ -66,7 +66,7 @@ fn document_line(document: &Value, kind: Kind, fault: Fault) -> bool
 }
 
 /// One line of the table for the principal elements of a statement.
-fn principal_line(statement: &Value, rule: PrincipalRule, fault: Fault) -> bool
+fn principal_line(statement: &Members<'_>, rule: PrincipalRule, fault: Fault) -> bool
     ensures { result ≡ principal_line rule (view statement.now) fault }
 {
     match (rule, fault) {
@@ -80,29 +80,29 @@ fn principal_line(statement: &Value, rule: PrincipalRule, fault: Fault) -> bool
 }
 
 /// One line of the table for a statement that is an object.
-fn statement_line(statement: &Value, place: StatementPlace, fault: Fault) -> bool
+fn statement_line(statement: &Members<'_>, place: StatementPlace, fault: Fault) -> bool
     ensures { (d : Data) (i : ℕ) → IsPlaceOf d i (view statement.now) place
         → result ≡ statement_line place.kind d i (view statement.now) fault }
 {
     match fault {
         Fault::UnknownElement => has_unknown_member(statement),
-        Fault::BadSid => is_no_text(statement, "Sid"),
+        Fault::BadSid => is_no_text(statement.sid),
         Fault::DuplicateSid => place.kind.wants_distinct_sids() && place.repeats,
         Fault::BadEffect => effect_of(statement).is_none(),
         Fault::ActionCount => has_no_single_action(statement),
-        Fault::BadAction => has_bad_list(statement, "Action", "NotAction", TextForm::Action),
+        Fault::BadAction => has_bad_list(statement.action, statement.not_action, TextForm::Action),
         Fault::PrincipalMisplaced
         | Fault::PrincipalMissing
         | Fault::BadPrincipal
         | Fault::NotPrincipalAllow => principal_line(statement, place.kind.principal_rule(), fault),
         Fault::ResourceCount => {
-            has_both(statement, "Resource", "NotResource")
-                || place.kind.wants_resource() && has_neither(statement, "Resource", "NotResource")
+            has_both(statement.resource, statement.not_resource)
+                || place.kind.wants_resource()
+                    && has_neither(statement.resource, statement.not_resource)
         }
         Fault::BadResource => has_bad_list(
-            statement,
-            "Resource",
-            "NotResource",
+            statement.resource,
+            statement.not_resource,
             TextForm::Resource,
         ),
         Fault::BadVariable => {
@@ -129,11 +129,11 @@ fn document_has(document: &Value, kind: Kind, fault: Fault) -> bool
     }
 }
 
-fn statement_has(statement: &Value, place: StatementPlace, fault: Fault) -> bool
+fn statement_has(statement: &Members<'_>, place: StatementPlace, fault: Fault) -> bool
     ensures { (d : Data) (i : ℕ) → IsPlaceOf d i (view statement.now) place
         → result ≡ statement_has place.kind d i (view statement.now) fault }
 {
-    if statement.is_object() {
+    if statement.document.is_object() {
         statement_line(statement, place, fault)
     } else {
         fault == Fault::BadStatement
@@ -151,7 +151,7 @@ pub fn document_fault(document: &Value, kind: Kind) -> Option<Fault>
 }
 
 /// One line of the table for a statement. `bad_value` is whether a value of its condition is off its grammar.
-fn line_has(statement: &Value, place: StatementPlace, bad_value: bool, fault: Fault) -> bool
+fn line_has(statement: &Members<'_>, place: StatementPlace, bad_value: bool, fault: Fault) -> bool
     ensures { (d : Data) (i : ℕ) → IsPlaceOf d i (view statement.now) place
         → result ≡ line_has place.kind d i (view statement.now) bad_value fault }
 {
@@ -160,7 +160,11 @@ fn line_has(statement: &Value, place: StatementPlace, bad_value: bool, fault: Fa
 
 /// The first fault of a statement.
 #[tactic(auto, unfolding(crate::specs::Code::First::fault_of))]
-pub fn statement_fault(statement: &Value, place: StatementPlace, bad_value: bool) -> Option<Fault>
+pub fn statement_fault(
+    statement: &Members<'_>,
+    place: StatementPlace,
+    bad_value: bool,
+) -> Option<Fault>
     ensures { (d : Data) (i : ℕ) → IsPlaceOf d i (view statement.now) place
         → result ≡ fault_of place.kind d i (view statement.now) bad_value }
 {

@@ -17,4 +17,5 @@ loop-kind-preserved c =
     let here = typed kind (filter_map as_str (map view c.listed.result.now)) in
     flat_map_next (names_under element) principal_kinds i Aws _ c.loop-kind.names.items _ here c.loop-kind-test.true c.loop-kind.invariant
     c.in_ok-add_names-2.ensures
-    (ap (λ ds. typed kind (filter_map as_str ds)) c.listed.ensures ∙ ap (λ word. typed kind (texts_of (get word element))) c.word.ensures)
+    (ap (λ ds. typed kind (filter_map as_str ds)) c.listed.ensures
+    ∙ ap (λ o. typed kind (texts_of o)) c.get.ensures ∙ ap (λ word. typed kind (texts_of (get word element))) c.word.ensures)

@@ -1,4 +1,4 @@
-use Rattle.std.proofs.Common.{ℕ, ◌≡◌, ◌+◌, ◌∙◌, List, Some, None, refl, sym, subst, arith, take}
+use Rattle.std.proofs.Common.{ℕ, ◌≡◌, ◌+◌, ◌∙◌, ap, List, Some, None, refl, sym, subst, arith, take}
 use Rattle.std.specs.List.{AllZip, slice_get}
 use Rattle.serde_json.specs.View.{view}
 use Rattle.iam_policy.specs.Code.First.{HasLeast}
@@ -17,14 +17,14 @@ pub returns-in-Some-clause-first : goal.returns-in-Some-clause-first
 returns-in-Some-clause-first c = λ _.
     let d = view c.args.document.now in
     let i = c.loop-number.number in
-    let s = view c.statement-item.result in
+    let s = view c.of-statement.result in
     let noted = c.in_ok-repeats.ensures (sids_before d i) c.loop-number.invariant.sids in (
       i,
       refl,
       record {
         before = c.loop-number.invariant.clean;
         statement = s;
-        at = item_at view c.statements_in-statement-items.result.now (statements_in d) i c.statement-item.result c.statements_in-statement-items.ensures c.loop-number-test.true c.statement-item.is;
+        at = item_at view c.statements_in-value-items.result.now (statements_in d) i c.value-item.result c.statements_in-value-items.ensures c.loop-number-test.true c.value-item.is ∙ ap (λ v. Some (view v)) (sym c.of-statement.ensures);
         fault_is = record { bad = c.in_ok-bad_value.bad_value; decides = c.in_ok-bad_value.ensures; least = sym (c.statement_fault.ensures d i record { version = c.version_of-version.ensures; repeats = noted.0 }) ∙ c.in-Some.is };
       },
     )
@@ -34,7 +34,7 @@ returns-in-Some-clause-memory c = λ memory.
     let d = view c.args.document.now in
     let i = c.loop-number.number in
     let noted = c.in_ok-repeats.ensures (sids_before d i) c.loop-number.invariant.sids in
-    absurd (fault_not_memory c.args.kind d i (view c.statement-item.result) c.in_ok-bad_value.bad_value c.in-Some.fault (sym (c.statement_fault.ensures d i record { version = c.version_of-version.ensures; repeats = noted.0 }) ∙ c.in-Some.is) memory)
+    absurd (fault_not_memory c.args.kind d i (view c.of-statement.result) c.in_ok-bad_value.bad_value c.in-Some.fault (sym (c.statement_fault.ensures d i record { version = c.version_of-version.ensures; repeats = noted.0 }) ∙ c.in-Some.is) memory)
 
 pub add-requires : goal.add-requires
 add-requires c =
@@ -42,16 +42,16 @@ add-requires c =
     let i = c.loop-number.number in
     let noted = c.in_ok-repeats.ensures (sids_before d i) c.loop-number.invariant.sids in
     rw c.version_of-version.ensures
-    (readable c.args.kind d i (view c.statement-item.result)
+    (readable c.args.kind d i (view c.of-statement.result)
     record { bad = c.in_ok-bad_value.bad_value; decides = c.in_ok-bad_value.ensures; least = sym (c.statement_fault.ensures d i record { version = c.version_of-version.ensures; repeats = noted.0 }) ∙ c.in_default.is })
 
 pub loop-number-preserved : goal.loop-number-preserved
 loop-number-preserved c =
     let d = view c.args.document.now in
     let i = c.loop-number.number in
-    let s = view c.statement-item.result in
+    let s = view c.of-statement.result in
     let at : slice_get (statements_in d) i ≡ Some s =
-    item_at view c.statements_in-statement-items.result.now (statements_in d) i c.statement-item.result c.statements_in-statement-items.ensures c.loop-number-test.true c.statement-item.is in
+    item_at view c.statements_in-value-items.result.now (statements_in d) i c.value-item.result c.statements_in-value-items.ensures c.loop-number-test.true c.value-item.is ∙ ap (λ v. Some (view v)) (sym c.of-statement.ensures) in
     let noted = c.in_ok-repeats.ensures (sids_before d i) c.loop-number.invariant.sids in
     let clean : HasLeast c.args.kind d i s None =
     record { bad = c.in_ok-bad_value.bad_value; decides = c.in_ok-bad_value.ensures; least = sym (c.statement_fault.ensures d i record { version = c.version_of-version.ensures; repeats = noted.0 }) ∙ c.in_default.is } in
