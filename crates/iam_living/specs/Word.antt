@@ -1,5 +1,6 @@
 -- Which of some statements live in requests, as the bits of a number. LOGIC 1.1.
-use Rattle.std.specs.Prelude.{◌≡◌, ◌↔◌, ◌/◌, ◌%◌, ℕ, List, [], ◌∷◌}
+use Rattle.std.specs.Prelude.{◌≡◌, ◌↔◌, ◌/◌, ◌%◌, ℕ, List, [], ◌∷◌, ◌++◌}
+use Rattle.iam_match.specs.Requester.{RequesterValue}
 use Rattle.iam_match.specs.Statement.{AccessValue}
 use Rattle.iam_decision.specs.Living.{AreLiving, Lives, LivingValue}
 use Rattle.iam_decision.specs.Matched.{Placed}
@@ -14,3 +15,15 @@ abbrev pub SameWord : Type 0
 SameWord =
     (one other : AccessValue) (statements : List Placed) (word : ℕ) (living : List LivingValue) → one.requester ≡ other.requester
     → AreBits one statements word → AreBits other statements word → AreLiving one statements living → AreLiving other statements living
+
+-- where another word is that of any statements, this word is that of these ones with those behind them
+abbrev pub GoesBefore : AccessValue → List Placed → ℕ → ℕ → Type 0
+GoesBefore access statements behind word =
+    (others : List Placed) → AreBits access others behind → AreBits access (statements ++ others) word
+
+-- of a word that begins with the bits of these statements these are the bits behind them, and behind the living ones of any
+-- statements stand now those of these ones too
+abbrev pub TakesBits : RequesterValue → List Placed → ℕ → List LivingValue → List LivingValue → ℕ → Type 0
+TakesBits requester statements word old new bits =
+    (access : AccessValue) (before others : List Placed) → access.requester ≡ requester → AreBits access (statements ++ others) word
+    → AreLiving access before old → AreLiving access (before ++ statements) new × AreBits access others bits

@@ -2,12 +2,12 @@
 #![tactic(auto)]
 
 mod listing;
-mod living;
+mod walk;
 mod word;
 
 pub use iam_index::Index;
 pub use iam_layers::Living;
 pub use iam_text::OutOfMemory;
 pub use listing::Listing;
-pub use living::living;
+pub use walk::living;
 pub use word::same_word;

@@ -1,9 +1,16 @@
 // The statements that an index lists for all requests of a principal, and which of them live in those for a resource.
-ghost use Rattle.std.specs.Prelude.{◌≡◌};
+ghost use Rattle.std.specs.Prelude.{[], ◌∷◌, ◌++◌, ◌≡◌, IfOk, IfSome, OnOk, map};
+ghost use Rattle.iam_match.specs.Request.{access_of};
+ghost use Rattle.iam_decision.specs.Code.Scan.{placed_value};
+ghost use Rattle.iam_decision.specs.Living.{living_of, living_value};
+ghost use Rattle.iam_layers.specs.Cell.{IsResource};
+ghost use Rattle.iam_living.specs.Word.{GoesBefore, TakesBits};
 
+use crate::word::with_bit;
+use iam_decision::Matched;
 use iam_index::{Index, Known};
-use iam_layers::{Living, World};
-use iam_match::{Access, Requester};
+use iam_layers::{Living, Standing, World};
+use iam_match::{Access, Requester, grant_kind, rest_matches_with};
 use iam_text::OutOfMemory;
 use std::alloc::Global;
 use std::marker::Model;
@@ -66,7 +73,10 @@ impl<'a> Listing<'a> {
         requires { IsResource self.now.world r (λ resource. access.resource.now ≡ resource.arn) }
         ensures { IfOk result (λ found. IfSome found (AreBits (access_of access.entry) self.now.statements)) }
     {
-        Ok(None)
+        match bits_before(alloc, &self.own, r, access, 0)? {
+            Some(own) => bits_before(alloc, &self.org, r, access, own),
+            None => Ok(None),
+        }
     }
 
     /// Those of them that live by the bits of a word, with what their principals grant the requester.
@@ -79,6 +89,77 @@ impl<'a> Listing<'a> {
         ensures { (access : AccessValue) → access.requester ≡ requester.now → AreBits access self.now.statements word
             → IfOk result (λ living. AreLiving access self.now.statements (map living_value living.items)) }
     {
-        Err(OutOfMemory)
+        let mut living = Vec::new(alloc);
+        let own = add_of_bits(&mut living, self.org.statements(), word, requester)?;
+        add_of_bits(&mut living, self.own.statements(), own, requester)?;
+        Ok(living)
     }
+}
+
+/// The word of the statements and, behind them, of those of another word, in requests for resource r of the world; `None` where it
+/// has more than 64 bits.
+fn bits_before<'a: 'c, 'c>(
+    alloc: Global,
+    known: &Known<'a>,
+    r: u64,
+    access: Access<'_, 'c>,
+    behind: u64,
+) -> Result<Option<u64>, OutOfMemory>
+    requires { IsResource known.now.world r (λ resource. access.resource.now ≡ resource.arn) }
+    ensures { IfOk result (λ found. IfSome found
+        (GoesBefore (access_of access.entry) (map placed_value known.now.statements) behind)) }
+{
+    let statements = known.statements();
+    let mut word = behind;
+    for i in (0..statements.len()).rev() {
+        let matched = known.matches(i, r);
+        let lives = rest_matches_with(alloc, statements[i].statement, access, matched)?;
+        match with_bit(word, lives) {
+            Some(longer) => word = longer,
+            None => return Ok(None),
+        }
+    }
+    Ok(Some(word))
+}
+
+/// Adds those of the statements that live by the first bits of a word, and gives the bits behind these.
+fn add_of_bits<'a>(
+    living: &mut Vec<Living<'a>>,
+    statements: &[Standing<'a>],
+    word: u64,
+    requester: &Requester,
+) -> Result<u64, OutOfMemory>
+    ensures { IfOk result (TakesBits requester.now (map placed_value statements.now) word (map living_value living.old.items)
+        (map living_value living.new.items)) }
+{
+    let mut bits = word;
+    for &standing in statements {
+        if bits % 2 == 1 {
+            push_living(living, standing, requester)?;
+        }
+        bits /= 2;
+    }
+    Ok(bits)
+}
+
+/// Adds the statement, which lives, with what its principals grant the requester.
+fn push_living<'a>(
+    living: &mut Vec<Living<'a>>,
+    standing: Standing<'a>,
+    requester: &Requester,
+) -> Result<(), OutOfMemory>
+    ensures { OnOk result (map living_value living.new.items
+        ≡ map living_value living.old.items ++ living_of requester.now (placed_value standing.entry) ∷ []) }
+{
+    let statement = standing.statement;
+    let matched = Matched {
+        place: standing.place,
+        effect: statement.effect(),
+        grant: grant_kind(statement, requester),
+    };
+    living.push(Living {
+        matched,
+        action: statement.action(),
+    })?;
+    Ok(())
 }

@@ -1,0 +1,2 @@
+mod KnownLemmas
+mod WordLemmas

@@ -1,0 +1,67 @@
+-- Words of statements, one more statement at a time.
+use Rattle.std.proofs.Common.{◌≡◌, ◌/◌, ◌%◌, inl, inr, ℕ, List, [], ◌∷◌, ◌++◌, map, refl, sym, ap, ◌∙◌, subst, append_assoc}
+use Rattle.std.proofs.lemmas.List.{append-nil, map-append}
+use Rattle.iam_match.specs.Requester.{RequesterValue}
+use Rattle.iam_match.specs.Statement.{AccessValue}
+use Rattle.iam_decision.specs.Living.{AreLiving, Lives, LivingValue, living_of}
+use Rattle.iam_decision.specs.Matched.{Placed, Selects}
+use Rattle.iam_living.specs.Word.{AreBits, SameWord, TakesBits}
+
+same_chosen : (one other : AccessValue) (statements : List Placed) (word : ℕ) (chosen : List Placed) → AreBits one statements word
+    → AreBits other statements word → Selects (Lives one) statements chosen → Selects (Lives other) statements chosen
+same_chosen one other [] word chosen bits others none = none
+same_chosen one other (s ∷ statements) word chosen (bit, bits) (same, others) (inl (lives, (rest, is, more))) =
+    inl (same.0 (bit.1 lives), (rest, is, same_chosen one other statements (word / 2) rest bits others more))
+same_chosen one other (s ∷ statements) word chosen (bit, bits) (same, others) (inr (dead, more)) =
+    inr ((λ lives. dead (bit.0 (same.1 lives))), same_chosen one other statements (word / 2) chosen bits others more)
+
+-- in requests of one requester of which the word is the same, the same statements live
+pub same_living : SameWord
+same_living one other statements word living asks bits others (chosen, selected, is) =
+    let P : RequesterValue → Type 0 = λ requester. living ≡ map (living_of requester) chosen in
+    (chosen, same_chosen one other statements word chosen bits others selected, subst P asks is)
+
+-- what is chosen of two lists is chosen of the one after the other
+selects_append : {X : Type 0} (P : X → Type 0) (xs ys a b : List X) → Selects P xs a → Selects P ys b → Selects P (xs ++ ys) (a ++ b)
+selects_append P [] ys a b h k = let Q : List _ → Type 0 = λ z. Selects P ys (z ++ b) in subst Q (sym h) k
+selects_append P (x ∷ xs) ys a b (inl (is, (rest, begins, more))) k =
+    let Q : List _ → Type 0 = λ z. Selects P (x ∷ (xs ++ ys)) (z ++ b) in
+    subst Q (sym begins) (inl (is, (rest ++ b, refl, selects_append P xs ys rest b more k)))
+selects_append P (x ∷ xs) ys a b (inr (not, more)) k = inr (not, selects_append P xs ys a b more k)
+
+-- one more statement that lives, or does not
+living_more : (access : AccessValue) (before : List Placed) (s : Placed) (old new : List LivingValue) → Lives access s
+    → new ≡ old ++ (living_of access.requester s ∷ []) → AreLiving access before old → AreLiving access (before ++ (s ∷ [])) new
+living_more access before s old new lives is (chosen, selected, old_is) = (
+  chosen ++ (s ∷ []),
+  selects_append (Lives access) before (s ∷ []) chosen (s ∷ []) selected (inl (lives, ([], refl, refl))),
+  is ∙ ap (λ z. z ++ (living_of access.requester s ∷ [])) old_is ∙ sym (map-append (living_of access.requester) chosen (s ∷ [])),
+)
+
+living_skip : (access : AccessValue) (before : List Placed) (s : Placed) (old : List LivingValue) → ¬ Lives access s → AreLiving access before old
+    → AreLiving access (before ++ (s ∷ [])) old
+living_skip access before s old dead (chosen, selected, old_is) =
+    let P : List Placed → Type 0 = λ z. Selects (Lives access) (before ++ (s ∷ [])) z in
+    (chosen, subst P (append-nil chosen) (selects_append (Lives access) before (s ∷ []) chosen [] selected (inr (dead, refl))), old_is)
+
+-- one more statement, whose bit is taken off the word: it is set, or is not
+pub takes_set : (requester : RequesterValue) (statements : List Placed) (s : Placed) (word : ℕ) (old now new : List LivingValue) (bits : ℕ)
+    → bits % 2 ≡ 1 → new ≡ now ++ (living_of requester s ∷ []) → TakesBits requester statements word old now bits
+    → TakesBits requester (statements ++ (s ∷ [])) word old new (bits / 2)
+takes_set requester statements s word old now new bits set is takes access before others asks are living =
+    let all : AreBits access (statements ++ (s ∷ others)) word = subst (λ z. AreBits access z word) (append_assoc statements (s ∷ []) others) are in
+    let (first, (bit, left)) = takes access before (s ∷ others) asks all living in
+    let pushed : new ≡ now ++ (living_of access.requester s ∷ []) = is ∙ ap (λ z. now ++ (living_of z s ∷ [])) (sym asks) in
+    let P : List Placed → Type 0 = λ z. AreLiving access z new in
+    (subst P (append_assoc before statements (s ∷ [])) (living_more access (before ++ statements) s now new (bit.0 set) pushed first), left)
+
+pub takes_unset : (requester : RequesterValue) (statements : List Placed) (s : Placed) (word : ℕ) (old now new : List LivingValue) (bits : ℕ)
+    → ¬ (bits % 2 ≡ 1) → new ≡ now → TakesBits requester statements word old now bits
+    → TakesBits requester (statements ++ (s ∷ [])) word old new (bits / 2)
+takes_unset requester statements s word old now new bits unset same takes access before others asks are living =
+    let all : AreBits access (statements ++ (s ∷ others)) word = subst (λ z. AreBits access z word) (append_assoc statements (s ∷ []) others) are in
+    let (first, (bit, left)) = takes access before (s ∷ others) asks all living in
+    let P : List Placed → Type 0 = λ z. AreLiving access z new in
+    let Q : List LivingValue → Type 0 = λ z. AreLiving access ((before ++ statements) ++ (s ∷ [])) z in
+    let skipped = living_skip access (before ++ statements) s now (λ lives. unset (bit.1 lives)) first in
+    (subst P (append_assoc before statements (s ∷ [])) (subst Q (sym same) skipped), left)

@@ -1,0 +1,9 @@
+use Rattle.std.proofs.Common.{[], map}
+use Rattle.iam_decision.specs.Code.Scan.{placed_value}
+use Rattle.iam_index.proofs.IndexLemmas.{parts_listed}
+use Rattle.iam_living.proofs.listing.Listing.of.Goals as goal
+
+pub returns-clause-lists : goal.returns-clause-lists
+returns-clause-lists c = λ r applicable at none.
+    parts_listed c.args.index.now.actions applicable (map placed_value c.org_statements.result.statements) [] (map placed_value c.own_statements.result.statements)
+    (c.org_statements.ensures.lists r applicable at) (none c.args.p applicable at) (c.own_statements.ensures.lists r applicable at)
