@@ -15,6 +15,9 @@ use iam_text::OutOfMemory;
 use std::alloc::Global;
 use std::marker::Model;
 
+/// How many bits a word has.
+const BITS: usize = 64;
+
 /// The statements that an index lists for all requests of a principal: those of its organisation, and its own. A contract sees the
 /// world and the statements.
 #[derive(Drop)]
@@ -73,6 +76,9 @@ impl<'a> Listing<'a> {
         requires { IsResource self.now.world r (λ resource. access.resource.now ≡ resource.arn) }
         ensures { IfOk result (λ found. IfSome found (AreBits (access_of access.entry) self.now.statements)) }
     {
+        if self.org.statements().len() > BITS || self.own.statements().len() > BITS {
+            return Ok(None);
+        }
         match bits_before(alloc, &self.own, r, access, 0)? {
             Some(own) => bits_before(alloc, &self.org, r, access, own),
             None => Ok(None),
