@@ -2,7 +2,6 @@
 ghost use Rattle.std.specs.Prelude.{[], ◌∷◌, ◌≡◌, ◌++◌, ◌<◌, IfOk, IfSome, List, OnOk, length, map};
 ghost use Rattle.iam_decision.specs.Code.Scan.{placed_value};
 ghost use Rattle.iam_decision.specs.Matched.{Placed};
-ghost use Rattle.iam_layers.specs.Code.Statements.{HaveSameOrg};
 ghost use Rattle.iam_index.specs.Elements.{AreKept};
 ghost use Rattle.iam_index.specs.Index.{AreListed, AreLists, AreOrgs, HasOrg, HaveOrgs, ListsOrg, ListsRequester, ListsResource};
 ghost use Rattle.iam_index.specs.declared.lists.Org.{Org};

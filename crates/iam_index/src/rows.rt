@@ -1,5 +1,5 @@
 // Resource elements, and which resources of a world they match, or may match.
-ghost use Rattle.std.specs.Prelude.{◌≡◌, ◌++◌, ℕ, IfOk, IfSome, List, Option, Some};
+ghost use Rattle.std.specs.Prelude.{◌≡◌, ◌++◌, IfOk, IfSome, List, Option, Some};
 ghost use Rattle.iam_element.specs.Reading.{ResourceElement};
 ghost use Rattle.iam_match.specs.Wide.{Covers};
 ghost use Rattle.iam_world.specs.World.{WorldValue};
