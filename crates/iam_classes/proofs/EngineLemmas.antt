@@ -1,22 +1,14 @@
 -- The classes of an engine, and what holds of each principal and resource of a class.
-use Rattle.std.proofs.Common.{◌≡◌, ℕ, ◌<◌, List, [], Some, get_or, length, refl, sym, ◌∙◌, append-nil, subst}
+use Rattle.std.proofs.Common.{◌≡◌, ℕ, ◌<◌, List, [], Some, get_or, length, refl, sym, ◌∙◌, subst}
 use Rattle.std.proofs.lemmas.Option.{slice_get-get_or, slice_get_within}
 use Rattle.std.specs.List.{slice_get}
 use Rattle.iam_match.specs.Statement.{request_for}
-use Rattle.iam_decision.specs.Decision.{IsVerdict}
-use Rattle.iam_decision.specs.Living.{SharedValue}
-use Rattle.iam_decision.specs.declared.frame.Frame.{Frame}
-use Rattle.iam_decision.specs.declared.living.Matched.{Matched}
-use Rattle.iam_layers.specs.Cell.{IsAction, IsSharedAt}
+use Rattle.iam_layers.specs.Cell.{IsSharedAt}
 use Rattle.iam_world.specs.World.{WorldValue}
-use Rattle.iam_index.proofs.ListLemmas.{get_more, get_within, some_same}
+use Rattle.iam_index.proofs.ListLemmas.{get_more, some_same}
 use Rattle.iam_classes.specs.Engine.{EngineValue, HasMore, IsClassAt, IsNumberAt, IsNumberOf, OfClass}
-use Rattle.iam_classes.specs.Memo.{Finds, HasClass, HasRuling, HasShared, IsSharedVerdict}
+use Rattle.iam_classes.specs.Memo.{HasClass}
 use Rattle.iam_classes.specs.declared.memo.Class.{Class}
-
--- there are no others
-pub no_more : (classes : List Class) → HasMore classes classes
-no_more classes = ([], sym (append-nil classes))
 
 -- a class that principal p and resource r have is there
 pub class_there : (engine : EngineValue) (p r n : ℕ) → IsClassAt engine p r n → n < length engine.classes
@@ -53,27 +45,3 @@ of_number engine n a number below (class, at, (ruling, there, answer)) =
       λ p r (applicable, access, accessed, own).
           (ruling, there, (applicable, request_for access action, (access, action, accessed, asked, refl), answer action applicable access asked own)),
     )
-
--- principal p and resource r, which share this, have the class that shares it
-pub shared_class : (old new : EngineValue) (p r n : ℕ) (shared : SharedValue) → new.world ≡ old.world → IsSharedAt old.world p r shared
-    → HasShared new.classes shared n → IsClassAt new p r n
-shared_class old new p r n shared world is (class, at, same) =
-    let S : SharedValue → Type 0 = IsSharedAt old.world p r in
-    let W : WorldValue → Type 0 = λ w. IsSharedAt w p r class.shared in
-    (class, at, subst W (sym world) (subst S (sym same) is))
-
--- what follows from the statements that match the requests of a class is the verdict on them
-pub numbered : (old new : EngineValue) (n a number : ℕ) (text : List ℕ) (frame : Frame) (found : List Matched) → n < length old.classes
-    → IsAction old.world a text
-    → ((it : Class) → slice_get old.classes n ≡ Some it → IsAction old.world a text → Finds old.world it.shared text frame found)
-    → HasRuling new.rulings frame found number → new.classes ≡ old.classes → new.world ≡ old.world → IsNumberOf new n a number
-numbered old new n a number text frame found below named finds (ruling, there, is) classes world =
-    let (class, at) = get_within old.classes n below in
-    let C : List Class → Type 0 = λ cs. slice_get cs n ≡ Some class in
-    let W : WorldValue → Type 0 = λ w. IsSharedVerdict w class.shared a ruling.verdict in
-    let verdict : IsSharedVerdict old.world class.shared a ruling.verdict =
-    λ action applicable access asked shared.
-    let V : List ℕ → Type 0 = λ t. IsVerdict applicable (request_for access t) ruling.verdict in
-    let (framed, matched) = finds class at named applicable access shared in
-    subst V (some_same text action (sym named ∙ asked)) (is.follows applicable (request_for access text) (framed ∙ shared.frame) matched) in
-    (class, subst C (sym classes) at, (ruling, there, subst W (sym world) verdict))

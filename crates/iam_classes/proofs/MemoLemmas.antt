@@ -1,16 +1,25 @@
 -- What is kept stays right where classes and verdicts are added.
-use Rattle.std.proofs.Common.{◌≡◌, inl, inr, ℕ, zero, suc, List, [], ◌∷◌, ◌++◌, Option, Some, drop, sym, subst, arith}
+use Rattle.std.proofs.Common.{◌≡◌, inl, inr, ℕ, zero, suc, ◌+◌, ◌-◌, ◌<◌, List, [], ◌∷◌, ◌++◌, Option, Some, ap, append-nil, drop, length, sym, ◌∙◌, subst, arith}
+use Rattle.std.proofs.lemmas.Grind.{common_steps}
+use Rattle.std.proofs.lemmas.List.Sums.{sum_by_push}
 use Rattle.std.proofs.lemmas.Option.{slice_get_within}
 use Rattle.std.specs.List.{slice_get}
+use Rattle.iam_match.specs.Statement.{request_for}
+use Rattle.iam_decision.specs.Decision.{IsVerdict}
+use Rattle.iam_decision.specs.Living.{SharedValue}
 use Rattle.iam_decision.specs.Ruling.{RulingValue}
+use Rattle.iam_decision.specs.declared.frame.Frame.{Frame}
+use Rattle.iam_decision.specs.declared.living.Matched.{Matched}
+use Rattle.iam_layers.specs.Cell.{IsAction, IsSharedAt}
 use Rattle.iam_world.specs.World.{WorldValue}
 use Rattle.iam_index.specs.Elements.{AreElementNumbers}
 use Rattle.iam_slots.specs.Slots.{AllAre}
-use Rattle.iam_classes.specs.Memo.{AreAnswers, ArePairs, HasClass, HasNumber, HaveRows}
+use Rattle.iam_classes.specs.Memo.{AreAnswers, ArePairs, AreWithin, cost, Finds, HasClass, HasMore, HasNumber, HasRuling, HasShared, HaveRows, IsFreeFor, IsSharedVerdict, MemoValue}
 use Rattle.iam_index.specs.declared.elements.Element.{Element}
 use Rattle.iam_slots.specs.declared.numbered.Numbered.{Numbered}
 use Rattle.iam_classes.specs.declared.memo.Class.{Class}
-use Rattle.iam_index.proofs.ListLemmas.{get_back, get_more}
+use Rattle.iam_classes.specs.declared.memo.Room.{Room}
+use Rattle.iam_index.proofs.ListLemmas.{get_back, get_more, get_within, some_same}
 use Rattle.iam_slots.proofs.SlotLemmas.{all_weaker}
 
 pub pairs_more : (world : WorldValue) (classes more : List Class) (pairs : List (Option Numbered)) → ArePairs world classes pairs
@@ -52,3 +61,41 @@ pub pairs_behind : (P : Numbered → Type 0) (n : ℕ) (pairs : List (Option Num
 pairs_behind P zero pairs all = all
 pairs_behind P (suc n) [] all = all
 pairs_behind P (suc n) (pair ∷ pairs) all = pairs_behind P n pairs (λ i kept at. all (suc i) kept at)
+
+-- there are no others
+pub no_more : (classes : List Class) → HasMore classes classes
+no_more classes = ([], sym (append-nil classes))
+
+-- principal p and resource r, which share this, have the class that shares it
+pub shared_class : (old new : MemoValue) (p r n : ℕ) (shared : SharedValue) → new.world ≡ old.world → IsSharedAt old.world p r shared
+    → HasShared new.classes shared n → HasClass new.world new.classes p r n
+shared_class old new p r n shared world is (class, at, same) =
+    let S : SharedValue → Type 0 = IsSharedAt old.world p r in
+    let W : WorldValue → Type 0 = λ w. IsSharedAt w p r class.shared in
+    (class, at, subst W (sym world) (subst S (sym same) is))
+
+-- what follows from the statements that match the requests of a class is the verdict on them
+pub numbered : (old new : MemoValue) (n a number : ℕ) (text : List ℕ) (frame : Frame) (found : List Matched) → n < length old.classes
+    → IsAction old.world a text
+    → ((it : Class) → slice_get old.classes n ≡ Some it → IsAction old.world a text → Finds old.world it.shared text frame found)
+    → HasRuling new.rulings frame found number → new.classes ≡ old.classes → new.world ≡ old.world → HasNumber new.world new.classes new.rulings n a number
+numbered old new n a number text frame found below named finds (ruling, there, is) classes world =
+    let (class, at) = get_within old.classes n below in
+    let C : List Class → Type 0 = λ cs. slice_get cs n ≡ Some class in
+    let W : WorldValue → Type 0 = λ w. IsSharedVerdict w class.shared a ruling.verdict in
+    let verdict : IsSharedVerdict old.world class.shared a ruling.verdict =
+    λ action applicable access asked shared.
+    let V : List ℕ → Type 0 = λ t. IsVerdict applicable (request_for access t) ruling.verdict in
+    let (framed, matched) = finds class at named applicable access shared in
+    subst V (some_same text action (sym named ∙ asked)) (is.follows applicable (request_for access text) (framed ∙ shared.frame) matched) in
+    (class, subst C (sym classes) at, (ruling, there, subst W (sym world) verdict))
+
+-- where no class is kept all of the room is left
+pub none_within : (room : Room) (classes : List Class) → classes ≡ [] → room.left ≡ room.most → AreWithin room classes
+none_within room classes none all = inl (omega (arith, ap cost none, all))
+
+-- a class takes its room, or all where it stands alone
+pub within_more : (old new : Room) (classes : List Class) (class : Class) → AreWithin old classes → IsFreeFor old classes class.shared
+    → new.left ≡ old.left - (length class.shared.living + 1) → new.most ≡ old.most → AreWithin new (classes ++ class ∷ [])
+within_more old new classes class within free left most =
+    let dearer = sum_by_push (λ (c : Class). length c.shared.living + 1) classes class in grind (arith, common_steps, dearer)

@@ -1,17 +1,29 @@
 -- An engine, as its callers see it. LOGIC 1.1.
-use Rattle.std.specs.Prelude.{◌≡◌, ℕ, List, ◌++◌, Some}
+use Rattle.std.specs.Prelude.{◌≡◌, ℕ, Bool, List, Some}
 use Rattle.std.specs.List.{slice_get}
 use Rattle.iam_decision.specs.Ruling.{RulingValue}
-use Rattle.iam_layers.specs.Cell.{IsSharedAt, IsVerdictAt}
+use Rattle.iam_layers.specs.Cell.{IsSharedAt}
 use Rattle.iam_world.specs.World.{WorldValue}
-use Rattle.iam_classes.specs.Memo.{HasClass, HasNumber}
+pub use Rattle.iam_classes.specs.Memo.{HasMore}
+use Rattle.iam_classes.specs.Memo.{HasClass, HasNumber, HasVerdict}
 use Rattle.iam_classes.specs.declared.memo.Class.{Class}
 
--- the world whose cells it decides, and the classes of requests and the verdicts, with what they follow from, that it keeps, by number
+-- where an engine has it from what requests share: the world, and whether it knows a survey of it
+pub record SourceValue : Type 0 where
+  pub world : WorldValue
+  pub surveyed : Bool
+
+-- the world whose cells it decides, the classes of requests and the verdicts, with what they follow from, that it keeps, by number, and
+-- whether it knows a survey of the world
 pub record EngineValue : Type 0 where
   pub world : WorldValue
   pub classes : List Class
   pub rulings : List RulingValue
+  pub surveyed : Bool
+
+-- it is of the same world, and knows a survey of it where it did before
+abbrev pub IsSameEngine : EngineValue → EngineValue → Type 0
+IsSameEngine old new = (new.world ≡ old.world) × (new.surveyed ≡ old.surveyed)
 
 -- requests of principal p for resource r are of this class
 abbrev pub IsClassAt : EngineValue → ℕ → ℕ → ℕ → Type 0
@@ -26,11 +38,6 @@ abbrev pub OfClass : EngineValue → ℕ → (ℕ → ℕ → Type 0) → Type 0
 OfClass engine n P =
     (class : Class) × (slice_get engine.classes n ≡ Some class) × ((p r : ℕ) → IsSharedAt engine.world p r class.shared → P p r)
 
--- there are these classes, and perhaps more behind them
-abbrev pub HasMore : List Class → List Class → Type 0
-HasMore old new = (more : List Class) × (new ≡ old ++ more)
-
 -- the verdict of this number is the one on principal p's request for action a on resource r
 abbrev pub IsNumberAt : EngineValue → ℕ → ℕ → ℕ → ℕ → Type 0
-IsNumberAt engine p a r number =
-    (ruling : RulingValue) × (slice_get engine.rulings number ≡ Some ruling) × IsVerdictAt engine.world p a r ruling.verdict
+IsNumberAt engine p a r number = HasVerdict engine.world engine.rulings p a r number

@@ -1,6 +1,6 @@
 -- What an engine keeps: classes of requests that share the same, and verdicts on them. It may keep anything that is right,
 -- and let go of it at any time. LOGIC 1.1.
-use Rattle.std.specs.Prelude.{◌≡◌, ℕ, List, Option, Some}
+use Rattle.std.specs.Prelude.{◌≡◌, ◌+◌, ◌<◌, ◌≤◌, ◌⊎◌, ◌++◌, ℕ, [], List, Option, Some, length, sum_by}
 use Rattle.std.specs.List.{slice_get}
 use Rattle.iam_match.specs.Statement.{AccessValue, request_for}
 use Rattle.iam_decision.specs.Applicable.{ApplicableValue}
@@ -11,13 +11,31 @@ use Rattle.iam_decision.specs.Ruling.{IsRuling, RulingValue}
 use Rattle.iam_decision.specs.declared.frame.Frame.{Frame}
 use Rattle.iam_decision.specs.declared.living.Matched.{Matched}
 use Rattle.iam_decision.specs.declared.verdict.Verdict.{Verdict}
-use Rattle.iam_layers.specs.Cell.{IsAction, IsSharedAt}
+use Rattle.iam_layers.specs.Cell.{IsAction, IsSharedAt, IsVerdictAt}
 use Rattle.iam_world.specs.World.{WorldValue}
 use Rattle.iam_index.specs.Elements.{AreElements, AreElementNumbers}
 use Rattle.iam_slots.specs.Slots.{AllAre}
 use Rattle.iam_slots.specs.declared.numbered.Numbered.{Numbered}
 use Rattle.iam_index.specs.declared.elements.Element.{Element}
 use Rattle.iam_classes.specs.declared.memo.Class.{Class}
+use Rattle.iam_classes.specs.declared.memo.Room.{Room}
+
+-- the world, the classes of requests and the verdicts, with what they follow from, by number; how many more statements and how many
+-- verdicts may be kept
+pub record MemoValue : Type 0 where
+  pub world : WorldValue
+  pub classes : List Class
+  pub rulings : List RulingValue
+  pub room : Room
+  pub most_verdicts : ℕ
+
+-- it is of the same world, with the same bounds
+abbrev pub IsSameMemo : MemoValue → MemoValue → Type 0
+IsSameMemo old new = (new.world ≡ old.world) × (new.room.most ≡ old.room.most) × (new.most_verdicts ≡ old.most_verdicts)
+
+-- there are these classes, and perhaps more behind them
+abbrev pub HasMore : List Class → List Class → Type 0
+HasMore old new = (more : List Class) × (new ≡ old ++ more)
 
 -- requests of the class share this
 abbrev pub HasShared : List Class → SharedValue → ℕ → Type 0
@@ -47,6 +65,11 @@ HasNumber world classes rulings n a number =
 abbrev pub HasRuling : List RulingValue → Frame → List Matched → ℕ → Type 0
 HasRuling rulings frame found number = (ruling : RulingValue) × (slice_get rulings number ≡ Some ruling) × IsRuling frame found ruling
 
+-- the verdict of this number is the one on principal p's request for action a on resource r
+abbrev pub HasVerdict : WorldValue → List RulingValue → ℕ → ℕ → ℕ → ℕ → Type 0
+HasVerdict world rulings p a r number =
+    (ruling : RulingValue) × (slice_get rulings number ≡ Some ruling) × IsVerdictAt world p a r ruling.verdict
+
 -- what is asked of requests that share this, and which statements match those of them that are for the action
 abbrev pub Finds : WorldValue → SharedValue → List ℕ → Frame → List Matched → Type 0
 Finds world shared action frame found =
@@ -67,11 +90,27 @@ abbrev pub HaveRows : List Element → List Class → Type 0
 HaveRows elements classes =
     (n : ℕ) (class : Class) → slice_get classes n ≡ Some class → AreElementNumbers elements class.shared.living class.rows.items
 
--- everything that is kept is right
+-- what the classes cost of the room: each of them its statements, and one more
+abbrev pub cost : List Class → ℕ
+cost classes = sum_by (λ class. length class.shared.living + 1) classes
+
+-- the classes and what is left make up the room, or one class alone is dearer than all of it
+abbrev pub AreWithin : Room → List Class → Type 0
+AreWithin room classes =
+    (cost classes + room.left ≡ room.most) ⊎ ((length classes ≡ 1) × (room.left ≡ 0) × (room.most ≤ cost classes))
+
+-- there is room for a class of requests that share this, or no class is kept
+abbrev pub IsFreeFor : Room → List Class → SharedValue → Type 0
+IsFreeFor room classes shared = (length shared.living < room.left) ⊎ (classes ≡ [])
+
+-- everything that is kept is right, and no more than may be
 pub record IsRight
     (world : WorldValue) (elements : List Element) (classes : List Class) (rulings : List RulingValue) (pairs : List (Option Numbered))
-    (answers : List (Option Numbered)) : Type 0 where
+    (answers : List (Option Numbered)) (room : Room) (most_verdicts : ℕ) : Type 0 where
   pub pairs_are : ArePairs world classes pairs
   pub answers_are : AreAnswers world classes rulings answers
   pub elements_are : AreElements world elements
   pub rows_are : HaveRows elements classes
+  pub classes_fit : AreWithin room classes
+  pub rulings_fit : length rulings ≤ most_verdicts
+  pub some_fit : 1 ≤ most_verdicts

@@ -27,17 +27,17 @@ impl<'a> Model for ClassEngine<'a> {
 
     ghost Value = { EngineValue };
 
-    ghost view = { λ engine. engine.memo };
+    ghost view = { λ engine. record { world = engine.memo.world; classes = engine.memo.classes; rulings = engine.memo.rulings; surveyed = engine.source.surveyed } };
 
-    ghost invariant = { λ engine. engine.source ≡ engine.memo.world };
+    ghost invariant = { λ engine. engine.source.world ≡ engine.memo.world };
 }
 
 impl<'a> ClassEngine<'a> {
-    ghost use Rattle.std.specs.Prelude.{◌≡◌, ◌<◌, ℕ, IfOk, IfSome, false, length, true};
+    ghost use Rattle.std.specs.Prelude.{◌≡◌, ◌<◌, ℕ, IfOk, IfSome, false, is_some, length, true};
     ghost use Rattle.iam_world.specs.World.{world_cells};
     ghost use Rattle.iam_layers.specs.Cell.{IsDecisionOf, IsVerdictAt, IsVerdictOf};
     ghost use Rattle.iam_slots.specs.Slots.{AllAre};
-    ghost use Rattle.iam_classes.specs.Engine.{HasMore, IsClassAt, IsNumberAt, OfClass};
+    ghost use Rattle.iam_classes.specs.Engine.{HasMore, IsClassAt, IsNumberAt, IsSameEngine, OfClass};
 
     /// An engine of the world of an index, one of so many that share the bounds on what is kept.
     pub fn new(
@@ -45,7 +45,8 @@ impl<'a> ClassEngine<'a> {
         index: &'a Index<'a>,
         engines: u32,
     ) -> Result<ClassEngine<'a>, OutOfMemory>
-        ensures { IfOk result (λ engine. engine.world ≡ index.entry.now) }
+        ensures world { IfOk result (λ engine. engine.world ≡ index.entry.now) }
+        ensures plain { IfOk result (λ engine. engine.surveyed ≡ false) }
     {
         ClassEngine::with(alloc, index, None, engines)
     }
@@ -56,7 +57,8 @@ impl<'a> ClassEngine<'a> {
         survey: &'a Survey<'a>,
         engines: u32,
     ) -> Result<ClassEngine<'a>, OutOfMemory>
-        ensures { IfOk result (λ engine. engine.world ≡ survey.entry.now) }
+        ensures world { IfOk result (λ engine. engine.world ≡ survey.entry.now) }
+        ensures surveyed { IfOk result (λ engine. engine.surveyed ≡ true) }
     {
         ClassEngine::with(alloc, survey.index(), Some(survey), engines)
     }
@@ -68,7 +70,8 @@ impl<'a> ClassEngine<'a> {
         engines: u32,
     ) -> Result<ClassEngine<'a>, OutOfMemory>
         requires { IfSome survey (λ survey. survey.now ≡ index.now) }
-        ensures { IfOk result (λ engine. engine.world ≡ index.entry.now) }
+        ensures world { IfOk result (λ engine. engine.world ≡ index.entry.now) }
+        ensures surveyed { IfOk result (λ engine. engine.surveyed ≡ is_some survey.entry) }
     {
         let memo = Memo::new(alloc, index, engines)?;
         Ok(ClassEngine {
@@ -90,7 +93,7 @@ impl<'a> ClassEngine<'a> {
     pub fn decide(&mut self, alloc: Global, cell: u64) -> Result<Verdict, OutOfMemory>
         requires { cell < world_cells self.old.world }
         ensures verdict { IfOk result (IsVerdictOf self.old.world cell) }
-        ensures same { self.new.world ≡ self.old.world }
+        ensures same { IsSameEngine self.old self.new }
     {
         let world = self.world();
         let (p, a, r) = world.triple(cell);
@@ -103,7 +106,7 @@ impl<'a> ClassEngine<'a> {
     pub fn decide_brief(&mut self, alloc: Global, cell: u64) -> Result<Decision, OutOfMemory>
         requires { cell < world_cells self.old.world }
         ensures decision { IfOk result (IsDecisionOf self.old.world cell) }
-        ensures same { self.new.world ≡ self.old.world }
+        ensures same { IsSameEngine self.old self.new }
     {
         let world = self.world();
         let (p, a, r) = world.triple(cell);
@@ -119,7 +122,7 @@ impl<'a> ClassEngine<'a> {
         requires action { a < length self.old.world.actions }
         requires resource { r < length self.old.world.resources }
         ensures number { IfOk result (IsNumberAt self.new p a r) }
-        ensures same { self.new.world ≡ self.old.world }
+        ensures same { IsSameEngine self.old self.new }
     {
         let found = self.class(alloc, p, r)?;
         self.number(alloc, found.class, a)
@@ -142,7 +145,7 @@ impl<'a> ClassEngine<'a> {
         ensures class { IfOk result (λ found. IsClassAt self.new p r found.class) }
         ensures kept { IfOk result (λ found. found.cleared ≡ false → HasMore self.old.classes self.new.classes) }
         ensures let_go { IfOk result (λ found. found.cleared ≡ true → length self.new.classes ≡ 1) }
-        ensures same { self.new.world ≡ self.old.world }
+        ensures same { IsSameEngine self.old self.new }
     {
         match self.memo.class_of(p, r) {
             Some(class) => Ok(Found {
@@ -161,7 +164,7 @@ impl<'a> ClassEngine<'a> {
         ensures class { IfOk result (λ found. IsClassAt self.new p r found.class) }
         ensures kept { IfOk result (λ found. found.cleared ≡ false → HasMore self.old.classes self.new.classes) }
         ensures let_go { IfOk result (λ found. found.cleared ≡ true → length self.new.classes ≡ 1) }
-        ensures same { self.new.world ≡ self.old.world }
+        ensures same { IsSameEngine self.old self.new }
     {
         let shared = self.source.shared(alloc, p, r)?;
         self.memo.class_with(alloc, p, r, shared)
@@ -174,7 +177,7 @@ impl<'a> ClassEngine<'a> {
         requires class { class < length self.old.classes }
         ensures number { IfOk result (λ number. OfClass self.new class (λ p r. IsNumberAt self.new p a r number)) }
         ensures classes { self.new.classes ≡ self.old.classes }
-        ensures same { self.new.world ≡ self.old.world }
+        ensures same { IsSameEngine self.old self.new }
     {
         self.memo.number(alloc, &mut self.found, class, a)
     }

@@ -53,35 +53,33 @@ pub struct Found {
 
 /// Room for so many more statements, and how many there are at most.
 #[derive(Clone, Copy)]
-struct Room {
-    left: usize,
-    most: usize,
+pub struct Room {
+    pub left: usize,
+    pub most: usize,
 }
 
 impl Room {
-    ghost use Rattle.std.specs.Prelude.{◌≡◌, ◌+◌, ◌<◌, ◌≤◌, false, length, true};
+    ghost use Rattle.std.specs.Prelude.{◌≡◌, ◌+◌, ◌-◌, ◌<◌, ◌≤◌, false, true};
 
-    /// Takes room for a class of requests that share this, for each of its statements and for itself; where there is none, all of
-    /// it is free again before. Whether it was so.
-    fn take(&mut self, shared: &Shared<'_>) -> bool
-        ensures most { self.new.most ≡ self.old.most }
-        ensures taken { length shared.now.living < self.old.left
-            → (result ≡ false) × (self.new.left + length shared.now.living + 1 ≡ self.old.left) }
-        ensures freed { self.old.left ≤ length shared.now.living → (result ≡ true)
-            × (length shared.now.living < self.old.most → self.new.left + length shared.now.living + 1 ≡ self.old.most) }
+    /// Whether there is no room for a class of so many statements, and for the class itself.
+    fn lacks(&self, statements: usize) -> bool
+        ensures room { result ≡ false → statements < self.now.left }
+        ensures none { result ≡ true → self.now.left ≤ statements }
     {
-        let statements = shared.living().len();
-        if statements < self.left {
-            self.left -= statements + 1;
-            return false;
-        }
-        self.left = self.most.saturating_sub(statements).saturating_sub(1);
-        true
+        self.left <= statements
+    }
+
+    /// Takes room for a class of so many statements, and for the class itself; all of it, where there is less.
+    fn take(&mut self, statements: usize)
+        ensures left { self.new.left ≡ self.old.left - (statements + 1) }
+        ensures most { self.new.most ≡ self.old.most }
+    {
+        self.left = self.left.saturating_sub(statements).saturating_sub(1);
     }
 }
 
 /// What is kept: requests that share the same are a class, and of some classes and actions the verdict is known. A contract
-/// sees the world, the classes, and the verdicts with what they follow from.
+/// sees the world, the classes, the verdicts with what they follow from, and how many of them may be kept.
 #[derive(Drop)]
 pub struct Memo<'a> {
     world: &'a World,
@@ -101,28 +99,27 @@ pub struct Memo<'a> {
 }
 
 impl<'a> Model for Memo<'a> {
-    ghost use Rattle.iam_classes.specs.Engine.{EngineValue};
-    ghost use Rattle.iam_classes.specs.Memo.{IsRight};
+    ghost use Rattle.iam_classes.specs.Memo.{IsRight, MemoValue};
 
-    ghost Value = { EngineValue };
+    ghost Value = { MemoValue };
 
-    ghost view = { λ memo. record { world = memo.world.now; classes = memo.classes.items; rulings = memo.rulings.items } };
+    ghost view = { λ memo. record { world = memo.world.now; classes = memo.classes.items; rulings = memo.rulings.items; room = memo.room; most_verdicts = memo.most_verdicts } };
 
-    ghost invariant = { λ memo. IsRight memo.world.now memo.elements.now.elements.items memo.classes.items memo.rulings.items memo.pairs.items memo.answers.items };
+    ghost invariant = { λ memo. IsRight memo.world.now memo.elements.now.elements.items memo.classes.items memo.rulings.items memo.pairs.items memo.answers.items memo.room memo.most_verdicts };
 }
 
 impl<'a> Memo<'a> {
-    ghost use Rattle.std.specs.Prelude.{◌≡◌, ◌<◌, ◌+◌, ℕ, [], IfOk, IfSome, OnOk, Some, false, length, true};
+    ghost use Rattle.std.specs.Prelude.{◌≡◌, ◌<◌, ◌≤◌, ◌+◌, ℕ, [], IfOk, IfSome, OnOk, Some, false, length, true};
     ghost use Rattle.std.specs.List.{slice_get};
     ghost use Rattle.iam_layers.specs.Cell.{IsAction, IsSharedAt, IsVerdictAt};
-    ghost use Rattle.iam_slots.specs.Slots.{AllAre};
-    ghost use Rattle.iam_classes.specs.Engine.{HasMore, IsClassAt, IsNumberAt, IsNumberOf};
-    ghost use Rattle.iam_classes.specs.Memo.{Finds, HasRuling, HasShared};
+    ghost use Rattle.iam_classes.specs.Memo.{ArePairs, Finds, HasClass, HasMore, HasNumber, HasRuling, HasShared, HasVerdict, IsFreeFor, IsSameMemo};
     ghost use Rattle.iam_classes.specs.declared.memo.Class.{Class};
 
     /// A memo of the world of an index, one of so many that share the bounds, which keeps nothing yet.
     pub fn new(alloc: Global, index: &'a Index<'a>, memos: u32) -> Result<Memo<'a>, OutOfMemory>
-        ensures { IfOk result (λ memo. memo.world ≡ index.entry.now) }
+        ensures world { IfOk result (λ memo. memo.world ≡ index.entry.now) }
+        ensures room { IfOk result (λ memo. memo.room.most ≤ 2097152) }
+        ensures verdicts { IfOk result (λ memo. memo.most_verdicts ≤ 262144) }
     {
         let world = index.world();
         let memos = memos.max(1);
@@ -140,14 +137,14 @@ impl<'a> Memo<'a> {
             ruling_prints: empty_slots(alloc, PRINTS)?,
             resources: world.resources(),
             room: Room { left: most, most },
-            most_verdicts: MOST_VERDICTS / memos as usize,
+            most_verdicts: (MOST_VERDICTS / memos as usize).max(1),
         })
     }
 
     /// The class of principal p and resource r, where it is known.
     #[inline(always)]
     pub fn class_of(&self, p: u64, r: u64) -> Option<usize>
-        ensures { IfSome result (IsClassAt self.now p r) }
+        ensures { IfSome result (HasClass self.now.world self.now.classes p r) }
     {
         let slot = slot_at(p, self.resources, r, self.pairs.len());
         number_in(self.pairs.as_slice(), slot, p, r)
@@ -156,7 +153,7 @@ impl<'a> Memo<'a> {
     /// The pairs whose classes are known, from principal p and resource r on, as they lie side by side. Where the class of one is
     /// not known stands none, or another.
     pub fn pairs_from(&self, p: u64, r: u64) -> &[Option<Numbered>]
-        ensures { AllAre (λ pair. IsClassAt self.now pair.one pair.other pair.number) result.now }
+        ensures { ArePairs self.now.world self.now.classes result.now }
     {
         let pairs = self.pairs.as_slice();
         let slot = slot_at(p, self.resources, r, pairs.len()) as usize;
@@ -176,10 +173,10 @@ impl<'a> Memo<'a> {
         shared: Held<'a>,
     ) -> Result<Found, OutOfMemory>
         requires { IsSharedAt self.old.world p r shared }
-        ensures class { IfOk result (λ found. IsClassAt self.new p r found.class) }
+        ensures class { IfOk result (λ found. HasClass self.new.world self.new.classes p r found.class) }
         ensures kept { IfOk result (λ found. found.cleared ≡ false → HasMore self.old.classes self.new.classes) }
         ensures let_go { IfOk result (λ found. found.cleared ≡ true → length self.new.classes ≡ 1) }
-        ensures same { self.new.world ≡ self.old.world }
+        ensures same { IsSameMemo self.old self.new }
     {
         let found = self.class_sharing(alloc, shared)?;
         let slot = slot_at(p, self.resources, r, self.pairs.len());
@@ -193,7 +190,8 @@ impl<'a> Memo<'a> {
         ensures class { IfOk result (λ found. HasShared self.new.classes shared.entry found.class) }
         ensures kept { IfOk result (λ found. found.cleared ≡ false → HasMore self.old.classes self.new.classes) }
         ensures let_go { IfOk result (λ found. found.cleared ≡ true → length self.new.classes ≡ 1) }
-        ensures same { self.new.world ≡ self.old.world }
+        ensures needed { IfOk result (λ found. found.cleared ≡ true → self.old.room.left ≤ length shared.entry.living) }
+        ensures same { IsSameMemo self.old self.new }
     {
         let print = shared.get().print();
         if let Some(class) = self.class_printed(print, shared.get()) {
@@ -202,7 +200,7 @@ impl<'a> Memo<'a> {
                 cleared: false,
             });
         }
-        let cleared = self.room.take(shared.get());
+        let cleared = self.room.lacks(shared.get().living().len());
         self.clear_if(cleared);
         let class = self.add(alloc, print, shared)?;
         Ok(Found { class, cleared })
@@ -228,26 +226,32 @@ impl<'a> Memo<'a> {
         ensures kept { cleared ≡ false → self.new.classes ≡ self.old.classes }
         ensures cleared { cleared ≡ true → self.new.classes ≡ [] }
         ensures rulings { cleared ≡ true → self.new.rulings ≡ [] }
-        ensures same { self.new.world ≡ self.old.world }
+        ensures room { cleared ≡ false → self.new.room ≡ self.old.room }
+        ensures same { IsSameMemo self.old self.new }
     {
         if cleared {
             empty(&mut self.pairs);
             empty(&mut self.answers);
             self.classes.clear();
             self.rulings.clear();
+            self.room.left = self.room.most;
         }
     }
 
-    /// Adds the class of requests that share this.
+    /// Adds the class of requests that share this, and takes its room.
     fn add(&mut self, alloc: Global, print: u64, shared: Held<'a>) -> Result<usize, OutOfMemory>
+        requires { IsFreeFor self.old.room self.old.classes shared }
         ensures class { IfOk result (HasShared self.new.classes shared.entry) }
         ensures kept { OnOk result (HasMore self.old.classes self.new.classes) }
         ensures count { OnOk result (length self.new.classes ≡ length self.old.classes + 1) }
-        ensures same { self.new.world ≡ self.old.world }
+        ensures same { IsSameMemo self.old self.new }
     {
-        let rows = self.elements.rows(alloc, shared.get().living())?;
+        let living = shared.get().living();
+        let statements = living.len();
+        let rows = self.elements.rows(alloc, living)?;
         let class = self.classes.len();
         self.classes.push(Class { shared, rows })?;
+        self.room.take(statements);
         keep(
             &mut self.class_prints,
             slot_of(0, print, PRINTS as usize),
@@ -267,9 +271,9 @@ impl<'a> Memo<'a> {
     ) -> Result<usize, OutOfMemory>
         requires action { a < length self.old.world.actions }
         requires class { class < length self.old.classes }
-        ensures number { IfOk result (IsNumberOf self.new class a) }
+        ensures number { IfOk result (HasNumber self.new.world self.new.classes self.new.rulings class a) }
         ensures classes { self.new.classes ≡ self.old.classes }
-        ensures same { self.new.world ≡ self.old.world }
+        ensures same { IsSameMemo self.old self.new }
     {
         match self.number_of(class, a) {
             Some(number) => Ok(number),
@@ -280,7 +284,7 @@ impl<'a> Memo<'a> {
     /// The number of the verdict on requests of the class for action a, where it is known.
     #[inline(always)]
     fn number_of(&self, class: usize, a: u64) -> Option<usize>
-        ensures { IfSome result (IsNumberOf self.now class a) }
+        ensures { IfSome result (HasNumber self.now.world self.now.classes self.now.rulings class a) }
     {
         let slot = slot_of(a, class as u64, self.answers.len());
         number_in(self.answers.as_slice(), slot, class as u64, a)
@@ -297,9 +301,9 @@ impl<'a> Memo<'a> {
     ) -> Result<usize, OutOfMemory>
         requires action { a < length self.old.world.actions }
         requires class { class < length self.old.classes }
-        ensures number { IfOk result (IsNumberOf self.new class a) }
+        ensures number { IfOk result (HasNumber self.new.world self.new.classes self.new.rulings class a) }
         ensures classes { self.new.classes ≡ self.old.classes }
-        ensures same { self.new.world ≡ self.old.world }
+        ensures same { IsSameMemo self.old self.new }
     {
         let frame = self.find(found, class, a, self.world.action_text(a))?;
         let number = self.ruling(alloc, frame, found.as_slice())?;
@@ -309,7 +313,7 @@ impl<'a> Memo<'a> {
 
     /// Keeps the number of the verdict on requests of the class for action a.
     fn keep_number(&mut self, class: usize, a: u64, number: usize)
-        requires { IsNumberOf self.old class a number }
+        requires { HasNumber self.old.world self.old.classes self.old.rulings class a number }
         ensures { self.new ≡ self.old }
     {
         let slot = slot_of(a, class as u64, self.answers.len());
@@ -347,7 +351,7 @@ impl<'a> Memo<'a> {
     ) -> Result<usize, OutOfMemory>
         ensures number { IfOk result (HasRuling self.new.rulings frame found.now) }
         ensures classes { self.new.classes ≡ self.old.classes }
-        ensures same { self.new.world ≡ self.old.world }
+        ensures same { IsSameMemo self.old self.new }
     {
         let slot = slot_of(0, Ruling::print(frame, found), PRINTS as usize);
         if let Some(number) = self.ruling_at(slot, frame, found) {
@@ -373,10 +377,12 @@ impl<'a> Memo<'a> {
         }
     }
 
-    /// Lets go the verdicts and the answers where there are too many.
+    /// Lets go the verdicts and the answers where there is no room for one verdict more.
     fn bound_rulings(&mut self)
+        ensures room { length self.new.rulings < self.new.most_verdicts }
+        ensures kept { length self.old.rulings < self.old.most_verdicts → self.new.rulings ≡ self.old.rulings }
         ensures classes { self.new.classes ≡ self.old.classes }
-        ensures same { self.new.world ≡ self.old.world }
+        ensures same { IsSameMemo self.old self.new }
     {
         if self.rulings.len() >= self.most_verdicts {
             empty(&mut self.answers);
@@ -388,7 +394,7 @@ impl<'a> Memo<'a> {
     #[inline(always)]
     pub fn verdict(&self, number: usize) -> &Verdict
         requires { number < length self.now.rulings }
-        ensures { (p a r : ℕ) → IsNumberAt self.now p a r number → IsVerdictAt self.now.world p a r result.now }
+        ensures { (p a r : ℕ) → HasVerdict self.now.world self.now.rulings p a r number → IsVerdictAt self.now.world p a r result.now }
     {
         self.rulings[number].verdict()
     }

@@ -10,7 +10,8 @@ use iam_text::OutOfMemory;
 use std::alloc::Global;
 use std::marker::Model;
 
-/// What requests share is what a survey found, or else follows from the statements that an index lists. A contract sees the world.
+/// What requests share is what a survey found, or else follows from the statements that an index lists. A contract sees the world,
+/// and whether there is a survey.
 #[derive(Drop)]
 pub struct Source<'a> {
     index: &'a Index<'a>,
@@ -20,25 +21,25 @@ pub struct Source<'a> {
 }
 
 impl<'a> Model for Source<'a> {
-    ghost use Rattle.std.specs.Prelude.{◌≡◌, All, IfSome};
-    ghost use Rattle.iam_world.specs.World.{WorldValue};
+    ghost use Rattle.std.specs.Prelude.{◌≡◌, All, IfSome, is_some};
+    ghost use Rattle.iam_classes.specs.Engine.{SourceValue};
     ghost use Rattle.iam_classes.specs.Keys.{AreKeys};
 
-    ghost Value = { WorldValue };
+    ghost Value = { SourceValue };
 
-    ghost view = { λ source. source.index.now };
+    ghost view = { λ source. record { world = source.index.now; surveyed = is_some source.survey } };
 
     ghost invariant = { λ source. IfSome source.survey (λ survey. survey.now ≡ source.index.now) × All (AreKeys source.index.now) source.keys.items };
 }
 
 impl<'a> Source<'a> {
-    ghost use Rattle.std.specs.Prelude.{◌≡◌, ◌<◌, IfOk, IfSome, length};
+    ghost use Rattle.std.specs.Prelude.{◌≡◌, ◌<◌, IfOk, IfSome, is_some, length};
     ghost use Rattle.iam_layers.specs.Cell.{IsSharedAt};
 
     /// An index, and a survey of its world where there is one.
     pub fn new(alloc: Global, index: &'a Index<'a>, survey: Option<&'a Survey<'a>>) -> Source<'a>
         requires { IfSome survey (λ survey. survey.now ≡ index.now) }
-        ensures { result ≡ index.entry.now }
+        ensures { result ≡ record { world = index.entry.now; surveyed = is_some survey.entry } }
     {
         Source {
             index,
@@ -49,16 +50,16 @@ impl<'a> Source<'a> {
 
     /// The world.
     pub fn world(&self) -> &'a World
-        ensures { result.now ≡ self.now }
+        ensures { result.now ≡ self.now.world }
     {
         self.index.world()
     }
 
     /// What the requests of principal p for resource r share.
     pub fn shared(&mut self, alloc: Global, p: u64, r: u64) -> Result<Held<'a>, OutOfMemory>
-        requires principal { p < length self.old.principals }
-        requires resource { r < length self.old.resources }
-        ensures shared { IfOk result (IsSharedAt self.old p r) }
+        requires principal { p < length self.old.world.principals }
+        requires resource { r < length self.old.world.resources }
+        ensures shared { IfOk result (IsSharedAt self.old.world p r) }
         ensures same { self.new ≡ self.old }
     {
         match self.lent(p, r) {
@@ -69,8 +70,8 @@ impl<'a> Source<'a> {
 
     /// What the requests of principal p for resource r share, where a survey found it.
     fn lent(&self, p: u64, r: u64) -> Option<&'a Shared<'a>>
-        requires { r < length self.now.resources }
-        ensures { IfSome result (λ shared. IsSharedAt self.now p r shared.now) }
+        requires { r < length self.now.world.resources }
+        ensures { IfSome result (λ shared. IsSharedAt self.now.world p r shared.now) }
     {
         self.survey?.shared(p, r)
     }

@@ -3,6 +3,7 @@ ghost use Rattle.std.specs.Prelude.{◌≡◌, ◌+◌, ◌<◌, ◌≤◌, ◌�
 ghost use Rattle.std.specs.List.{flat_map};
 ghost use Rattle.iam_layers.specs.Cell.{IsDecisionOf, IsVerdictOf};
 ghost use Rattle.iam_world.specs.World.{world_cells};
+ghost use Rattle.iam_classes.specs.Engine.{IsSameEngine};
 ghost use Rattle.iam_matrix.specs.Matrix.{IsMatrix};
 ghost use Rattle.iam_matrix.specs.Code.Tiles.{AreEntries};
 ghost use Rattle.iam_matrix.specs.Workers.{IsUnlawful};
@@ -24,6 +25,7 @@ use std::thread::Threads;
 trait Entry: Drop {
     ghost use Rattle.std.specs.Prelude.{◌≡◌, ◌<◌, ℕ, IfOk};
     ghost use Rattle.iam_world.specs.World.{WorldValue, world_cells};
+    ghost use Rattle.iam_classes.specs.Engine.{IsSameEngine};
 
     // It is what has to be said of this cell.
     ghost is: { WorldValue → ℕ → Self → Type 0 };
@@ -31,7 +33,7 @@ trait Entry: Drop {
     fn at(alloc: Global, engine: &mut ClassEngine<'_>, cell: u64) -> Result<Self, OutOfMemory>
         requires { cell < world_cells engine.old.world }
         ensures is { IfOk result (is engine.old.world cell) }
-        ensures same { engine.new.world ≡ engine.old.world };
+        ensures same { IsSameEngine engine.old engine.new };
 }
 
 impl Entry for Verdict {
@@ -64,7 +66,7 @@ struct Entries<'a, E> {
 }
 
 impl<'a, E: Entry + Send + Sync> Crew for Entries<'a, E> {
-    ghost use Rattle.std.specs.Prelude.{◌≡◌, slice_index};
+    ghost use Rattle.std.specs.Prelude.{◌≡◌, slice_index, true};
     ghost use Rattle.iam_matrix.specs.Cut.{start_of};
     ghost use Rattle.iam_matrix.specs.Code.Tiles.{AreEntries, IsTileOf};
 
@@ -72,7 +74,7 @@ impl<'a, E: Entry + Send + Sync> Crew for Entries<'a, E> {
 
     type Tools = ClassEngine<'a>;
 
-    ghost fits = { λ crew engine. engine.world ≡ crew.survey.now };
+    ghost fits = { λ crew engine. (engine.world ≡ crew.survey.now) × (engine.surveyed ≡ true) };
 
     ghost takes = { λ crew tile. IsTileOf crew.survey.now crew.cut.now tile };
 
@@ -109,7 +111,7 @@ fn entries_of<E: Entry>(
 ) -> Result<Vec<E>, OutOfMemory>
     requires { tile.from + tile.count ≤ world_cells engine.old.world }
     ensures entries { IfOk result (λ entries. AreEntries (E.is engine.old.world) tile.from tile.count entries.items) }
-    ensures same { engine.new.world ≡ engine.old.world }
+    ensures same { IsSameEngine engine.old engine.new }
 {
     let end = end_of(engine.world(), tile.from, tile.count);
     let mut entries = Vec::new(alloc);

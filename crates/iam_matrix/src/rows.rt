@@ -1,6 +1,6 @@
 // The tails of the rows of each tile.
 ghost use Rattle.std.specs.Prelude.{◌≡◌, ◌+◌, ◌<◌, ◌≤◌, ◌⊎◌, ◌^◌, ◌++◌, ◌∷◌, [], Bool, List, IfOk, OnOk, length};
-ghost use Rattle.iam_classes.specs.Engine.{IsClassAt};
+ghost use Rattle.iam_classes.specs.Engine.{IsClassAt, IsSameEngine};
 ghost use Rattle.iam_decision.specs.declared.verdict.Verdict.{Verdict};
 ghost use Rattle.iam_layers.specs.Cell.{IsCell};
 ghost use Rattle.iam_world.specs.World.{world_cells};
@@ -36,7 +36,7 @@ pub struct Rows<'a> {
 }
 
 impl<'a> Crew for Rows<'a> {
-    ghost use Rattle.std.specs.Prelude.{◌≡◌, slice_index};
+    ghost use Rattle.std.specs.Prelude.{◌≡◌, slice_index, true};
     ghost use Rattle.iam_matrix.specs.Cut.{start_of};
     ghost use Rattle.iam_matrix.specs.Code.Tiles.{AreTailsOf, IsTileOf};
 
@@ -44,7 +44,7 @@ impl<'a> Crew for Rows<'a> {
 
     type Tools = ClassEngine<'a>;
 
-    ghost fits = { λ crew engine. engine.world ≡ crew.survey.now };
+    ghost fits = { λ crew engine. (engine.world ≡ crew.survey.now) × (engine.surveyed ≡ true) };
 
     ghost takes = { λ crew tile. IsTileOf crew.survey.now crew.cut.now tile };
 
@@ -84,7 +84,7 @@ fn tile_of(
 ) -> Result<Tile, OutOfMemory>
     requires { tile.from + tile.count ≤ world_cells engine.old.world }
     ensures tails { IfOk result (λ tails. AreTailsOf format brief engine.old.world tile.from tile.count tails) }
-    ensures same { engine.new.world ≡ engine.old.world }
+    ensures same { IsSameEngine engine.old engine.new }
 {
     let entries = entries_of(alloc, engine, brief, tile)?;
     entries.tile(alloc, format, brief)
@@ -99,7 +99,7 @@ fn entries_of(
 ) -> Result<Entries, OutOfMemory>
     requires { tile.from + tile.count ≤ world_cells engine.old.world }
     ensures entries { IfOk result (λ entries. AreEntriesOf brief engine.old.world tile.from tile.count entries) }
-    ensures same { engine.new.world ≡ engine.old.world }
+    ensures same { IsSameEngine engine.old engine.new }
 {
     let world = engine.world();
     let end = end_of(world, tile.from, tile.count);
@@ -165,7 +165,7 @@ fn add(
     requires leads { AreLeads brief engine.old leads.old.items entries.old }
     ensures entry { OnOk result (AddsEntry brief engine.old.world at.principal at.action at.resource entries.old entries.new) }
     ensures leads { OnOk result (AreLeads brief engine.new leads.new.items entries.new) }
-    ensures same { engine.new.world ≡ engine.old.world }
+    ensures same { IsSameEngine engine.old engine.new }
 {
     let class = class_of(alloc, engine, at.principal, at.resource, leads)?;
     let number = engine.number(alloc, class, at.action)?;
@@ -187,7 +187,7 @@ fn class_of(
     requires resource { r < length engine.old.world.resources }
     ensures class { IfOk result (IsClassAt engine.new p r) }
     ensures leads { OnOk result ((brief : Bool) (entries : List Verdict) → AreLeads brief engine.old leads.old.items entries → AreLeads brief engine.new leads.new.items entries) }
-    ensures same { engine.new.world ≡ engine.old.world }
+    ensures same { IsSameEngine engine.old engine.new }
 {
     let found = engine.class(alloc, p, r)?;
     if found.cleared {

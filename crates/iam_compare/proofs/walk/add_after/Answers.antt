@@ -23,7 +23,7 @@ returns-in_default-clause-rows c =
     let T : CellTexts → WorldValue → Type 0 = λ texts w. IsCellTexts w at.cell texts in
     let H : CellTexts → WorldValue → Type 0 = λ texts w. ¬ Has w texts in
     let world = second_engine crew engines c.index_mut.result.now c.requires.tools c.index_mut.ensures.value in
-    let told = subst V (ap (λ (e : EngineValue). e.world) read ∙ c.in_ok-number.ensures.same ∙ world ∙ c.requires.crew.survey_after)
+    let told = subst V (ap (λ (e : EngineValue). e.world) read ∙ c.in_ok-number.ensures.same.0 ∙ world ∙ c.requires.crew.survey_after)
     (c.verdict.ensures at.principal at.action at.resource (subst N (sym read) c.in_ok-number.ensures.number)) in
     on_ok_weaker c.add_said.result
     (λ added texts of. (
@@ -53,7 +53,7 @@ returns-in_err-other-clause-tools c =
     let engines = c.args.engines.now.items in
     let last = second_engine crew engines c.index_mut.result.now c.requires.tools c.index_mut.ensures.value in
     let first = first_engine crew engines c.find.new.self c.index_mut-2.result.now c.requires.tools c.index_mut-2.ensures.value in
-    both_used crew engines c.find.new.self c.find-3.new.self c.requires.tools (c.find.ensures.same ∙ last) (c.find-3.ensures.same ∙ first)
+    both_used crew engines c.find.new.self c.find-3.new.self c.requires.tools (c.find.ensures.same.0 ∙ last) (c.find-3.ensures.same.0 ∙ first)
 
 pub verdict-requires-2 : goal.verdict-requires-2
 verdict-requires-2 c =
@@ -93,9 +93,9 @@ returns-clause-rows c =
     let N : EngineValue → Type 0 = λ e. IsNumberAt e at.principal at.action at.resource c.in_ok-number.number in
     let T : CellTexts → WorldValue → Type 0 = λ texts w. IsCellTexts w at.cell texts in
     let H : CellTexts → WorldValue → Type 0 = λ texts w. HasTexts w p a r texts in
-    let said = subst B (ap (λ (e : EngineValue). e.world) read ∙ c.in_ok-other.ensures.same ∙ first ∙ c.requires.crew.survey_before)
+    let said = subst B (ap (λ (e : EngineValue). e.world) read ∙ c.in_ok-other.ensures.same.0 ∙ first ∙ c.requires.crew.survey_before)
     (c.verdict-2.ensures p a r (subst M (sym read) c.in_ok-other.ensures.number)) in
-    let told = subst A (ap (λ (e : EngineValue). e.world) reads ∙ c.in_ok-number.ensures.same ∙ last ∙ c.requires.crew.survey_after)
+    let told = subst A (ap (λ (e : EngineValue). e.world) reads ∙ c.in_ok-number.ensures.same.0 ∙ last ∙ c.requires.crew.survey_after)
     (c.verdict-3.ensures at.principal at.action at.resource (subst N (sym reads) c.in_ok-number.ensures.number)) in
     on_ok_weaker c.add_said-2.result
     (λ added texts of. (

@@ -28,7 +28,7 @@ returns-clause-rows c =
     let old = c.args.rows.now in
     let new = c.add_said.new.rows in
     let V : WorldValue → Type 0 = λ w. IsVerdictAt w at.principal at.action at.resource verdict in
-    let told = subst V (c.in_ok-number.ensures.same ∙ c.requires.tools ∙ c.requires.crew.survey_before)
+    let told = subst V (c.in_ok-number.ensures.same.0 ∙ c.requires.tools ∙ c.requires.crew.survey_before)
     (c.verdict.ensures at.principal at.action at.resource c.in_ok-number.ensures.number) in
     let cell = ap (λ n. n + at.cell) (c.cells.ensures.value ∙ ap (λ (w : WorldValue). world_cells w) c.after.ensures) in
     on_ok_weaker c.add_said.result

@@ -14,4 +14,4 @@ returns-clause-decision c =
     let at = c.args.at in
     let W : WorldValue → Type 0 = λ w. IsDecisionAt w at.principal at.action at.resource c.verdict.result.now.decision in
     let (applicable, request, asked, holds) = c.verdict.ensures at.principal at.action at.resource c.in_ok-number.ensures.number in
-    (at.principal, at.action, at.resource, c.requires, subst W c.in_ok-number.ensures.same (applicable, request, asked, holds.decided))
+    (at.principal, at.action, at.resource, c.requires, subst W c.in_ok-number.ensures.same.0 (applicable, request, asked, holds.decided))

@@ -20,7 +20,7 @@ verdict-requires c =
     let engine = c.number.new.self in
     let class = c.in_ok-class.class in
     let number = c.in_ok-number.number in
-    let is = same_class c.class_of.new.engine engine at.principal at.resource class c.in_ok-number.ensures.same c.in_ok-number.ensures.classes c.in_ok-class.ensures.class in
+    let is = same_class c.class_of.new.engine engine at.principal at.resource class c.in_ok-number.ensures.same.0 c.in_ok-number.ensures.classes c.in_ok-class.ensures.class in
     let (ruling, there, of) = of_class engine at.principal at.resource class (λ p r. IsNumberAt engine p at.action r number) is c.in_ok-number.ensures.number in
     slice_get_within engine.rulings number ruling there
 
@@ -33,11 +33,11 @@ returns-clause-entry c =
     let number = c.in_ok-number.number in
     let verdict = c.verdict.result.now in
     let entry = entry_of brief verdict in
-    let is = same_class c.class_of.new.engine engine at.principal at.resource class c.in_ok-number.ensures.same c.in_ok-number.ensures.classes c.in_ok-class.ensures.class in
+    let is = same_class c.class_of.new.engine engine at.principal at.resource class c.in_ok-number.ensures.same.0 c.in_ok-number.ensures.classes c.in_ok-class.ensures.class in
     let all = said brief engine class at.action number verdict (λ p r. c.verdict.ensures p at.action r) c.in_ok-number.ensures.number in
     let W : WorldValue → Type 0 = λ w. IsEntryAt brief w at.principal at.action at.resource entry in (
       entry,
-      subst W (c.in_ok-number.ensures.same ∙ c.in_ok-class.ensures.same)
+      subst W (c.in_ok-number.ensures.same.0 ∙ c.in_ok-class.ensures.same.0)
           (of_class engine at.principal at.resource class (λ p r. IsEntryAt brief engine.world p at.action r entry) is all),
       c.in_ok-push.ensures,
     )
@@ -55,7 +55,7 @@ returns-clause-leads c =
     let leads = c.class_of.new.leads.items in
     let old = c.args.entries.now in
     let new = c.push.new.entries in
-    let same = c.in_ok-number.ensures.same in
+    let same = c.in_ok-number.ensures.same.0 in
     let all = said brief engine class at.action number verdict (λ p r. c.verdict.ensures p at.action r) c.in_ok-number.ensures.number in
     let kept = c.in_ok-class.ensures.leads brief old c.requires.leads in
     let more = leads_classes brief before engine leads old same ([], c.in_ok-number.ensures.classes ∙ sym (append-nil before.classes)) kept in

@@ -1,4 +1,4 @@
-use Rattle.std.proofs.Common.{◌≡◌, ℕ, List, Option, length, subst, ◌+◌, ◌-◌, ◌≤◌, [], sym, ◌∙◌, arith}
+use Rattle.std.proofs.Common.{◌≡◌, ℕ, List, Option, length, subst, ◌+◌, ◌-◌, ◌≤◌, [], refl, sym, ◌∙◌, arith}
 use Rattle.iam_decision.specs.declared.verdict.Verdict.{Verdict}
 use Rattle.iam_layers.specs.Cell.{IsCell}
 use Rattle.iam_world.specs.World.{WorldValue, world_cells}
@@ -22,6 +22,7 @@ loop-at-init c =
       most = omega (arith, at.cell, c.end_of-end.ensures.value);
       there = λ below. at.is (omega (arith, below, at.cell));
       same = sym c.world-world.ensures;
+      mark = refl;
       so_far = subst Q (sym c.in_ok-entries.ensures) (subst P zero_is (no_entries Is from));
       leads = c.no_leads-leads.ensures c.args.brief c.args.engine.now c.in_ok-entries.entries;
     }
@@ -105,7 +106,8 @@ loop-at-preserved-then-count-most c =
       least = omega (arith, least, next.cell);
       most = omega (arith, next.cell, c.along-at.ensures.cell, c.if-count-most.true, c.left_in_row-most.ensures.cells);
       there = λ below. next.is (omega (arith, below, next.cell));
-      same = c.in_ok-add.ensures.same ∙ so_far.same;
+      same = c.in_ok-add.ensures.same.0 ∙ so_far.same;
+      mark = c.in_ok-add.ensures.same.1 ∙ so_far.mark;
       so_far = subst N (sym next.cell) (subst Q (sym added) more);
       leads = c.in_ok-add.ensures.leads;
     }
@@ -134,6 +136,7 @@ loop-at-preserved c =
       most = omega (arith, c.along-at.ensures.cell, c.in_ok-count.ensures.most, c.left_in_row-most.ensures.cells);
       there = λ below. c.along-at.ensures.is (omega (arith, below, c.along-at.ensures.cell));
       same = so_far.same;
+      mark = so_far.mark;
       so_far = subst R (sym c.along-at.ensures.cell) (row_entries brief world at count from old mid here row so_far.least so_far.so_far (subst A so_far.same adds));
       leads = leads_behind brief engine c.loop-at.leads.items at count old mid so_far.leads adds;
     }

@@ -12,6 +12,7 @@ invariant-loop-at l = record {
   most : l.at.cell ≤ l.end;
   there : l.at.cell < world_cells l.world → IsCell l.world l.at.cell l.at.principal l.at.action l.at.resource;
   same : l.engine.world ≡ l.world;
+  mark : l.engine.surveyed ≡ l.initial.engine.surveyed;
   so_far : AreEntriesOf l.brief l.world l.fn.tile.from (l.at.cell - l.fn.tile.from) l.entries;
   leads : AreLeads l.brief l.engine l.leads.items l.entries;
 }

@@ -8,5 +8,5 @@ returns-clause-decision c =
     let (p, a, r) = c.triple-p.result in
     let E : WorldValue → Type 0 = λ w. IsCell w c.args.cell p a r in
     let W : WorldValue → Type 0 = λ world. IsVerdictAt world p a r c.verdict.result.now in
-    let (applicable, request, asked, holds) = subst W c.in_ok-number.ensures.same (c.verdict.ensures p a r c.in_ok-number.ensures.number) in
+    let (applicable, request, asked, holds) = subst W c.in_ok-number.ensures.same.0 (c.verdict.ensures p a r c.in_ok-number.ensures.number) in
     (p, a, r, subst E c.world-world.ensures c.triple-p.ensures.is, (applicable, request, asked, holds.decided))

@@ -10,5 +10,5 @@ pub returns-clause-number : goal.returns-clause-number
 returns-clause-number c =
     let engine = c.number.new.self in
     let class = c.in_ok-found.found.class in
-    let is = same_class c.class.new.self engine c.args.p c.args.r class c.number.ensures.same c.number.ensures.classes c.in_ok-found.ensures.class in
+    let is = same_class c.class.new.self engine c.args.p c.args.r class c.number.ensures.same.0 c.number.ensures.classes c.in_ok-found.ensures.class in
     IfOk-weaker c.number.result _ _ (λ number all. of_class engine c.args.p c.args.r class (λ p r. IsNumberAt engine p c.args.a r number) is all) c.number.ensures.number

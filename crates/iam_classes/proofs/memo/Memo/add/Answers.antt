@@ -2,10 +2,10 @@ use Rattle.std.proofs.Common.{◌≡◌, ℕ, List, [], ◌∷◌, ◌++◌, Som
 use Rattle.std.specs.List.{slice_get}
 use Rattle.iam_decision.specs.Living.{LivingValue, SharedValue}
 use Rattle.iam_index.specs.Elements.{AreElementNumbers}
-use Rattle.iam_classes.specs.Memo.{AreAnswers, ArePairs, HasShared, HaveRows}
+use Rattle.iam_classes.specs.Memo.{AreAnswers, ArePairs, AreWithin, HasShared, HaveRows, IsFreeFor, MemoValue}
 use Rattle.iam_classes.specs.declared.memo.Class.{Class}
 use Rattle.iam_index.proofs.ListLemmas.{get_next}
-use Rattle.iam_classes.proofs.MemoLemmas.{answers_more, class_rows_more, pairs_more}
+use Rattle.iam_classes.proofs.MemoLemmas.{answers_more, class_rows_more, pairs_more, within_more}
 use Rattle.iam_classes.proofs.memo.Memo.add.Goals as goal
 
 pub invariant_of-self-2 : goal.invariant_of-self-2
@@ -20,6 +20,9 @@ invariant_of-self-2 c =
     let Q : List Class → Type 0 = λ cs. AreAnswers world cs own.rulings.items own.answers.items in
     let R : List Class → Type 0 = λ cs. HaveRows elements cs in
     let L : List LivingValue → Type 0 = λ living. AreElementNumbers elements living class.rows.items in
+    let F : MemoValue → Type 0 = λ memo. IsFreeFor memo.room memo.classes c.args.shared in
+    let W : List Class → Type 0 = λ cs. AreWithin c.take.new.self cs in
+    let left = ? in
     let rows = subst L (c.living.ensures ∙ ap (λ (s : SharedValue). s.living) c.get.ensures) c.in_ok-rows.ensures in
     record {
       pairs_are = subst P (sym c.in_ok-push.ensures.items) (pairs_more world classes (class ∷ []) own.pairs.items right.pairs_are);
@@ -27,6 +30,11 @@ invariant_of-self-2 c =
           subst Q (sym c.in_ok-push.ensures.items)
           (answers_more world classes (class ∷ []) own.rulings.items own.answers.items right.answers_are);
       elements_are = right.elements_are;
+      classes_fit =
+          subst W (sym c.in_ok-push.ensures.items)
+          (within_more own.room c.take.new.self classes class right.classes_fit (subst F (sym c.self.view_is) c.requires) left c.take.ensures.most);
+      rulings_fit = right.rulings_fit;
+      some_fit = right.some_fit;
       rows_are = subst R (sym c.in_ok-push.ensures.items) (class_rows_more elements classes class rows right.rows_are);
     }
 

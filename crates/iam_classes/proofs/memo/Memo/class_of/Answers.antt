@@ -1,7 +1,6 @@
 use Rattle.std.proofs.Common.{ℕ, List, Option, IfSome, subst}
 use Rattle.iam_slots.specs.Slots.{Keeps}
-use Rattle.iam_classes.specs.Engine.{EngineValue, IsClassAt}
-use Rattle.iam_classes.specs.Memo.{HasClass}
+use Rattle.iam_classes.specs.Memo.{HasClass, MemoValue}
 use Rattle.iam_slots.specs.declared.numbered.Numbered.{Numbered}
 use Rattle.iam_index.proofs.ListLemmas.{if_some}
 use Rattle.iam_classes.proofs.memo.Memo.class_of.Goals as goal
@@ -13,8 +12,8 @@ returns c =
     let r = c.args.r in
     let slot = c.slot_at-slot.result in
     let of : ℕ → Numbered = λ class. record { one = p; other = r; number = class } in
-    let E : EngineValue → Type 0 = λ engine. IfSome c.number_in.result (IsClassAt engine p r) in
+    let M : MemoValue → Type 0 = λ memo. IfSome c.number_in.result (HasClass memo.world memo.classes p r) in
     let K : List (Option Numbered) → Type 0 = λ pairs. IfSome c.number_in.result (λ class. Keeps pairs slot (of class)) in
-    subst E c.self.view_is
+    subst M c.self.view_is
     (if_some (λ class. Keeps own.pairs.items slot (of class)) (λ class. HasClass own.world.now own.classes.items p r class) c.number_in.result
     (λ class kept. c.self.invariant.pairs_are slot (of class) kept) (subst K c.as_slice.ensures.value c.number_in.ensures.found))

@@ -1,5 +1,5 @@
 use Rattle.std.proofs.Common.{◌∙◌}
-use Rattle.iam_classes.proofs.EngineLemmas.{no_more}
+use Rattle.iam_classes.proofs.MemoLemmas.{no_more}
 use Rattle.iam_classes.proofs.memo.Memo.class_sharing.Goals as goal
 
 pub returns-in-Some-clause-class : goal.returns-in-Some-clause-class

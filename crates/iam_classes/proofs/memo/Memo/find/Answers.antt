@@ -4,8 +4,7 @@ use Rattle.std.specs.List.{slice_get}
 use Rattle.iam_decision.specs.Living.{AreActing, IsShared, LivingValue, SharedValue, living_value}
 use Rattle.iam_layers.specs.Cell.{IsAction}
 use Rattle.iam_index.specs.Elements.{AreElementNumbers}
-use Rattle.iam_classes.specs.Engine.{EngineValue}
-use Rattle.iam_classes.specs.Memo.{Finds}
+use Rattle.iam_classes.specs.Memo.{Finds, MemoValue}
 use Rattle.iam_classes.specs.declared.memo.Class.{Class}
 use Rattle.iam_index.proofs.ListLemmas.{is_asked, some_same}
 use Rattle.iam_classes.proofs.memo.Memo.find.Goals as goal
@@ -21,7 +20,7 @@ returns c = λ it.
     let text = c.args.text.now in
     let found = c.put_acting.new.found.items in
     let living : List LivingValue = map living_value c.living.result.now in
-    let K : EngineValue → Type 0 = λ engine. n < length engine.classes in
+    let K : MemoValue → Type 0 = λ memo. n < length memo.classes in
     let there : slice_get classes n ≡ Some class =
     slice_get-get_or classes n class (subst K (sym c.self.view_is) c.requires) ∙ ap Some (sym c.index-class.ensures) in
     let own_living = c.living.ensures ∙ ap (λ (s : SharedValue). s.living) c.get-shared.ensures in
@@ -29,7 +28,7 @@ returns c = λ it.
     let R : List (Option ℕ) → Type 0 = λ r. AreElementNumbers elements living r in
     let rows = subst R (sym c.as_slice-rows.ensures.value) (subst L (sym own_living) (c.self.invariant.rows_are n class there)) in
     let A : List LivingValue → Type 0 = λ l. AreActing text l found in
-    let G : EngineValue → Type 0 = λ engine. slice_get engine.classes n ≡ Some it → IsAction engine.world c.args.a text → Finds engine.world it.shared text c.frame.result found in
+    let G : MemoValue → Type 0 = λ memo. slice_get memo.classes n ≡ Some it → IsAction memo.world c.args.a text → Finds memo.world it.shared text c.frame.result found in
     subst G c.self.view_is
     (λ at asked applicable access shared.
     let same : class ≡ it = some_same class it (sym there ∙ at) in

@@ -1,6 +1,5 @@
 use Rattle.std.proofs.Common.{sym, subst}
-use Rattle.iam_classes.specs.Engine.{EngineValue, IsNumberOf}
-use Rattle.iam_classes.specs.Memo.{HasNumber}
+use Rattle.iam_classes.specs.Memo.{HasNumber, MemoValue}
 use Rattle.iam_slots.specs.declared.numbered.Numbered.{Numbered}
 use Rattle.iam_slots.proofs.SlotLemmas.{all_gained}
 use Rattle.iam_classes.proofs.memo.Memo.keep_number.Goals as goal
@@ -11,11 +10,14 @@ invariant_of-self c =
     let right = c.self.invariant in
     let new = c.keep_number.new.slots.items in
     let answer : Numbered = record { one = c.args.class; other = c.args.a; number = c.args.number } in
-    let E : EngineValue → Type 0 = λ engine. IsNumberOf engine c.args.class c.args.a c.args.number in
+    let M : MemoValue → Type 0 = λ memo. HasNumber memo.world memo.classes memo.rulings c.args.class c.args.a c.args.number in
     let P : Numbered → Type 0 = λ a. HasNumber own.world.now own.classes.items own.rulings.items a.one a.other a.number in
     record {
       pairs_are = right.pairs_are;
-      answers_are = all_gained P own.answers.items new answer c.keep_number.ensures.gains right.answers_are (subst E (sym c.self.view_is) c.requires);
+      answers_are = all_gained P own.answers.items new answer c.keep_number.ensures.gains right.answers_are (subst M (sym c.self.view_is) c.requires);
       elements_are = right.elements_are;
       rows_are = right.rows_are;
+      classes_fit = right.classes_fit;
+      rulings_fit = right.rulings_fit;
+      some_fit = right.some_fit;
     }

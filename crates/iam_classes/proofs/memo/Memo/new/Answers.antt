@@ -1,9 +1,9 @@
-use Rattle.std.proofs.Common.{sym, subst}
+use Rattle.std.proofs.Common.{refl, sym, subst}
 use Rattle.iam_world.specs.World.{WorldValue}
 use Rattle.iam_index.specs.Elements.{AreElements}
 use Rattle.iam_classes.specs.Memo.{HasClass, HasNumber}
 use Rattle.iam_slots.specs.declared.numbered.Numbered.{Numbered}
-use Rattle.iam_classes.proofs.MemoLemmas.{no_rows}
+use Rattle.iam_classes.proofs.MemoLemmas.{no_rows, none_within}
 use Rattle.iam_slots.proofs.SlotLemmas.{all_empty}
 use Rattle.iam_classes.proofs.memo.Memo.new.Goals as goal
 
@@ -20,4 +20,7 @@ invariant_of-result c =
           c.in_ok-empty_slots.ensures.empty;
       elements_are = subst W (sym c.world-world.ensures) c.elements.ensures;
       rows_are = no_rows c.elements.result.now.elements.items classes c.new.ensures.items;
+      classes_fit = none_within _ classes c.new.ensures.items refl;
+      rulings_fit = ?;
+      some_fit = ?;
     }

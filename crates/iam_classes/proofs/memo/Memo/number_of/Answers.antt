@@ -1,7 +1,6 @@
 use Rattle.std.proofs.Common.{ℕ, List, Option, IfSome, subst}
 use Rattle.iam_slots.specs.Slots.{Keeps}
-use Rattle.iam_classes.specs.Engine.{EngineValue, IsNumberOf}
-use Rattle.iam_classes.specs.Memo.{HasNumber}
+use Rattle.iam_classes.specs.Memo.{HasNumber, MemoValue}
 use Rattle.iam_slots.specs.declared.numbered.Numbered.{Numbered}
 use Rattle.iam_index.proofs.ListLemmas.{if_some}
 use Rattle.iam_classes.proofs.memo.Memo.number_of.Goals as goal
@@ -13,8 +12,8 @@ returns c =
     let a = c.args.a in
     let slot = c.slot_of-slot.result in
     let of : ℕ → Numbered = λ number. record { one = n; other = a; number = number } in
-    let E : EngineValue → Type 0 = λ engine. IfSome c.number_in.result (IsNumberOf engine n a) in
+    let M : MemoValue → Type 0 = λ memo. IfSome c.number_in.result (HasNumber memo.world memo.classes memo.rulings n a) in
     let K : List (Option Numbered) → Type 0 = λ answers. IfSome c.number_in.result (λ number. Keeps answers slot (of number)) in
-    subst E c.self.view_is
+    subst M c.self.view_is
     (if_some (λ number. Keeps own.answers.items slot (of number)) (λ number. HasNumber own.world.now own.classes.items own.rulings.items n a number)
     c.number_in.result (λ number kept. c.self.invariant.answers_are slot (of number) kept) (subst K c.as_slice.ensures.value c.number_in.ensures.found))

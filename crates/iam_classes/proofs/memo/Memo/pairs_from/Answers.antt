@@ -1,8 +1,7 @@
 use Rattle.std.proofs.Common.{◌-◌, List, Option, drop, length, subst, sym, take}
 use Rattle.std.proofs.lemmas.List.{take_rest}
 use Rattle.iam_slots.specs.Slots.{AllAre}
-use Rattle.iam_classes.specs.Engine.{EngineValue, IsClassAt}
-use Rattle.iam_classes.specs.Memo.{HasClass}
+use Rattle.iam_classes.specs.Memo.{ArePairs, HasClass, MemoValue}
 use Rattle.iam_slots.specs.declared.numbered.Numbered.{Numbered}
 use Rattle.iam_classes.proofs.MemoLemmas.{pairs_behind}
 use Rattle.iam_classes.proofs.memo.Memo.pairs_from.Goals as goal
@@ -16,6 +15,5 @@ returns-then-slot-pairs c =
     let S : List (Option Numbered) → Type 0 = AllAre P in
     let rest : S (take (length pairs - slot) (drop slot pairs)) =
     subst S (sym (take_rest pairs slot)) (pairs_behind P slot pairs (subst S (sym c.as_slice-pairs.ensures.value) c.self.invariant.pairs_are)) in
-    let E : EngineValue → Type 0 = λ engine.
-    AllAre (λ (pair : Numbered). IsClassAt engine pair.one pair.other pair.number) (take (length pairs - slot) (drop slot pairs)) in
-    subst E c.self.view_is rest
+    let M : MemoValue → Type 0 = λ memo. ArePairs memo.world memo.classes (take (length pairs - slot) (drop slot pairs)) in
+    subst M c.self.view_is rest

@@ -19,6 +19,9 @@ invariant_of-self-2 c =
           (answers_behind world own.classes.items own.rulings.items (c.in_ok-ruling.ruling ∷ []) own.answers.items right.answers_are);
       elements_are = right.elements_are;
       rows_are = right.rows_are;
+      classes_fit = right.classes_fit;
+      rulings_fit = ?;
+      some_fit = right.some_fit;
     }
 
 pub returns-clause-number : goal.returns-clause-number
