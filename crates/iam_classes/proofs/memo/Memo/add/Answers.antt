@@ -1,6 +1,7 @@
-use Rattle.std.proofs.Common.{◌≡◌, ℕ, List, [], ◌∷◌, ◌++◌, Some, length, refl, sym, ap, ◌∙◌, subst, arith}
+use Rattle.std.proofs.Common.{◌≡◌, ℕ, List, [], ◌∷◌, ◌++◌, ◌+◌, ◌-◌, Some, length, refl, sym, ap, ◌∙◌, subst, arith}
+use Rattle.std.proofs.lemmas.List.{length-map}
 use Rattle.std.specs.List.{slice_get}
-use Rattle.iam_decision.specs.Living.{LivingValue, SharedValue}
+use Rattle.iam_decision.specs.Living.{LivingValue, SharedValue, living_value}
 use Rattle.iam_index.specs.Elements.{AreElementNumbers}
 use Rattle.iam_classes.specs.Memo.{AreAnswers, ArePairs, AreWithin, HasShared, HaveRows, IsFreeFor, MemoValue}
 use Rattle.iam_classes.specs.declared.memo.Class.{Class}
@@ -20,10 +21,12 @@ invariant_of-self-2 c =
     let Q : List Class → Type 0 = λ cs. AreAnswers world cs own.rulings.items own.answers.items in
     let R : List Class → Type 0 = λ cs. HaveRows elements cs in
     let L : List LivingValue → Type 0 = λ living. AreElementNumbers elements living class.rows.items in
+    let own_living = c.living-living.ensures ∙ ap (λ (s : SharedValue). s.living) c.get.ensures in
     let F : MemoValue → Type 0 = λ memo. IsFreeFor memo.room memo.classes c.args.shared in
     let W : List Class → Type 0 = λ cs. AreWithin c.take.new.self cs in
-    let left = ? in
-    let rows = subst L (c.living.ensures ∙ ap (λ (s : SharedValue). s.living) c.get.ensures) c.in_ok-rows.ensures in
+    let many = sym (length-map c.living-living.result.now living_value) ∙ ap (λ (l : List LivingValue). length l) own_living in
+    let left = c.take.ensures.left ∙ ap (λ n. own.room.left - (n + 1)) many in
+    let rows = subst L own_living c.in_ok-rows.ensures in
     record {
       pairs_are = subst P (sym c.in_ok-push.ensures.items) (pairs_more world classes (class ∷ []) own.pairs.items right.pairs_are);
       answers_are =

@@ -1,4 +1,5 @@
-use Rattle.std.proofs.Common.{refl, sym, subst}
+use Rattle.std.proofs.Common.{List, ap, arith, length, refl, sym, subst}
+use Rattle.iam_decision.specs.Ruling.{RulingValue}
 use Rattle.iam_world.specs.World.{WorldValue}
 use Rattle.iam_index.specs.Elements.{AreElements}
 use Rattle.iam_classes.specs.Memo.{HasClass, HasNumber}
@@ -21,6 +22,6 @@ invariant_of-result c =
       elements_are = subst W (sym c.world-world.ensures) c.elements.ensures;
       rows_are = no_rows c.elements.result.now.elements.items classes c.new.ensures.items;
       classes_fit = none_within _ classes c.new.ensures.items refl;
-      rulings_fit = ?;
-      some_fit = ?;
+      rulings_fit = omega (arith, ap (λ (rs : List RulingValue). length rs) c.new-2.ensures.items);
+      some_fit = omega (arith, c.max-2.ensures);
     }

@@ -1,7 +1,7 @@
-use Rattle.std.proofs.Common.{◌≡◌, ℕ, List, [], ◌∷◌, ◌++◌, Some, length, sym, subst, arith}
+use Rattle.std.proofs.Common.{◌≡◌, ◌<◌, ℕ, List, [], ◌∷◌, ◌++◌, Some, length, sym, subst, arith}
 use Rattle.std.specs.List.{slice_get}
 use Rattle.iam_decision.specs.Ruling.{RulingValue}
-use Rattle.iam_classes.specs.Memo.{AreAnswers, HasRuling}
+use Rattle.iam_classes.specs.Memo.{AreAnswers, HasRuling, MemoValue}
 use Rattle.iam_index.proofs.ListLemmas.{get_next}
 use Rattle.iam_classes.proofs.MemoLemmas.{answers_behind}
 use Rattle.iam_classes.proofs.memo.Memo.ruling.Goals as goal
@@ -12,6 +12,7 @@ invariant_of-self-2 c =
     let right = c.self.invariant in
     let world = own.world.now in
     let Q : List RulingValue → Type 0 = λ rulings. AreAnswers world own.classes.items rulings own.answers.items in
+    let B : MemoValue → Type 0 = λ memo. length memo.rulings < memo.most_verdicts in
     record {
       pairs_are = right.pairs_are;
       answers_are =
@@ -20,7 +21,7 @@ invariant_of-self-2 c =
       elements_are = right.elements_are;
       rows_are = right.rows_are;
       classes_fit = right.classes_fit;
-      rulings_fit = ?;
+      rulings_fit = omega (arith, c.in_ok-push.ensures.len, subst B (sym c.self.view_is) c.bound_rulings.ensures.room);
       some_fit = right.some_fit;
     }
 
