@@ -290,7 +290,7 @@ impl<'a> Survey<'a> {
 
 /// Whether so many workers had better begin with a survey: where the index lists more statements of one principal than a worker's
 /// share of those of all principals, so that one worker would be busy with it while the others have ended.
-pub fn wants_survey(index: &Index<'_>, workers: u32) -> bool {
+pub fn wants_survey<'a>(index: &'a Index<'a>, workers: u32) -> bool {
     let world = index.world();
     let pairs = world.principals().saturating_mul(world.resources());
     if workers < 2 || pairs == 0 || world.actions() == 0 || pairs > MOST_PAIRS {
