@@ -1,3 +1,4 @@
 mod MemoLemmas
 mod SurveyLemmas
+mod WordsLemmas
 pub mod EngineLemmas

@@ -3,3 +3,4 @@ pub mod Engine
 pub mod Keys
 pub mod Memo
 pub mod Survey
+pub mod Words

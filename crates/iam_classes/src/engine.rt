@@ -4,6 +4,7 @@ ghost use Rattle.std.specs.Prelude.{◌≡◌};
 use crate::memo::{Found, Memo};
 use crate::source::Source;
 use crate::survey::Survey;
+use crate::words::Words;
 use iam_index::Index;
 use iam_layers::{Decision, Matched, Verdict, World};
 use iam_slots::Numbered;
@@ -17,6 +18,7 @@ use std::marker::Model;
 pub struct ClassEngine<'a> {
     source: Source<'a>,
     memo: Memo<'a>,
+    words: Words<'a>,
     // Room for the statements that match a request.
     found: Vec<Matched>,
 }
@@ -24,12 +26,13 @@ pub struct ClassEngine<'a> {
 impl<'a> Model for ClassEngine<'a> {
     ghost use Rattle.std.specs.Prelude.{◌≡◌};
     ghost use Rattle.iam_classes.specs.Engine.{EngineValue};
+    ghost use Rattle.iam_classes.specs.Words.{AreWords};
 
     ghost Value = { EngineValue };
 
     ghost view = { λ engine. record { world = engine.memo.world; classes = engine.memo.classes; rulings = engine.memo.rulings; surveyed = engine.source.surveyed } };
 
-    ghost invariant = { λ engine. engine.source.world ≡ engine.memo.world };
+    ghost invariant = { λ engine. (engine.source.world ≡ engine.memo.world) × AreWords engine.memo.world engine.memo.classes engine.words };
 }
 
 impl<'a> ClassEngine<'a> {
@@ -77,6 +80,7 @@ impl<'a> ClassEngine<'a> {
         Ok(ClassEngine {
             source: Source::new(alloc, index, survey),
             memo,
+            words: Words::new(alloc)?,
             found: Vec::new(alloc),
         })
     }
@@ -166,8 +170,8 @@ impl<'a> ClassEngine<'a> {
         ensures let_go { IfOk result (λ found. found.cleared ≡ true → length self.new.classes ≡ 1) }
         ensures same { IsSameEngine self.old self.new }
     {
-        let shared = self.source.shared(alloc, p, r)?;
-        self.memo.class_with(alloc, p, r, shared)
+        self.words
+            .class_at(alloc, &mut self.source, &mut self.memo, p, r)
     }
 
     /// The number of the verdict on the requests of a class for action a. It is that of the verdict until the next call.

@@ -1,13 +1,15 @@
 // The derived keys that were made last, which further resources of their accounts may share.
-ghost use Rattle.std.specs.Prelude.{◌<◌, All, IfOk, IfSome, length};
+ghost use Rattle.std.specs.Prelude.{[], ◌≡◌, ◌<◌, ℕ, All, IfOk, IfSome, length};
 ghost use Rattle.iam_layers.specs.Cell.{IsDerivedAt, IsSharedAt};
 ghost use Rattle.iam_world.specs.World.{WorldValue};
-ghost use Rattle.iam_classes.specs.Keys.{AreKeys};
+ghost use Rattle.iam_index.specs.Index.{ListsResource};
+ghost use Rattle.iam_classes.specs.Keys.{AreKeys, HasKeys, IsReady};
+ghost use Rattle.iam_classes.specs.Words.{IsWordAt};
 
 use iam_context::Derived;
 use iam_index::Index;
 use iam_layers::{Shared, World};
-use iam_living::living;
+use iam_living::{Listing, living};
 use iam_text::OutOfMemory;
 use std::alloc::Global;
 
@@ -20,6 +22,13 @@ pub struct Keys {
     pub principal: u64,
     pub resource: u64,
     pub derived: Derived,
+}
+
+/// Derived keys that are kept, by their number, or that there was no memory to keep.
+#[derive(Drop)]
+pub enum Ready {
+    Kept(usize),
+    Made(Derived),
 }
 
 /// No derived keys yet.
@@ -44,21 +53,83 @@ pub fn shared_by<'a>(
     ensures keys { All (AreKeys index.entry.now) kept.new.items }
     ensures shared { IfOk result (IsSharedAt index.entry.now p r) }
 {
-    let world = index.world();
-    if let Some(derived) = known(world, kept.as_slice(), p, r) {
-        return shared_with(alloc, index, p, r, derived);
+    let ready = make_ready(alloc, index.world(), kept, p, r)?;
+    shared_with(alloc, index, p, r, keys_of(&ready, kept.as_slice()))
+}
+
+/// Which of the listed statements of principal p live in its requests for resource r, where a word tells what these share: where no
+/// statement stands with the resource.
+pub fn word_by<'a>(
+    alloc: Global,
+    index: &'a Index<'a>,
+    listing: &Listing<'a>,
+    kept: &mut Vec<Keys>,
+    p: u64,
+    r: u64,
+) -> Result<Option<u64>, OutOfMemory>
+    requires principal { p < length index.now.principals }
+    requires resource { r < length index.now.resources }
+    requires listing { listing.now.world ≡ index.now }
+    requires keys { All (AreKeys index.now) kept.old.items }
+    ensures keys { All (AreKeys index.entry.now) kept.new.items }
+    ensures word { IfOk result (λ found. IfSome found (IsWordAt index.entry.now p r listing.now.statements)) }
+{
+    if !index.resource_statements(r).is_empty() {
+        return Ok(None);
+    }
+    let ready = make_ready(alloc, index.world(), kept, p, r)?;
+    word_with(
+        alloc,
+        index,
+        listing,
+        p,
+        r,
+        keys_of(&ready, kept.as_slice()),
+    )
+}
+
+/// The derived keys of principal p's requests for resource r: where they are not found among those that are kept, they are made, and
+/// kept beside others of the principal.
+fn make_ready(
+    alloc: Global,
+    world: &World,
+    kept: &mut Vec<Keys>,
+    p: u64,
+    r: u64,
+) -> Result<Ready, OutOfMemory>
+    requires principal { p < length world.now.principals }
+    requires resource { r < length world.now.resources }
+    requires keys { All (AreKeys world.now) kept.old.items }
+    ensures keys { All (AreKeys world.now) kept.new.items }
+    ensures ready { IfOk result (IsReady world.now p r kept.new.items) }
+{
+    if let Some(n) = known(world, kept.as_slice(), p, r) {
+        return Ok(Ready::Kept(n));
     }
     let derived = world.derived(alloc, p, r)?;
-    let shared = shared_with(alloc, index, p, r, &derived)?;
-    put(
-        kept,
-        Keys {
-            principal: p,
-            resource: r,
-            derived,
-        },
-    );
-    Ok(shared)
+    kept.truncate(staying(kept.as_slice(), p));
+    match kept.reserve(1) {
+        Ok(()) => (),
+        Err(_) => return Ok(Ready::Made(derived)),
+    }
+    let n = kept.len();
+    kept.push(Keys {
+        principal: p,
+        resource: r,
+        derived,
+    })?;
+    Ok(Ready::Kept(n))
+}
+
+/// The derived keys.
+fn keys_of<'k>(ready: &'k Ready, kept: &'k [Keys]) -> &'k Derived
+    requires { (world : WorldValue) × (p : ℕ) × (r : ℕ) × IsReady world p r kept.now ready.now }
+    ensures { (world : WorldValue) (p r : ℕ) → IsReady world p r kept.now ready.now → IsDerivedAt world p r result.now.items }
+{
+    match ready {
+        Ready::Kept(n) => &kept[*n].derived,
+        Ready::Made(derived) => derived,
+    }
 }
 
 /// What the requests of principal p for resource r share, where these derived keys complete their context: found among the
@@ -82,16 +153,38 @@ fn shared_with<'a: 'c, 'c>(
     Ok(Shared::of(index.frame(p, r), living))
 }
 
-/// Derived keys of principal p's requests for resource r, where some are found among these.
-fn known<'k>(world: &World, kept: &'k [Keys], p: u64, r: u64) -> Option<&'k Derived>
+/// Which of the listed statements of principal p live in its requests for resource r, with which none stands, where these derived keys
+/// complete their context.
+fn word_with<'a: 'c, 'c>(
+    alloc: Global,
+    index: &'a Index<'a>,
+    listing: &Listing<'a>,
+    p: u64,
+    r: u64,
+    derived: &'c Derived,
+) -> Result<Option<u64>, OutOfMemory>
+    requires principal { p < length index.now.principals }
+    requires resource { r < length index.now.resources }
+    requires listing { listing.now.world ≡ index.now }
+    requires derived { IsDerivedAt index.now p r derived.now.items }
+    requires alone { ListsResource index.now r [] }
+    ensures { IfOk result (λ found. IfSome found (IsWordAt index.entry.now p r listing.now.statements)) }
+{
+    let context = index.parts().context(p, r, derived);
+    let access = index.world().access(p, r, &context);
+    listing.word(alloc, r, access)
+}
+
+/// The number of derived keys of principal p's requests for resource r, where some are found among these.
+fn known(world: &World, kept: &[Keys], p: u64, r: u64) -> Option<usize>
     requires resource { r < length world.now.resources }
     requires keys { All (AreKeys world.now) kept.now }
-    ensures { IfSome result (λ derived. IsDerivedAt world.now p r derived.now.items) }
+    ensures { IfSome result (HasKeys world.now p r kept.now) }
 {
     for i in 0..kept.len() {
         let keys = &kept[i];
         if keys.principal == p && world.has_same_derived(keys.resource, r) {
-            return Some(&keys.derived);
+            return Some(i);
         }
     }
     None
@@ -103,16 +196,5 @@ fn staying(kept: &[Keys], p: u64) -> usize {
     match kept.first() {
         Some(keys) if keys.principal == p && kept.len() < MOST => kept.len(),
         _ => 0,
-    }
-}
-
-/// Puts derived keys behind those that stay. Where memory is refused, these are not kept.
-fn put(kept: &mut Vec<Keys>, keys: Keys)
-    ensures { (world : WorldValue) → All (AreKeys world) kept.old.items → AreKeys world keys → All (AreKeys world) kept.new.items }
-{
-    kept.truncate(staying(kept.as_slice(), keys.principal));
-    match kept.push(keys) {
-        Ok(()) => (),
-        Err(_) => (),
     }
 }

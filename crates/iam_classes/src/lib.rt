@@ -8,6 +8,7 @@ mod keys;
 mod memo;
 mod source;
 mod survey;
+mod words;
 
 pub use engine::ClassEngine;
 pub use iam_index::Index;

@@ -174,14 +174,31 @@ impl<'a> Memo<'a> {
     ) -> Result<Found, OutOfMemory>
         requires { IsSharedAt self.old.world p r shared }
         ensures class { IfOk result (λ found. HasClass self.new.world self.new.classes p r found.class) }
+        ensures shared { IfOk result (λ found. HasShared self.new.classes shared.entry found.class) }
         ensures kept { IfOk result (λ found. found.cleared ≡ false → HasMore self.old.classes self.new.classes) }
         ensures let_go { IfOk result (λ found. found.cleared ≡ true → length self.new.classes ≡ 1) }
         ensures same { IsSameMemo self.old self.new }
     {
         let found = self.class_sharing(alloc, shared)?;
-        let slot = slot_at(p, self.resources, r, self.pairs.len());
-        keep_number(&mut self.pairs, slot, p, r, found.class);
+        self.keep_class(p, r, found.class);
         Ok(found)
+    }
+
+    /// Keeps the class of principal p and resource r.
+    pub fn keep_class(&mut self, p: u64, r: u64, class: usize)
+        requires { HasClass self.old.world self.old.classes p r class }
+        ensures { self.new ≡ self.old }
+    {
+        let slot = slot_at(p, self.resources, r, self.pairs.len());
+        keep_number(&mut self.pairs, slot, p, r, class);
+    }
+
+    /// What the decisions on requests of a class ask beside the statements.
+    pub fn frame(&self, class: usize) -> Frame
+        requires { class < length self.now.classes }
+        ensures { (it : Class) → slice_get self.now.classes class ≡ Some it → result ≡ it.shared.frame }
+    {
+        self.classes[class].shared.get().frame()
     }
 
     /// The class of requests that share this: one that is there, or a new one. Where there is no room for a new one,

@@ -2,10 +2,11 @@
 ghost use Rattle.std.specs.Prelude.{◌≡◌};
 
 use crate::held::Held;
-use crate::keys::{Keys, no_keys, shared_by};
+use crate::keys::{Keys, no_keys, shared_by, word_by};
 use crate::survey::Survey;
 use iam_index::Index;
-use iam_layers::{Shared, World};
+use iam_layers::{Frame, Shared, World};
+use iam_living::Listing;
 use iam_text::OutOfMemory;
 use std::alloc::Global;
 use std::marker::Model;
@@ -34,7 +35,9 @@ impl<'a> Model for Source<'a> {
 
 impl<'a> Source<'a> {
     ghost use Rattle.std.specs.Prelude.{◌≡◌, ◌<◌, IfOk, IfSome, is_some, length};
-    ghost use Rattle.iam_layers.specs.Cell.{IsSharedAt};
+    ghost use Rattle.iam_decision.specs.Applicable.{ApplicableValue, frame_of};
+    ghost use Rattle.iam_layers.specs.Cell.{IsApplicableAt, IsSharedAt};
+    ghost use Rattle.iam_classes.specs.Words.{IsWordAt};
 
     /// An index, and a survey of its world where there is one.
     pub fn new(alloc: Global, index: &'a Index<'a>, survey: Option<&'a Survey<'a>>) -> Source<'a>
@@ -53,6 +56,43 @@ impl<'a> Source<'a> {
         ensures { result.now ≡ self.now.world }
     {
         self.index.world()
+    }
+
+    /// The index.
+    pub fn index(&self) -> &'a Index<'a>
+        ensures { result.now ≡ self.now.world }
+    {
+        self.index
+    }
+
+    /// What a decision on principal p's requests for resource r asks beside the statements.
+    pub fn frame(&self, p: u64, r: u64) -> Frame
+        requires principal { p < length self.now.world.principals }
+        requires resource { r < length self.now.world.resources }
+        ensures { (applicable : ApplicableValue) → IsApplicableAt self.now.world p r applicable → result ≡ frame_of applicable }
+    {
+        self.index.frame(p, r)
+    }
+
+    /// Which of the statements listed for principal p live in its requests for resource r, as a word: where it is not known already what
+    /// these share, and no statement stands with the resource.
+    pub fn word(
+        &mut self,
+        alloc: Global,
+        listing: &Listing<'a>,
+        p: u64,
+        r: u64,
+    ) -> Result<Option<u64>, OutOfMemory>
+        requires principal { p < length self.old.world.principals }
+        requires resource { r < length self.old.world.resources }
+        requires listing { listing.now.world ≡ self.old.world }
+        ensures word { IfOk result (λ found. IfSome found (IsWordAt self.old.world p r listing.now.statements)) }
+        ensures same { self.new ≡ self.old }
+    {
+        if self.lent(p, r).is_some() {
+            return Ok(None);
+        }
+        word_by(alloc, self.index, listing, &mut self.keys, p, r)
     }
 
     /// What the requests of principal p for resource r share.

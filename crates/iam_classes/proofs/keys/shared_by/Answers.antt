@@ -1,18 +1,23 @@
 use Rattle.std.proofs.Common.{List, All, sym, subst}
-use Rattle.iam_layers.specs.Cell.{IsDerivedAt}
 use Rattle.iam_world.specs.World.{WorldValue}
-use Rattle.iam_classes.specs.Keys.{AreKeys}
+use Rattle.iam_classes.specs.Keys.{AreKeys, IsReady}
 use Rattle.iam_classes.specs.declared.keys.Keys.{Keys}
 use Rattle.iam_classes.proofs.keys.shared_by.Goals as goal
 
-pub known-requires-clause-keys : goal.known-requires-clause-keys
-known-requires-clause-keys c =
-    let W : WorldValue → Type 0 = λ w. All (AreKeys w) c.as_slice.result.now in
-    let L : List Keys → Type 0 = λ kept. All (AreKeys c.args.index.now) kept in
-    subst W (sym c.world-world.ensures) (subst L (sym c.as_slice.ensures.value) c.requires.keys)
+pub make_ready-requires-clause-keys : goal.make_ready-requires-clause-keys
+make_ready-requires-clause-keys c =
+    let W : WorldValue → Type 0 = λ w. All (AreKeys w) c.args.kept.now.items in subst W (sym c.world.ensures) c.requires.keys
+
+pub returns-in_err-ready-clause-keys : goal.returns-in_err-ready-clause-keys
+returns-in_err-ready-clause-keys c =
+    let W : WorldValue → Type 0 = λ w. All (AreKeys w) c.make_ready.new.kept.items in subst W c.world.ensures c.in_err-ready.ensures.keys
+
+pub keys_of-requires : goal.keys_of-requires
+keys_of-requires c =
+    let world = c.world.result.now in
+    let L : List Keys → Type 0 = λ kept. IsReady world c.args.p c.args.r kept c.in_ok-ready.ready in
+    (world, c.args.p, c.args.r, subst L (sym c.as_slice.ensures.value) c.in_ok-ready.ensures.ready)
 
 pub returns-clause-keys : goal.returns-clause-keys
 returns-clause-keys c =
-    let D : WorldValue → Type 0 = λ w. IsDerivedAt w c.args.p c.args.r c.in_ok-derived.derived.items in
-    c.put.ensures c.args.index.now c.requires.keys
-    (record { resource = c.requires.resource; derived = subst D c.world-world.ensures c.in_ok-derived.ensures })
+    let W : WorldValue → Type 0 = λ w. All (AreKeys w) c.make_ready.new.kept.items in subst W c.world.ensures c.in_ok-ready.ensures.keys

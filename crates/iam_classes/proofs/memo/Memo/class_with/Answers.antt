@@ -1,33 +1,21 @@
 use Rattle.std.proofs.Common.{sym, subst}
-use Rattle.iam_classes.specs.Memo.{HasClass, MemoValue}
-use Rattle.iam_slots.specs.declared.numbered.Numbered.{Numbered}
-use Rattle.iam_slots.proofs.SlotLemmas.{all_gained}
+use Rattle.iam_classes.specs.Memo.{HasClass, HasShared, MemoValue}
 use Rattle.iam_classes.proofs.MemoLemmas.{shared_class}
 use Rattle.iam_classes.proofs.memo.Memo.class_with.Goals as goal
 
-pub invariant_of-self : goal.invariant_of-self
-invariant_of-self c =
-    let own = c.self.inside in
-    let right = c.self.invariant in
-    let new = c.keep_number.new.slots.items in
-    let n = c.in_ok-found.found.class in
-    let pair : Numbered = record { one = c.args.p; other = c.args.r; number = n } in
-    let P : Numbered → Type 0 = λ p. HasClass own.world.now own.classes.items p.one p.other p.number in
-    let M : MemoValue → Type 0 = λ memo. HasClass memo.world memo.classes c.args.p c.args.r n in
-    let is = shared_class c.args.self.now c.class_sharing.new.self c.args.p c.args.r n c.args.shared c.in_ok-found.ensures.same.0 c.requires c.in_ok-found.ensures.class in
-    record {
-      pairs_are = all_gained P own.pairs.items new pair c.keep_number.ensures.gains right.pairs_are (subst M (sym c.self.view_is) is);
-      answers_are = right.answers_are;
-      elements_are = right.elements_are;
-      rows_are = right.rows_are;
-      classes_fit = right.classes_fit;
-      rulings_fit = right.rulings_fit;
-      some_fit = right.some_fit;
-    }
+pub keep_class-requires : goal.keep_class-requires
+keep_class-requires c =
+    shared_class c.args.self.now c.class_sharing.new.self c.args.p c.args.r c.in_ok-found.found.class c.args.shared c.in_ok-found.ensures.same.0 c.requires
+    c.in_ok-found.ensures.class
 
 pub returns-clause-class : goal.returns-clause-class
 returns-clause-class c =
     let n = c.in_ok-found.found.class in
     let M : MemoValue → Type 0 = λ memo. HasClass memo.world memo.classes c.args.p c.args.r n in
-    subst M (sym c.self.view_is)
+    subst M (sym c.keep_class.ensures)
     (shared_class c.args.self.now c.class_sharing.new.self c.args.p c.args.r n c.args.shared c.in_ok-found.ensures.same.0 c.requires c.in_ok-found.ensures.class)
+
+pub returns-clause-shared : goal.returns-clause-shared
+returns-clause-shared c =
+    let M : MemoValue → Type 0 = λ memo. HasShared memo.classes c.args.shared c.in_ok-found.found.class in
+    subst M (sym c.keep_class.ensures) c.in_ok-found.ensures.class

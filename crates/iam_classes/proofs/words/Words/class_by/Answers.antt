@@ -1,0 +1,85 @@
+use Rattle.std.proofs.Common.{◌≡◌, ℕ, ◌∙◌, Some, sym, ap, subst}
+use Rattle.std.proofs.lemmas.Option.{slice_get_within}
+use Rattle.std.specs.List.{slice_get}
+use Rattle.iam_match.specs.Statement.{AccessValue}
+use Rattle.iam_decision.specs.Applicable.{ApplicableValue, frame_of}
+use Rattle.iam_decision.specs.Living.{AreLiving, SharedValue}
+use Rattle.iam_layers.specs.Cell.{IsApplicableAt, IsPrincipal, IsSharedAt}
+use Rattle.iam_world.specs.World.{WorldValue}
+use Rattle.iam_living.specs.Listing.{Lists}
+use Rattle.iam_index.proofs.IndexLemmas.{access_applies}
+use Rattle.iam_classes.specs.Memo.{HasClass, HasShared, MemoValue}
+use Rattle.iam_classes.specs.Words.{AreWords, IsWord, IsWordAt}
+use Rattle.iam_classes.specs.declared.memo.Class.{Class}
+use Rattle.iam_classes.specs.declared.words.Word.{Word}
+use Rattle.iam_classes.proofs.WordsLemmas.{asked_by, class_found, class_is_word, shared_by_word, words_kept, words_of}
+use Rattle.iam_classes.proofs.words.Words.class_by.Goals as goal
+
+pub frame-requires : goal.frame-requires
+frame-requires c =
+    let memo = c.args.memo.now in
+    let (asker, is, same, told) = c.requires.word in
+    let (asked, all) = words_of memo.world memo.classes c.args.self.now asker is c.requires.words in
+    let (slot, at) = c.in-Some.ensures in
+    let kept : Word = record { word = c.args.word; class = c.in-Some.class } in
+    let word = all slot kept at in
+    slice_get_within memo.classes c.in-Some.class word.class word.at
+
+pub keep_class-requires : goal.keep_class-requires
+keep_class-requires c =
+    let memo = c.args.memo.now in
+    let (asker, is, same, told) = c.requires.word in
+    let (slot, at) = c.in-Some.ensures in
+    let F : WorldValue → Type 0 = λ w. (a : ApplicableValue) → IsApplicableAt w c.args.p c.args.r a → c.frame-frame.result ≡ frame_of a in
+    class_found c.same_word.ensures memo.world memo.classes c.args.self.now asker c.args.p c.args.r c.args.word c.in-Some.class slot c.frame-frame.result is
+    c.requires.words same told at (subst F c.requires.world c.frame-frame.ensures)
+    (λ it there. sym (c.frame.ensures it there) ∙ c.are_same.ensures c.if-are_same.true)
+
+pub returns-then-are_same-clause-class : goal.returns-then-are_same-clause-class
+returns-then-are_same-clause-class c =
+    let memo = c.args.memo.now in
+    let (asker, is, same, told) = c.requires.word in
+    let (slot, at) = c.in-Some.ensures in
+    let F : WorldValue → Type 0 = λ w. (a : ApplicableValue) → IsApplicableAt w c.args.p c.args.r a → c.frame-frame.result ≡ frame_of a in
+    let M : MemoValue → Type 0 = λ memo. HasClass memo.world memo.classes c.args.p c.args.r c.in-Some.class in
+    subst M (sym c.keep_class.ensures)
+    (class_found c.same_word.ensures memo.world memo.classes c.args.self.now asker c.args.p c.args.r c.args.word c.in-Some.class slot c.frame-frame.result is
+    c.requires.words same told at (subst F c.requires.world c.frame-frame.ensures)
+    (λ it there. sym (c.frame.ensures it there) ∙ c.are_same.ensures c.if-are_same.true))
+
+pub class_with-requires-clause-shared : goal.class_with-requires-clause-shared
+class_with-requires-clause-shared c =
+    let memo = c.args.memo.now in
+    let p = c.args.p in
+    let r = c.args.r in
+    let (asker, is, same, told) = c.requires.word in
+    let (a, access, there, bits, alone) = told in
+    let (asked, all) = words_of memo.world memo.classes c.args.self.now asker is c.requires.words in
+    let L : ℕ → Type 0 = λ q. Lists memo.world q asker.listing.statements in
+    let A : WorldValue → Type 0 = λ w. IsPrincipal w p (λ principal. access.requester ≡ principal.requester) in
+    let F : WorldValue → Type 0 = λ w. (a : ApplicableValue) → IsApplicableAt w p r a → c.frame-frame.result ≡ frame_of a in
+    let S : SharedValue → Type 0 = IsSharedAt memo.world p r in
+    let (framed, living) = c.in_ok-shared.ensures asker access is (subst A (sym c.requires.world) (asked_by memo.world p r a access there)) bits in
+    subst S (sym c.own.ensures)
+    (shared_by_word memo.world p r asker.listing.statements a access c.in_ok-shared.shared (subst L same asked.1) there alone
+    (framed ∙ subst F c.requires.world c.frame-frame.ensures a (access_applies memo.world p r a access there)) living)
+
+pub returns-clause-words : goal.returns-clause-words
+returns-clause-words c =
+    let old = c.args.memo.now in
+    let new = c.class_with.new.memo in
+    let p = c.args.p in
+    let r = c.args.r in
+    let n = c.in_ok-found.found.class in
+    let (asker, is, same, told) = c.requires.word in
+    let statements = asker.listing.statements in
+    let W : WorldValue → Type 0 = λ w. IsWordAt w p r statements c.args.word in
+    let K : ℕ → Type 0 = λ q. IsWord new.world new.classes q statements (record { word = c.args.word; class = n }) in
+    let S : SharedValue → Type 0 = λ s. HasShared new.classes s n in
+    let word = class_is_word new.world new.classes p r n c.args.word statements c.in_ok-shared.shared (subst S c.own.ensures c.in_ok-found.ensures.shared)
+    (subst W (sym c.in_ok-found.ensures.same.0) told)
+    (λ access asks bits.
+    let A : WorldValue → Type 0 = λ w. IsPrincipal w p (λ principal. access.requester ≡ principal.requester) in
+    (c.in_ok-shared.ensures asker access is (subst A (c.in_ok-found.ensures.same.0 ∙ sym c.requires.world) asks) bits).1) in
+    words_kept new.world new.classes c.class_with.new.self c.keep.new.self asker (record { word = c.args.word; class = n }) (c.in_ok-found.ensures.asker ∙ is)
+    c.in_ok-found.ensures.words c.keep.ensures.asker c.keep.ensures.gains (subst K (sym same) word)

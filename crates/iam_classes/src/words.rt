@@ -1,0 +1,269 @@
+// The classes of the principal that asked last, by which of the statements listed for it live.
+ghost use Rattle.std.specs.Prelude.{◌≡◌, IsTrue};
+
+use crate::held::Held;
+use crate::memo::{Found, Memo};
+use crate::source::Source;
+use iam_index::Index;
+use iam_layers::{Frame, Shared};
+use iam_living::{Listing, same_word};
+use iam_slots::{empty, empty_slots, keep, kept, slot_of};
+use iam_text::OutOfMemory;
+use std::alloc::Global;
+
+/// So many words are kept at most, a power of two.
+const MOST: u64 = 256;
+
+/// A class, and the word by which its statements live.
+#[derive(Clone, Copy)]
+pub struct Word {
+    pub word: u64,
+    pub class: usize,
+}
+
+/// A principal, and the statements that are listed for its requests.
+#[derive(Drop)]
+pub struct Asker<'a> {
+    pub principal: u64,
+    pub listing: Listing<'a>,
+}
+
+/// The classes of one principal's requests for resources with which no statement stands, by the words of these requests.
+#[derive(Drop)]
+pub struct Words<'a> {
+    pub asker: Option<Asker<'a>>,
+    pub slots: Vec<Option<Word>>,
+}
+
+impl<'a> Words<'a> {
+    ghost use Rattle.std.specs.Prelude.{◌≡◌, ◌<◌, ℕ, IfOk, IfSome, List, None, Some, false, length, true};
+    ghost use Rattle.iam_match.specs.Statement.{AccessValue};
+    ghost use Rattle.iam_decision.specs.Living.{AreLiving};
+    ghost use Rattle.iam_layers.specs.Cell.{IsPrincipal, IsSharedAt};
+    ghost use Rattle.iam_living.specs.Word.{AreBits};
+    ghost use Rattle.iam_slots.specs.Slots.{AreEmpty, GainsOnly, Keeps};
+    ghost use Rattle.iam_classes.specs.Memo.{HasClass, HasMore, HasShared, IsSameMemo};
+    ghost use Rattle.iam_classes.specs.Words.{AreWords, IsWordAt};
+    ghost use Rattle.iam_classes.specs.declared.memo.Class.{Class};
+    ghost use Rattle.iam_classes.specs.declared.words.Asker.{Asker};
+    ghost use Rattle.iam_classes.specs.declared.words.Word.{Word};
+
+    /// None yet.
+    pub fn new(alloc: Global) -> Result<Words<'a>, OutOfMemory>
+        ensures { IfOk result (λ words. words.asker ≡ None) }
+    {
+        Ok(Words {
+            asker: None,
+            slots: empty_slots(alloc, MOST)?,
+        })
+    }
+
+    /// The class of principal p and resource r, which are of no known one: what is kept of both serves where their word does.
+    pub fn class_at(
+        &mut self,
+        alloc: Global,
+        source: &mut Source<'a>,
+        memo: &mut Memo<'a>,
+        p: u64,
+        r: u64,
+    ) -> Result<Found, OutOfMemory>
+        requires world { source.old.world ≡ memo.old.world }
+        requires principal { p < length memo.old.world.principals }
+        requires resource { r < length memo.old.world.resources }
+        requires words { AreWords memo.old.world memo.old.classes self.old }
+        ensures class { IfOk result (λ found. HasClass memo.new.world memo.new.classes p r found.class) }
+        ensures kept { IfOk result (λ found. found.cleared ≡ false → HasMore memo.old.classes memo.new.classes) }
+        ensures let_go { IfOk result (λ found. found.cleared ≡ true → length memo.new.classes ≡ 1) }
+        ensures words { AreWords memo.new.world memo.new.classes self.new }
+        ensures source { source.new ≡ source.old }
+        ensures same { IsSameMemo memo.old memo.new }
+    {
+        self.turn_to(source.index(), p);
+        match self.word(alloc, source, p, r)? {
+            Some(word) => self.class_by(alloc, source, memo, p, r, word),
+            None => {
+                let shared = source.shared(alloc, p, r)?;
+                self.class_with(alloc, memo, p, r, shared)
+            }
+        }
+    }
+
+    /// Turns to principal p: what is kept of another is let go.
+    fn turn_to(&mut self, index: &'a Index<'a>, p: u64)
+        requires { p < length index.now.principals }
+        ensures asker { (asker : Asker) × (self.new.asker ≡ Some asker) × (asker.principal ≡ p) }
+        ensures right { (classes : List Class) → AreWords index.entry.now classes self.old → AreWords index.entry.now classes self.new }
+    {
+        if let Some(asker) = &self.asker {
+            if asker.principal == p {
+                return;
+            }
+        }
+        self.forget();
+        self.asker = Some(Asker {
+            principal: p,
+            listing: Listing::of(index, p),
+        });
+    }
+
+    /// The word of the requests of principal p for resource r, where there is one.
+    fn word(
+        &self,
+        alloc: Global,
+        source: &mut Source<'a>,
+        p: u64,
+        r: u64,
+    ) -> Result<Option<u64>, OutOfMemory>
+        requires principal { p < length source.old.world.principals }
+        requires resource { r < length source.old.world.resources }
+        requires asker { IfSome self.now.asker (λ asker. asker.listing.world ≡ source.old.world) }
+        ensures word { IfOk result (λ found. IfSome found (λ word.
+            (asker : Asker) × (self.now.asker ≡ Some asker) × IsWordAt source.old.world p r asker.listing.statements word)) }
+        ensures source { source.new ≡ source.old }
+    {
+        match &self.asker {
+            Some(asker) => source.word(alloc, &asker.listing, p, r),
+            None => Ok(None),
+        }
+    }
+
+    /// The class of principal p and resource r, whose requests have this word.
+    fn class_by(
+        &mut self,
+        alloc: Global,
+        source: &Source<'a>,
+        memo: &mut Memo<'a>,
+        p: u64,
+        r: u64,
+        word: u64,
+    ) -> Result<Found, OutOfMemory>
+        requires world { source.now.world ≡ memo.old.world }
+        requires principal { p < length memo.old.world.principals }
+        requires resource { r < length memo.old.world.resources }
+        requires words { AreWords memo.old.world memo.old.classes self.old }
+        requires word { (asker : Asker) × (self.old.asker ≡ Some asker) × (asker.principal ≡ p)
+            × IsWordAt memo.old.world p r asker.listing.statements word }
+        ensures class { IfOk result (λ found. HasClass memo.new.world memo.new.classes p r found.class) }
+        ensures kept { IfOk result (λ found. found.cleared ≡ false → HasMore memo.old.classes memo.new.classes) }
+        ensures let_go { IfOk result (λ found. found.cleared ≡ true → length memo.new.classes ≡ 1) }
+        ensures words { AreWords memo.new.world memo.new.classes self.new }
+        ensures same { IsSameMemo memo.old memo.new }
+    {
+        same_word();
+        let frame = source.frame(p, r);
+        if let Some(class) = self.class(word) {
+            if are_same(memo.frame(class), frame) {
+                memo.keep_class(p, r, class);
+                return Ok(Found {
+                    class,
+                    cleared: false,
+                });
+            }
+        }
+        let shared = self.shared_by(alloc, source, frame, p, word)?;
+        let found = self.class_with(alloc, memo, p, r, Held::own(shared))?;
+        self.keep(word, found.class);
+        Ok(found)
+    }
+
+    /// What the requests of principal p that have this word share.
+    fn shared_by(
+        &self,
+        alloc: Global,
+        source: &Source<'a>,
+        frame: Frame,
+        p: u64,
+        word: u64,
+    ) -> Result<Shared<'a>, OutOfMemory>
+        requires { p < length source.now.world.principals }
+        ensures { (asker : Asker) (access : AccessValue) → self.now.asker ≡ Some asker
+            → IsPrincipal source.now.world p (λ principal. access.requester ≡ principal.requester)
+            → AreBits access asker.listing.statements word
+            → IfOk result (λ shared. (shared.frame ≡ frame) × AreLiving access asker.listing.statements shared.living) }
+    {
+        match &self.asker {
+            Some(asker) => {
+                let living = asker
+                    .listing
+                    .living(alloc, word, source.world().requester(p))?;
+                Ok(Shared::of(frame, living))
+            }
+            None => Ok(Shared::of(frame, Vec::new(alloc))),
+        }
+    }
+
+    /// Puts principal p and resource r, whose requests share this, into a class; words go with classes that are let go.
+    fn class_with(
+        &mut self,
+        alloc: Global,
+        memo: &mut Memo<'a>,
+        p: u64,
+        r: u64,
+        shared: Held<'a>,
+    ) -> Result<Found, OutOfMemory>
+        requires shared { IsSharedAt memo.old.world p r shared }
+        requires words { AreWords memo.old.world memo.old.classes self.old }
+        ensures class { IfOk result (λ found. HasClass memo.new.world memo.new.classes p r found.class) }
+        ensures shared { IfOk result (λ found. HasShared memo.new.classes shared.entry found.class) }
+        ensures kept { IfOk result (λ found. found.cleared ≡ false → HasMore memo.old.classes memo.new.classes) }
+        ensures let_go { IfOk result (λ found. found.cleared ≡ true → length memo.new.classes ≡ 1) }
+        ensures words { AreWords memo.new.world memo.new.classes self.new }
+        ensures asker { self.new.asker ≡ self.old.asker }
+        ensures same { IsSameMemo memo.old memo.new }
+    {
+        match memo.class_with(alloc, p, r, shared) {
+            Ok(found) => {
+                if found.cleared {
+                    self.forget();
+                }
+                Ok(found)
+            }
+            Err(fault) => {
+                self.forget();
+                Err(fault)
+            }
+        }
+    }
+
+    /// Lets go all words.
+    fn forget(&mut self)
+        ensures empty { AreEmpty self.new.slots.items }
+        ensures asker { self.new.asker ≡ self.old.asker }
+    {
+        empty(&mut self.slots);
+    }
+
+    /// The class that is kept for a word.
+    #[inline(always)]
+    fn class(&self, word: u64) -> Option<usize>
+        ensures { IfSome result (λ class. (slot : ℕ) × Keeps self.now.slots.items slot (record { word = word; class = class })) }
+    {
+        let it = kept(self.slots.as_slice(), slot_for(word, self.slots.len()))?;
+        if it.word == word {
+            Some(it.class)
+        } else {
+            None
+        }
+    }
+
+    /// Keeps a class for a word.
+    fn keep(&mut self, word: u64, class: usize)
+        ensures gains { GainsOnly self.old.slots.items self.new.slots.items (record { word = word; class = class }) }
+        ensures asker { self.new.asker ≡ self.old.asker }
+    {
+        let slot = slot_for(word, self.slots.len());
+        keep(&mut self.slots, slot, Word { word, class });
+    }
+}
+
+/// `true` only where both are the same.
+fn are_same(one: Frame, other: Frame) -> bool
+    ensures { IsTrue result → one ≡ other }
+{
+    one == other
+}
+
+/// A slot for a word, among so many.
+fn slot_for(word: u64, slots: usize) -> u64 {
+    slot_of(0, word.wrapping_mul(0x9E37_79B9_7F4A_7C15) >> 32, slots)
+}
