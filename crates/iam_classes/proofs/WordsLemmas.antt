@@ -16,7 +16,8 @@ use Rattle.iam_slots.proofs.SlotLemmas.{all_empty, all_gained, all_weaker}
 use Rattle.iam_living.specs.Listing.{Lists}
 use Rattle.iam_living.specs.Word.{AreBits, SameWord}
 use Rattle.iam_classes.specs.Memo.{HasClass, HasMore, HasShared}
-use Rattle.iam_classes.specs.Words.{AreWords, IsAsker, IsWord, IsWordAt}
+use Rattle.iam_classes.specs.Words.{AreWords, IsAsker, IsWord}
+use Rattle.iam_living.specs.Listing.{IsWordAt}
 use Rattle.iam_classes.specs.declared.memo.Class.{Class}
 use Rattle.iam_classes.specs.declared.words.Asker.{Asker}
 use Rattle.iam_classes.specs.declared.words.Word.{Word}

@@ -1,6 +1,5 @@
 pub mod Code
 pub mod Engine
-pub mod Keys
 pub mod Memo
 pub mod Survey
 pub mod Words

@@ -1,13 +1,11 @@
 -- Classes that are found again by which of the statements listed for a principal live. LOGIC 1.1.
-use Rattle.std.specs.Prelude.{◌≡◌, ℕ, List, [], IfSome, Some}
+use Rattle.std.specs.Prelude.{◌≡◌, ℕ, List, IfSome, Some}
 use Rattle.std.specs.List.{slice_get}
 use Rattle.iam_match.specs.Statement.{AccessValue}
-use Rattle.iam_decision.specs.Applicable.{ApplicableValue}
 use Rattle.iam_decision.specs.Living.{AreLiving}
 use Rattle.iam_decision.specs.Matched.{Placed}
-use Rattle.iam_layers.specs.Cell.{IsAccessAt, IsPrincipal}
+use Rattle.iam_layers.specs.Cell.{IsPrincipal}
 use Rattle.iam_world.specs.World.{WorldValue}
-use Rattle.iam_index.specs.Index.{ListsResource}
 use Rattle.iam_slots.specs.Slots.{AllAre}
 use Rattle.iam_living.specs.Listing.{Lists}
 use Rattle.iam_living.specs.Word.{AreBits}
@@ -15,12 +13,6 @@ use Rattle.iam_classes.specs.declared.memo.Class.{Class}
 use Rattle.iam_classes.specs.declared.words.Asker.{Asker}
 use Rattle.iam_classes.specs.declared.words.Word.{Word}
 use Rattle.iam_classes.specs.declared.words.Words.{Words}
-
--- the word says which of these statements live in principal p's requests for resource r, with which no statement is listed
-abbrev pub IsWordAt : WorldValue → ℕ → ℕ → List Placed → ℕ → Type 0
-IsWordAt world p r statements word =
-    (applicable : ApplicableValue) × (access : AccessValue) × IsAccessAt world p r applicable access × AreBits access statements word
-    × ListsResource world r []
 
 -- the statements of the class are those of these that live by the word, for principal p
 pub record IsWord (world : WorldValue) (classes : List Class) (p : ℕ) (statements : List Placed) (kept : Word) : Type 0 where

@@ -4,7 +4,6 @@
 
 mod engine;
 mod held;
-mod keys;
 mod memo;
 mod source;
 mod survey;

@@ -2,11 +2,10 @@
 ghost use Rattle.std.specs.Prelude.{◌≡◌};
 
 use crate::held::Held;
-use crate::keys::{Keys, no_keys, shared_by, word_by};
 use crate::survey::Survey;
 use iam_index::Index;
 use iam_layers::{Frame, Shared, World};
-use iam_living::Listing;
+use iam_living::{Keys, Listing, no_keys, shared_by, word_by};
 use iam_text::OutOfMemory;
 use std::alloc::Global;
 use std::marker::Model;
@@ -24,7 +23,7 @@ pub struct Source<'a> {
 impl<'a> Model for Source<'a> {
     ghost use Rattle.std.specs.Prelude.{◌≡◌, All, IfSome, is_some};
     ghost use Rattle.iam_classes.specs.Engine.{SourceValue};
-    ghost use Rattle.iam_classes.specs.Keys.{AreKeys};
+    ghost use Rattle.iam_living.specs.Keys.{AreKeys};
 
     ghost Value = { SourceValue };
 
@@ -37,7 +36,7 @@ impl<'a> Source<'a> {
     ghost use Rattle.std.specs.Prelude.{◌≡◌, ◌<◌, IfOk, IfSome, is_some, length};
     ghost use Rattle.iam_decision.specs.Applicable.{ApplicableValue, frame_of};
     ghost use Rattle.iam_layers.specs.Cell.{IsApplicableAt, IsSharedAt};
-    ghost use Rattle.iam_classes.specs.Words.{IsWordAt};
+    ghost use Rattle.iam_living.specs.Listing.{IsWordAt};
 
     /// An index, and a survey of its world where there is one.
     pub fn new(alloc: Global, index: &'a Index<'a>, survey: Option<&'a Survey<'a>>) -> Source<'a>

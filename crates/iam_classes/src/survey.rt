@@ -3,12 +3,12 @@ ghost use Rattle.std.specs.Prelude.{◌≡◌, ◌++◌, ◌/◌, ◌%◌, ◌<�
 ghost use Rattle.std.specs.List.{slice_get};
 ghost use Rattle.iam_decision.specs.Living.{SharedValue};
 ghost use Rattle.iam_world.specs.World.{WorldValue};
-ghost use Rattle.iam_classes.specs.Keys.{AreKeys};
+ghost use Rattle.iam_living.specs.Keys.{AreKeys};
 ghost use Rattle.iam_classes.specs.Survey.{IsSharedBy};
 
-use crate::keys::{Keys, no_keys, shared_by};
 use iam_index::Index;
 use iam_layers::{Shared, World};
+use iam_living::{Keys, no_keys, shared_by};
 use iam_slots::{empty_slots, keep, kept, slot_of};
 use iam_text::OutOfMemory;
 use std::alloc::Global;
@@ -80,7 +80,7 @@ pub struct Surveyor<'a> {
 impl<'a> Model for Surveyor<'a> {
     ghost use Rattle.std.specs.Prelude.{All};
     ghost use Rattle.iam_world.specs.World.{WorldValue};
-    ghost use Rattle.iam_classes.specs.Keys.{AreKeys};
+    ghost use Rattle.iam_living.specs.Keys.{AreKeys};
 
     ghost Value = { WorldValue };
 

@@ -43,7 +43,8 @@ impl<'a> Words<'a> {
     ghost use Rattle.iam_living.specs.Word.{AreBits};
     ghost use Rattle.iam_slots.specs.Slots.{AreEmpty, GainsOnly, Keeps};
     ghost use Rattle.iam_classes.specs.Memo.{HasClass, HasMore, HasShared, IsSameMemo};
-    ghost use Rattle.iam_classes.specs.Words.{AreWords, IsWordAt};
+    ghost use Rattle.iam_classes.specs.Words.{AreWords};
+    ghost use Rattle.iam_living.specs.Listing.{IsWordAt};
     ghost use Rattle.iam_classes.specs.declared.memo.Class.{Class};
     ghost use Rattle.iam_classes.specs.declared.words.Asker.{Asker};
     ghost use Rattle.iam_classes.specs.declared.words.Word.{Word};

@@ -1,5 +1,5 @@
 use Rattle.std.proofs.Common.{◌≡◌, ◌+◌, All, length}
-use Rattle.iam_classes.specs.Keys.{AreKeys}
+use Rattle.iam_living.specs.Keys.{AreKeys}
 use Rattle.iam_classes.specs.Survey.{AreClassesOf}
 use Rattle.iam_classes.proofs.survey.block_from.Given as goal
 

@@ -1,7 +1,7 @@
 use Rattle.std.proofs.Common.{◌≡◌, ℕ, ◌∙◌, IfSome, Option, Some, sym, ap, subst}
 use Rattle.iam_world.specs.World.{WorldValue}
 use Rattle.iam_index.proofs.ListLemmas.{some_same}
-use Rattle.iam_classes.specs.Words.{IsWordAt}
+use Rattle.iam_living.specs.Listing.{IsWordAt}
 use Rattle.iam_classes.specs.declared.words.Asker.{Asker}
 use Rattle.iam_classes.proofs.words.Words.class_at.Goals as goal
 

@@ -9,7 +9,8 @@ use Rattle.iam_world.specs.World.{WorldValue}
 use Rattle.iam_living.specs.Listing.{Lists}
 use Rattle.iam_index.proofs.IndexLemmas.{access_applies}
 use Rattle.iam_classes.specs.Memo.{HasClass, HasShared, MemoValue}
-use Rattle.iam_classes.specs.Words.{AreWords, IsWord, IsWordAt}
+use Rattle.iam_classes.specs.Words.{AreWords, IsWord}
+use Rattle.iam_living.specs.Listing.{IsWordAt}
 use Rattle.iam_classes.specs.declared.memo.Class.{Class}
 use Rattle.iam_classes.specs.declared.words.Word.{Word}
 use Rattle.iam_classes.proofs.WordsLemmas.{asked_by, class_found, class_is_word, shared_by_word, words_kept, words_of}

@@ -3,13 +3,14 @@ ghost use Rattle.std.specs.Prelude.{[], ◌≡◌, ◌<◌, ℕ, All, IfOk, IfSo
 ghost use Rattle.iam_layers.specs.Cell.{IsDerivedAt, IsSharedAt};
 ghost use Rattle.iam_world.specs.World.{WorldValue};
 ghost use Rattle.iam_index.specs.Index.{ListsResource};
-ghost use Rattle.iam_classes.specs.Keys.{AreKeys, HasKeys, IsReady};
-ghost use Rattle.iam_classes.specs.Words.{IsWordAt};
+ghost use Rattle.iam_living.specs.Keys.{AreKeys, HasKeys, IsReady};
+ghost use Rattle.iam_living.specs.Listing.{IsWordAt};
 
+use crate::listing::Listing;
+use crate::walk::living;
 use iam_context::Derived;
 use iam_index::Index;
 use iam_layers::{Shared, World};
-use iam_living::{Listing, living};
 use iam_text::OutOfMemory;
 use std::alloc::Global;
 

@@ -2,9 +2,9 @@ use Rattle.std.proofs.Common.{ℕ, List, Some, ◌≡◌, ◌∷◌, [], ◌++�
 use Rattle.std.proofs.lemmas.List.Elements.{All-push, All-same, All-take}
 use Rattle.std.specs.List.{slice_get}
 use Rattle.iam_index.proofs.ListLemmas.{get_next}
-use Rattle.iam_classes.specs.Keys.{AreKeys, HasKeys}
-use Rattle.iam_classes.specs.declared.keys.Keys.{Keys}
-use Rattle.iam_classes.proofs.keys.make_ready.Goals as goal
+use Rattle.iam_living.specs.Keys.{AreKeys, HasKeys}
+use Rattle.iam_living.specs.declared.keys.Keys.{Keys}
+use Rattle.iam_living.proofs.keys.make_ready.Goals as goal
 
 -- those that stay have the property
 stay : {X : Type 0} (P : X → Type 0) (n : ℕ) (old rest : List X) → rest ≡ take n old → All P old → All P rest

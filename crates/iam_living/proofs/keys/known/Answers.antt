@@ -1,8 +1,8 @@
 use Rattle.std.proofs.Common.{ℕ, refl, sym, subst}
 use Rattle.std.proofs.lemmas.Option.{slice_get_read}
 use Rattle.iam_layers.specs.Cell.{IsDerivedAt}
-use Rattle.iam_classes.specs.Keys.{AreKeys}
-use Rattle.iam_classes.proofs.keys.known.Goals as goal
+use Rattle.iam_living.specs.Keys.{AreKeys}
+use Rattle.iam_living.proofs.keys.known.Goals as goal
 
 pub returns-then-has_same_derived : goal.returns-then-has_same_derived
 returns-then-has_same_derived c =

@@ -8,8 +8,8 @@ use Rattle.iam_layers.specs.Cell.{IsAccessAt, IsApplicableAt, IsContextAt, IsRes
 use Rattle.iam_world.specs.World.{WorldValue}
 use Rattle.iam_index.proofs.ListLemmas.{if_some, some_apply}
 use Rattle.iam_living.specs.Word.{AreBits}
-use Rattle.iam_classes.specs.Words.{IsWordAt}
-use Rattle.iam_classes.proofs.keys.word_with.Goals as goal
+use Rattle.iam_living.specs.Listing.{IsWordAt}
+use Rattle.iam_living.proofs.keys.word_with.Goals as goal
 
 -- what is asked for is the resource of this number
 asks_for : (world : WorldValue) (p r : ℕ) (a : ApplicableValue) (access : AccessValue) → IsAccessAt world p r a access

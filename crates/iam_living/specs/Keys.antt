@@ -3,9 +3,9 @@ use Rattle.std.specs.Prelude.{◌≡◌, ◌<◌, ℕ, List, Some, length}
 use Rattle.std.specs.List.{slice_get}
 use Rattle.iam_layers.specs.Cell.{IsDerivedAt}
 use Rattle.iam_world.specs.World.{WorldValue}
-use Rattle.iam_classes.specs.declared.keys.Keys.{Keys}
-use Rattle.iam_classes.specs.declared.keys.Ready.{Ready}
-use Rattle.iam_classes.specs.declared.keys.Ready.TheVariants.{Kept, Made}
+use Rattle.iam_living.specs.declared.keys.Keys.{Keys}
+use Rattle.iam_living.specs.declared.keys.Ready.{Ready}
+use Rattle.iam_living.specs.declared.keys.Ready.TheVariants.{Kept, Made}
 
 -- these are the derived keys of the requests of their principal for their resource
 pub record AreKeys (world : WorldValue) (keys : Keys) : Type 0 where

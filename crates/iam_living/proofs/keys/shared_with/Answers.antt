@@ -6,7 +6,7 @@ use Rattle.iam_layers.specs.Applicable.{applicable_of}
 use Rattle.iam_layers.specs.Cell.{IsAccessAt, IsApplicableAt, IsContextAt, IsRequestContext, IsResource}
 use Rattle.iam_world.specs.World.{WorldValue}
 use Rattle.iam_index.proofs.ListLemmas.{some_apply}
-use Rattle.iam_classes.proofs.keys.shared_with.Goals as goal
+use Rattle.iam_living.proofs.keys.shared_with.Goals as goal
 
 pub access-access-requires-clause-context : goal.access-access-requires-clause-context
 access-access-requires-clause-context c =
