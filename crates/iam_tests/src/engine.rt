@@ -82,6 +82,62 @@ fn cells_in_any_order_by_one_engine(rt: HostRuntime) -> Result<(), Fail> {
     Ok(())
 }
 
+/// Two users, of whom ann may get what is in b; of its objects one is of another account, and one of that account has a policy that
+/// names ann.
+const SHARES: &str =
+    r#"{"moment":0,"accounts":[{"id":"111122223333"},{"id":"444455556666"}],"principals":[
+{"user":"arn:aws:iam::111122223333:user/ann","identity":[{"Version":"2012-10-17","Statement":
+{"Effect":"Allow","Action":"s3:GetObject","Resource":"arn:aws:s3:::b/*"}}]},
+{"user":"arn:aws:iam::111122223333:user/bob","identity":[]}],
+"actions":["s3:GetObject","s3:PutObject"],"resources":[{"arn":"arn:aws:s3:::b/1","account":"111122223333"},
+{"arn":"arn:aws:s3:::b/2","account":"111122223333"},{"arn":"arn:aws:s3:::b/3","account":"444455556666"},
+{"arn":"arn:aws:s3:::b/4","account":"444455556666","policy":{"Version":"2012-10-17","Statement":{"Effect":"Allow",
+"Principal":{"AWS":"arn:aws:iam::111122223333:user/ann"},"Action":"s3:GetObject","Resource":"arn:aws:s3:::b/4"}}},
+{"arn":"arn:aws:s3:::c/5","account":"111122223333"}]}"#;
+
+/// Whether one engine, of so many, allows of these cells just those that are to be allowed.
+fn allows_just(
+    alloc: Global,
+    index: &Index<'_>,
+    engines: u32,
+    cells: &[u64],
+    allowed: &[u64],
+) -> Result<bool, Fail> {
+    let mut engine = ClassEngine::new(alloc, index, engines)?;
+    for &cell in cells {
+        if cell >= engine.world().cells() {
+            return Ok(false);
+        }
+        let decision = decide_brief_again(alloc, &mut engine, cell)?;
+        if (decision == Decision::Allowed) != allowed.contains(&cell) {
+            return Ok(false);
+        }
+    }
+    Ok(true)
+}
+
+#[test]
+fn the_same_statements_live_in_requests_that_are_decided_otherwise(
+    rt: HostRuntime,
+) -> Result<(), Fail> {
+    let alloc = rt.alloc();
+    let world = World::read(alloc, SHARES.as_bytes())?;
+    let index = Index::build(alloc, &world)?;
+    let orders: [&[u64]; 3] = [
+        &[
+            0, 1, 2, 3, 4, 5, 6, 7, 8, 9, 10, 11, 12, 13, 14, 15, 16, 17, 18, 19,
+        ],
+        &[13, 3, 12, 2, 11, 1, 10, 0, 14, 4],
+        &[2, 0, 3, 1, 4, 10, 0, 12, 2],
+    ];
+    for cells in orders {
+        for engines in [1, 4_000_000] {
+            assert!(rt; allows_just(alloc, &index, engines, cells, &[0, 1, 3])?);
+        }
+    }
+    Ok(())
+}
+
 // Of itself this shows nothing that the test above does not: tools/tests/test_refused.py refuses it each call of the allocator.
 #[test]
 fn cells_asked_again(rt: HostRuntime) -> Result<(), Fail> {
