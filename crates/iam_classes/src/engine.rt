@@ -30,7 +30,12 @@ impl<'a> Model for ClassEngine<'a> {
 
     ghost Value = { EngineValue };
 
-    ghost view = { λ engine. record { world = engine.memo.world; classes = engine.memo.classes; rulings = engine.memo.rulings; surveyed = engine.source.surveyed } };
+    ghost view = { λ engine. record {
+      world = engine.memo.world;
+      classes = engine.memo.classes;
+      rulings = engine.memo.rulings;
+      surveyed = engine.source.surveyed;
+    } };
 
     ghost invariant = { λ engine. (engine.source.world ≡ engine.memo.world) × AreWords engine.memo.world engine.memo.classes engine.words };
 }
@@ -80,7 +85,7 @@ impl<'a> ClassEngine<'a> {
         Ok(ClassEngine {
             source: Source::new(alloc, index, survey),
             memo,
-            words: Words::new(alloc)?,
+            words: Words::new(alloc, index.world())?,
             found: Vec::new(alloc),
         })
     }

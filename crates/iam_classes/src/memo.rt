@@ -103,16 +103,24 @@ impl<'a> Model for Memo<'a> {
 
     ghost Value = { MemoValue };
 
-    ghost view = { λ memo. record { world = memo.world.now; classes = memo.classes.items; rulings = memo.rulings.items; room = memo.room; most_verdicts = memo.most_verdicts } };
+    ghost view = { λ memo. record {
+      world = memo.world.now;
+      classes = memo.classes.items;
+      rulings = memo.rulings.items;
+      room = memo.room;
+      most_verdicts = memo.most_verdicts;
+    } };
 
-    ghost invariant = { λ memo. IsRight memo.world.now memo.elements.now.elements.items memo.classes.items memo.rulings.items memo.pairs.items memo.answers.items memo.room memo.most_verdicts };
+    ghost invariant = { λ memo. IsRight memo.world.now memo.elements.now.elements.items memo.classes.items memo.rulings.items
+        memo.pairs.items memo.answers.items memo.room memo.most_verdicts };
 }
 
 impl<'a> Memo<'a> {
     ghost use Rattle.std.specs.Prelude.{◌≡◌, ◌<◌, ◌≤◌, ◌+◌, ℕ, [], IfOk, IfSome, OnOk, Some, false, length, true};
     ghost use Rattle.std.specs.List.{slice_get};
     ghost use Rattle.iam_layers.specs.Cell.{IsAction, IsSharedAt, IsVerdictAt};
-    ghost use Rattle.iam_classes.specs.Memo.{ArePairs, Finds, HasClass, HasMore, HasNumber, HasRuling, HasShared, HasVerdict, IsFreeFor, IsSameMemo};
+    ghost use Rattle.iam_classes.specs.Memo.{ArePairs, Finds, HasClass, HasMore, HasNumber, HasRuling, HasShared, HasVerdict};
+    ghost use Rattle.iam_classes.specs.Memo.{IsFreeFor, IsSameMemo};
     ghost use Rattle.iam_classes.specs.declared.memo.Class.{Class};
 
     /// A memo of the world of an index, one of so many that share the bounds, which keeps nothing yet.

@@ -5,13 +5,13 @@ use crate::held::Held;
 use crate::memo::{Found, Memo};
 use crate::source::Source;
 use iam_index::Index;
-use iam_layers::{Frame, Shared};
+use iam_layers::{Frame, Shared, World};
 use iam_living::{Listing, same_word};
 use iam_slots::{empty, empty_slots, keep, kept, slot_of};
 use iam_text::OutOfMemory;
 use std::alloc::Global;
 
-/// So many words are kept at most, a power of two.
+/// So many words are kept at most, and one for each resource.
 const MOST: u64 = 256;
 
 /// A class, and the word by which its statements live.
@@ -49,13 +49,13 @@ impl<'a> Words<'a> {
     ghost use Rattle.iam_classes.specs.declared.words.Asker.{Asker};
     ghost use Rattle.iam_classes.specs.declared.words.Word.{Word};
 
-    /// None yet.
-    pub fn new(alloc: Global) -> Result<Words<'a>, OutOfMemory>
+    /// None yet of a world.
+    pub fn new(alloc: Global, world: &World) -> Result<Words<'a>, OutOfMemory>
         ensures { IfOk result (λ words. words.asker ≡ None) }
     {
         Ok(Words {
             asker: None,
-            slots: empty_slots(alloc, MOST)?,
+            slots: empty_slots(alloc, world.resources().min(MOST))?,
         })
     }
 
@@ -152,7 +152,7 @@ impl<'a> Words<'a> {
     {
         same_word();
         let frame = source.frame(p, r);
-        if let Some(class) = self.class(word) {
+        if let Some(class) = self.class(word, frame) {
             if are_same(memo.frame(class), frame) {
                 memo.keep_class(p, r, class);
                 return Ok(Found {
@@ -163,7 +163,7 @@ impl<'a> Words<'a> {
         }
         let shared = self.shared_by(alloc, source, frame, p, word)?;
         let found = self.class_with(alloc, memo, p, r, Held::own(shared))?;
-        self.keep(word, found.class);
+        self.keep(word, frame, found.class);
         Ok(found)
     }
 
@@ -234,12 +234,15 @@ impl<'a> Words<'a> {
         empty(&mut self.slots);
     }
 
-    /// The class that is kept for a word.
+    /// The class that is kept for a word, in the slot of requests that ask this beside the statements.
     #[inline(always)]
-    fn class(&self, word: u64) -> Option<usize>
+    fn class(&self, word: u64, frame: Frame) -> Option<usize>
         ensures { IfSome result (λ class. (slot : ℕ) × Keeps self.now.slots.items slot (record { word = word; class = class })) }
     {
-        let it = kept(self.slots.as_slice(), slot_for(word, self.slots.len()))?;
+        let it = kept(
+            self.slots.as_slice(),
+            slot_for(word, frame, self.slots.len()),
+        )?;
         if it.word == word {
             Some(it.class)
         } else {
@@ -247,12 +250,12 @@ impl<'a> Words<'a> {
         }
     }
 
-    /// Keeps a class for a word.
-    fn keep(&mut self, word: u64, class: usize)
+    /// Keeps a class for a word, in that slot.
+    fn keep(&mut self, word: u64, frame: Frame, class: usize)
         ensures gains { GainsOnly self.old.slots.items self.new.slots.items (record { word = word; class = class }) }
         ensures asker { self.new.asker ≡ self.old.asker }
     {
-        let slot = slot_for(word, self.slots.len());
+        let slot = slot_for(word, frame, self.slots.len());
         keep(&mut self.slots, slot, Word { word, class });
     }
 }
@@ -264,7 +267,8 @@ fn are_same(one: Frame, other: Frame) -> bool
     one == other
 }
 
-/// A slot for a word, among so many.
-fn slot_for(word: u64, slots: usize) -> u64 {
-    slot_of(0, word.wrapping_mul(0x9E37_79B9_7F4A_7C15) >> 32, slots)
+/// A slot for a word of requests that ask this beside the statements, among so many.
+fn slot_for(word: u64, frame: Frame, slots: usize) -> u64 {
+    let mixed = word.wrapping_mul(0x9E37_79B9_7F4A_7C15) >> 32;
+    slot_of(frame.print(), mixed, slots)
 }

@@ -17,7 +17,8 @@ pub record ListingValue : Type 0 where
 -- these statements are the candidates of principal p's requests for resources with which none is listed
 abbrev pub Lists : WorldValue → ℕ → List Placed → Type 0
 Lists world p statements =
-    (r : ℕ) (a : ApplicableValue) → IsApplicableAt world p r a → ListsResource world r [] → AreCandidates world.actions (placed a) statements
+    (r : ℕ) (a : ApplicableValue) → IsApplicableAt world p r a → ListsResource world r []
+    → AreCandidates world.actions (placed a) statements
 
 -- the word says which of these statements live in principal p's requests for resource r, with which no statement is listed
 abbrev pub IsWordAt : WorldValue → ℕ → ℕ → List Placed → ℕ → Type 0

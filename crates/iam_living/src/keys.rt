@@ -58,8 +58,8 @@ pub fn shared_by<'a>(
     shared_with(alloc, index, p, r, keys_of(&ready, kept.as_slice()))
 }
 
-/// Which of the listed statements of principal p live in its requests for resource r, where a word tells what these share: where no
-/// statement stands with the resource.
+/// The word of principal p's requests for resource r: which of the statements listed for it live in them. `None` where these are more
+/// than a word has bits, or a statement stands with the resource.
 pub fn word_by<'a>(
     alloc: Global,
     index: &'a Index<'a>,
@@ -75,6 +75,9 @@ pub fn word_by<'a>(
     ensures keys { All (AreKeys index.entry.now) kept.new.items }
     ensures word { IfOk result (λ found. IfSome found (IsWordAt index.entry.now p r listing.now.statements)) }
 {
+    if listing.is_long() {
+        return Ok(None);
+    }
     if !index.resource_statements(r).is_empty() {
         return Ok(None);
     }

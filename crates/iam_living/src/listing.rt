@@ -64,6 +64,12 @@ impl<'a> Listing<'a> {
         }
     }
 
+    /// Whether they are more than a word has bits.
+    pub fn is_long(&self) -> bool {
+        let own = self.own.statements().len();
+        self.org.statements().len().saturating_add(own) > BITS
+    }
+
     /// Which of them live in requests for resource r of the world, as the bits of a number; `None` where it has more than 64.
     pub fn word<'c>(
         &self,
@@ -76,9 +82,6 @@ impl<'a> Listing<'a> {
         requires { IsResource self.now.world r (λ resource. access.resource.now ≡ resource.arn) }
         ensures { IfOk result (λ found. IfSome found (AreBits (access_of access.entry) self.now.statements)) }
     {
-        if self.org.statements().len() > BITS || self.own.statements().len() > BITS {
-            return Ok(None);
-        }
         match bits_before(alloc, &self.own, r, access, 0)? {
             Some(own) => bits_before(alloc, &self.org, r, access, own),
             None => Ok(None),

@@ -1,5 +1,5 @@
 // Which of some statements live, as the bits of a number.
-ghost use Rattle.std.specs.Prelude.{[], ◌∷◌, ◌++◌, ◌≡◌, ◌↔◌, IfSome, IsTrue, List, OnOk, map};
+ghost use Rattle.std.specs.Prelude.{◌∷◌, ◌↔◌, IfSome, IsTrue, List};
 ghost use Rattle.iam_match.specs.Statement.{AccessValue};
 ghost use Rattle.iam_decision.specs.Living.{Lives};
 ghost use Rattle.iam_decision.specs.Matched.{Placed};

@@ -12,4 +12,5 @@ returns-then-has_same_derived c =
     let there = slice_get_read c.args.kept.now _ i keys refl c.loop-i-test.true c.index-kept-i.is in
     let right = subst (AreKeys world) (sym c.index-kept-i.is) (c.requires.keys i keys c.loop-i-test.true) in
     let D : ℕ → Type 0 = λ p. IsDerivedAt world p keys.resource keys.derived.items in
-    (keys, there, c.has_same_derived.ensures c.if-has_same_derived.true c.args.p keys.derived.items (subst D c.if-keys-p.true right.derived))
+    let own = subst D c.if-keys-p.true right.derived in
+    (keys, there, c.has_same_derived.ensures c.if-has_same_derived.true c.args.p keys.derived.items own)
