@@ -45,8 +45,7 @@ def specs(crate="*"):
     return [
         it
         for it in glob.glob(f"{TOP}/crates/{crate}/specs/*.antt")
-        # (of iam_element's Members.antt no section speaks: it says where the code finds the members of a statement)
-        if os.path.basename(it) not in ("Lib.antt", "Code.antt", "Members.antt")
+        if os.path.basename(it) not in ("Lib.antt", "Code.antt")
     ]
 
 

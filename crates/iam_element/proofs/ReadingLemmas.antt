@@ -11,7 +11,7 @@ use Rattle.serde_json.specs.declared.value.Value.{Value}
 use Rattle.iam_text.specs.declared.version.Version.{Version}
 use Rattle.iam_text.specs.Draft.{IsDraftIn}
 use Rattle.iam_element.specs.Element.{texts_of}
-use Rattle.iam_element.specs.Members.{data_of}
+use Rattle.iam_element.specs.Code.Members.{data_of}
 use Rattle.iam_element.specs.Reading.{ResourceElement, ReadsResourceElement, ReadsText, resource_name}
 use Rattle.iam_element.proofs.ElementLemmas.{filter_map_next}
 

@@ -4,7 +4,7 @@ ghost use Rattle.std.specs.List.{list_all, list_any};
 ghost use Rattle.serde_json.specs.View.{view};
 ghost use Rattle.iam_element.specs.Form.{form_of};
 ghost use Rattle.iam_element.specs.Element.{both, neither, listed, is_text, is_no_text, are_texts, is_bad_list, has_text, is_this, is_too_long};
-ghost use Rattle.iam_element.specs.Members.{data_of};
+ghost use Rattle.iam_element.specs.Code.Members.{data_of};
 
 use crate::grammar::TextForm;
 use serde_json::Value;

@@ -21,7 +21,7 @@ impl<'v> Model for Members<'v> {
     ghost use Rattle.std.specs.Coded.{codes};
     ghost use Rattle.serde_json.specs.contracts.value.Value as value;
     ghost use Rattle.serde_json.specs.declared.value.Value.{Value as Json};
-    ghost use Rattle.iam_element.specs.Members.{AreMembers};
+    ghost use Rattle.iam_element.specs.Code.Members.{AreMembers};
 
     ghost Value = { Json };
 

@@ -1,5 +1,5 @@
 use Rattle.std.proofs.Common.{◌∙◌, ap, sym}
-use Rattle.iam_element.specs.Members.{data_of}
+use Rattle.iam_element.specs.Code.Members.{data_of}
 use Rattle.iam_policy.proofs.statement_checks.has_bad_value.Goals as goal
 
 pub returns-in-Some : goal.returns-in-Some
