@@ -1,5 +1,6 @@
 // A world: what it has, which policies apply to a request, and the verdict on it.
-ghost use Rattle.std.specs.Prelude.{◌≡◌, ◌+◌, ◌*◌, ◌≤◌, ◌<◌};
+ghost use Rattle.std.specs.Prelude.{◌≡◌, ◌+◌, ◌*◌, ◌≤◌, ◌<◌, IsTrue};
+ghost use Rattle.iam_layers.specs.Code.Statements.{IsBare};
 
 use crate::applicable::{control_of, org_of};
 use crate::derived::{keys_with, stamp_of};
@@ -39,6 +40,13 @@ fn cell_number(p: u64, a: u64, r: u64, actions: u64, resources: u64) -> u64
     (p * actions + a) * resources + r
 }
 
+/// Whether neither policies nor a context stand with the resource.
+fn is_bare(resource: &Resource) -> bool
+    ensures { IsTrue result → IsBare resource.now }
+{
+    resource.policy().is_none() && resource.control().is_empty() && resource.context().is_empty()
+}
+
 impl World {
     ghost use Rattle.std.specs.Prelude.{◌≡◌, ◌≢◌, ℕ, ◌<◌, ◌≤◌, IfOk, IfErr, IsTrue, Some, length};
     ghost use Rattle.std.specs.List.{slice_get};
@@ -53,7 +61,7 @@ impl World {
     ghost use Rattle.iam_match.specs.Request.{access_of};
     ghost use Rattle.iam_decision.specs.Applicable.{ApplicableValue, frame_of};
     ghost use Rattle.iam_layers.specs.Cell.{IsAccessAt, IsAction, IsApplicableAt, IsCell, IsContextAt, IsDerivedAt, IsPrincipal, IsRequestContext, IsResource, IsSharedAt, IsVerdictAt, principal_text};
-    ghost use Rattle.iam_layers.specs.Code.Statements.{HasLevels, HaveSameOrg};
+    ghost use Rattle.iam_layers.specs.Code.Statements.{DifferInArn, HasLevels, HaveSameOrg};
 
     /// The world of a JSON document, or the first fault of its bytes: `TooLarge` for over 8,388,608 of them, then 1
     /// to 8 by number, each at its first place, then `TooLarge` for over 16,777,216 cells or 4,096 statements.
@@ -71,6 +79,17 @@ impl World {
         ensures fault { IfErr result (λ fault. fault ≢ w.OutOfMemory → IsFirstWorldFault bytes.items fault) }
     {
         match WorldParts::read(alloc, bytes) {
+            Ok(parts) => Ok(World::of(alloc, parts)?),
+            Err(fault) => Err(fault),
+        }
+    }
+
+    /// The same for a run that soon ends: the memory of what was parsed is not given back.
+    pub fn read_once(alloc: Global, bytes: Vec<u8>) -> Result<World, WorldFault>
+        ensures ok { IfOk result (IsWorld bytes.items) }
+        ensures fault { IfErr result (λ fault. fault ≢ w.OutOfMemory → IsFirstWorldFault bytes.items fault) }
+    {
+        match WorldParts::read_once(alloc, bytes) {
             Ok(parts) => Ok(World::of(alloc, parts)?),
             Err(fault) => Err(fault),
         }
@@ -205,6 +224,21 @@ impl World {
             → IsDerivedAt self.now p other derived }
     {
         self.resource(r).account() == self.resource(other).account()
+    }
+
+    /// `true` only where the two resources differ in nothing but their ARN: they are of one account, equally sealed, and no policies
+    /// and no context stand with them. Each has to be below the number of resources.
+    pub fn differ_in_arn(&self, r: u64, other: u64) -> bool
+        requires resource { r < length self.now.resources }
+        requires other { other < length self.now.resources }
+        ensures { IsTrue result → DifferInArn self.now r other }
+    {
+        let one = self.resource(r);
+        let two = self.resource(other);
+        one.account() == two.account()
+            && one.is_sealed() == two.is_sealed()
+            && is_bare(one)
+            && is_bare(two)
     }
 
     /// The context of requests of principal p for resource r: the keys that the world, the principal and the resource

@@ -1,5 +1,5 @@
 // Reading a world, from its bytes.
-ghost use Rattle.std.specs.Prelude.{◌≡◌, ◌≢◌, ◌≤◌, length, map, option_map, IfOk, IfErr};
+ghost use Rattle.std.specs.Prelude.{◌≡◌, ◌≢◌, ◌≤◌, ℕ, List, length, map, option_map, IfOk, IfErr};
 ghost use Rattle.std.specs.List.{AllZip, find};
 ghost use Rattle.std.specs.Str.{bytes_eq};
 ghost use Rattle.serde_json.specs.View.{view};
@@ -10,7 +10,7 @@ ghost use Rattle.iam_shape.specs.Texts.{AreFirstPlaces};
 ghost use Rattle.iam_shape.specs.Few.{HasFewLists};
 ghost use Rattle.iam_shape.specs.Lent.{principal_of};
 ghost use Rattle.iam_shape.specs.LentWorld.{world_of};
-ghost use Rattle.iam_world.specs.Reads.{ReadsWorld};
+ghost use Rattle.iam_world.specs.Reads.{IsWorld, ReadsWorld};
 ghost use Rattle.iam_world.specs.WorldFault.{IsFirstWorldFault, IsJson, IsOverLimits, IsRequesterAt, ViewHasFault, cell_count, statement_count};
 ghost use Rattle.iam_world.specs.declared.fault.WorldFault.{WorldFault};
 ghost use Rattle.iam_world.specs.declared.fault.WorldFault.TheVariants as w;
@@ -29,6 +29,7 @@ use serde_json::Value;
 use std::alloc::Global;
 use std::collections::HashMap;
 use std::marker::Model;
+use std::mem;
 
 /// How many bytes a world document may have.
 const MOST_BYTES: usize = 8_388_608;
@@ -174,6 +175,19 @@ fn read_view(alloc: Global, world: WorldView<'_>) -> Result<WorldParts, WorldFau
     }
 }
 
+/// The world of a document, or its first fault.
+fn read_value(alloc: Global, value: &Value) -> Result<WorldParts, WorldFault>
+    requires { (bytes : List ℕ) × (length bytes ≤ 8388608) × IsJson bytes (view value.now) }
+    ensures ok { (bytes : List ℕ) → length bytes ≤ 8388608 → IsJson bytes (view value.now) → IfOk result (IsWorld bytes) }
+    ensures fault { (bytes : List ℕ) → length bytes ≤ 8388608 → IsJson bytes (view value.now)
+        → IfErr result (λ fault. fault ≢ w.OutOfMemory → IsFirstWorldFault bytes fault) }
+{
+    let world = walk(alloc, value)?;
+    one_view();
+    few_documents();
+    read_view(alloc, world)
+}
+
 /// The account with this id, where these are the numbers of the accounts.
 fn find_account<'a>(
     accounts: &'a [Account],
@@ -208,10 +222,19 @@ impl WorldParts {
         ensures fault { IfErr result (λ fault. fault ≢ w.OutOfMemory → IsFirstWorldFault bytes.items fault) }
     {
         let value = parse_vec(alloc, bytes)?;
-        let world = walk(alloc, &value)?;
-        one_view();
-        few_documents();
-        read_view(alloc, world)
+        read_value(alloc, &value)
+    }
+
+    /// The same for a run that soon ends: what was parsed of the bytes is never let go, since piece by piece that would cost a
+    /// tenth of the reading.
+    pub fn read_once(alloc: Global, bytes: Vec<u8>) -> Result<WorldParts, WorldFault>
+        ensures ok { IfOk result (IsWorld bytes.items) }
+        ensures fault { IfErr result (λ fault. fault ≢ w.OutOfMemory → IsFirstWorldFault bytes.items fault) }
+    {
+        let value = parse_vec(alloc, bytes)?;
+        let parts = read_value(alloc, &value);
+        mem::forget(value);
+        parts
     }
 
     /// The moment, in seconds from 1970-01-01T00:00:00Z, at most 253,402,300,799: the end of the year 9999.

@@ -1,9 +1,10 @@
 -- Whose statements apply to a request: those of the organisation and of the requester are the same whatever it asks for, those
 -- that stand with the resource whoever asks.
-use Rattle.std.specs.Prelude.{◌≡◌, ℕ, length}
+use Rattle.std.specs.Prelude.{◌≡◌, ℕ, [], None, Some, length}
+use Rattle.std.specs.List.{slice_get}
 use Rattle.iam_decision.specs.Applicable.{ApplicableValue}
 use Rattle.iam_decision.specs.Code.Scan.{org_placed, requester_placed, resource_placed}
-use Rattle.iam_world.specs.World.{WorldValue}
+use Rattle.iam_world.specs.World.{ResourceValue, WorldValue}
 use Rattle.iam_layers.specs.Cell.{IsApplicableAt}
 
 abbrev pub RequestersKeepTheirs : Type 0
@@ -24,3 +25,17 @@ HaveSameOrg world p q =
 -- the organisation that binds principal p has so many levels of policies, whatever it asks for
 abbrev pub HasLevels : WorldValue → ℕ → ℕ → Type 0
 HasLevels world p levels = (r : ℕ) (a : ApplicableValue) → IsApplicableAt world p r a → levels ≡ length a.org
+
+-- neither policies nor a context stand with the resource
+pub record IsBare (resource : ResourceValue) : Type 0 where
+  pub policy : resource.policy ≡ None
+  pub control : resource.control ≡ []
+  pub context : resource.context ≡ []
+
+-- these two resources differ in nothing but their ARN
+pub record DifferInArn (world : WorldValue) (r other : ℕ) : Type 0 where
+  pub one : ResourceValue
+  pub two : ResourceValue
+  pub one_is : slice_get world.resources r ≡ Some one
+  pub two_is : slice_get world.resources other ≡ Some two
+  pub same : two ≡ record one { arn = two.arn }
