@@ -5,7 +5,8 @@ use Rattle.std.proofs.lemmas.List.{take-map}
 use Rattle.serde_json.specs.Data.{Data}
 use Rattle.std.specs.Option.{option_map_or}
 use Rattle.iam_json.specs.Look.{is_one_of}
-use Rattle.iam_shape.specs.Shape.{account_checks, first_bad, is_new_id, text_at}
+use Rattle.iam_shape.specs.Shape.{first_bad, text_at}
+use Rattle.iam_shape.specs.Code.Walk.{checks_behind, is_apart}
 use Rattle.iam_shape.specs.View.{AccountViewValue, IsAccountView}
 use Rattle.iam_text.specs.Characters.{is_account}
 use Rattle.iam_shape.specs.declared.path.Name.TheVariants.{Id}
@@ -25,10 +26,10 @@ pub earlier_ids : {V : Type 0} (view : V → Data) (vs : List V) (i : ℕ) (acco
 earlier_ids view vs i accounts said = sym (said_ids (map view (take i vs)) accounts said) ∙ ap (filter_map (text_at Id)) (sym (take-map view i vs))
 
 -- an account without a fault has a new id
-pub fresh_id : (ids : List (List ℕ)) (i : ℕ) (d : Data) (id : List ℕ) → first_bad (account_checks ids i d) ≡ None → text_at Id d ≡ Some id → is_one_of ids id ≡ false
+pub fresh_id : (ids : List (List ℕ)) (i : ℕ) (d : Data) (id : List ℕ) → first_bad (checks_behind ids i d) ≡ None → text_at Id d ≡ Some id → is_one_of ids id ≡ false
 fresh_id ids i d id good is =
-    let tested : option_map_or (is_new_id ids) (text_at Id d) false ≡ true = second _ _ _ _ _ good in
-    other (is_account id) (is_one_of ids id) (ap (λ o. option_map_or (is_new_id ids) o false) (sym is) ∙ tested)
+    let tested : option_map_or (is_apart ids) (text_at Id d) false ≡ true = second _ _ _ _ _ good in
+    other (is_account id) (is_one_of ids id) (ap (λ o. option_map_or (is_apart ids) o false) (sym is) ∙ tested)
   where
     second : (one two : Bool) (p q : Path) (rest : Option Path) → cond one (cond two rest (Some q)) (Some p) ≡ None → two ≡ true
     second true true p q rest e = refl

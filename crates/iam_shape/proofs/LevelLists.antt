@@ -4,8 +4,8 @@ use Rattle.std.specs.List.{AllZip}
 use Rattle.serde_json.specs.Data.{Data}
 use Rattle.iam_json.specs.Look.{values}
 use Rattle.iam_shape.specs.Lent.{policies_in}
-use Rattle.iam_shape.specs.Shape.{each, first_bad, level_checks}
-use Rattle.iam_shape.specs.View.{IsLevel}
+use Rattle.iam_shape.specs.Shape.{each, first_bad}
+use Rattle.iam_shape.specs.Code.Walk.{IsLevel, level_checks}
 use Rattle.iam_shape.specs.declared.path.Name.{Name}
 use Rattle.iam_shape.specs.declared.path.Path.TheVariants.{Entry}
 

@@ -4,7 +4,8 @@ use Rattle.std.specs.List.{AllZip}
 use Rattle.serde_json.specs.Data.{Data}
 use Rattle.serde_json.specs.Find.{as_str}
 use Rattle.iam_json.specs.Look.{values}
-use Rattle.iam_shape.specs.View.{AccountViewValue, PrincipalViewValue, ResourceViewValue, WorldViewValue, HasLevels, HasListOf, HasListOrNone, IsAccountView, IsGivenBy, IsLevel, IsPrincipalView, IsResourceView, IsView}
+use Rattle.iam_shape.specs.Code.Walk.{IsLevel}
+use Rattle.iam_shape.specs.View.{AccountViewValue, PrincipalViewValue, ResourceViewValue, WorldViewValue, HasLevels, HasListOf, HasListOrNone, IsAccountView, IsGivenBy, IsPrincipalView, IsResourceView, IsView}
 use Rattle.iam_shape.specs.declared.path.Name.{Name}
 use Rattle.iam_shape.specs.declared.path.Name.TheVariants.{Accounts, Principals, Actions, Resources, Org, Identity, SessionPolicies, Control}
 

@@ -9,7 +9,8 @@ use Rattle.iam_json.specs.Size.{size}
 use Rattle.iam_shape.specs.Few.{HasFewDocuments, HasFewLevels, HasFewLists}
 use Rattle.iam_shape.specs.Path.{name_text}
 use Rattle.iam_shape.specs.Shape.{list_at, member}
-use Rattle.iam_shape.specs.View.{PrincipalViewValue, WorldViewValue, IsAccountView, IsLevel, IsPrincipalView, IsResourceView, IsView, HasLevels, HasListOf, HasListOrNone}
+use Rattle.iam_shape.specs.Code.Walk.{IsLevel}
+use Rattle.iam_shape.specs.View.{PrincipalViewValue, WorldViewValue, IsAccountView, IsPrincipalView, IsResourceView, IsView, HasLevels, HasListOf, HasListOrNone}
 use Rattle.iam_shape.specs.declared.path.Name.{Name}
 use Rattle.iam_shape.specs.declared.path.Name.TheVariants.{Accounts, Principals, Resources, Org, Identity, SessionPolicies, Control}
 

@@ -2,7 +2,8 @@
 use Rattle.std.proofs.Common.{◌≡◌, List, [], ◌∷◌, ◌++◌, map, Some, None, ◌∙◌}
 use Rattle.std.specs.List.{AllZip}
 use Rattle.serde_json.specs.Data.{Data}
-use Rattle.iam_shape.specs.Shape.{Check, first_bad, each, list_at, list_checks, head_checks, tail_checks, all_account_checks, principal_checks, action_checks, resource_checks, shape_checks}
+use Rattle.iam_shape.specs.Shape.{Check, account_checks, first_bad, each, list_at, list_checks, principal_checks, resource_checks, shape_checks}
+use Rattle.iam_shape.specs.Code.Walk.{action_checks, head_checks, tail_checks}
 use Rattle.iam_shape.specs.View.{HasListOf}
 use Rattle.iam_shape.specs.declared.path.Name.{Name}
 use Rattle.iam_shape.specs.declared.path.Name.TheVariants.{Accounts, Principals, Actions, Resources}
@@ -12,7 +13,7 @@ use Rattle.iam_shape.proofs.Walks.{first_bad_here, first_bad_later}
 
 -- the checks of the lists, and what stands behind each
 abbrev pub accounts : Data → List Check
-accounts d = list_checks (Member Accounts) all_account_checks (list_at Accounts d)
+accounts d = list_checks (Member Accounts) (λ accounts. each (account_checks accounts) 0 accounts) (list_at Accounts d)
 
 abbrev pub principals : Data → List Check
 principals d = list_checks (Member Principals) (each principal_checks 0) (list_at Principals d)

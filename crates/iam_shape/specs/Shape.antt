@@ -36,9 +36,6 @@ number_at name d = option_and_then as_u64 (option_and_then as_number (member nam
 
 -- ---- tests
 
-abbrev pub is_object : Data → Bool
-is_object d = is_some (as_object d)
-
 -- what stands under this name passes the test, or nothing stands there
 abbrev pub is_absent_or : (Data → Bool) → Name → Data → Bool
 is_absent_or test name d = option_map_or test (member name d) true
@@ -52,17 +49,15 @@ is_list d = is_some (values d)
 abbrev pub is_bool : Data → Bool
 is_bool d = is_some (as_bool d)
 
--- a text, a Boolean or a whole number, or a list of these
-abbrev pub is_context_value : Data → Bool
-is_context_value d = is_scalar d || option_map_or (list_all is_scalar) (values d) false
-
--- an object of such values
+-- an object whose values are texts, Booleans, whole numbers and lists of these
 abbrev pub is_context : Data → Bool
-is_context d = option_map_or (all_members is_context_value) (as_object d) false
+is_context d =
+    option_map_or (all_members (λ v. is_scalar v || option_map_or (list_all is_scalar) (values v) false)) (as_object d)
+    false
 
--- twelve digits, and none of these ids
-abbrev pub is_new_id : List (List ℕ) → List ℕ → Bool
-is_new_id ids text = is_account text && not (is_one_of ids text)
+-- twelve digits, and the id of none of these accounts
+abbrev pub is_new_id : List Data → List ℕ → Bool
+is_new_id accounts id = is_account id && not (is_one_of (filter_map (text_at Id) accounts) id)
 
 -- no object with a member of another name
 abbrev pub has_only : List Name → Data → Bool
@@ -84,62 +79,46 @@ abbrev pub IsShapeFault : List Check → ShapeFault → Type 0
 IsShapeFault checks (At path) = first_bad checks ≡ Some path
 IsShapeFault checks OutOfMemory = ⊥
 
--- the checks of each value of a list, numbered from i
-abbrev pub each : (ℕ → Data → List Check) → ℕ → List Data → List Check
-each checks i [] = []
-each checks i (d ∷ ds) = checks i d ++ each checks (i + 1) ds
+-- what each element of a list gives, numbered from i
+abbrev pub each : {X Y : Type 0} → (ℕ → X → List Y) → ℕ → List X → List Y
+each gives i [] = []
+each gives i (x ∷ xs) = gives i x ++ each gives (i + 1) xs
 
 -- the checks of a list; where no list stands, its path fails
 abbrev pub list_checks : Path → (List Data → List Check) → Option (List Data) → List Check
-list_checks path checks None = (path, false) ∷ []
-list_checks path checks (Some ds) = checks ds
+list_checks path checks ds = option_map_or checks ds ((path, false) ∷ [])
 
 -- ---- levels of policies
 
--- level j of those that stand under a name of member i of a list is a list
-abbrev pub level_checks : Name → ℕ → Name → ℕ → Data → List Check
-level_checks list i name j level = (Entry list i name j, is_list level) ∷ []
-
--- the levels that stand there, if any do
+-- the levels that stand under a name of member i of a list, if any do: a list of lists
 abbrev pub levels_checks : Name → ℕ → Name → Option Data → List Check
 levels_checks list i name None = []
-levels_checks list i name (Some levels) = list_checks (Field list i name) (each (level_checks list i name) 0) (values levels)
+levels_checks list i name (Some levels) =
+    list_checks (Field list i name) (each (λ j level. (Entry list i name j, is_list level) ∷ []) 0) (values levels)
 
 -- ---- accounts
 
--- an account, behind accounts of these ids
-abbrev pub account_checks : List (List ℕ) → ℕ → Data → List Check
-account_checks ids i account =
-    (Item Accounts i, is_object account)
-    ∷ ((Field Accounts i Id, option_map_or (is_new_id ids) (text_at Id account) false)
+-- account i of these: its id is that of no earlier one
+abbrev pub account_checks : List Data → ℕ → Data → List Check
+account_checks accounts i account =
+    (Item Accounts i, is_some (as_object account))
+    ∷ ((Field Accounts i Id, option_map_or (is_new_id (take i accounts)) (text_at Id account) false)
     ∷ ((Field Accounts i Management, is_absent_or is_bool Management account)
     ∷ (levels_checks Accounts i Org (member Org account)
-    ++ ((Item Accounts i, has_only (Id ∷ (Management ∷ (Org ∷ []))) account)
-    ∷ []))))
-
--- account i of these: its id is that of no earlier one
-abbrev pub nth_account_checks : List Data → ℕ → Data → List Check
-nth_account_checks accounts i account = account_checks (filter_map (text_at Id) (take i accounts)) i account
-
-abbrev pub all_account_checks : List Data → List Check
-all_account_checks accounts = each (nth_account_checks accounts) 0 accounts
+    ++ ((Item Accounts i, has_only (Id ∷ (Management ∷ (Org ∷ []))) account) ∷ []))))
 
 -- ---- principals
 
--- a user has the member `user` and not `role`, a session of a role has `role` and not `user`
+-- a user has the member `user` and not `role`
 abbrev pub is_user : Data → Bool
 is_user principal = is_some (member User principal) && is_none (member Role principal)
-
-abbrev pub is_session : Data → Bool
-is_session principal = is_some (member Role principal) && is_none (member User principal)
 
 -- who asks: the ARN of a user, or that of a role and the name of a session
 abbrev pub given_checks : ℕ → Data → List Check
 given_checks i principal =
     if is_user principal then (Field Principals i User, is_absent_or is_string User principal) ∷ []
     else ((Field Principals i Role, is_absent_or is_string Role principal)
-    ∷ ((Field Principals i Session, is_some (text_at Session principal))
-    ∷ []))
+    ∷ ((Field Principals i Session, is_some (text_at Session principal)) ∷ []))
 
 -- the members of a principal. Session policies are those of a session
 abbrev pub principal_names : Data → List Name
@@ -147,24 +126,21 @@ principal_names principal =
     if is_user principal then User ∷ (Identity ∷ (Boundary ∷ (Context ∷ [])))
     else Role ∷ (Session ∷ (Identity ∷ (Boundary ∷ (SessionPolicies ∷ (Context ∷ [])))))
 
+-- a user, or a session of a role, which has the member `role` and not `user`
 abbrev pub principal_checks : ℕ → Data → List Check
 principal_checks i principal =
-    (Item Principals i, is_user principal || is_session principal)
+    (Item Principals i, is_user principal || (is_some (member Role principal) && is_none (member User principal)))
     ∷ (given_checks i principal
     ++ ((Field Principals i Identity, is_absent_or is_list Identity principal)
     ∷ ((Field Principals i SessionPolicies, is_user principal || is_absent_or is_list SessionPolicies principal)
     ∷ ((Field Principals i Context, is_absent_or is_context Context principal)
-    ∷ ((Item Principals i, has_only (principal_names principal) principal)
-    ∷ [])))))
+    ∷ ((Item Principals i, has_only (principal_names principal) principal) ∷ [])))))
 
--- ---- actions and resources
-
-abbrev pub action_checks : ℕ → Data → List Check
-action_checks i action = (Item Actions i, is_string action) ∷ []
+-- ---- resources
 
 abbrev pub resource_checks : ℕ → Data → List Check
 resource_checks i resource =
-    (Item Resources i, is_object resource)
+    (Item Resources i, is_some (as_object resource))
     ∷ ((Field Resources i Arn, is_some (text_at Arn resource))
     ∷ ((Field Resources i Account, is_some (text_at Account resource))
     ∷ ((Field Resources i Sealed, is_absent_or is_bool Sealed resource)
@@ -175,26 +151,14 @@ resource_checks i resource =
 
 -- ---- the document
 
--- the document itself and its moment, a number of seconds from 1970 to 9999
-abbrev pub head_checks : Data → List Check
-head_checks d =
-    (Root, is_object d)
-    ∷ ((Member Moment, option_map_or (λ seconds. nat_le seconds 253402300799) (number_at Moment d) false)
-    ∷ [])
-
--- its context, and no other members
-abbrev pub tail_checks : Data → List Check
-tail_checks d =
-    (Member Context, is_absent_or is_context Context d)
-    ∷ ((Root, has_only (Moment ∷ (Accounts ∷ (Principals ∷ (Actions ∷ (Resources ∷ (Context ∷ [])))))) d)
-    ∷ [])
-
--- the checks of a world document, in order
+-- the checks of a world document, in order. Its moment is a number of seconds from 1970 to 9999, its actions are texts
 abbrev pub shape_checks : Data → List Check
 shape_checks d =
-    head_checks d
-    ++ (list_checks (Member Accounts) all_account_checks (list_at Accounts d)
+    (Root, is_some (as_object d))
+    ∷ ((Member Moment, option_map_or (λ seconds. nat_le seconds 253402300799) (number_at Moment d) false)
+    ∷ (list_checks (Member Accounts) (λ accounts. each (account_checks accounts) 0 accounts) (list_at Accounts d)
     ++ (list_checks (Member Principals) (each principal_checks 0) (list_at Principals d)
-    ++ (list_checks (Member Actions) (each action_checks 0) (list_at Actions d)
+    ++ (list_checks (Member Actions) (each (λ i action. (Item Actions i, is_string action) ∷ []) 0) (list_at Actions d)
     ++ (list_checks (Member Resources) (each resource_checks 0) (list_at Resources d)
-    ++ tail_checks d))))
+    ++ ((Member Context, is_absent_or is_context Context d)
+    ∷ ((Root, has_only (Moment ∷ (Accounts ∷ (Principals ∷ (Actions ∷ (Resources ∷ (Context ∷ [])))))) d) ∷ [])))))))

@@ -46,42 +46,32 @@ pub record WorldViewValue : Type 0 where
 
 -- ---- where it says so
 
--- this text stands under this name
-abbrev pub HasText : Name → Data → List ℕ → Type 0
-HasText name d text = text_at name d ≡ Some text
-
 -- `true` stands under this name, or else `false` or nothing does
 abbrev pub is_true_at : Name → Data → Bool
 is_true_at name d = unwrap_or (option_and_then as_bool (member name d)) false
 
--- a list of these values stands under this name
-abbrev pub HasList : Name → Data → List Data → Type 0
-HasList name d ds = list_at name d ≡ Some ds
-
 -- a list of values that say these things, one by one, stands under this name
 abbrev pub HasListOf : {A : Type 0} → (Data → A → Type 0) → Name → Data → List A → Type 0
-HasListOf Says name d xs = (ds : List Data) × HasList name d ds × AllZip Says ds xs
-
--- a level is a list of these values
-abbrev pub IsLevel : Data → List Data → Type 0
-IsLevel level ds = values level ≡ Some ds
+HasListOf Says name d xs = (ds : List Data) × (list_at name d ≡ Some ds) × AllZip Says ds xs
 
 -- a list of levels stands under this name, each a list of these values, or nothing does and there are none
 abbrev pub HasLevels : Name → Data → List (List Data) → Type 0
-HasLevels name d levels = HasListOf IsLevel name d levels ⊎ ((member name d ≡ None) × (levels ≡ []))
+HasLevels name d levels =
+    HasListOf (λ level ds. values level ≡ Some ds) name d levels ⊎ ((member name d ≡ None) × (levels ≡ []))
 
 -- a list of these values stands under this name, or nothing does and there are none
 abbrev pub HasListOrNone : Name → Data → List Data → Type 0
-HasListOrNone name d ds = HasList name d ds ⊎ ((member name d ≡ None) × (ds ≡ []))
+HasListOrNone name d ds = (list_at name d ≡ Some ds) ⊎ ((member name d ≡ None) × (ds ≡ []))
 
 -- the principal is a user with this ARN and no session, or the session of this name of the role with this ARN
 abbrev pub IsGivenBy : Data → List ℕ → Option (List ℕ) → Type 0
 IsGivenBy principal arn session =
-    ((member Role principal ≡ None) × HasText User principal arn × (session ≡ None))
-    ⊎ ((member User principal ≡ None) × HasText Role principal arn × (session ≡ text_at Session principal) × IsSome session)
+    ((member Role principal ≡ None) × (text_at User principal ≡ Some arn) × (session ≡ None))
+    ⊎ ((member User principal ≡ None) × (text_at Role principal ≡ Some arn) × (session ≡ text_at Session principal)
+    × IsSome session)
 
 pub record IsAccountView (d : Data) (account : AccountViewValue) : Type 0 where
-  pub id : HasText Id d account.id
+  pub id : text_at Id d ≡ Some account.id
   pub management : account.management ≡ is_true_at Management d
   pub org : HasLevels Org d account.org
 
@@ -93,8 +83,8 @@ pub record IsPrincipalView (d : Data) (principal : PrincipalViewValue) : Type 0 
   pub context : principal.context ≡ member Context d
 
 pub record IsResourceView (d : Data) (resource : ResourceViewValue) : Type 0 where
-  pub arn : HasText Arn d resource.arn
-  pub account : HasText Account d resource.account
+  pub arn : text_at Arn d ≡ Some resource.arn
+  pub account : text_at Account d ≡ Some resource.account
   pub policy : resource.policy ≡ member Policy d
   pub sealed : resource.sealed ≡ is_true_at Sealed d
   pub context : resource.context ≡ member Context d

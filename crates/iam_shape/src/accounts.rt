@@ -1,13 +1,13 @@
 // The walk over the accounts of a world.
-ghost use Rattle.std.specs.Prelude.{◌≡◌, ◌≢◌, ℕ, List, [], ◌∷◌, ◌++◌, None, false, length, map, IfOk, IfErr, OnOk};
+ghost use Rattle.std.specs.Prelude.{◌≡◌, ◌≢◌, ℕ, List, [], ◌∷◌, ◌++◌, None, Some, false, length, map, IfOk, IfErr, OnOk};
 ghost use Rattle.std.specs.List.{AllZip};
 ghost use Rattle.serde_json.specs.View.{view};
 ghost use Rattle.iam_json.specs.Look.{is_one_of};
 ghost use Rattle.iam_shape.specs.Texts.{AreFirstPlaces};
 ghost use Rattle.iam_shape.specs.Lent.{account_of};
-ghost use Rattle.iam_shape.specs.Code.Walk.{Walks, account_front};
-ghost use Rattle.iam_shape.specs.Shape.{IsShapeFault, account_checks, all_account_checks, first_bad, has_only, is_new_id};
-ghost use Rattle.iam_shape.specs.View.{HasText, IsAccountView, is_true_at};
+ghost use Rattle.iam_shape.specs.Code.Walk.{Walks, account_front, checks_behind, is_apart};
+ghost use Rattle.iam_shape.specs.Shape.{IsShapeFault, account_checks, each, first_bad, has_only, text_at};
+ghost use Rattle.iam_shape.specs.View.{IsAccountView, is_true_at};
 ghost use Rattle.iam_shape.specs.declared.fault.ShapeFault.TheVariants as s;
 
 use crate::fault::ShapeFault;
@@ -37,7 +37,7 @@ fn keep(
 
 /// Whether it is the id of an account, and none of these.
 fn is_new_id(ids: &HashMap<String, usize>, text: &str) -> bool
-    ensures { (earlier : List (List ℕ)) → AreFirstPlaces ids.now earlier → result ≡ is_new_id earlier text.now }
+    ensures { (earlier : List (List ℕ)) → AreFirstPlaces ids.now earlier → result ≡ is_apart earlier text.now }
 {
     is_account(text) && !ids.contains_key(text)
 }
@@ -50,7 +50,7 @@ fn walk_front<'v>(
 ) -> Result<(&'v str, bool), Path>
     ensures { (earlier : List (List ℕ)) → AreFirstPlaces ids.now earlier
         → Walks (account_front earlier i (view account.entry.now))
-        (λ found. HasText Name.Id (view account.entry.now) found.0.now
+        (λ found. (text_at Name.Id (view account.entry.now) ≡ Some found.0.now)
         × (found.1 ≡ is_true_at Name.Management (view account.entry.now))) result }
 {
     let list = Name::Accounts;
@@ -86,7 +86,7 @@ fn walk_account<'v>(
     account: &'v Value,
 ) -> Result<AccountView<'v>, Path>
     ensures { (earlier : List (List ℕ)) → AreFirstPlaces ids.now earlier
-        → Walks (account_checks earlier i (view account.entry.now))
+        → Walks (checks_behind earlier i (view account.entry.now))
         (λ found. IsAccountView (view account.entry.now) (account_of found)) result }
 {
     let (id, management) = walk_front(ids, i, account)?;
@@ -103,10 +103,11 @@ fn walk_account<'v>(
 
 /// Walks the accounts, and gathers their numbers by their ids.
 pub fn walk_accounts(alloc: Global, accounts: &[Value]) -> Result<Accounts<'_>, ShapeFault>
-    ensures ok { IfOk result (λ found. (first_bad (all_account_checks (map view accounts.entry.now)) ≡ None)
+    ensures ok { IfOk result (λ found.
+        (first_bad (each (account_checks (map view accounts.entry.now)) 0 (map view accounts.entry.now)) ≡ None)
         × AllZip IsAccountView (map view accounts.entry.now) (map account_of found.views.items)) }
     ensures path { IfErr result (λ fault. fault ≢ s.OutOfMemory
-        → IsShapeFault (all_account_checks (map view accounts.entry.now)) fault) }
+        → IsShapeFault (each (account_checks (map view accounts.entry.now)) 0 (map view accounts.entry.now)) fault) }
 {
     let mut views = Vec::with_capacity(alloc, accounts.len())?;
     let mut ids = HashMap::new(alloc);

@@ -4,7 +4,8 @@ ghost use Rattle.std.specs.List.{list_all};
 ghost use Rattle.std.specs.Option.{option_map_or};
 ghost use Rattle.serde_json.specs.View.{members_view, view};
 ghost use Rattle.iam_json.specs.Scalar.{all_members, is_scalar};
-ghost use Rattle.iam_shape.specs.Shape.{is_context, is_context_value};
+ghost use Rattle.iam_shape.specs.Code.Walk.{is_context_value};
+ghost use Rattle.iam_shape.specs.Shape.{is_context};
 
 use iam_json::{is_scalar, values};
 use serde_json::{Map, Value};

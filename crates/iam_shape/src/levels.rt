@@ -3,9 +3,9 @@ ghost use Rattle.std.specs.Prelude.{◌≡◌, map};
 ghost use Rattle.std.specs.List.{AllZip};
 ghost use Rattle.serde_json.specs.View.{view};
 ghost use Rattle.iam_shape.specs.Lent.{policies_by_level, policies_in};
-ghost use Rattle.iam_shape.specs.Code.Walk.{Walks};
-ghost use Rattle.iam_shape.specs.Shape.{each, level_checks, levels_checks, member};
-ghost use Rattle.iam_shape.specs.View.{HasLevels, IsLevel};
+ghost use Rattle.iam_shape.specs.Code.Walk.{IsLevel, Walks, level_checks};
+ghost use Rattle.iam_shape.specs.Shape.{each, levels_checks, member};
+ghost use Rattle.iam_shape.specs.View.{HasLevels};
 
 use crate::look::member;
 use crate::path::{Name, Path};

@@ -3,10 +3,10 @@ ghost use Rattle.std.specs.Prelude.{◌≡◌, ◌≢◌, ◌≤◌, ℕ, List, 
 ghost use Rattle.std.specs.List.{AllZip};
 ghost use Rattle.serde_json.specs.Data.{Data};
 ghost use Rattle.serde_json.specs.View.{view};
-ghost use Rattle.iam_shape.specs.Code.Walk.{Walks};
+ghost use Rattle.iam_shape.specs.Code.Walk.{Walks, head_checks, tail_checks};
 ghost use Rattle.iam_shape.specs.Lent.{account_of};
 ghost use Rattle.iam_shape.specs.LentWorld.{world_of};
-ghost use Rattle.iam_shape.specs.Shape.{Check, IsShapeFault, all_account_checks, each, first_bad, has_only, head_checks, list_at, list_checks, member, number_at, shape_checks, tail_checks};
+ghost use Rattle.iam_shape.specs.Shape.{Check, IsShapeFault, account_checks, each, first_bad, has_only, list_at, list_checks, member, number_at, shape_checks};
 ghost use Rattle.iam_shape.specs.View.{HasListOf, IsAccountView, IsView};
 ghost use Rattle.iam_shape.specs.declared.fault.ShapeFault.TheVariants as s;
 
@@ -53,7 +53,7 @@ impl<'v> Part<'v> for PrincipalView<'v> {
 impl<'v> Part<'v> for &'v str {
     ghost use Rattle.std.specs.Prelude.{◌≡◌, Some};
     ghost use Rattle.serde_json.specs.Find.{as_str};
-    ghost use Rattle.iam_shape.specs.Shape.{action_checks};
+    ghost use Rattle.iam_shape.specs.Code.Walk.{action_checks};
 
     ghost checks = { action_checks };
 
@@ -119,12 +119,12 @@ fn walk_list_at<'v, P: Part<'v>>(
 /// Walks the accounts of a document.
 fn walk_accounts_of(alloc: Global, world: &Value) -> Result<Accounts<'_>, ShapeFault>
     ensures ok { IfOk result (λ found.
-        (first_bad (list_checks (Path.Member Name.Accounts) all_account_checks (list_at Name.Accounts (view world.entry.now)))
-        ≡ None)
+        (first_bad (list_checks (Path.Member Name.Accounts) (λ accounts. each (account_checks accounts) 0 accounts)
+        (list_at Name.Accounts (view world.entry.now))) ≡ None)
         × HasListOf IsAccountView Name.Accounts (view world.entry.now) (map account_of found.views.items)) }
     ensures path { IfErr result (λ fault. fault ≢ s.OutOfMemory
-        → IsShapeFault
-        (list_checks (Path.Member Name.Accounts) all_account_checks (list_at Name.Accounts (view world.entry.now))) fault) }
+        → IsShapeFault (list_checks (Path.Member Name.Accounts) (λ accounts. each (account_checks accounts) 0 accounts)
+        (list_at Name.Accounts (view world.entry.now))) fault) }
 {
     match list_at(world, Name::Accounts) {
         Some(accounts) => walk_accounts(alloc, accounts),

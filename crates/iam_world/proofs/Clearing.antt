@@ -2,12 +2,12 @@
 use Rattle.std.proofs.Common.{List, sym, subst, arith}
 use Rattle.std.specs.List.{AllByRecursion, AllZip}
 use Rattle.iam_match.specs.Requester.{RequesterValue}
-use Rattle.iam_world.specs.Code.ViewFault.{IsClearBelow, IsFirstViewFault}
-use Rattle.iam_world.specs.Code.Documents.{IsRefusedAmong}
+use Rattle.iam_world.specs.Code.ViewFault.{HasNoResourceArn, IsClearBelow, IsFirstViewFault, IsNoAction}
+use Rattle.iam_world.specs.Code.Documents.{IsNotAccepted, IsRefusedAmong}
 use Rattle.iam_shape.specs.View.{WorldViewValue}
 use Rattle.iam_shape.specs.First.{with_paths}
 use Rattle.iam_world_context.specs.Contexts.{Beside, IsFaulty, parts}
-use Rattle.iam_world.specs.WorldFault.{IsNoRequester, IsRequesterAt, IsNoAction, HasNoResourceArn, IsOfUnknownAccount, IsNotAccepted, IsOverLimits, ViewHasFault, documents, owners}
+use Rattle.iam_world.specs.WorldFault.{IsNoRequester, IsRequesterAt, IsOfUnknownAccount, IsOverLimits, ViewHasFault, documents, owners}
 use Rattle.iam_shape.specs.declared.path.Name.TheVariants.{Principals, Actions, Resources}
 use Rattle.iam_shape.specs.declared.path.Path.{Path}
 use Rattle.iam_shape.specs.declared.path.Path.TheVariants.{Item}

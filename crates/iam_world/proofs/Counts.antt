@@ -8,16 +8,17 @@ use Rattle.iam_policy.specs.Fault.{statements_in}
 use Rattle.iam_policy.specs.declared.fault.Kind.{Kind}
 use Rattle.iam_policy.specs.declared.fault.Kind.TheVariants as kind
 use Rattle.iam_policy.specs.Reading.{Reads, PolicyValue}
+use Rattle.iam_shape.specs.Shape.{each}
 use Rattle.iam_shape.specs.View.{WorldViewValue}
 use Rattle.iam_shape.specs.declared.path.Name.{Name}
 use Rattle.iam_shape.specs.declared.path.Name.TheVariants.{Accounts, Principals, Resources, Org, Identity, Boundary, SessionPolicies, Control}
 use Rattle.iam_shape.specs.declared.path.Name.TheVariants as name
 use Rattle.iam_shape.specs.declared.path.Path.{Path}
 use Rattle.iam_shape.specs.declared.path.Path.TheVariants.{Field, Entry, Leaf}
-use Rattle.iam_world.specs.Code.Documents.{statement_total}
+use Rattle.iam_world.specs.Code.Documents.{boundary_documents, control_documents, identity_documents, level_documents, org_documents, resource_documents, session_documents, statement_total}
 use Rattle.iam_world.specs.Reads.{ReadsAccount, ReadsOptional, ReadsPrincipal, ReadsResource, ReadsWorld}
 use Rattle.iam_world.specs.World.{AccountValue, PrincipalValue, ResourceValue, WorldValue, world_statements}
-use Rattle.iam_world.specs.WorldFault.{Document, boundary_documents, control_documents, identity_documents, level_documents, numbered, of_each, org_documents, resource_documents, session_documents, statement_count}
+use Rattle.iam_world.specs.WorldFault.{Document, documents, numbered}
 use Rattle.iam_world.proofs.Walks.{zip_length}
 
 abbrev document_statements : Document → ℕ
@@ -49,20 +50,17 @@ of_list kind at i (d ∷ ds) (p ∷ ps) zip =
 
 of_optional : (kind : Kind) (at : ℕ → Path) (d : Option Data) (policy : Option PolicyValue) → ReadsOptional kind d policy
     → statement_total (numbered kind at 0 (option_to_list d)) ≡ count_in (option_to_list policy)
-of_optional kind at None None reads = refl
-of_optional kind at None (Some p) reads = absurd reads
-of_optional kind at (Some d) None reads = absurd reads
-of_optional kind at (Some d) (Some p) reads = of_list kind at 0 (d ∷ []) (p ∷ []) (reads, tt)
+of_optional kind at d policy reads = of_list kind at 0 (option_to_list d) (option_to_list policy) reads
 
 -- of each member of a list
 of_members : {X Y : Type 0} (docs : ℕ → X → List Document) (policies : Y → List PolicyValue) (R : X → Y → Type 0)
     → ((i : ℕ) (x : X) (y : Y) → R x y → statement_total (docs i x) ≡ count_in (policies y)) → (i : ℕ) (xs : List X) (ys : List Y) → AllZip R xs ys
-    → statement_total (of_each docs i xs) ≡ count_in (flat_map policies ys)
+    → statement_total (each docs i xs) ≡ count_in (flat_map policies ys)
 of_members docs policies R step i [] [] zip = refl
 of_members docs policies R step i [] (y ∷ ys) zip = absurd zip
 of_members docs policies R step i (x ∷ xs) [] zip = absurd zip
 of_members docs policies R step i (x ∷ xs) (y ∷ ys) zip =
-    of_two (docs i x) (of_each docs (i + 1) xs) (policies y) (flat_map policies ys) (step i x y zip.0) (of_members docs policies R step (i + 1) xs ys zip.1)
+    of_two (docs i x) (each docs (i + 1) xs) (policies y) (flat_map policies ys) (step i x y zip.0) (of_members docs policies R step (i + 1) xs ys zip.1)
 
 -- of levels
 of_levels : (kind : Kind) (list : Name) (i : ℕ) (name : Name) (levels : List (List Data)) (policies : List (List PolicyValue)) → AllZip (AllZip (Reads kind)) levels policies
@@ -71,7 +69,7 @@ of_levels kind list i name levels policies zip =
     of_members (λ j ds. numbered kind (Leaf list i name j) 0 ds) (λ (level : List PolicyValue). level) (AllZip (Reads kind))
     (λ j ds ps reads. of_list kind (Leaf list i name j) 0 ds ps reads) 0 levels policies zip
 
-pub statements_same : (view : WorldViewValue) (world : WorldValue) → ReadsWorld view world → statement_count view ≡ world_statements world
+pub statements_same : (view : WorldViewValue) (world : WorldValue) → ReadsWorld view world → statement_total (documents view) ≡ world_statements world
 statements_same view world reads =
     let orgs = λ (a : AccountValue). flat_map (λ (level : List PolicyValue). level) a.org in
     let controls = λ (x : ResourceValue). flat_map (λ (level : List PolicyValue). level) x.control in
@@ -90,17 +88,17 @@ statements_same view world reads =
     (λ i v p r. of_optional kind.Identity (λ j. Field Principals i Boundary) v.boundary p.boundary r.boundary) 0 view.principals world.principals reads.principals in
     let five = of_members session_documents session ReadsPrincipal
     (λ i v p r. of_list kind.Identity (Entry Principals i SessionPolicies) 0 v.session_policies p.session r.session) 0 view.principals world.principals reads.principals in
-    let boundaries = of_each boundary_documents 0 view.principals in
-    let sessions = of_each session_documents 0 view.principals in
-    let identities = of_each identity_documents 0 view.principals in
+    let boundaries = each boundary_documents 0 view.principals in
+    let sessions = each session_documents 0 view.principals in
+    let identities = each identity_documents 0 view.principals in
     let sessions_of = flat_map session world.principals in
     let boundaries_of = flat_map boundary world.principals in
     let last = of_two boundaries sessions boundaries_of sessions_of four five in
     let principals = of_two identities (boundaries ++ sessions) (flat_map own world.principals) (boundaries_of ++ sessions_of) three last in
-    let behind_control = of_two (of_each resource_documents 0 view.resources) (identities ++ (boundaries ++ sessions)) (flat_map attached world.resources)
+    let behind_control = of_two (each resource_documents 0 view.resources) (identities ++ (boundaries ++ sessions)) (flat_map attached world.resources)
     (flat_map own world.principals ++ (boundaries_of ++ sessions_of)) two principals in
-    let behind_accounts = of_two (of_each control_documents 0 view.resources) (of_each resource_documents 0 view.resources ++ (identities ++ (boundaries ++ sessions)))
+    let behind_accounts = of_two (each control_documents 0 view.resources) (each resource_documents 0 view.resources ++ (identities ++ (boundaries ++ sessions)))
     (flat_map controls world.resources) (flat_map attached world.resources ++ (flat_map own world.principals ++ (boundaries_of ++ sessions_of))) control behind_control in
-    of_two (of_each org_documents 0 view.accounts)
-    (of_each control_documents 0 view.resources ++ (of_each resource_documents 0 view.resources ++ (identities ++ (boundaries ++ sessions)))) (flat_map orgs world.accounts)
+    of_two (each org_documents 0 view.accounts)
+    (each control_documents 0 view.resources ++ (each resource_documents 0 view.resources ++ (identities ++ (boundaries ++ sessions)))) (flat_map orgs world.accounts)
     (flat_map controls world.resources ++ (flat_map attached world.resources ++ (flat_map own world.principals ++ (boundaries_of ++ sessions_of)))) one behind_accounts

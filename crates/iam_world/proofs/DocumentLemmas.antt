@@ -5,9 +5,10 @@ use Rattle.std.proofs.lemmas.List.{append_assoc, append-nil, take-append-drop}
 use Rattle.std.proofs.lemmas.List.Sums.{sum_by-append}
 use Rattle.serde_json.specs.Data.{Data}
 use Rattle.iam_policy.specs.Fault.{statements_in}
+use Rattle.iam_shape.specs.Shape.{each}
 use Rattle.iam_world.specs.Code.Budget.{Leaves}
-use Rattle.iam_world.specs.Code.Documents.{IsCleared, IsRefusedAmong, document_at, path_at, statement_total}
-use Rattle.iam_world.specs.WorldFault.{Document, IsNotAccepted, numbered, of_each}
+use Rattle.iam_world.specs.Code.Documents.{IsCleared, IsNotAccepted, IsRefusedAmong, document_at, path_at, statement_total}
+use Rattle.iam_world.specs.WorldFault.{Document, numbered}
 use Rattle.iam_world.specs.declared.documents.Documents.{Documents}
 use Rattle.iam_world.specs.declared.fault.WorldFault.{WorldFault}
 use Rattle.iam_world.specs.declared.limits.Budget.{Budget}
@@ -43,17 +44,17 @@ cleared_append xs ys a b c one two = record {
 
 -- ---- the documents of each member of a list
 
-each_append : {X : Type 0} (docs : ℕ → X → List Document) (k : ℕ) (xs ys : List X) → of_each docs k (xs ++ ys) ≡ of_each docs k xs ++ of_each docs (k + length xs) ys
-each_append docs k [] ys = ap (λ n. of_each docs n ys) (omega arith)
+each_append : {X : Type 0} (docs : ℕ → X → List Document) (k : ℕ) (xs ys : List X) → each docs k (xs ++ ys) ≡ each docs k xs ++ each docs (k + length xs) ys
+each_append docs k [] ys = ap (λ n. each docs n ys) (omega arith)
 each_append docs k (x ∷ xs) ys =
     let number : k + 1 + length xs ≡ k + suc (length xs) = omega arith in
     ap (λ ds. docs k x ++ ds) (each_append docs (k + 1) xs ys)
-    ∙ sym (append_assoc (docs k x) (of_each docs (k + 1) xs) (of_each docs (k + 1 + length xs) ys))
-    ∙ ap (λ n. (docs k x ++ of_each docs (k + 1) xs) ++ of_each docs n ys) number
+    ∙ sym (append_assoc (docs k x) (each docs (k + 1) xs) (each docs (k + 1 + length xs) ys))
+    ∙ ap (λ n. (docs k x ++ each docs (k + 1) xs) ++ each docs n ys) number
 
 -- those of the members before i + 1
 each_take : {X : Type 0} (docs : ℕ → X → List Document) (k : ℕ) (xs : List X) (i : ℕ) (x : X) → i < length xs → x ≡ get_or xs i x
-    → of_each docs k (take (i + 1) xs) ≡ of_each docs k (take i xs) ++ docs (k + i) x
+    → each docs k (take (i + 1) xs) ≡ each docs k (take i xs) ++ docs (k + i) x
 each_take docs k [] i x below is = absurd (omega arith)
 each_take docs k (y ∷ xs) zero x below is =
     let number : k ≡ k + 0 = omega arith in
@@ -62,44 +63,44 @@ each_take docs k (y ∷ xs) (suc i) x below is =
     let rest : i < length xs = omega arith in
     let number : k + 1 + i ≡ k + suc i = omega arith in
     let next : suc i + 1 ≡ suc (i + 1) = omega arith in
-    ap (λ n. of_each docs k (take n (y ∷ xs))) next
+    ap (λ n. each docs k (take n (y ∷ xs))) next
     ∙ ap (λ ds. docs k y ++ ds) (each_take docs (k + 1) xs i x rest is)
-    ∙ sym (append_assoc (docs k y) (of_each docs (k + 1) (take i xs)) (docs (k + 1 + i) x))
-    ∙ ap (λ n. (docs k y ++ of_each docs (k + 1) (take i xs)) ++ docs n x) number
+    ∙ sym (append_assoc (docs k y) (each docs (k + 1) (take i xs)) (docs (k + 1 + i) x))
+    ∙ ap (λ n. (docs k y ++ each docs (k + 1) (take i xs)) ++ docs n x) number
 
 pub each_next : {X : Type 0} (docs : ℕ → X → List Document) (xs : List X) (i : ℕ) (x : X) → i < length xs → x ≡ get_or xs i x
-    → of_each docs 0 (take (i + 1) xs) ≡ of_each docs 0 (take i xs) ++ docs i x
-each_next docs xs i x below is = let number : 0 + i ≡ i = omega arith in each_take docs 0 xs i x below is ∙ ap (λ n. of_each docs 0 (take i xs) ++ docs n x) number
+    → each docs 0 (take (i + 1) xs) ≡ each docs 0 (take i xs) ++ docs i x
+each_next docs xs i x below is = let number : 0 + i ≡ i = omega arith in each_take docs 0 xs i x below is ∙ ap (λ n. each docs 0 (take i xs) ++ docs n x) number
 
 -- a document of member i is the first that is refused
 pub each_refused : {X : Type 0} (docs : ℕ → X → List Document) (xs : List X) (i : ℕ) (x : X) (fault : WorldFault) → i < length xs → x ≡ get_or xs i x
-    → AllByRecursion (λ d. ¬ IsNotAccepted d) (of_each docs 0 (take i xs)) → IsRefusedAmong (docs i x) fault → IsRefusedAmong (of_each docs 0 xs) fault
+    → AllByRecursion (λ d. ¬ IsNotAccepted d) (each docs 0 (take i xs)) → IsRefusedAmong (docs i x) fault → IsRefusedAmong (each docs 0 xs) fault
 each_refused docs xs i x fault below is accepted refused =
     let front = take (i + 1) xs in
     let back = drop (i + 1) xs in
-    subst (λ ds. IsRefusedAmong ds fault) (sym (each_append docs 0 front back) ∙ ap (of_each docs 0) (take-append-drop (i + 1) xs))
-    (refused_here (of_each docs 0 front) (of_each docs (0 + length front) back) fault
+    subst (λ ds. IsRefusedAmong ds fault) (sym (each_append docs 0 front back) ∙ ap (each docs 0) (take-append-drop (i + 1) xs))
+    (refused_here (each docs 0 front) (each docs (0 + length front) back) fault
     (subst (λ ds. IsRefusedAmong ds fault) (sym (each_next docs xs i x below is))
-    (refused_later (of_each docs 0 (take i xs)) (docs i x) fault accepted refused)))
+    (refused_later (each docs 0 (take i xs)) (docs i x) fault accepted refused)))
 
 -- the documents of what lent members say
-pub each_map : {V X : Type 0} (docs : ℕ → X → List Document) (f : V → X) (k : ℕ) (vs : List V) → of_each (λ i v. docs i (f v)) k vs ≡ of_each docs k (map f vs)
+pub each_map : {V X : Type 0} (docs : ℕ → X → List Document) (f : V → X) (k : ℕ) (vs : List V) → each (λ i v. docs i (f v)) k vs ≡ each docs k (map f vs)
 each_map docs f k [] = refl
 each_map docs f k (v ∷ vs) = ap (λ ds. docs k (f v) ++ ds) (each_map docs f (k + 1) vs)
 
 -- one document each
-pub each_one : {V : Type 0} (f : V → Data) (ds : Documents) (k : ℕ) (vs : List V) → of_each (λ j v. document_at ds j (f v) ∷ []) k vs ≡ numbered ds.kind (path_at ds.place) k (map f vs)
+pub each_one : {V : Type 0} (f : V → Data) (ds : Documents) (k : ℕ) (vs : List V) → each (λ j v. document_at ds j (f v) ∷ []) k vs ≡ numbered ds.kind (path_at ds.place) k (map f vs)
 each_one f ds k [] = refl
 each_one f ds k (v ∷ vs) = ap (λ rest. document_at ds k (f v) ∷ rest) (each_one f ds (k + 1) vs)
 
 -- ---- a layer, as the code holds it and as its documents
 
 pub cleared_lent : {V X : Type 0} (docs : ℕ → X → List Document) (f : V → X) (vs ws : List V) (a b : Budget) → vs ≡ ws
-    → IsCleared (of_each (λ i v. docs i (f v)) 0 vs) a b → IsCleared (of_each docs 0 (map f ws)) a b
+    → IsCleared (each (λ i v. docs i (f v)) 0 vs) a b → IsCleared (each docs 0 (map f ws)) a b
 cleared_lent docs f vs ws a b same cleared =
-    subst (λ xs. IsCleared (of_each docs 0 (map f xs)) a b) same (subst (λ ds. IsCleared ds a b) (each_map docs f 0 vs) cleared)
+    subst (λ xs. IsCleared (each docs 0 (map f xs)) a b) same (subst (λ ds. IsCleared ds a b) (each_map docs f 0 vs) cleared)
 
 pub refused_lent : {V X : Type 0} (docs : ℕ → X → List Document) (f : V → X) (vs ws : List V) (fault : WorldFault) → vs ≡ ws
-    → IsRefusedAmong (of_each (λ i v. docs i (f v)) 0 vs) fault → IsRefusedAmong (of_each docs 0 (map f ws)) fault
+    → IsRefusedAmong (each (λ i v. docs i (f v)) 0 vs) fault → IsRefusedAmong (each docs 0 (map f ws)) fault
 refused_lent docs f vs ws fault same refused =
-    subst (λ xs. IsRefusedAmong (of_each docs 0 (map f xs)) fault) same (subst (λ ds. IsRefusedAmong ds fault) (each_map docs f 0 vs) refused)
+    subst (λ xs. IsRefusedAmong (each docs 0 (map f xs)) fault) same (subst (λ ds. IsRefusedAmong ds fault) (each_map docs f 0 vs) refused)

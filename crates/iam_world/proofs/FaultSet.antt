@@ -4,7 +4,7 @@ use Rattle.serde_json.specs.Data.{Data}
 use Rattle.iam_world.specs.Code.ViewFault.{IsFirstViewFault}
 use Rattle.iam_shape.specs.Shape.{first_bad, shape_checks}
 use Rattle.iam_shape.specs.View.{WorldViewValue, IsView}
-use Rattle.iam_world.specs.WorldFault.{HasView, IsFirstWorldFault, IsJson, ViewHasFault, WorldHasFault}
+use Rattle.iam_world.specs.WorldFault.{IsFirstWorldFault, IsJson, ViewHasFault, WorldHasFault}
 use Rattle.iam_world.specs.declared.fault.WorldFault.{WorldFault}
 use Rattle.iam_world.specs.declared.fault.WorldFault.TheVariants.{NotJson, BadShape, OutOfMemory}
 
@@ -15,6 +15,10 @@ one_json bytes d e one two = let same : Some d ≡ Some e = sym one.1 ∙ two.1 
 -- a document says one thing
 abbrev pub OneView : Type 0
 OneView = (d : Data) (view other : WorldViewValue) → IsView d view → IsView d other → view ≡ other
+
+-- the bytes are a text of a JSON value that says something of which P holds
+abbrev pub HasView : List ℕ → (WorldViewValue → Type 0) → Type 0
+HasView bytes P = (d : Data) × IsJson bytes d × ((world : WorldViewValue) × IsView d world × P world)
 
 -- what bytes say is one thing
 pub view_is : (one_view : OneView) (bytes : List ℕ) (d : Data) (world : WorldViewValue) → IsJson bytes d → IsView d world → (P : WorldViewValue → Type 0) → HasView bytes P → P world
@@ -30,7 +34,7 @@ to_view one_view bytes d world json clear says (BadShape path) (e, json', bad) =
     let wrong : None ≡ Some path = sym clear ∙ same in
     cc
 to_view one_view bytes d world json clear says OutOfMemory has = has
-to_view one_view bytes d world json clear says fault has = view_is one_view bytes d world json says _ has
+to_view one_view bytes d world json clear says fault has = view_is one_view bytes d world json says (λ w. ViewHasFault w fault) has
 
 from_view : (bytes : List ℕ) (d : Data) (world : WorldViewValue) → IsJson bytes d → IsView d world → (fault : WorldFault) → ViewHasFault world fault → WorldHasFault bytes fault
 from_view bytes d world json says NotJson has = absurd has

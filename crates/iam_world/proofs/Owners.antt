@@ -2,18 +2,23 @@
 use Rattle.std.proofs.Common.{◌≡◌, ℕ, List, [], ◌∷◌, map, Bool, true, false, not, Option, Some, None, is_some, option_map, refl, sym, ap, ◌∙◌, subst}
 use Rattle.std.specs.List.{AllByRecursion, AllZip, position_from}
 use Rattle.std.specs.Prelude.{IsTrue}
+use Rattle.iam_json.specs.Look.{is_one_of}
 use Rattle.iam_match.specs.Requester.{RequesterValue, IsRequesterOf}
 use Rattle.iam_world.specs.Code.ViewFault.{FindsFirst}
 use Rattle.iam_shape.specs.Texts.{AreFirstPlaces, Places, has_text}
 use Rattle.iam_shape.specs.View.{PrincipalViewValue, ResourceViewValue, WorldViewValue}
 use Rattle.iam_shape.specs.First.{IsFirstAt, with_paths}
-use Rattle.iam_world.specs.WorldFault.{IsOfUnknownAccount, IsRequesterAt, Owner, of_principal, of_resource, has_account, owners}
+use Rattle.iam_world.specs.WorldFault.{IsOfUnknownAccount, IsRequesterAt, Owner, of_principal, of_resource, owners}
 use Rattle.iam_shape.specs.declared.path.Name.TheVariants.{Principals, Resources}
 use Rattle.iam_shape.specs.declared.path.Path.{Path}
 use Rattle.iam_shape.specs.declared.path.Path.TheVariants.{Item}
 use Rattle.std.specs.Str.{bytes_eq}
 use Rattle.iam_world.proofs.Numbers.{has_place}
 use Rattle.iam_world.proofs.Firsts.{first_here, first_later, found_by, none_append}
+
+-- the world has an account of this id
+abbrev has_account : WorldViewValue → List ℕ → Bool
+has_account world id = is_one_of (map (λ account. account.id) world.accounts) id
 
 not_true : (b : Bool) → not b ≡ true → b ≡ false
 not_true true e = cc

@@ -19,11 +19,12 @@ use Rattle.iam_shape.specs.Shape.{first_bad, shape_checks}
 use Rattle.iam_shape.specs.View.{AccountViewValue, PrincipalViewValue, ResourceViewValue, WorldViewValue, IsView}
 use Rattle.iam_world.specs.World.{AccountValue, PrincipalValue, ResourceValue, WorldValue}
 use Rattle.iam_world_context.specs.Contexts.{Beside, IsFaulty, IsFirstFaulty, parts}
-use Rattle.iam_world.specs.WorldFault.{Document, HasView, IsFirstRefused, IsFirstWorldFault, IsNotAccepted, WorldHasFault, documents, world_number_of}
+use Rattle.iam_world.specs.WorldFault.{Document, IsFirstRefused, IsFirstWorldFault, WorldHasFault, documents, world_number_of}
 use Rattle.iam_world.specs.declared.fault.WorldFault.{WorldFault}
 use Rattle.iam_world.specs.declared.fault.WorldFault.TheVariants.{NotJson, BadShape, BadRequester, BadAction, BadResourceArn, UnknownAccount, Context, Policy, TooLarge, OutOfMemory}
 use Rattle.iam_shape.specs.declared.path.Path.{Path}
-use Rattle.iam_world.proofs.FaultSet.{OneView, one_json, view_is}
+use Rattle.iam_world.specs.Code.Documents.{IsNotAccepted}
+use Rattle.iam_world.proofs.FaultSet.{HasView, OneView, one_json, view_is}
 use Rattle.iam_world.proofs.Firsts.{one_at, one_first}
 use Rattle.iam_world.proofs.Walks.{zip_unique}
 
@@ -46,7 +47,7 @@ module _
     one_optional kind None (Some p) q one two = absurd one
     one_optional kind (Some d) None q one two = absurd one
     one_optional kind (Some d) (Some p) None one two = absurd two
-    one_optional kind (Some d) (Some p) (Some q) one two = ap Some (policy kind d p q one two)
+    one_optional kind (Some d) (Some p) (Some q) one two = ap Some (policy kind d p q one.0 two.0)
 
     one_account : (v : AccountViewValue) (a b : AccountValue) → ReadsAccount v a → ReadsAccount v b → a ≡ b
     one_account v a b one two =

@@ -14,12 +14,14 @@ use Rattle.iam_shape.specs.Few.{HasFewDocuments, HasFewLevels, HasFewLists}
 use Rattle.iam_shape.specs.View.{AccountViewValue, PrincipalViewValue, ResourceViewValue, WorldViewValue}
 use Rattle.iam_world_context.specs.Clean.{AllClean, AreClean}
 use Rattle.iam_world.specs.Invariants.{CanJoin, HasFewPolicies, IsSized}
+use Rattle.iam_world.specs.Code.Budget.{cell_count}
+use Rattle.iam_world.specs.Code.Documents.{statement_total}
 use Rattle.iam_world.specs.Code.Made.{made_account, made_principal, made_resource}
 use Rattle.iam_world_context.specs.Part.{part_of}
 use Rattle.iam_world.specs.Reads.{ReadsAccount, ReadsOptional, ReadsPrincipal, ReadsResource, ReadsWorld}
 use Rattle.iam_world.specs.World.{AccountValue, PrincipalValue, ResourceValue, WorldValue, world_cells}
 use Rattle.iam_world_context.specs.Contexts.{principal_parts, resource_parts}
-use Rattle.iam_world.specs.WorldFault.{IsOverLimits, IsRequesterAt, cell_count, statement_count}
+use Rattle.iam_world.specs.WorldFault.{IsOverLimits, IsRequesterAt, documents}
 use Rattle.iam_world.proofs.Counts.{statements_same}
 use Rattle.iam_world.proofs.Walks.{zip_length}
 
@@ -174,7 +176,7 @@ same_ids (v ∷ vs) (a ∷ accounts) zip = ap (λ id. id ∷ map (λ (account : 
 
 -- a world that is read of a document within the limits is within them
 pub sized : (view : WorldViewValue) (world : WorldValue) (cells statements : ℕ) (numbers : Places) → ReadsWorld view world → HasFewLists view → view.moment ≤ 253402300799
-    → cells ≡ cell_count view → statements ≡ statement_count view → (¬ IsOverLimits view)
+    → cells ≡ cell_count view → statements ≡ statement_total (documents view) → (¬ IsOverLimits view)
     → AllClean (part_of view.context) (principal_parts view) (resource_parts view) → AreFirstPlaces numbers (map (λ account. account.id) view.accounts)
     → IsSized world cells statements numbers
 sized view world cells statements numbers reads small moment cells_is statements_is within clean numbered = record {

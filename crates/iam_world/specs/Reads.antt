@@ -1,6 +1,7 @@
 -- How a world document is read: the world of bytes that have no fault. LOGIC 12.1.
-use Rattle.std.specs.Prelude.{◌≡◌, ℕ, List, Option, Some, None, ⊤}
+use Rattle.std.specs.Prelude.{◌≡◌, ℕ, ◌≤◌, List, length, Option}
 use Rattle.std.specs.List.{AllZip}
+use Rattle.std.specs.Option.{option_to_list}
 use Rattle.serde_json.specs.Data.{Data}
 use Rattle.iam_policy.specs.declared.fault.Kind.{Kind}
 use Rattle.iam_policy.specs.declared.fault.Kind.TheVariants as kind
@@ -8,14 +9,12 @@ use Rattle.iam_policy.specs.Reading.{PolicyValue, Reads}
 use Rattle.iam_shape.specs.View.{AccountViewValue, PrincipalViewValue, ResourceViewValue, WorldViewValue, IsView}
 use Rattle.iam_world_context.specs.Part.{part_of}
 use Rattle.iam_world.specs.World.{WorldValue, AccountValue, PrincipalValue, ResourceValue}
-use Rattle.iam_world.specs.WorldFault.{IsJson, IsRequesterAt, IsAcceptable}
+use Rattle.iam_world.specs.WorldFault.{IsJson, IsRequesterAt, WorldHasFault}
+use Rattle.iam_world.specs.declared.fault.WorldFault.{WorldFault}
 
 -- a policy that may be absent
 abbrev pub ReadsOptional : Kind → Option Data → Option PolicyValue → Type 0
-ReadsOptional kind None None = ⊤
-ReadsOptional kind None (Some policy) = ⊥
-ReadsOptional kind (Some d) None = ⊥
-ReadsOptional kind (Some d) (Some policy) = Reads kind d policy
+ReadsOptional kind d policy = AllZip (Reads kind) (option_to_list d) (option_to_list policy)
 
 pub record ReadsAccount (view : AccountViewValue) (account : AccountValue) : Type 0 where
   pub id : account.id ≡ view.id
@@ -45,9 +44,9 @@ pub record ReadsWorld (view : WorldViewValue) (world : WorldValue) : Type 0 wher
   pub resources : AllZip ReadsResource view.resources world.resources
   pub context : world.context ≡ part_of view.context
 
--- the bytes are this world's
+-- the bytes are this world's: they are not too many and have no fault
 pub record IsWorld (bytes : List ℕ) (world : WorldValue) : Type 0 where
-  pub acceptable : IsAcceptable bytes
+  pub acceptable : (length bytes ≤ 8388608) × ((fault : WorldFault) → ¬ WorldHasFault bytes fault)
   pub value : Data
   pub json : IsJson bytes value
   pub view : WorldViewValue

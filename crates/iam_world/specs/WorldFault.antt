@@ -17,7 +17,6 @@ use Rattle.iam_policy.specs.declared.fault.Kind.TheVariants as kind
 use Rattle.iam_policy.specs.Table.{refused_text}
 use Rattle.iam_policy.specs.declared.fault.Refused.{Refused}
 use Rattle.iam_match.specs.Requester.{RequesterValue, IsRequesterOf}
-use Rattle.iam_shape.specs.declared.path.Name.{Name}
 use Rattle.iam_shape.specs.declared.path.Name.TheVariants.{Accounts, Principals, Actions, Resources, Org, Identity, Boundary, SessionPolicies, Control}
 use Rattle.iam_shape.specs.declared.path.Name.TheVariants as name
 use Rattle.iam_shape.specs.declared.path.Path.{Path}
@@ -26,8 +25,8 @@ use Rattle.iam_shape.specs.Path.{path_text}
 use Rattle.iam_world.specs.declared.fault.WorldFault.{WorldFault}
 use Rattle.iam_world.specs.declared.fault.WorldFault.TheVariants.{NotJson, BadShape, BadRequester, BadAction, BadResourceArn, UnknownAccount, Context, Policy, TooLarge, OutOfMemory}
 use Rattle.iam_shape.specs.First.{IsFirst, IsFirstAt, with_paths}
-use Rattle.iam_shape.specs.Shape.{first_bad, shape_checks}
-use Rattle.iam_shape.specs.View.{AccountViewValue, PrincipalViewValue, ResourceViewValue, WorldViewValue, IsView}
+use Rattle.iam_shape.specs.Shape.{each, first_bad, shape_checks}
+use Rattle.iam_shape.specs.View.{PrincipalViewValue, ResourceViewValue, WorldViewValue, IsView}
 use Rattle.iam_world_context.specs.Contexts.{IsFirstFaulty, parts}
 
 -- the number of a fault
@@ -92,16 +91,9 @@ is_action_name text = is_run (λ c. is_ascii_alphanumeric c || c == 45 || c == 9
 abbrev pub is_action : List ℕ → Bool
 is_action text = is_label (before_first (λ c. c == 58) text) && is_action_name (after_first (λ c. c == 58) text)
 
-abbrev pub IsNoAction : List ℕ → Type 0
-IsNoAction text = ¬ IsTrue (is_action text)
-
 -- `*`, or a text of six parts, which has five colons or more, that begins with `arn:`
 abbrev pub is_resource : List ℕ → Bool
-is_resource text =
-    bytes_eq text (codes "*") || (starts_with nat_eq text (codes "arn:") && nat_le 5 (colons text))
-
-abbrev pub HasNoResourceArn : ResourceViewValue → Type 0
-HasNoResourceArn resource = ¬ IsTrue (is_resource resource.arn)
+is_resource text = bytes_eq text (codes "*") || (starts_with nat_eq text (codes "arn:") && nat_le 5 (colons text))
 
 -- ---- accounts
 
@@ -118,18 +110,13 @@ owners world =
 
 -- the account is that of the requester, where the principal is one, or that which the resource names
 abbrev pub BelongsTo : Owner → List ℕ → Type 0
-BelongsTo (of_principal principal) account =
-    (r : RequesterValue) × IsRequesterAt principal r × (account ≡ r.account)
+BelongsTo (of_principal principal) account = (r : RequesterValue) × IsRequesterAt principal r × (account ≡ r.account)
 BelongsTo (of_resource resource) account = account ≡ resource.account
-
--- the world has an account of this id
-abbrev pub has_account : WorldViewValue → List ℕ → Bool
-has_account world id = is_one_of (map (λ account. account.id) world.accounts) id
 
 -- it belongs to an account that the world does not have
 abbrev pub IsOfUnknownAccount : WorldViewValue → Owner → Type 0
 IsOfUnknownAccount world owner =
-    (account : List ℕ) × BelongsTo owner account × ¬ IsTrue (has_account world account)
+    (id : List ℕ) × BelongsTo owner id × ¬ IsTrue (is_one_of (map (λ account. account.id) world.accounts) id)
 
 -- ---- policy documents
 
@@ -144,71 +131,33 @@ abbrev pub numbered : Kind → (ℕ → Path) → ℕ → List Data → List Doc
 numbered kind at i [] = []
 numbered kind at i (d ∷ ds) = record { path = at i; kind = kind; value = d } ∷ numbered kind at (i + 1) ds
 
--- the documents of each member of a list, numbered from i
-abbrev pub of_each : {X : Type 0} → (ℕ → X → List Document) → ℕ → List X → List Document
-of_each documents i [] = []
-of_each documents i (x ∷ xs) = documents i x ++ of_each documents (i + 1) xs
-
--- the documents of levels that stand under a name of member i of a list, level by level
-abbrev pub level_documents : Kind → Name → ℕ → Name → List (List Data) → List Document
-level_documents kind list i name levels = of_each (λ j level. numbered kind (Leaf list i name j) 0 level) 0 levels
-
--- the organisation policies of account i
-abbrev pub org_documents : ℕ → AccountViewValue → List Document
-org_documents i account = level_documents kind.Org Accounts i Org account.org
-
--- the resource control policies of resource i
-abbrev pub control_documents : ℕ → ResourceViewValue → List Document
-control_documents i resource = level_documents kind.Control Resources i Control resource.control
-
--- the policy of resource i
-abbrev pub resource_documents : ℕ → ResourceViewValue → List Document
-resource_documents i resource =
-    numbered kind.Resource (λ j. Field Resources i name.Policy) 0 (option_to_list resource.policy)
-
--- the identity policies of principal i, its boundary, and its session policies
-abbrev pub identity_documents : ℕ → PrincipalViewValue → List Document
-identity_documents i principal = numbered kind.Identity (Entry Principals i Identity) 0 principal.identity
-
-abbrev pub boundary_documents : ℕ → PrincipalViewValue → List Document
-boundary_documents i principal =
-    numbered kind.Identity (λ j. Field Principals i Boundary) 0 (option_to_list principal.boundary)
-
-abbrev pub session_documents : ℕ → PrincipalViewValue → List Document
-session_documents i principal =
-    numbered kind.Identity (Entry Principals i SessionPolicies) 0 principal.session_policies
-
--- the policy documents of a world, layer by layer
+-- the policy documents of a world, layer by layer: the organisation policies of its accounts; the control policies and
+-- the policies of its resources; the identity policies, the boundaries and the session policies of its principals
 abbrev pub documents : WorldViewValue → List Document
 documents world =
-    of_each org_documents 0 world.accounts
-    ++ (of_each control_documents 0 world.resources
-    ++ (of_each resource_documents 0 world.resources
-    ++ (of_each identity_documents 0 world.principals
-    ++ (of_each boundary_documents 0 world.principals
-    ++ of_each session_documents 0 world.principals))))
-
-abbrev pub IsNotAccepted : Document → Type 0
-IsNotAccepted document = ¬ IsAccepted document.kind document.value
+    each (λ i a. each (λ j. numbered kind.Org (Leaf Accounts i Org j) 0) 0 a.org) 0 world.accounts
+    ++ (each (λ i r. each (λ j. numbered kind.Control (Leaf Resources i Control j) 0) 0 r.control) 0 world.resources
+    ++ (each (λ i r. numbered kind.Resource (λ j. Field Resources i name.Policy) 0 (option_to_list r.policy))
+    0 world.resources
+    ++ (each (λ i p. numbered kind.Identity (Entry Principals i Identity) 0 p.identity) 0 world.principals
+    ++ (each (λ i p. numbered kind.Identity (λ j. Field Principals i Boundary) 0 (option_to_list p.boundary))
+    0 world.principals
+    ++ each (λ i p. numbered kind.Identity (Entry Principals i SessionPolicies) 0 p.session_policies)
+    0 world.principals))))
 
 -- the first document that is not accepted stands at this path, and this is its least fault
 abbrev pub IsFirstRefused : List Document → Path → Refused → Type 0
 IsFirstRefused ds path refused =
-    (document : Document) × IsFirst IsNotAccepted ds document × (path ≡ document.path)
+    (document : Document) × IsFirst (λ d. ¬ IsAccepted d.kind d.value) ds document × (path ≡ document.path)
     × IsLeastFault document.kind document.value refused.statement refused.fault
 
 -- ---- limits
 
--- how many cells the matrix has
-abbrev pub cell_count : WorldViewValue → ℕ
-cell_count world = length world.principals * length world.actions * length world.resources
-
--- how many statements the documents have
-abbrev pub statement_count : WorldViewValue → ℕ
-statement_count world = sum_by (λ document. length (statements_in document.value)) (documents world)
-
+-- the matrix has too many cells, or the documents too many statements
 abbrev pub IsOverLimits : WorldViewValue → Type 0
-IsOverLimits world = (16777216 < cell_count world) ⊎ (4096 < statement_count world)
+IsOverLimits world =
+    (16777216 < length world.principals * length world.actions * length world.resources)
+    ⊎ (4096 < sum_by (λ document. length (statements_in document.value)) (documents world))
 
 -- ---- the faults
 
@@ -216,17 +165,15 @@ IsOverLimits world = (16777216 < cell_count world) ⊎ (4096 < statement_count w
 abbrev pub IsJson : List ℕ → Data → Type 0
 IsJson bytes d = IsUtf8 bytes × (read bytes ≡ Some d)
 
--- the bytes are a text of a JSON value that says something of which P holds
-abbrev pub HasView : List ℕ → (WorldViewValue → Type 0) → Type 0
-HasView bytes P = (d : Data) × IsJson bytes d × ((world : WorldViewValue) × IsView d world × P world)
-
 -- the faults of what a document of the right shape says, each by itself
 abbrev pub ViewHasFault : WorldViewValue → WorldFault → Type 0
 ViewHasFault world NotJson = ⊥
 ViewHasFault world (BadShape path) = ⊥
 ViewHasFault world (BadRequester path) = IsFirstAt IsNoRequester (with_paths (Item Principals) 0 world.principals) path
-ViewHasFault world (BadAction path) = IsFirstAt IsNoAction (with_paths (Item Actions) 0 world.actions) path
-ViewHasFault world (BadResourceArn path) = IsFirstAt HasNoResourceArn (with_paths (Item Resources) 0 world.resources) path
+ViewHasFault world (BadAction path) =
+    IsFirstAt (λ action. ¬ IsTrue (is_action action)) (with_paths (Item Actions) 0 world.actions) path
+ViewHasFault world (BadResourceArn path) =
+    IsFirstAt (λ resource. ¬ IsTrue (is_resource resource.arn)) (with_paths (Item Resources) 0 world.resources) path
 ViewHasFault world (UnknownAccount path) = IsFirstAt (IsOfUnknownAccount world) (owners world) path
 ViewHasFault world (Context path fault) = IsFirstFaulty (parts world) path fault
 ViewHasFault world (Policy path refused) = IsFirstRefused (documents world) path refused
@@ -238,7 +185,8 @@ abbrev pub WorldHasFault : List ℕ → WorldFault → Type 0
 WorldHasFault bytes NotJson = (d : Data) → ¬ IsJson bytes d
 WorldHasFault bytes (BadShape path) = (d : Data) × IsJson bytes d × (first_bad (shape_checks d) ≡ Some path)
 WorldHasFault bytes OutOfMemory = ⊥
-WorldHasFault bytes fault = HasView bytes (λ world. ViewHasFault world fault)
+WorldHasFault bytes fault =
+    (d : Data) × IsJson bytes d × ((world : WorldViewValue) × IsView d world × ViewHasFault world fault)
 
 -- the member with the least number
 pub record IsLeastWorldFault (bytes : List ℕ) (fault : WorldFault) : Type 0 where
@@ -249,7 +197,3 @@ pub record IsLeastWorldFault (bytes : List ℕ) (fault : WorldFault) : Type 0 wh
 abbrev pub IsFirstWorldFault : List ℕ → WorldFault → Type 0
 IsFirstWorldFault bytes fault =
     ((8388608 < length bytes) × (fault ≡ TooLarge)) ⊎ ((length bytes ≤ 8388608) × IsLeastWorldFault bytes fault)
-
--- bytes without a fault: the set is empty, and they are not too many
-abbrev pub IsAcceptable : List ℕ → Type 0
-IsAcceptable bytes = (length bytes ≤ 8388608) × ((fault : WorldFault) → ¬ WorldHasFault bytes fault)

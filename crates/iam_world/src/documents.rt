@@ -8,9 +8,10 @@ ghost use Rattle.iam_policy.specs.declared.fault.Kind.TheVariants as kind;
 ghost use Rattle.iam_world.specs.declared.documents.Location.TheVariants as place;
 ghost use Rattle.iam_shape.specs.Lent.{account_of, policies_by_level, policies_in, principal_of, resource_of};
 ghost use Rattle.iam_shape.specs.LentWorld.{world_of};
-ghost use Rattle.iam_world.specs.Code.Documents.{HasPolicies, IsCleared, IsRefusedAmong, document_at, path_at};
+ghost use Rattle.iam_shape.specs.Shape.{each};
+ghost use Rattle.iam_world.specs.Code.Documents.{HasPolicies, IsCleared, IsRefusedAmong, boundary_documents, control_documents, document_at, identity_documents, level_documents, org_documents, path_at, resource_documents, session_documents};
 ghost use Rattle.iam_world.specs.Reads.{ReadsOptional};
-ghost use Rattle.iam_world.specs.WorldFault.{Document, boundary_documents, control_documents, documents, identity_documents, level_documents, numbered, of_each, org_documents, resource_documents, session_documents};
+ghost use Rattle.iam_world.specs.WorldFault.{Document, documents, numbered};
 ghost use Rattle.iam_world.specs.declared.fault.WorldFault.TheVariants as w;
 
 use crate::fault::WorldFault;
@@ -53,9 +54,9 @@ fn read_each<T, L: Reader<T>>(
     list: &[T],
 ) -> Result<Vec<L::Read>, WorldFault>
     ensures ok { IfOk result (λ read. AllZip (L.reads layer.now) list.now read.items) }
-    ensures cleared { OnOk result (IsCleared (of_each (L.documents layer.now) 0 list.now) budget.old budget.new) }
+    ensures cleared { OnOk result (IsCleared (each (L.documents layer.now) 0 list.now) budget.old budget.new) }
     ensures fault { IfErr result (λ fault. fault ≢ w.OutOfMemory
-        → IsRefusedAmong (of_each (L.documents layer.now) 0 list.now) fault) }
+        → IsRefusedAmong (each (L.documents layer.now) 0 list.now) fault) }
 {
     let mut read = Vec::new(alloc);
     for (i, of) in list.iter().enumerate() {

@@ -1,8 +1,9 @@
 // How many cells and statements a world has, and may have.
 ghost use Rattle.std.specs.Prelude.{◌≡◌, ◌≤◌, ◌<◌, ◌+◌, ◌*◌, MatchOption};
-ghost use Rattle.iam_world.specs.Code.Budget.{Leaves};
+ghost use Rattle.iam_world.specs.Code.Budget.{Leaves, cell_count};
+ghost use Rattle.iam_world.specs.Code.Documents.{statement_total};
 ghost use Rattle.iam_shape.specs.LentWorld.{world_of};
-ghost use Rattle.iam_world.specs.WorldFault.{IsOverLimits, cell_count, statement_count};
+ghost use Rattle.iam_world.specs.WorldFault.{IsOverLimits, documents};
 
 use iam_shape::WorldView;
 
@@ -67,10 +68,10 @@ impl Budget {
 
 /// The numbers of cells and of statements; `None` where one is over its limit.
 pub fn sizes(world: &WorldView<'_>, budget: &Budget) -> Option<(u64, usize)>
-    requires { Leaves budget.now (statement_count (world_of world.now)) }
+    requires { Leaves budget.now (statement_total (documents (world_of world.now))) }
     ensures { MatchOption result (IsOverLimits (world_of world.now))
-        (λ sizes. (sizes.0 ≡ cell_count (world_of world.now)) × (sizes.1 ≡ statement_count (world_of world.now))
-        × (¬ IsOverLimits (world_of world.now))) }
+        (λ sizes. (sizes.0 ≡ cell_count (world_of world.now))
+        × (sizes.1 ≡ statement_total (documents (world_of world.now))) × (¬ IsOverLimits (world_of world.now))) }
 {
     let cells = cell_count(
         world.principals.len(),

@@ -2,12 +2,12 @@
 ghost use Rattle.std.specs.Prelude.{◌≡◌, ◌≢◌, ◌||◌, ◌==◌, map, not, IfOk, IfErr, OnOk, MatchOption, option_map};
 ghost use Rattle.std.specs.Char.{is_ascii_alphanumeric};
 ghost use Rattle.std.specs.List.{AllZip, list_all, position_from};
-ghost use Rattle.iam_world.specs.Code.ViewFault.{FindsFirst, IsClearBelow, IsFaultAt, IsFirstViewFault};
+ghost use Rattle.iam_world.specs.Code.ViewFault.{FindsFirst, HasNoResourceArn, IsClearBelow, IsFaultAt, IsFirstViewFault, IsNoAction};
 ghost use Rattle.iam_shape.specs.Texts.{has_text};
 ghost use Rattle.iam_shape.specs.Lent.{principal_of};
 ghost use Rattle.iam_shape.specs.LentWorld.{world_of};
 ghost use Rattle.iam_shape.specs.First.{IsFirstAt, with_paths};
-ghost use Rattle.iam_world.specs.WorldFault.{HasNoResourceArn, IsNoAction, IsNoRequester, IsOfUnknownAccount, IsRequesterAt, is_action, is_action_name, is_resource, owners};
+ghost use Rattle.iam_world.specs.WorldFault.{IsNoRequester, IsOfUnknownAccount, IsRequesterAt, is_action, is_action_name, is_resource, owners};
 ghost use Rattle.iam_world.specs.declared.fault.WorldFault.TheVariants as w;
 
 use crate::fault::WorldFault;

@@ -5,13 +5,14 @@ ghost use Rattle.std.specs.Str.{bytes_eq};
 ghost use Rattle.serde_json.specs.View.{view};
 ghost use Rattle.iam_world.specs.Code.ViewFault.{IsFirstViewFault};
 ghost use Rattle.iam_world_context.specs.Clean.{HasContexts};
-ghost use Rattle.iam_world.specs.Code.Documents.{HasPolicies};
+ghost use Rattle.iam_world.specs.Code.Budget.{cell_count};
+ghost use Rattle.iam_world.specs.Code.Documents.{HasPolicies, statement_total};
 ghost use Rattle.iam_shape.specs.Texts.{AreFirstPlaces};
 ghost use Rattle.iam_shape.specs.Few.{HasFewLists};
 ghost use Rattle.iam_shape.specs.Lent.{principal_of};
 ghost use Rattle.iam_shape.specs.LentWorld.{world_of};
 ghost use Rattle.iam_world.specs.Reads.{IsWorld, ReadsWorld};
-ghost use Rattle.iam_world.specs.WorldFault.{IsFirstWorldFault, IsJson, IsOverLimits, IsRequesterAt, ViewHasFault, cell_count, statement_count};
+ghost use Rattle.iam_world.specs.WorldFault.{IsFirstWorldFault, IsJson, IsOverLimits, IsRequesterAt, ViewHasFault, documents};
 ghost use Rattle.iam_world.specs.declared.fault.WorldFault.{WorldFault};
 ghost use Rattle.iam_world.specs.declared.fault.WorldFault.TheVariants as w;
 
@@ -121,7 +122,7 @@ fn build(
     requires small { HasFewLists (world_of world) }
     requires moment { world.moment ≤ 253402300799 }
     requires cells { sizes.0 ≡ cell_count (world_of world) }
-    requires statements { sizes.1 ≡ statement_count (world_of world) }
+    requires statements { sizes.1 ≡ statement_total (documents (world_of world)) }
     requires within { ¬ IsOverLimits (world_of world) }
     ensures { IfOk result (ReadsWorld (world_of world.entry)) }
 {

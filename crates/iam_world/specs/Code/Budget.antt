@@ -1,6 +1,11 @@
--- How the code counts the statements of a world.
-use Rattle.std.specs.Prelude.{◌≡◌, ℕ, ◌+◌, ◌<◌, MatchOption}
+-- How the code counts the cells and the statements of a world.
+use Rattle.std.specs.Prelude.{◌≡◌, ℕ, ◌+◌, ◌*◌, ◌<◌, length, MatchOption}
+use Rattle.iam_shape.specs.View.{WorldViewValue}
 use Rattle.iam_world.specs.declared.limits.Budget.{Budget}
+
+-- how many cells the matrix has
+abbrev pub cell_count : WorldViewValue → ℕ
+cell_count world = length world.principals * length world.actions * length world.resources
 
 -- so many statements were counted: what is left of 4,096 is known, or they are too many
 abbrev pub Leaves : Budget → ℕ → Type 0

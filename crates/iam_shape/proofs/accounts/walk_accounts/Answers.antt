@@ -6,7 +6,7 @@ use Rattle.serde_json.specs.View.{view}
 use Rattle.iam_json.specs.Look.{is_one_of}
 use Rattle.iam_shape.specs.Texts.{AreFirstPlaces}
 use Rattle.iam_shape.specs.Lent.{account_of}
-use Rattle.iam_shape.specs.Shape.{text_at, nth_account_checks}
+use Rattle.iam_shape.specs.Shape.{text_at, account_checks}
 use Rattle.iam_shape.specs.View.{AccountViewValue, IsAccountView}
 use Rattle.iam_shape.specs.declared.path.Name.TheVariants.{Id}
 use Rattle.iam_shape.proofs.AccountIds.{earlier_ids, fresh_id}
@@ -25,7 +25,7 @@ returns-in_err-view-clause-path c =
     (
     λ other.
     c.loop-i.invariant.left
-    ∙ each_here view (nth_account_checks (map view vs)) vs i c.index-accounts-i.result c.in_err-view.field-0.0 c.loop-i-test.true c.index-accounts-i.is
+    ∙ each_here view (account_checks (map view vs)) vs i c.index-accounts-i.result c.in_err-view.field-0.0 c.loop-i-test.true c.index-accounts-i.is
     (c.in_err-view.ensures ids known)
     )
 
@@ -44,7 +44,7 @@ loop-i-preserved c =
       count = rw c.in_ok-push.ensures.items (length_push views c.in_ok-view.view ∙ ap (λ n. n + 1) c.loop-i.invariant.count);
       left =
           c.loop-i.invariant.left
-          ∙ each_later view (nth_account_checks (map view vs)) vs i c.index-accounts-i.result c.loop-i-test.true c.index-accounts-i.is walked.0;
+          ∙ each_later view (account_checks (map view vs)) vs i c.index-accounts-i.result c.loop-i-test.true c.index-accounts-i.is walked.0;
       said =
           rw c.in_ok-push.ensures.items
           (zip_more_of IsAccountView view account_of vs i c.index-accounts-i.result views c.in_ok-view.view c.loop-i-test.true c.index-accounts-i.is

@@ -1,7 +1,7 @@
 use Rattle.std.proofs.Common.{◌≡◌}
 use Rattle.serde_json.specs.View.{members_view}
 use Rattle.iam_json.specs.Scalar.{all_members}
-use Rattle.iam_shape.specs.Shape.{is_context_value}
+use Rattle.iam_shape.specs.Code.Walk.{is_context_value}
 use Rattle.iam_shape.proofs.context.all_context_values.Given as goal
 
 -- what is left decides

@@ -1,7 +1,8 @@
 use Rattle.std.proofs.Common.{◌≡◌, None, map, arith}
 use Rattle.std.proofs.lemmas.Grind.{common_steps}
 use Rattle.serde_json.specs.View.{view}
-use Rattle.iam_shape.specs.Shape.{each, first_bad, level_checks}
+use Rattle.iam_shape.specs.Shape.{each, first_bad}
+use Rattle.iam_shape.specs.Code.Walk.{level_checks}
 use Rattle.iam_shape.proofs.LevelLists.{all_levels}
 use Rattle.iam_shape.proofs.levels.walk_levels.Goals as goal
 

@@ -1,6 +1,7 @@
 use Rattle.std.proofs.Common.{◌≡◌, map, drop}
 use Rattle.serde_json.specs.View.{view}
-use Rattle.iam_shape.specs.Shape.{each, first_bad, level_checks}
+use Rattle.iam_shape.specs.Shape.{each, first_bad}
+use Rattle.iam_shape.specs.Code.Walk.{level_checks}
 use Rattle.iam_shape.proofs.levels.walk_levels.Given as goal
 
 -- what is left decides

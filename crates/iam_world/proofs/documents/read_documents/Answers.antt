@@ -5,31 +5,33 @@ use Rattle.iam_policy.specs.declared.fault.Kind.TheVariants as kind
 use Rattle.iam_policy.specs.Reading.{Reads}
 use Rattle.iam_shape.specs.Lent.{account_of, principal_of, resource_of}
 use Rattle.iam_shape.specs.LentWorld.{world_of}
+use Rattle.iam_shape.specs.Shape.{each}
 use Rattle.iam_shape.specs.View.{WorldViewValue}
 use Rattle.iam_world.specs.Reads.{ReadsOptional}
-use Rattle.iam_world.specs.WorldFault.{Document, boundary_documents, control_documents, identity_documents, of_each, org_documents, resource_documents, session_documents}
+use Rattle.iam_world.specs.Code.Documents.{boundary_documents, control_documents, identity_documents, org_documents, resource_documents, session_documents}
+use Rattle.iam_world.specs.WorldFault.{Document}
 use Rattle.iam_world.proofs.DocumentLemmas.{cleared_append, cleared_lent, refused_lent, refused_here, refused_later}
 use Rattle.iam_world.proofs.Walks.{zip_map}
 use Rattle.iam_world.proofs.documents.read_documents.Goals as goal
 
 -- the documents of each layer, and those behind it
 abbrev orgs : WorldViewValue → List Document
-orgs world = of_each org_documents 0 world.accounts
+orgs world = each org_documents 0 world.accounts
 
 abbrev controls : WorldViewValue → List Document
-controls world = of_each control_documents 0 world.resources
+controls world = each control_documents 0 world.resources
 
 abbrev attached : WorldViewValue → List Document
-attached world = of_each resource_documents 0 world.resources
+attached world = each resource_documents 0 world.resources
 
 abbrev own : WorldViewValue → List Document
-own world = of_each identity_documents 0 world.principals
+own world = each identity_documents 0 world.principals
 
 abbrev boundaries : WorldViewValue → List Document
-boundaries world = of_each boundary_documents 0 world.principals
+boundaries world = each boundary_documents 0 world.principals
 
 abbrev sessions : WorldViewValue → List Document
-sessions world = of_each session_documents 0 world.principals
+sessions world = each session_documents 0 world.principals
 
 abbrev behind_own : WorldViewValue → List Document
 behind_own world = boundaries world ++ sessions world

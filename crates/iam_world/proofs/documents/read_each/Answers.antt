@@ -1,6 +1,6 @@
 use Rattle.std.proofs.Common.{take}
 use Rattle.std.proofs.lemmas.Result.{err_from_is_err_and}
-use Rattle.iam_world.specs.WorldFault.{of_each}
+use Rattle.iam_shape.specs.Shape.{each}
 use Rattle.iam_world.proofs.DocumentLemmas.{cleared_append, cleared_nil, each_next, each_refused}
 use Rattle.iam_world.proofs.Walks.{zip_whole}
 use Rattle.iam_world.proofs.documents.read_each.Goals as goal
@@ -31,6 +31,6 @@ loop-i-preserved g c =
           c.in_ok-read.ensures.ok);
       cleared =
           rw (each_next docs list i x c.loop-i-test.true c.index-list-i.is)
-          (cleared_append (of_each docs 0 (take i list)) (docs i x) c.args.budget.now c.loop-i.budget c.read.new.budget c.loop-i.invariant.cleared
+          (cleared_append (each docs 0 (take i list)) (docs i x) c.args.budget.now c.loop-i.budget c.read.new.budget c.loop-i.invariant.cleared
           c.in_ok-read.ensures.cleared);
     }
