@@ -102,7 +102,7 @@ fn answer<T: Threads + Sync>(
     ensures ok { IfOk result (λ report. IsOutput options.now bytes.items (report_text report)) }
     ensures fault { IfErr result (λ fault. IsRefusal options.now bytes.items fault) }
 {
-    match World::read_once(alloc, bytes) {
+    match World::from_vec_leaking(alloc, bytes) {
         Ok(world) => {
             let report = report(rt, alloc, options, &world);
             // The run ends soon: letting go of each piece of the world would cost a tenth of its reading.

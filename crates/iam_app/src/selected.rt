@@ -146,7 +146,7 @@ fn answer<T: Threads + Sync>(
     ensures ok { IfOk result (λ report. IsSelectedOutput options.now selection.now bytes.items (report_text report)) }
     ensures fault { IfErr result (λ fault. IsRefusal options.now bytes.items fault) }
 {
-    match World::read_once(alloc, bytes) {
+    match World::from_vec_leaking(alloc, bytes) {
         Ok(world) => {
             let report = asked_report(rt, alloc, options, selection, &world);
             // The run ends soon, as in a run without a selection.

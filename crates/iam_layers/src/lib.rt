@@ -1,7 +1,7 @@
 //! Worlds, and the verdicts of their policies on requests.
 //!
-//! `World::read` and `World::from_vec` read the bytes of a world document, or answer their first fault; `World::decide_plain` gives the
-//! verdict on one request by a scan of all statements that apply.
+//! `World::read`, `World::from_vec` and `World::from_vec_leaking` read the bytes of a world document, or answer their first fault;
+//! `World::decide_plain` gives the verdict on one request by a scan of all statements that apply.
 #![tactic(auto)]
 
 mod applicable;

@@ -6,7 +6,7 @@ use Rattle.serde_json.specs.Data.{Data}
 use Rattle.std.specs.Option.{option_map_or}
 use Rattle.iam_json.specs.Look.{is_one_of}
 use Rattle.iam_shape.specs.Shape.{first_bad, text_at}
-use Rattle.iam_shape.specs.Code.Walk.{checks_behind, is_apart}
+use Rattle.iam_shape.specs.Code.Walk.{checks_behind, is_new_beside}
 use Rattle.iam_shape.specs.View.{AccountViewValue, IsAccountView}
 use Rattle.iam_text.specs.Characters.{is_account}
 use Rattle.iam_shape.specs.declared.path.Name.TheVariants.{Id}
@@ -28,8 +28,8 @@ earlier_ids view vs i accounts said = sym (said_ids (map view (take i vs)) accou
 -- an account without a fault has a new id
 pub fresh_id : (ids : List (List ℕ)) (i : ℕ) (d : Data) (id : List ℕ) → first_bad (checks_behind ids i d) ≡ None → text_at Id d ≡ Some id → is_one_of ids id ≡ false
 fresh_id ids i d id good is =
-    let tested : option_map_or (is_apart ids) (text_at Id d) false ≡ true = second _ _ _ _ _ good in
-    other (is_account id) (is_one_of ids id) (ap (λ o. option_map_or (is_apart ids) o false) (sym is) ∙ tested)
+    let tested : option_map_or (is_new_beside ids) (text_at Id d) false ≡ true = second _ _ _ _ _ good in
+    other (is_account id) (is_one_of ids id) (ap (λ o. option_map_or (is_new_beside ids) o false) (sym is) ∙ tested)
   where
     second : (one two : Bool) (p q : Path) (rest : Option Path) → cond one (cond two rest (Some q)) (Some p) ≡ None → two ≡ true
     second true true p q rest e = refl

@@ -49,7 +49,7 @@ is_list d = is_some (values d)
 abbrev pub is_bool : Data → Bool
 is_bool d = is_some (as_bool d)
 
--- an object whose values are texts, Booleans, whole numbers and lists of these
+-- an object whose values are each a text, a Boolean, a whole number, or a list of such
 abbrev pub is_context : Data → Bool
 is_context d =
     option_map_or (all_members (λ v. is_scalar v || option_map_or (list_all is_scalar) (values v) false)) (as_object d)
@@ -126,7 +126,7 @@ principal_names principal =
     if is_user principal then User ∷ (Identity ∷ (Boundary ∷ (Context ∷ [])))
     else Role ∷ (Session ∷ (Identity ∷ (Boundary ∷ (SessionPolicies ∷ (Context ∷ [])))))
 
--- a user, or a session of a role, which has the member `role` and not `user`
+-- a user, or a session of a role, with `role` and not `user`; who that is, and its members
 abbrev pub principal_checks : ℕ → Data → List Check
 principal_checks i principal =
     (Item Principals i, is_user principal || (is_some (member Role principal) && is_none (member User principal)))

@@ -5,7 +5,7 @@ ghost use Rattle.serde_json.specs.View.{view};
 ghost use Rattle.iam_json.specs.Look.{is_one_of};
 ghost use Rattle.iam_shape.specs.Texts.{AreFirstPlaces};
 ghost use Rattle.iam_shape.specs.Lent.{account_of};
-ghost use Rattle.iam_shape.specs.Code.Walk.{Walks, account_front, checks_behind, is_apart};
+ghost use Rattle.iam_shape.specs.Code.Walk.{Walks, account_front, checks_behind, is_new_beside};
 ghost use Rattle.iam_shape.specs.Shape.{IsShapeFault, account_checks, each, first_bad, has_only, text_at};
 ghost use Rattle.iam_shape.specs.View.{IsAccountView, is_true_at};
 ghost use Rattle.iam_shape.specs.declared.fault.ShapeFault.TheVariants as s;
@@ -37,7 +37,7 @@ fn keep(
 
 /// Whether it is the id of an account, and none of these.
 fn is_new_id(ids: &HashMap<String, usize>, text: &str) -> bool
-    ensures { (earlier : List (List ℕ)) → AreFirstPlaces ids.now earlier → result ≡ is_apart earlier text.now }
+    ensures { (earlier : List (List ℕ)) → AreFirstPlaces ids.now earlier → result ≡ is_new_beside earlier text.now }
 {
     is_account(text) && !ids.contains_key(text)
 }

@@ -44,7 +44,7 @@ pub record ReadsWorld (view : WorldViewValue) (world : WorldValue) : Type 0 wher
   pub resources : AllZip ReadsResource view.resources world.resources
   pub context : world.context ≡ part_of view.context
 
--- the bytes are this world's: they are not too many and have no fault
+-- the bytes are not too many, have no fault, and are read as this world
 pub record IsWorld (bytes : List ℕ) (world : WorldValue) : Type 0 where
   pub acceptable : (length bytes ≤ 8388608) × ((fault : WorldFault) → ¬ WorldHasFault bytes fault)
   pub value : Data

@@ -131,8 +131,8 @@ abbrev pub numbered : Kind → (ℕ → Path) → ℕ → List Data → List Doc
 numbered kind at i [] = []
 numbered kind at i (d ∷ ds) = record { path = at i; kind = kind; value = d } ∷ numbered kind at (i + 1) ds
 
--- the policy documents of a world, layer by layer: the organisation policies of its accounts; the control policies and
--- the policies of its resources; the identity policies, the boundaries and the session policies of its principals
+-- the policy documents of a world, layer by layer, each of all its owners before the next: organisation policies, control
+-- policies, policies of resources, identity policies, boundaries, session policies
 abbrev pub documents : WorldViewValue → List Document
 documents world =
     each (λ i a. each (λ j. numbered kind.Org (Leaf Accounts i Org j) 0) 0 a.org) 0 world.accounts

@@ -226,9 +226,9 @@ impl WorldParts {
         read_value(alloc, &value)
     }
 
-    /// The same for a run that soon ends: what was parsed of the bytes is never let go, since piece by piece that would cost a
-    /// tenth of the reading.
-    pub fn read_once(alloc: Global, bytes: Vec<u8>) -> Result<WorldParts, WorldFault>
+    /// As [`WorldParts::read`], for a run that soon ends: what was parsed is never let go, also after a fault, since piece by piece
+    /// that would cost a tenth of the reading.
+    pub fn read_leaking(alloc: Global, bytes: Vec<u8>) -> Result<WorldParts, WorldFault>
         ensures ok { IfOk result (IsWorld bytes.items) }
         ensures fault { IfErr result (λ fault. fault ≢ w.OutOfMemory → IsFirstWorldFault bytes.items fault) }
     {

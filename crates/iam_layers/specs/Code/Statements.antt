@@ -1,5 +1,5 @@
 -- Whose statements apply to a request: those of the organisation and of the requester are the same whatever it asks for, those
--- that stand with the resource whoever asks.
+-- that stand with the resource whoever asks. And which resources are the same but for their ARN.
 use Rattle.std.specs.Prelude.{◌≡◌, ℕ, [], None, Some, length}
 use Rattle.std.specs.List.{slice_get}
 use Rattle.iam_decision.specs.Applicable.{ApplicableValue}
@@ -26,14 +26,14 @@ HaveSameOrg world p q =
 abbrev pub HasLevels : WorldValue → ℕ → ℕ → Type 0
 HasLevels world p levels = (r : ℕ) (a : ApplicableValue) → IsApplicableAt world p r a → levels ≡ length a.org
 
--- neither policies nor a context stand with the resource
+-- no policy, no level of control policies and no key stands with the resource
 pub record IsBare (resource : ResourceValue) : Type 0 where
   pub policy : resource.policy ≡ None
   pub control : resource.control ≡ []
   pub context : resource.context ≡ []
 
--- these two resources differ in nothing but their ARN
-pub record DifferInArn (world : WorldValue) (r other : ℕ) : Type 0 where
+-- these two resources are the same but for their ARN
+pub record AreSameButArn (world : WorldValue) (r other : ℕ) : Type 0 where
   pub one : ResourceValue
   pub two : ResourceValue
   pub one_is : slice_get world.resources r ≡ Some one

@@ -1,4 +1,4 @@
--- What the walk of a shape gives, and what its steps check of that which `Shape` lists.
+-- What the walk of a shape gives, and the checks that each of its steps makes.
 use Rattle.std.specs.Prelude.{◌≡◌, ℕ, List, [], ◌∷◌, ◌++◌, Bool, not, ◌&&◌, ◌||◌, Result, Some, None, false, is_some, nat_le, MatchResult}
 use Rattle.std.specs.List.{list_all}
 use Rattle.std.specs.Option.{option_map_or}
@@ -22,8 +22,8 @@ abbrev pub is_context_value : Data → Bool
 is_context_value d = is_scalar d || option_map_or (list_all is_scalar) (values d) false
 
 -- twelve digits, and none of these ids
-abbrev pub is_apart : List (List ℕ) → List ℕ → Bool
-is_apart ids text = is_account text && not (is_one_of ids text)
+abbrev pub is_new_beside : List (List ℕ) → List ℕ → Bool
+is_new_beside ids text = is_account text && not (is_one_of ids text)
 
 -- what is checked of a document before its lists: that it is an object, and its moment
 abbrev pub head_checks : Data → List Check
@@ -76,7 +76,7 @@ session_checks i session =
 abbrev pub account_front : List (List ℕ) → ℕ → Data → List Check
 account_front ids i account =
     (Item Accounts i, is_some (as_object account))
-    ∷ ((Field Accounts i Id, option_map_or (is_apart ids) (text_at Id account) false)
+    ∷ ((Field Accounts i Id, option_map_or (is_new_beside ids) (text_at Id account) false)
     ∷ ((Field Accounts i Management, is_absent_or is_bool Management account)
     ∷ []))
 
