@@ -299,7 +299,7 @@ pub fn wants_survey<'a>(index: &'a Index<'a>, workers: u32) -> bool {
     let mut most: usize = 0;
     let mut all: usize = 0;
     for p in 0..world.principals() {
-        let own = index.own_statements(p).statements().len();
+        let own = index.theirs(p).own.statements().len();
         most = most.max(own);
         all = all.saturating_add(own);
     }

@@ -1,4 +1,4 @@
-// The classes of the principal that asked last, by which of the statements listed for it live.
+// The classes of the principal that asked last, by which of the statements listed for it live, and for alike resources.
 ghost use Rattle.std.specs.Prelude.{◌≡◌, IsTrue};
 
 use crate::held::Held;
@@ -14,6 +14,9 @@ use std::alloc::Global;
 /// So many words are kept at most, and one for each resource.
 const MOST: u64 = 256;
 
+/// So many numbers of alike resources have a class at most.
+const MOST_ALIKES: u64 = 4096;
+
 /// A class, and the word by which its statements live.
 #[derive(Clone, Copy)]
 pub struct Word {
@@ -28,11 +31,13 @@ pub struct Asker<'a> {
     pub listing: Listing<'a>,
 }
 
-/// The classes of one principal's requests for resources with which no statement stands, by the words of these requests.
+/// The classes of one principal's requests for resources with which no statement stands, by the words of these requests, and by the
+/// numbers of resources that are alike.
 #[derive(Drop)]
 pub struct Words<'a> {
     pub asker: Option<Asker<'a>>,
     pub slots: Vec<Option<Word>>,
+    pub alikes: Vec<Option<usize>>,
 }
 
 impl<'a> Words<'a> {
@@ -43,8 +48,8 @@ impl<'a> Words<'a> {
     ghost use Rattle.iam_living.specs.Word.{AreBits};
     ghost use Rattle.iam_slots.specs.Slots.{AreEmpty, GainsOnly, Keeps};
     ghost use Rattle.iam_classes.specs.Memo.{HasClass, HasMore, HasShared, IsSameMemo};
-    ghost use Rattle.iam_classes.specs.Words.{AreWords};
-    ghost use Rattle.iam_living.specs.Listing.{IsWordAt};
+    ghost use Rattle.iam_classes.specs.Words.{AreWords, GainsAt, IsFoundAmong};
+    ghost use Rattle.iam_living.specs.Listing.{AreAlikes, IsWordAt};
     ghost use Rattle.iam_classes.specs.declared.memo.Class.{Class};
     ghost use Rattle.iam_classes.specs.declared.words.Asker.{Asker};
     ghost use Rattle.iam_classes.specs.declared.words.Word.{Word};
@@ -56,10 +61,12 @@ impl<'a> Words<'a> {
         Ok(Words {
             asker: None,
             slots: empty_slots(alloc, world.resources().min(MOST))?,
+            alikes: empty_slots(alloc, world.resources().min(MOST_ALIKES))?,
         })
     }
 
-    /// The class of principal p and resource r, which are of no known one: what is kept of both serves where their word does.
+    /// The class of principal p and resource r, which are of no known one: that of a resource that is alike, or what is kept of both
+    /// serves where their word does.
     pub fn class_at(
         &mut self,
         alloc: Global,
@@ -80,8 +87,20 @@ impl<'a> Words<'a> {
         ensures same { IsSameMemo memo.old memo.new }
     {
         self.turn_to(source.index(), p);
+        let number = self.number(r);
+        if let Some(class) = self.class_of(number) {
+            memo.keep_class(p, r, class);
+            return Ok(Found {
+                class,
+                cleared: false,
+            });
+        }
         match self.word(alloc, source, p, r)? {
-            Some(word) => self.class_by(alloc, source, memo, p, r, word),
+            Some(word) => {
+                let found = self.class_by(alloc, source, memo, p, r, word)?;
+                self.keep_class(number, found.class);
+                Ok(found)
+            }
             None => {
                 let shared = source.shared(alloc, p, r)?;
                 self.class_with(alloc, memo, p, r, shared)
@@ -147,7 +166,10 @@ impl<'a> Words<'a> {
         ensures class { IfOk result (λ found. HasClass memo.new.world memo.new.classes p r found.class) }
         ensures kept { IfOk result (λ found. found.cleared ≡ false → HasMore memo.old.classes memo.new.classes) }
         ensures let_go { IfOk result (λ found. found.cleared ≡ true → length memo.new.classes ≡ 1) }
+        ensures found { (asker : Asker) → self.old.asker ≡ Some asker → IfOk result (λ found.
+            IsFoundAmong memo.new.world memo.new.classes p r asker.listing.statements found.class) }
         ensures words { AreWords memo.new.world memo.new.classes self.new }
+        ensures asker { self.new.asker ≡ self.old.asker }
         ensures same { IsSameMemo memo.old memo.new }
     {
         same_word();
@@ -226,12 +248,45 @@ impl<'a> Words<'a> {
         }
     }
 
-    /// Lets go all words.
+    /// Lets go all words, and all classes of alike resources.
     fn forget(&mut self)
         ensures empty { AreEmpty self.new.slots.items }
+        ensures alikes { AreEmpty self.new.alikes.items }
         ensures asker { self.new.asker ≡ self.old.asker }
     {
         empty(&mut self.slots);
+        empty(&mut self.alikes);
+    }
+
+    /// The number that resource r has with others that are alike, where it has one.
+    #[inline(always)]
+    fn number(&self, r: u64) -> Option<usize>
+        ensures { IfSome result (λ n. (asker : Asker) × (self.now.asker ≡ Some asker) × Keeps asker.listing.alikes r n
+            × AreAlikes asker.listing) }
+    {
+        match &self.asker {
+            Some(asker) => asker.listing.alike(r),
+            None => None,
+        }
+    }
+
+    /// The class that is kept for resources of this number.
+    #[inline(always)]
+    fn class_of(&self, number: Option<usize>) -> Option<usize>
+        ensures { IfSome result (λ class. (n : ℕ) × (number ≡ Some n) × Keeps self.now.alikes.items n class) }
+    {
+        kept(self.alikes.as_slice(), number? as u64)
+    }
+
+    /// Keeps a class for resources of this number, if there is room for it.
+    fn keep_class(&mut self, number: Option<usize>, class: usize)
+        ensures gains { GainsAt self.old.alikes.items self.new.alikes.items number class }
+        ensures slots { self.new.slots ≡ self.old.slots }
+        ensures asker { self.new.asker ≡ self.old.asker }
+    {
+        if let Some(n) = number {
+            keep(&mut self.alikes, n as u64, class);
+        }
     }
 
     /// The class that is kept for a word, in the slot of requests that ask this beside the statements.
@@ -253,6 +308,7 @@ impl<'a> Words<'a> {
     /// Keeps a class for a word, in that slot.
     fn keep(&mut self, word: u64, frame: Frame, class: usize)
         ensures gains { GainsOnly self.old.slots.items self.new.slots.items (record { word = word; class = class }) }
+        ensures alikes { self.new.alikes ≡ self.old.alikes }
         ensures asker { self.new.asker ≡ self.old.asker }
     {
         let slot = slot_for(word, frame, self.slots.len());

@@ -1,4 +1,5 @@
 pub mod ListLemmas
+mod AlikeLemmas
 mod ElementLemmas
 pub mod IndexLemmas
 mod ListedLemmas

@@ -1,5 +1,5 @@
 -- An index of a world: of the statements that apply to requests those that may match one for some action of the world. LOGIC 1.1.
-use Rattle.std.specs.Prelude.{◌≡◌, ℕ, All, List, [], ◌∷◌, ◌++◌, Some, length, map}
+use Rattle.std.specs.Prelude.{◌≡◌, ℕ, All, List, [], ◌∷◌, Option, Some, length, map}
 use Rattle.std.specs.List.{slice_get}
 use Rattle.iam_match.specs.Statement.{ActionMatches, RequestValue}
 use Rattle.iam_decision.specs.Applicable.{ApplicableValue}
@@ -12,12 +12,14 @@ use Rattle.iam_layers.specs.Cell.{IsApplicableAt, IsCell, IsRequestAt}
 use Rattle.iam_layers.specs.Code.Statements.{HasLevels}
 use Rattle.iam_world.specs.World.{WorldValue}
 use Rattle.iam_index.specs.Elements.{AreElements}
-use Rattle.iam_index.specs.Rows.{AreListRows, AreRows}
+use Rattle.iam_columns.specs.Columns.{AreColumns}
+use Rattle.iam_columns.specs.Rows.{AreRows}
+use Rattle.iam_columns.specs.declared.rows.Row.{Row}
+use Rattle.iam_index.specs.Rows.{AreListRows}
 use Rattle.iam_index.specs.declared.elements.Element.{Element}
 use Rattle.iam_index.specs.declared.list_rows.ListRows.{ListRows}
 use Rattle.iam_index.specs.declared.lists.Listed.{Listed}
 use Rattle.iam_index.specs.declared.lists.Org.{Org}
-use Rattle.iam_index.specs.declared.rows.Row.{Row}
 
 -- of these statements those are listed that may match a request for some action of the world
 abbrev pub AreListed : WorldValue → List Placed → List Standing → Type 0
@@ -57,7 +59,7 @@ AreOrgs world orgs = (n : ℕ) (org : Org) → slice_get orgs n ≡ Some org →
 
 -- everything that an index has is right
 pub record IsIndex (world parts : WorldValue) (elements : List Element) (orgs : List Org) (numbers : List ℕ) (requesters resources : List Listed)
-    (rows : List Row) (org_rows requester_rows : List ListRows) : Type 0 where
+    (rows : List Row) (org_rows requester_rows : List ListRows) (columns : List (Option ℕ)) : Type 0 where
   pub parts_are : parts ≡ world
   pub elements_are : AreElements world elements
   pub orgs_are : HaveOrgs world orgs numbers
@@ -69,6 +71,7 @@ pub record IsIndex (world parts : WorldValue) (elements : List Element) (orgs : 
   pub rows_are : AreRows world rows
   pub org_rows_are : AreListRows (λ org. org.statements.items) rows orgs org_rows
   pub requester_rows_are : AreListRows (λ listed. listed.statements.items) rows requesters requester_rows
+  pub columns_are : AreColumns world rows columns
 
 -- the candidates of a request: some of the statements that apply, in place order, and among them each whose action element matches
 -- its action

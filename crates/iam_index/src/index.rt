@@ -6,12 +6,12 @@ ghost use Rattle.iam_decision.specs.Matched.{Placed};
 ghost use Rattle.iam_index.specs.Index.{AllAct};
 
 use crate::elements::Elements;
-use crate::known::Known;
-use crate::list_rows::{ListRows, list_at, org_rows, requester_rows};
+use crate::known::{Known, Theirs};
+use crate::list_rows::{ListRows, are_told, list_at, org_rows, requester_rows};
 use crate::lists::{Listed, Org, Orgs, org_lists, requester_lists, resource_lists};
 use crate::parts::Parts;
-use crate::rows::Rows;
 use crate::texts::Texts;
+use iam_columns::{Columns, Rows};
 use iam_layers::{Frame, Place, Standing, World};
 use iam_match::action_matches;
 use iam_text::OutOfMemory;
@@ -34,6 +34,8 @@ pub struct Index<'a> {
     rows: Rows<'a>,
     org_rows: Vec<ListRows>,
     requester_rows: Vec<ListRows>,
+    // Which resources the rows tell apart.
+    columns: Columns,
 }
 
 impl<'a> Model for Index<'a> {
@@ -45,7 +47,8 @@ impl<'a> Model for Index<'a> {
     ghost view = { λ index. index.world.now };
 
     ghost invariant = { λ index. IsIndex index.world.now index.parts index.elements.elements.items index.orgs.orgs.items index.orgs.numbers.items
-        index.requesters.items index.resources.items index.rows.rows.items index.org_rows.items index.requester_rows.items };
+        index.requesters.items index.resources.items index.rows.rows.items index.org_rows.items index.requester_rows.items
+        index.columns.numbers.items };
 }
 
 impl<'a> Index<'a> {
@@ -58,6 +61,7 @@ impl<'a> Index<'a> {
     ghost use Rattle.iam_layers.specs.Cell.{IsAction, IsApplicableAt};
     ghost use Rattle.iam_index.specs.Elements.{AreElements};
     ghost use Rattle.iam_index.specs.Index.{AllAct, AreCandidatesOf, IsOrg, ListsOrg, ListsRequester, ListsResource};
+    ghost use Rattle.iam_index.specs.Known.{AreAlike};
 
     /// The index of a world.
     pub fn build(alloc: Global, world: &'a World) -> Result<Index<'a>, OutOfMemory>
@@ -89,10 +93,11 @@ impl<'a> Index<'a> {
             rows: Rows::new(alloc, world.resources()),
             org_rows: Vec::new(alloc),
             requester_rows: Vec::new(alloc),
+            columns: Columns::none(alloc),
         })
     }
 
-    /// Finds which resources the resource elements match. Where memory is refused, fewer are known.
+    /// Finds which resources the resource elements match, and which of them are alike. Where memory is refused, fewer are known.
     fn fill(&mut self, alloc: Global)
         ensures { self.new ≡ self.old }
     {
@@ -100,6 +105,7 @@ impl<'a> Index<'a> {
         let mut rows = Rows::new(alloc, world.resources());
         let orgs = org_rows(alloc, world, &mut rows, self.orgs.orgs.as_slice());
         let requesters = requester_rows(alloc, world, &mut rows, self.requesters.as_slice());
+        self.columns = Columns::of(alloc, world, &rows);
         self.rows = rows;
         self.org_rows = orgs;
         self.requester_rows = requesters;
@@ -147,35 +153,27 @@ impl<'a> Index<'a> {
         Ok(candidates)
     }
 
-    /// The statements of the organisation that binds principal p.
-    pub fn org_statements(&'a self, p: u64) -> Known<'a>
+    /// What is listed for all requests of principal p. Resources are alike where it is known of each of its statements which of them it
+    /// matches.
+    pub fn theirs(&'a self, p: u64) -> Theirs<'a>
         requires { p < length self.now.principals }
-        ensures world { result.world ≡ self.entry.now }
-        ensures lists { ListsOrg self.entry.now p result.statements }
+        ensures worlds { (result.org.world ≡ self.entry.now) × (result.own.world ≡ self.entry.now) }
+        ensures org { ListsOrg self.entry.now p result.org.statements }
+        ensures own { ListsRequester self.entry.now p result.own.statements }
+        ensures alikes { AreAlike self.entry.now
+            (map placed_value result.org.statements ++ map placed_value result.own.statements) result.alikes.now }
     {
         let number = self.orgs.numbers[p as usize];
-        let org = &self.orgs.orgs[number];
-        Known::of(
-            self.world,
-            org.statements.as_slice(),
-            &self.rows,
-            list_at(self.org_rows.as_slice(), number),
-        )
-    }
-
-    /// The statements of principal p.
-    pub fn own_statements(&'a self, p: u64) -> Known<'a>
-        requires { p < length self.now.principals }
-        ensures world { result.world ≡ self.entry.now }
-        ensures lists { ListsRequester self.entry.now p result.statements }
-    {
-        let listed = &self.requesters[p as usize];
-        Known::of(
-            self.world,
-            listed.statements.as_slice(),
-            &self.rows,
-            list_at(self.requester_rows.as_slice(), p as usize),
-        )
+        let org = self.orgs.orgs[number].statements.as_slice();
+        let own = self.requesters[p as usize].statements.as_slice();
+        let org_rows = list_at(self.org_rows.as_slice(), number);
+        let own_rows = list_at(self.requester_rows.as_slice(), p as usize);
+        let told = are_told(org_rows, own_rows);
+        Theirs {
+            org: Known::of(self.world, org, &self.rows, org_rows),
+            own: Known::of(self.world, own, &self.rows, own_rows),
+            alikes: self.columns.numbers_where(told),
+        }
     }
 
     /// The keys that its world gives to requests.

@@ -1,6 +1,6 @@
 // Statements that an index lists, with what is known of their resource elements.
 use crate::list_rows::{ListRows, row_at};
-use crate::rows::Rows;
+use iam_columns::Rows;
 use iam_layers::{Standing, World};
 use std::marker::Model;
 
@@ -14,10 +14,19 @@ pub struct Known<'a> {
     list: Option<&'a ListRows>,
 }
 
+/// What an index lists for all requests of a principal: the statements of its organisation, and its own; and the numbers of resources
+/// that are alike to all of them.
+#[derive(Drop)]
+pub struct Theirs<'a> {
+    pub org: Known<'a>,
+    pub own: Known<'a>,
+    pub alikes: &'a [Option<usize>],
+}
+
 impl<'a> Model for Known<'a> {
     ghost use Rattle.std.specs.Prelude.{IfSome};
     ghost use Rattle.iam_index.specs.Known.{KnownValue};
-    ghost use Rattle.iam_index.specs.Rows.{AreRows, AreStatementRows};
+    ghost use Rattle.iam_columns.specs.Rows.{AreRows, AreStatementRows};
 
     ghost Value = { KnownValue };
 
@@ -31,7 +40,7 @@ impl<'a> Known<'a> {
     ghost use Rattle.std.specs.Prelude.{◌≡◌, IfSome};
     ghost use Rattle.std.specs.List.{slice_get};
     ghost use Rattle.iam_decision.specs.declared.scan.Standing.{Standing};
-    ghost use Rattle.iam_index.specs.Rows.{AreRows, AreStatementRows, TellsMatch};
+    ghost use Rattle.iam_columns.specs.Rows.{AreRows, AreStatementRows, TellsMatch};
 
     /// Statements of a world, and the rows of their resource elements where these are known.
     pub(crate) fn of(

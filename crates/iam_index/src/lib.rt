@@ -7,13 +7,13 @@ mod known;
 mod list_rows;
 mod lists;
 mod parts;
-mod rows;
 mod texts;
 
 pub use elements::{Element, Elements};
+pub use iam_columns::{Columns, Row, Rows};
 pub use iam_layers::{Living, Place, Standing, World};
 pub use iam_text::OutOfMemory;
 pub use index::Index;
-pub use known::Known;
+pub use known::{Known, Theirs};
 pub use parts::Parts;
 pub use texts::Texts;

@@ -1,2 +1,3 @@
+mod AlikeLemmas
 mod KnownLemmas
 mod WordLemmas

@@ -8,7 +8,7 @@ ghost use Rattle.iam_living.specs.Word.{GoesBefore, TakesBits};
 
 use crate::word::with_bit;
 use iam_decision::Matched;
-use iam_index::{Index, Known};
+use iam_index::{Index, Known, Theirs};
 use iam_layers::{Living, Standing, World};
 use iam_match::{Access, Requester, grant_kind, rest_matches_with};
 use iam_text::OutOfMemory;
@@ -19,17 +19,19 @@ use std::marker::Model;
 const BITS: usize = 64;
 
 /// The statements that an index lists for all requests of a principal: those of its organisation, and its own. A contract sees the
-/// world and the statements.
+/// world, the statements and the numbers of resources that are alike to them.
 #[derive(Drop)]
 pub struct Listing<'a> {
     world: &'a World,
     org: Known<'a>,
     own: Known<'a>,
+    alikes: &'a [Option<usize>],
 }
 
 impl<'a> Model for Listing<'a> {
     ghost use Rattle.std.specs.Prelude.{◌≡◌, ◌++◌, map};
     ghost use Rattle.iam_decision.specs.Code.Scan.{placed_value};
+    ghost use Rattle.iam_index.specs.Known.{AreAlike};
     ghost use Rattle.iam_living.specs.Listing.{ListingValue};
 
     ghost Value = { ListingValue };
@@ -37,9 +39,11 @@ impl<'a> Model for Listing<'a> {
     ghost view = { λ listing. record {
       world = listing.world.now;
       statements = map placed_value listing.org.statements ++ map placed_value listing.own.statements;
+      alikes = listing.alikes.now;
     } };
 
-    ghost invariant = { λ listing. (listing.org.world ≡ listing.world.now) × (listing.own.world ≡ listing.world.now) };
+    ghost invariant = { λ listing. (listing.org.world ≡ listing.world.now) × (listing.own.world ≡ listing.world.now)
+        × AreAlike listing.world.now (map placed_value listing.org.statements ++ map placed_value listing.own.statements) listing.alikes.now };
 }
 
 impl<'a> Listing<'a> {
@@ -48,7 +52,8 @@ impl<'a> Listing<'a> {
     ghost use Rattle.iam_match.specs.Statement.{AccessValue};
     ghost use Rattle.iam_decision.specs.Living.{AreLiving, living_value};
     ghost use Rattle.iam_layers.specs.Cell.{IsResource};
-    ghost use Rattle.iam_living.specs.Listing.{Lists};
+    ghost use Rattle.iam_slots.specs.Slots.{Keeps};
+    ghost use Rattle.iam_living.specs.Listing.{AreAlikes, Lists};
     ghost use Rattle.iam_living.specs.Word.{AreBits};
 
     /// Those that an index lists for principal p.
@@ -57,11 +62,22 @@ impl<'a> Listing<'a> {
         ensures world { result.world ≡ index.entry.now }
         ensures lists { Lists index.entry.now p result.statements }
     {
+        let Theirs { org, own, alikes } = index.theirs(p);
         Listing {
             world: index.world(),
-            org: index.org_statements(p),
-            own: index.own_statements(p),
+            org,
+            own,
+            alikes,
         }
+    }
+
+    /// The number that resource r has with others that are alike to the statements, where it has one.
+    #[inline(always)]
+    pub fn alike(&self, r: u64) -> Option<usize>
+        ensures number { IfSome result (Keeps self.now.alikes r) }
+        ensures alikes { AreAlikes self.now }
+    {
+        *self.alikes.get(r as usize)?
     }
 
     /// Whether they are more than a word has bits.

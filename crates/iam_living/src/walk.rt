@@ -28,9 +28,10 @@ pub fn living<'a: 'c, 'c>(
         → IfOk result (λ living. AreLivingAt index.entry.now applicable (access_of access.entry) (map living_value living.items)) }
 {
     let mut living = Vec::new(alloc);
-    add_known(alloc, &mut living, &index.org_statements(p), r, access)?;
+    let theirs = index.theirs(p);
+    add_known(alloc, &mut living, &theirs.org, r, access)?;
     add_all(alloc, &mut living, index.resource_statements(r), access)?;
-    add_known(alloc, &mut living, &index.own_statements(p), r, access)?;
+    add_known(alloc, &mut living, &theirs.own, r, access)?;
     Ok(living)
 }
 

@@ -1,7 +1,8 @@
 use Rattle.std.proofs.Common.{◌≡◌, ◌++◌, List, length}
-use Rattle.iam_index.specs.Rows.{AreListRows, AreRows}
+use Rattle.iam_columns.specs.Rows.{AreRows}
+use Rattle.iam_index.specs.Rows.{AreListRows}
 use Rattle.iam_index.specs.declared.lists.Org.{Org}
-use Rattle.iam_index.specs.declared.rows.Row.{Row}
+use Rattle.iam_columns.specs.declared.rows.Row.{Row}
 use Rattle.iam_index.proofs.list_rows.org_rows.Given as goal
 
 abbrev pub invariant-loop-org : goal.invariant-loop-org

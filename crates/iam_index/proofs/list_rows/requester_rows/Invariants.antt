@@ -1,7 +1,8 @@
 use Rattle.std.proofs.Common.{◌≡◌, ◌++◌, List, length}
-use Rattle.iam_index.specs.Rows.{AreListRows, AreRows}
+use Rattle.iam_columns.specs.Rows.{AreRows}
+use Rattle.iam_index.specs.Rows.{AreListRows}
 use Rattle.iam_index.specs.declared.lists.Listed.{Listed}
-use Rattle.iam_index.specs.declared.rows.Row.{Row}
+use Rattle.iam_columns.specs.declared.rows.Row.{Row}
 use Rattle.iam_index.proofs.list_rows.requester_rows.Given as goal
 
 abbrev pub invariant-loop-listed : goal.invariant-loop-listed

@@ -10,7 +10,8 @@ returns-then-found-clause-words c =
     let new = c.class_with.new.self in
     let W : WorldValue → Type 0 = λ w. AreWords w new.classes c.forget.new.self in
     subst W (sym c.in-Ok.ensures.same.0)
-    (words_forgotten old.world old.classes new.classes c.args.self.now c.forget.new.self c.requires.words c.forget.ensures.asker c.forget.ensures.empty)
+    (words_forgotten old.world old.classes new.classes c.args.self.now c.forget.new.self c.requires.words c.forget.ensures.asker c.forget.ensures.empty
+    c.forget.ensures.alikes)
 
 pub returns-else-found-clause-words : goal.returns-else-found-clause-words
 returns-else-found-clause-words c =
@@ -27,4 +28,4 @@ returns-in-Err-clause-words c =
     let W : WorldValue → Type 0 = λ w. AreWords w new.classes c.forget-in-Err.new.self in
     subst W (sym c.in-Err.ensures.same.0)
     (words_forgotten old.world old.classes new.classes c.args.self.now c.forget-in-Err.new.self c.requires.words c.forget-in-Err.ensures.asker
-    c.forget-in-Err.ensures.empty)
+    c.forget-in-Err.ensures.empty c.forget-in-Err.ensures.alikes)

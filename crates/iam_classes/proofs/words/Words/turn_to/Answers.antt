@@ -6,4 +6,5 @@ pub returns-clause-right : goal.returns-clause-right
 returns-clause-right c = λ classes are. (
   (c.of.ensures.world, c.of.ensures.lists),
   all_empty (IsWord c.args.index.now classes c.args.p c.of.result.statements) c.forget.new.self.slots.items c.forget.ensures.empty,
+  λ number class at. absurd (c.forget.ensures.alikes number class at),
 )

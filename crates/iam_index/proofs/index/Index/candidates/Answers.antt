@@ -1,8 +1,8 @@
-use Rattle.std.proofs.Common.{◌≡◌, ◌∷◌, [], ℕ, List, map, ap, sym, ◌∙◌, subst}
+use Rattle.std.proofs.Common.{◌∷◌, [], ℕ, List, map, ap, sym, ◌∙◌, subst}
 use Rattle.std.proofs.lemmas.Result.{IfOk-weaker}
 use Rattle.iam_decision.specs.Code.Scan.{placed_value}
 use Rattle.iam_decision.specs.Living.{AreCandidates}
-use Rattle.iam_decision.specs.Matched.{Placed, placed}
+use Rattle.iam_decision.specs.Matched.{placed}
 use Rattle.iam_decision.specs.declared.scan.Standing.{Standing}
 use Rattle.iam_layers.specs.Cell.{IsAction, IsAccessAt, IsCell}
 use Rattle.iam_world.specs.World.{WorldValue}

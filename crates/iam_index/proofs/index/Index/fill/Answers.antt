@@ -29,4 +29,5 @@ invariant_of-self c =
       rows_are = c.requester_rows-requesters.ensures.right (c.org_rows-orgs.ensures.right (c.new-rows.ensures c.self.inside.world.now));
       org_rows_are = list_rows_grow of_org first more rows c.self.inside.orgs.orgs.items c.org_rows-orgs.result.items grown orgs;
       requester_rows_are = subst R c.as_slice-2.ensures.value c.requester_rows-requesters.ensures.are;
+      columns_are = c.of.ensures (c.requester_rows-requesters.ensures.right (c.org_rows-orgs.ensures.right (c.new-rows.ensures c.self.inside.world.now)));
     }

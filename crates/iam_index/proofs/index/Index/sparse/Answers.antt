@@ -15,4 +15,5 @@ invariant_of-result c = record {
   org_rows_are = no_list_rows (λ org. org.statements.items) c.new-2.result.rows.items c.in_ok-orgs.orgs.orgs.items c.new-3.result.items c.new-3.ensures.items;
   requester_rows_are =
       no_list_rows (λ listed. listed.statements.items) c.new-2.result.rows.items c.in_ok-requesters.requesters.items c.new-4.result.items c.new-4.ensures.items;
+  columns_are = c.none.ensures c.args.world.now c.new-2.result.rows.items;
 }

@@ -2,7 +2,7 @@ use Rattle.std.proofs.Common.{◌≡◌, IfSome, Some, subst}
 use Rattle.std.specs.List.{slice_get}
 use Rattle.iam_decision.specs.declared.scan.Standing.{Standing}
 use Rattle.iam_index.specs.Known.{KnownValue}
-use Rattle.iam_index.specs.Rows.{TellsMatch}
+use Rattle.iam_columns.specs.Rows.{TellsMatch}
 use Rattle.iam_index.proofs.known.Known.matches.Goals as goal
 
 pub returns : goal.returns

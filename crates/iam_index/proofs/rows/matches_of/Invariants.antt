@@ -1,9 +1,0 @@
-use Rattle.std.proofs.Common.{◌≡◌, Some, length}
-use Rattle.iam_index.specs.Rows.{Tell, TellsMatch}
-use Rattle.iam_index.proofs.rows.matches_of.Given as goal
-
-abbrev pub invariant-loop-r : goal.invariant-loop-r
-invariant-loop-r l = record {
-  count : length l.matches.items ≡ l.r;
-  are : Tell (TellsMatch l.world (Some l.fixed)) l.matches.items;
-}
