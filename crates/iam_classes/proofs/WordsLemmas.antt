@@ -1,5 +1,5 @@
 -- What is kept by words stays right where classes are added, and the class of a word is that of all requests that have it.
-use Rattle.std.proofs.Common.{◌≡◌, ◌⊎◌, ◌≢◌, inl, inr, ℕ, zero, suc, arith, refl, List, [], ◌∷◌, ◌++◌, Option, None, Some, IfSome, sym, ap, ◌∙◌, subst}
+use Rattle.std.proofs.Common.{◌≡◌, inl, inr, ℕ, List, [], Option, Some, IfSome, sym, ap, ◌∙◌, subst}
 use Rattle.std.specs.List.{slice_get}
 use Rattle.iam_match.specs.Statement.{AccessValue}
 use Rattle.iam_decision.specs.Applicable.{ApplicableValue, frame_of}
@@ -65,8 +65,7 @@ found_by_word : SameWord → (world : WorldValue) (classes : List Class) (p r : 
     → ((a : ApplicableValue) → IsApplicableAt world p r a → frame ≡ frame_of a)
     → ((it : Class) → slice_get classes kept.class ≡ Some it → it.shared.frame ≡ frame) → IsFoundAmong world classes p r statements kept.class
 found_by_word law world classes p r statements kept frame word (a, access, at, bits, alone) framed same =
-    let asked = one_asker world p word.access access word.asks (asked_by world p r a access at) in
-    (
+    let asked = one_asker world p word.access access word.asks (asked_by world p r a access at) in (
       word.class,
       word.at,
       a,
@@ -88,8 +87,8 @@ class_found world classes p r n statements lists (class, at, a, frame, live) =
 -- it stays so where classes are added
 found_more : (world : WorldValue) (old new : List Class) (p r n : ℕ) (statements : List Placed) → HasMore old new → IsFoundAmong world old p r statements n
     → IsFoundAmong world new p r statements n
-found_more world old new p r n statements (more, is) (class, at, found) =
-    let C : List Class → Type 0 = λ cs. slice_get cs n ≡ Some class in (class, subst C (sym is) (get_more old more n class at), found)
+found_more world old new p r n statements (more, is) (class, at, a, frame, live) =
+    let C : List Class → Type 0 = λ cs. slice_get cs n ≡ Some class in (class, subst C (sym is) (get_more old more n class at), a, frame, live)
 
 alikes_more : (world : WorldValue) (old new : List Class) (asker : Asker) (kept : List (Option ℕ)) → HasMore old new → AreAlikeClasses world old asker kept
     → AreAlikeClasses world new asker kept
@@ -109,8 +108,7 @@ words_more world old new words more are =
     if_some (AreKept world old words) (AreKept world new words) words.asker
     (λ a (asked, all, alikes).
     let S : Word → Type 0 = IsWord world old a.principal a.listing.statements in
-    let T : Word → Type 0 = IsWord world new a.principal a.listing.statements in
-    (
+    let T : Word → Type 0 = IsWord world new a.principal a.listing.statements in (
       asked,
       all_weaker S T words.slots.items (λ kept. word_more world old new a.principal a.listing.statements kept more) all,
       alikes_more world old new a words.alikes.items more alikes,
@@ -163,21 +161,6 @@ alikes_kept world classes old new asker number r n is are same rest gains has fo
     ] in
     subst O (sym (same ∙ is)) (asked, subst W (sym rest) all, kept)
 
--- a slot gains what is kept there alone
-same_or_not : (i n : ℕ) → (i ≡ n) ⊎ (i ≢ n)
-same_or_not zero zero = inl refl
-same_or_not zero (suc n) = inr (λ same. let wrong : ⊥ = cc in wrong)
-same_or_not (suc i) zero = inr (λ same. let wrong : ⊥ = cc in wrong)
-same_or_not (suc i) (suc n) = elim (same_or_not i n) [ inl same ↦ inl (ap suc same) | inr not ↦ inr (λ same. not (omega (arith, same))) ]
-
-pub gains_at : (old new : List (Option ℕ)) (n more : ℕ) → GainsOnly old new more → ((i : ℕ) → i ≢ n → slice_get new i ≡ slice_get old i)
-    → GainsAt old new (Some n) more
-gains_at old new n more gains others i kept at =
-    elim (gains i kept at) [
-      | inl same ↦ elim (same_or_not i n) [ inl here ↦ inl (ap Some (sym here), same) | inr not ↦ inr (sym (others i not) ∙ at) ]
-      | inr before ↦ inr before
-    ]
-
 -- the class that is kept for a number is that of requests for each resource that has it
 pub class_of_number : (world : WorldValue) (classes : List Class) (words : Words) (asker : Asker) (p r number n : ℕ) → words.asker ≡ Some asker
     → AreWords world classes words → asker.principal ≡ p → AreAlikes asker.listing → Keeps asker.listing.alikes r number
@@ -227,8 +210,7 @@ pub found_anew : (world : WorldValue) (classes : List Class) (p r n word : ℕ) 
     → ((access : AccessValue) → IsPrincipal world p (λ principal. access.requester ≡ principal.requester) → AreBits access statements word
     → AreLiving access statements shared.living) → IsFoundAmong world classes p r statements n
 found_anew world classes p r n word statements shared (class, at, same) (a, access, there, bits, alone) framed living =
-    let S : SharedValue → Type 0 = λ s. AreLiving access statements s.living in
-    (
+    let S : SharedValue → Type 0 = λ s. AreLiving access statements s.living in (
       class,
       at,
       a,

@@ -1,7 +1,6 @@
 -- What lives in requests for resources that no statement tells apart.
-use Rattle.std.proofs.Common.{◌≡◌, ◌/◌, inl, inr, ℕ, List, [], ◌∷◌, Some, sym, ap, ◌∙◌, subst}
+use Rattle.std.proofs.Common.{◌≡◌, inl, inr, ℕ, List, [], ◌∷◌, Some, sym, ap, ◌∙◌, subst}
 use Rattle.std.specs.List.{slice_get}
-use Rattle.iam_context.specs.Context.{ContextValue}
 use Rattle.iam_match.specs.Statement.{AccessValue, ResourceMatches}
 use Rattle.iam_decision.specs.Applicable.{ApplicableValue}
 use Rattle.iam_decision.specs.Living.{Lives, LivingValue}
@@ -10,7 +9,6 @@ use Rattle.iam_layers.specs.Applicable.{applicable_of}
 use Rattle.iam_layers.specs.Code.Statements.{AreSameButArn}
 use Rattle.iam_layers.specs.Derived.{IsDerived, context_of}
 use Rattle.iam_world.specs.World.{ResourceValue, WorldValue}
-use Rattle.iam_index.specs.Index.{ListsResource}
 use Rattle.iam_index.specs.Known.{AreAlike, TellNoneApart}
 use Rattle.iam_index.proofs.ListLemmas.{some_same}
 use Rattle.iam_living.specs.Listing.{AreAlikes, ListingValue, LiveAt}

@@ -5,7 +5,7 @@ use Rattle.iam_match.specs.Statement.{AccessValue, ResourceMatches}
 use Rattle.iam_decision.specs.declared.scan.Standing.{Standing}
 use Rattle.iam_layers.specs.Cell.{IsResource}
 use Rattle.iam_index.specs.Known.{KnownValue}
-use Rattle.iam_index.specs.Rows.{TellsMatch}
+use Rattle.iam_columns.specs.Rows.{TellsMatch}
 use Rattle.iam_index.proofs.ListLemmas.{if_some}
 
 -- what is known of statement i and a resource of the world is so of the resource that is asked for

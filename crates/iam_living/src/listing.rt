@@ -11,6 +11,7 @@ use iam_decision::Matched;
 use iam_index::{Index, Known, Theirs};
 use iam_layers::{Living, Standing, World};
 use iam_match::{Access, Requester, grant_kind, rest_matches_with};
+use iam_slots::kept;
 use iam_text::OutOfMemory;
 use std::alloc::Global;
 use std::marker::Model;
@@ -77,7 +78,7 @@ impl<'a> Listing<'a> {
         ensures number { IfSome result (Keeps self.now.alikes r) }
         ensures alikes { AreAlikes self.now }
     {
-        *self.alikes.get(r as usize)?
+        kept(self.alikes, r)
     }
 
     /// Whether they are more than a word has bits.

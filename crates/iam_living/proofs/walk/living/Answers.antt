@@ -8,13 +8,13 @@ use Rattle.iam_living.proofs.walk.living.Goals as goal
 
 pub returns : goal.returns
 returns c = λ applicable at.
-    let one : List Placed = map placed_value c.theirs.result.org.statements in
+    let one : List Placed = map placed_value c.theirs-theirs.result.org.statements in
     let two : List Placed = map placed_value c.resource_statements.result.now in
-    let three : List Placed = map placed_value c.theirs.result.own.statements in
+    let three : List Placed = map placed_value c.theirs-theirs.result.own.statements in
     let living = map living_value c.add_known-2.new.living.items in
     let P : List Placed → Type 0 = λ z. AreLiving (access_of c.args.access) z living in
     let first = c.in_ok-add_known.ensures [] ([], refl, ap (map living_value) c.new-living.ensures.items) in
     let last = c.in_ok-add_known-2.ensures (one ++ two) (c.in_ok-add_all.ensures one first) in
-    let listed = parts_listed c.args.index.now.actions applicable one two three (c.theirs.ensures.org c.args.r applicable at)
-    (c.resource_statements.ensures c.args.p applicable at) (c.theirs.ensures.own c.args.r applicable at) in
+    let listed = parts_listed c.args.index.now.actions applicable one two three (c.theirs-theirs.ensures.org c.args.r applicable at)
+    (c.resource_statements.ensures c.args.p applicable at) (c.theirs-theirs.ensures.own c.args.r applicable at) in
     (one ++ (two ++ three), listed, subst P (append_assoc one two three) last)

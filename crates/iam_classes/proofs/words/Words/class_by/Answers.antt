@@ -1,18 +1,16 @@
-use Rattle.std.proofs.Common.{◌≡◌, ℕ, ◌∙◌, Some, sym, ap, subst}
+use Rattle.std.proofs.Common.{◌≡◌, ℕ, ◌∙◌, sym, subst}
 use Rattle.std.proofs.lemmas.Option.{slice_get_within}
-use Rattle.std.specs.List.{slice_get}
 use Rattle.iam_match.specs.Statement.{AccessValue}
 use Rattle.iam_decision.specs.Applicable.{ApplicableValue, frame_of}
-use Rattle.iam_decision.specs.Living.{AreLiving, SharedValue}
+use Rattle.iam_decision.specs.Living.{SharedValue}
 use Rattle.iam_layers.specs.Cell.{IsApplicableAt, IsPrincipal, IsSharedAt}
 use Rattle.iam_world.specs.World.{WorldValue}
 use Rattle.iam_living.specs.Listing.{Lists}
 use Rattle.iam_index.proofs.IndexLemmas.{access_applies}
 use Rattle.iam_index.proofs.ListLemmas.{some_same}
 use Rattle.iam_classes.specs.Memo.{HasClass, HasShared, MemoValue}
-use Rattle.iam_classes.specs.Words.{AreWords, IsFoundAmong, IsWord}
+use Rattle.iam_classes.specs.Words.{IsFoundAmong, IsWord}
 use Rattle.iam_living.specs.Listing.{IsWordAt}
-use Rattle.iam_classes.specs.declared.memo.Class.{Class}
 use Rattle.iam_classes.specs.declared.words.Asker.{Asker}
 use Rattle.iam_classes.specs.declared.words.Word.{Word}
 use Rattle.iam_classes.proofs.WordsLemmas.{asked_by, class_for_word, class_is_word, found_anew, shared_by_word, words_kept, words_of}

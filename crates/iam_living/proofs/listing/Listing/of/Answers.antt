@@ -5,5 +5,5 @@ use Rattle.iam_living.proofs.listing.Listing.of.Goals as goal
 
 pub returns-clause-lists : goal.returns-clause-lists
 returns-clause-lists c = λ r applicable at none.
-    parts_listed c.args.index.now.actions applicable (map placed_value c.org_statements.result.statements) [] (map placed_value c.own_statements.result.statements)
-    (c.org_statements.ensures.lists r applicable at) (none c.args.p applicable at) (c.own_statements.ensures.lists r applicable at)
+    parts_listed c.args.index.now.actions applicable (map placed_value c.theirs-org.result.org.statements) [] (map placed_value c.theirs-org.result.own.statements)
+    (c.theirs-org.ensures.org r applicable at) (none c.args.p applicable at) (c.theirs-org.ensures.own r applicable at)
