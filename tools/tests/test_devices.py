@@ -198,7 +198,7 @@ def test_many_elements_on_many_actions_take_little_memory():
     }
     wanted = BRIEF_HEADER + "".join(f"{i},{ANN},s3:Get{i}x,arn:aws:s3:::b/k,allowed\n" for i in range(4096))
     found = answer(
-        ["-c", 'ulimit -d 49152; exec "$0" matrix --brief --workers 4', IAMSIM],
+        ["-c", 'ulimit -d 57344; exec "$0" matrix --brief --workers 4', IAMSIM],
         json.dumps(world).encode(),
         program="bash",
     )
