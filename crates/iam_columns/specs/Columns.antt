@@ -4,7 +4,7 @@ use Rattle.std.specs.List.{slice_get}
 use Rattle.iam_context.specs.Context.{ContextValue}
 use Rattle.iam_element.specs.Reading.{ResourceElement}
 use Rattle.iam_match.specs.Statement.{ResourceMatches}
-use Rattle.iam_layers.specs.Code.Statements.{AreSameButArn}
+use Rattle.iam_layers.specs.Code.Statements.{AreSameButPolicy}
 use Rattle.iam_world.specs.World.{ResourceValue, WorldValue}
 use Rattle.iam_slots.specs.Slots.{Keeps}
 use Rattle.iam_columns.specs.declared.rows.Row.{Row}
@@ -20,9 +20,9 @@ abbrev pub AllMatchBoth : WorldValue → List Row → ℕ → ℕ → Type 0
 AllMatchBoth world rows r other =
     (n : ℕ) (row : Row) → slice_get rows n ≡ Some row → MatchesBoth world (Some row.element.now) r other
 
--- the two resources differ in nothing but their ARN, and no row tells them apart
+-- the two resources differ in nothing but their ARN and their policy, and no row tells them apart
 pub record HaveOneColumn (world : WorldValue) (rows : List Row) (r other : ℕ) : Type 0 where
-  pub differ : AreSameButArn world r other
+  pub differ : AreSameButPolicy world r other
   pub both : AllMatchBoth world rows r other
 
 -- such are resources of one number

@@ -1,4 +1,4 @@
-// Resources of a world that differ in nothing but their ARN, and that no row tells apart.
+// Resources of a world that differ in nothing but their ARN and their policy, and that no row tells apart.
 ghost use Rattle.std.specs.Prelude.{◌≡◌, ◌++◌, ◌<◌, ℕ, IfOk, IfSome, IsTrue, List, Some, length};
 ghost use Rattle.std.specs.List.{slice_get};
 ghost use Rattle.iam_world.specs.World.{WorldValue};
@@ -13,10 +13,10 @@ use iam_text::OutOfMemory;
 use std::alloc::Global;
 use std::collections::BTreeMap;
 
-/// Resources that differ in nothing but their ARN are looked for in so many groups at most.
+/// Resources that differ in nothing but their ARN and their policy are looked for in so many groups at most.
 const MOST_GROUPS: usize = 16;
 
-/// The numbers of a world's resources, of which those have one that are alike, from 0 on; some have none.
+/// The numbers of a world's resources, from 0 on: those of one number are alike. Some have none.
 #[derive(Drop)]
 pub struct Columns {
     pub numbers: Vec<Option<usize>>,
@@ -88,7 +88,7 @@ impl Firsts {
     {
         let first = *self.firsts.get(number)?;
         if first < world.resources()
-            && world.is_same_but_arn(first, r)
+            && world.is_same_but_policy(first, r)
             && tell_same(rows, first, r)
         {
             Some(number)
@@ -153,18 +153,18 @@ fn prints_of(
     Ok(prints)
 }
 
-/// The group of resource r: that of a first one from which it differs in nothing but its ARN, or a new one.
+/// The group of resource r: that of a first one from which it differs in nothing but its ARN and its policy, or a new one.
 fn group_of(world: &World, groups: &mut Vec<u64>, r: u64) -> Result<Option<u64>, OutOfMemory>
     requires { r < length world.now.resources }
 {
     for i in 0..groups.len() {
         let first = groups[i];
-        if first < world.resources() && world.is_same_but_arn(first, r) {
+        if first < world.resources() && world.is_same_but_policy(first, r) {
             return Ok(Some(i as u64));
         }
     }
     let group = groups.len();
-    if group >= MOST_GROUPS || !world.is_same_but_arn(r, r) {
+    if group >= MOST_GROUPS || !world.is_same_but_policy(r, r) {
         return Ok(None);
     }
     groups.push(r)?;

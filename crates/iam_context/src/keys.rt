@@ -60,7 +60,7 @@ impl<'a> Keys<'a> {
     }
 
     /// Whether the key is one of these.
-    pub(crate) fn contains(&self, key: &'a str) -> bool
+    pub fn contains(&self, key: &'a str) -> bool
         ensures { (keys : List (List ℕ)) → HasKeys self.now keys → result ≡ has_key keys key.now }
     {
         self.set.contains(&Key(key))

@@ -28,7 +28,7 @@ pub use laws::{
     further_deny_allows_no_more, further_limits_allow_no_more, one_decision, one_verdict,
     order_is_free, sealed_resource_grants,
 };
-pub use living::{Living, Matched, add_living};
+pub use living::{Living, Matched, add_living, push_living};
 pub use place::{Layer, Place};
 pub use ruling::Ruling;
 pub use scan::Standing;

@@ -52,7 +52,7 @@ pub fn add_living<'a: 'c, 'c>(
 }
 
 /// Adds the statement, which lives, with what its principals grant the requester.
-fn push_living<'a>(
+pub fn push_living<'a>(
     living: &mut Vec<Living<'a>>,
     standing: Standing<'a>,
     requester: &Requester,

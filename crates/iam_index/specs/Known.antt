@@ -2,7 +2,7 @@
 use Rattle.std.specs.Prelude.{ℕ, ⊤, List, [], ◌∷◌, Option}
 use Rattle.iam_decision.specs.Matched.{Placed}
 use Rattle.iam_decision.specs.declared.scan.Standing.{Standing}
-use Rattle.iam_layers.specs.Code.Statements.{AreSameButArn}
+use Rattle.iam_layers.specs.Code.Statements.{AreSameButPolicy}
 use Rattle.iam_world.specs.World.{WorldValue}
 use Rattle.iam_slots.specs.Slots.{Keeps}
 use Rattle.iam_columns.specs.Columns.{MatchesBoth}
@@ -17,7 +17,8 @@ abbrev pub TellNoneApart : WorldValue → List Placed → ℕ → ℕ → Type 0
 TellNoneApart world [] r other = ⊤
 TellNoneApart world (s ∷ statements) r other = MatchesBoth world s.statement.resource r other × TellNoneApart world statements r other
 
--- resources of one number differ in nothing but their ARN, and none of these statements tells them apart by its resource element
+-- resources of one number differ in nothing but their ARN and their policy, and none of these statements tells them apart by its
+-- resource element
 abbrev pub AreAlike : WorldValue → List Placed → List (Option ℕ) → Type 0
 AreAlike world statements numbers =
-    (r other n : ℕ) → Keeps numbers r n → Keeps numbers other n → AreSameButArn world r other × TellNoneApart world statements r other
+    (r other n : ℕ) → Keeps numbers r n → Keeps numbers other n → AreSameButPolicy world r other × TellNoneApart world statements r other

@@ -40,11 +40,11 @@ fn cell_number(p: u64, a: u64, r: u64, actions: u64, resources: u64) -> u64
     (p * actions + a) * resources + r
 }
 
-/// Whether no policy, no level of control policies and no key stands with the resource.
+/// Whether no level of control policies and no key stands with the resource.
 fn is_bare(resource: &Resource) -> bool
     ensures { IsTrue result → IsBare resource.now }
 {
-    resource.policy().is_none() && resource.control().is_empty() && resource.context().is_empty()
+    resource.control().is_empty() && resource.context().is_empty()
 }
 
 impl World {
@@ -61,7 +61,7 @@ impl World {
     ghost use Rattle.iam_match.specs.Request.{access_of};
     ghost use Rattle.iam_decision.specs.Applicable.{ApplicableValue, frame_of};
     ghost use Rattle.iam_layers.specs.Cell.{IsAccessAt, IsAction, IsApplicableAt, IsCell, IsContextAt, IsDerivedAt, IsPrincipal, IsRequestContext, IsResource, IsSharedAt, IsVerdictAt, principal_text};
-    ghost use Rattle.iam_layers.specs.Code.Statements.{AreSameButArn, HasLevels, HaveSameOrg};
+    ghost use Rattle.iam_layers.specs.Code.Statements.{AreSameButPolicy, HasLevels, HaveSameOrg};
 
     /// The world of a JSON document, or the first fault of its bytes: `TooLarge` for over 8,388,608 of them, then 1
     /// to 8 by number, each at its first place, then `TooLarge` for over 16,777,216 cells or 4,096 statements.
@@ -226,12 +226,12 @@ impl World {
         self.resource(r).account() == self.resource(other).account()
     }
 
-    /// `true` only where the two resources are the same but for their ARN; it is not found where policies, levels of them or keys
-    /// stand with one. Each has to be below the number of resources.
-    pub fn is_same_but_arn(&self, r: u64, other: u64) -> bool
+    /// `true` only where the two resources are the same but for their ARN and their policy; it is not found where levels of control
+    /// policies or keys stand with one. Each has to be below the number of resources.
+    pub fn is_same_but_policy(&self, r: u64, other: u64) -> bool
         requires resource { r < length self.now.resources }
         requires other { other < length self.now.resources }
-        ensures { IsTrue result → AreSameButArn self.now r other }
+        ensures { IsTrue result → AreSameButPolicy self.now r other }
     {
         let one = self.resource(r);
         let two = self.resource(other);

@@ -6,7 +6,7 @@ use Rattle.iam_decision.specs.Applicable.{ApplicableValue}
 use Rattle.iam_decision.specs.Living.{Lives, LivingValue}
 use Rattle.iam_decision.specs.Matched.{Placed, Selects}
 use Rattle.iam_layers.specs.Applicable.{applicable_of}
-use Rattle.iam_layers.specs.Code.Statements.{AreSameButArn}
+use Rattle.iam_layers.specs.Code.Statements.{AreSameButPolicy}
 use Rattle.iam_layers.specs.Derived.{IsDerived, context_of}
 use Rattle.iam_world.specs.World.{ResourceValue, WorldValue}
 use Rattle.iam_index.specs.Known.{AreAlike, TellNoneApart}
@@ -41,7 +41,7 @@ chosen_alike world r other one two access (s ∷ statements) chosen at there ask
       chosen_alike world r other one two access statements chosen at there asked apart more,
     )
 
-live_alike : (world : WorldValue) (p r other : ℕ) (statements : List Placed) (a : ApplicableValue) (living : List LivingValue) → AreSameButArn world r other
+live_alike : (world : WorldValue) (p r other : ℕ) (statements : List Placed) (a : ApplicableValue) (living : List LivingValue) → AreSameButPolicy world r other
     → TellNoneApart world statements r other → LiveAt world p r statements a living → LiveAt world p other statements a living
 live_alike world p r other statements a living differ apart live =
     let at = live.at in

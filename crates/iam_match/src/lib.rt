@@ -22,7 +22,7 @@ pub use iam_context::Context;
 pub use iam_policy::{Actions, Statement};
 pub use iam_text::OutOfMemory;
 pub use laws::one_requester;
-pub use principal::{Grant, grant_kind};
+pub use principal::{Grant, grant_kind, principal_matches};
 pub use request::{Access, Request};
 pub use requester::Requester;
 pub use statement::{action_matches, rest_matches, rest_matches_with, statement_matches};

@@ -226,8 +226,7 @@ impl WorldParts {
         read_value(alloc, &value)
     }
 
-    /// As [`WorldParts::read`], for a run that soon ends: what was parsed is never let go, also after a fault, since piece by piece
-    /// that would cost a tenth of the reading.
+    /// As [`WorldParts::read`], for a run that soon ends: what was parsed is never let go, also after a fault.
     pub fn read_leaking(alloc: Global, bytes: Vec<u8>) -> Result<WorldParts, WorldFault>
         ensures ok { IfOk result (IsWorld bytes.items) }
         ensures fault { IfErr result (λ fault. fault ≢ w.OutOfMemory → IsFirstWorldFault bytes.items fault) }

@@ -1,6 +1,6 @@
 -- Whose statements apply to a request: those of the organisation and of the requester are the same whatever it asks for, those
--- that stand with the resource whoever asks. And which resources are the same but for their ARN.
-use Rattle.std.specs.Prelude.{◌≡◌, ℕ, [], None, Some, length}
+-- that stand with the resource whoever asks. And which resources are the same but for their ARN and their policy.
+use Rattle.std.specs.Prelude.{◌≡◌, ℕ, [], Some, length}
 use Rattle.std.specs.List.{slice_get}
 use Rattle.iam_decision.specs.Applicable.{ApplicableValue}
 use Rattle.iam_decision.specs.Code.Scan.{org_placed, requester_placed, resource_placed}
@@ -26,16 +26,15 @@ HaveSameOrg world p q =
 abbrev pub HasLevels : WorldValue → ℕ → ℕ → Type 0
 HasLevels world p levels = (r : ℕ) (a : ApplicableValue) → IsApplicableAt world p r a → levels ≡ length a.org
 
--- no policy, no level of control policies and no key stands with the resource
+-- no level of control policies and no key stands with the resource
 pub record IsBare (resource : ResourceValue) : Type 0 where
-  pub policy : resource.policy ≡ None
   pub control : resource.control ≡ []
   pub context : resource.context ≡ []
 
--- these two resources are the same but for their ARN
-pub record AreSameButArn (world : WorldValue) (r other : ℕ) : Type 0 where
+-- these two resources are the same but for their ARN and their policy
+pub record AreSameButPolicy (world : WorldValue) (r other : ℕ) : Type 0 where
   pub one : ResourceValue
   pub two : ResourceValue
   pub one_is : slice_get world.resources r ≡ Some one
   pub two_is : slice_get world.resources other ≡ Some two
-  pub same : two ≡ record one { arn = two.arn }
+  pub same : two ≡ record one { arn = two.arn; policy = two.policy }
