@@ -1,5 +1,5 @@
 -- Slots, changed one at a time.
-use Rattle.std.proofs.Common.{◌≡◌, inl, inr, ◌<◌, ◌+◌, ℕ, zero, suc, List, [], ◌∷◌, Option, Some, None, sym, subst, arith}
+use Rattle.std.proofs.Common.{◌≡◌, inl, inr, ℕ, zero, suc, List, [], ◌∷◌, Option, Some, sym, subst}
 use Rattle.std.proofs.Math.ListN.{set}
 use Rattle.iam_slots.specs.Slots.{AllAre, AreEmpty, GainsOnly, Keeps}
 
@@ -9,19 +9,6 @@ gains_set (s ∷ slots) zero kept zero other at = let same : other ≡ kept = cc
 gains_set (s ∷ slots) zero kept (suc j) other at = inr at
 gains_set (s ∷ slots) (suc i) kept zero other at = inr at
 gains_set (s ∷ slots) (suc i) kept (suc j) other at = gains_set slots i kept j other at
-
--- the slots below a number keep nothing
-abbrev pub EmptyBelow : {T : Type 0} → ℕ → List (Option T) → Type 0
-EmptyBelow {T} n slots = (i : ℕ) (kept : T) → i < n → ¬ Keeps slots i kept
-
-pub below_more : {T : Type 0} (n : ℕ) (slots : List (Option T)) → EmptyBelow n slots → EmptyBelow (n + 1) (set slots n None)
-below_more n [] below zero kept less at = let wrong : ⊥ = cc in wrong
-below_more n [] below (suc i) kept less at = let wrong : ⊥ = cc in wrong
-below_more zero (s ∷ slots) below zero kept less at = let wrong : ⊥ = cc in wrong
-below_more zero (s ∷ slots) below (suc i) kept less at = omega (arith, less)
-below_more (suc n) (s ∷ slots) below zero kept less at = below zero kept (omega arith) at
-below_more (suc n) (s ∷ slots) below (suc i) kept less at =
-    below_more n slots (λ j x here. below (suc j) x (omega (arith, here))) i kept (omega (arith, less)) at
 
 -- what has a property, where nothing is kept, more is kept, and another property follows
 pub all_empty : {T : Type 0} (P : T → Type 0) (slots : List (Option T)) → AreEmpty slots → AllAre P slots

@@ -33,11 +33,8 @@ pub fn empty_slots<T: Copy>(alloc: Global, count: u64) -> Result<Vec<Option<T>>,
     ensures empty { IfOk result (λ slots. AreEmpty slots.items) }
     ensures many { IfOk result (λ slots. count ≤ 16777216 → count ≤ length slots.items) }
 {
-    let mut slots = Vec::new(alloc);
-    for _slot in 0..count.min(MOST_SLOTS).next_power_of_two() {
-        slots.push(None)?;
-    }
-    Ok(slots)
+    let count = count.min(MOST_SLOTS).next_power_of_two();
+    vec![in alloc; None; count as usize]
 }
 
 /// What a slot keeps.
@@ -69,7 +66,5 @@ pub fn empty<T: Copy>(slots: &mut [Option<T>])
     ensures empty { AreEmpty slots.new }
     ensures slots { length slots.new ≡ length slots.old }
 {
-    for slot in 0..slots.len() {
-        slots[slot] = None;
-    }
+    slots.fill(None);
 }
