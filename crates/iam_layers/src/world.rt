@@ -4,7 +4,7 @@ ghost use Rattle.iam_layers.specs.Code.Statements.{IsBare};
 
 use crate::applicable::{control_of, org_of};
 use crate::derived::{keys_with, stamp_of};
-use iam_context::{Context, Derived, Sought};
+use iam_context::{Context, Derived, Part, Sought};
 use iam_decision::{Applicable, Frame, Shared, Verdict};
 use iam_match::{Access, OutOfMemory, Requester};
 use iam_world::{Principal, Resource, WorldFault, WorldParts};
@@ -439,6 +439,14 @@ impl World {
         ensures { IfOk result (λ keys. IsResource self.entry.now r (λ resource. keys ≡ resource.context)) }
     {
         Sought::of(alloc, self.resource(r).context())
+    }
+
+    /// The keys that resource r gives to requests for it, as they are kept; r has to be below `resources()`.
+    pub fn resource_part(&self, r: u64) -> &Part
+        requires { r < length self.now.resources }
+        ensures { IsResource self.entry.now r (λ resource. result.now.items ≡ resource.context) }
+    {
+        self.resource(r).context()
     }
 
     /// The context that [`World::context`] makes, over keys that are lent: those of the world, of principal p and of resource
