@@ -23,15 +23,15 @@ pub columns_meet : (world : WorldValue) (rows : List Row) (first r other : ℕ) 
 columns_meet world rows first r other one two =
     let a = one.differ in
     let b = two.differ in
-    let F : ResourceValue → Type 0 = λ x. b.two ≡ record x { arn = b.two.arn } in
-    let same : b.two ≡ record a.one { arn = b.two.arn } = subst F (some_same b.one a.one (sym b.one_is ∙ a.one_is)) b.same in
+    let F : ResourceValue → Type 0 = λ x. b.two ≡ record x { arn = b.two.arn; policy = b.two.policy } in
+    let same : b.two ≡ record a.one { arn = b.two.arn; policy = b.two.policy } = subst F (some_same b.one a.one (sym b.one_is ∙ a.one_is)) b.same in
     record {
       differ = record {
         one = a.two;
         two = b.two;
         one_is = a.two_is;
         two_is = b.two_is;
-        same = same ∙ ap (λ (x : ResourceValue). record x { arn = b.two.arn }) (sym a.same);
+        same = same ∙ ap (λ (x : ResourceValue). record x { arn = b.two.arn; policy = b.two.policy }) (sym a.same);
       };
       both = λ n row at x y context there here.
           let (to, from) = one.both n row at a.one x context a.one_is there in
