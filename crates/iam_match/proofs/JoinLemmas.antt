@@ -20,6 +20,14 @@ join_other text piece more other = go (bytes_eq text (piece ++ more)) refl
     go false e = refl
     go true e = let decided : Decides (bytes_eq text (piece ++ more)) (text ≡ piece ++ more) = bytes_eq-Decides text (piece ++ more) in absurd (other more (decided.0 e))
 
+-- an end that the text does not end with
+pub join_end : (text front end : List ℕ) → ((rest : List ℕ) → text ≢ rest ++ end) → bytes_eq text (front ++ end) ≡ false
+join_end text front end other = go (bytes_eq text (front ++ end)) refl
+  where
+    go : (b : Bool) → bytes_eq text (front ++ end) ≡ b → b ≡ false
+    go false e = refl
+    go true e = let decided : Decides (bytes_eq text (front ++ end)) (text ≡ front ++ end) = bytes_eq-Decides text (front ++ end) in absurd (other front (decided.0 e))
+
 -- the pieces from one on
 pub pieces_from : (pieces : List (Bor (List ℕ))) (i : ℕ) (d : Bor (List ℕ)) → i < length pieces
     → concat (map (λ p. p.now) (drop i pieces)) ≡ (get_or pieces i d).now ++ concat (map (λ p. p.now) (drop (i + 1) pieces))
