@@ -49,9 +49,18 @@ fn needs_quotes(text: &str) -> bool
 fn csv_bytes(alloc: Global, text: &str) -> Result<Vec<u8>, OutOfMemory>
     ensures { IfOk result (λ bytes. bytes.items ≡ field_text default_writer text.now) }
 {
-    if !needs_quotes(text) {
-        return Vec::from_slice(alloc, text.as_bytes());
+    if needs_quotes(text) {
+        written_field(alloc, text)
+    } else {
+        Vec::from_slice(alloc, text.as_bytes())
     }
+}
+
+/// The same by a writer, which is large: a call that makes none should not have room for one.
+#[inline(never)]
+fn written_field(alloc: Global, text: &str) -> Result<Vec<u8>, OutOfMemory>
+    ensures { IfOk result (λ bytes. bytes.items ≡ field_text default_writer text.now) }
+{
     let mut writer = Writer::from_writer(Vec::new(alloc));
     if writer.write_field(text.as_bytes()).is_err() {
         return Err(OutOfMemory);
