@@ -1,0 +1,3 @@
+pub mod AgreeLemmas
+mod WalkLemmas
+mod NameLemmas
