@@ -1,4 +1,5 @@
 mod MemoLemmas
+mod SignLemmas
 mod SurveyLemmas
 mod WordsLemmas
 pub mod EngineLemmas

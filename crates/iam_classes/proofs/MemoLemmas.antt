@@ -5,21 +5,20 @@ use Rattle.std.proofs.lemmas.List.Sums.{sum_by_push}
 use Rattle.std.proofs.lemmas.Option.{slice_get_within}
 use Rattle.std.specs.List.{slice_get}
 use Rattle.iam_match.specs.Statement.{request_for}
-use Rattle.iam_decision.specs.Decision.{IsVerdict}
 use Rattle.iam_decision.specs.Living.{SharedValue}
 use Rattle.iam_decision.specs.Ruling.{RulingValue}
 use Rattle.iam_decision.specs.declared.frame.Frame.{Frame}
 use Rattle.iam_decision.specs.declared.living.Matched.{Matched}
 use Rattle.iam_layers.specs.Cell.{IsAction, IsSharedAt}
 use Rattle.iam_world.specs.World.{WorldValue}
-use Rattle.iam_index.specs.Elements.{AreElementNumbers}
+use Rattle.iam_index.specs.Elements.{ActAlike}
 use Rattle.iam_slots.specs.Slots.{AllAre}
-use Rattle.iam_classes.specs.Memo.{AreAnswers, ArePairs, AreWithin, cost, Finds, HasClass, HasMore, HasNumber, HasRuling, HasShared, HaveRows, IsFreeFor, IsSharedVerdict, MemoValue}
+use Rattle.iam_classes.specs.Memo.{AreAnswers, ArePairs, AreRows, AreWithin, cost, FindsAlike, HasClass, HasMore, HasNumber, HasRuling, HasShared, HaveRows, IsFreeFor, IsSharedVerdict, MemoValue}
 use Rattle.iam_index.specs.declared.elements.Element.{Element}
 use Rattle.iam_slots.specs.declared.numbered.Numbered.{Numbered}
 use Rattle.iam_classes.specs.declared.memo.Class.{Class}
 use Rattle.iam_classes.specs.declared.memo.Room.{Room}
-use Rattle.iam_index.proofs.ListLemmas.{get_back, get_more, get_within, some_same}
+use Rattle.iam_index.proofs.ListLemmas.{get_back, get_more, get_within, is_asked}
 use Rattle.iam_slots.proofs.SlotLemmas.{all_weaker}
 
 pub pairs_more : (world : WorldValue) (classes more : List Class) (pairs : List (Option Numbered)) → ArePairs world classes pairs
@@ -42,12 +41,12 @@ answers_behind world classes rulings more answers all =
     (λ (a : Numbered). HasNumber world classes (rulings ++ more) a.one a.other a.number) answers
     (λ a (class, at, (ruling, here, is)). (class, at, (ruling, get_more rulings more a.number ruling here, is))) all
 
-pub class_rows_more : (elements : List Element) (classes : List Class) (class : Class) → AreElementNumbers elements class.shared.living class.rows.items
+pub class_rows_more : (elements : List Element) (classes : List Class) (class : Class) → AreRows elements class
     → HaveRows elements classes → HaveRows elements (classes ++ class ∷ [])
 class_rows_more elements classes class is all n other at =
     elim (get_back classes class n other at) [
       | inl before ↦ all n other before
-      | inr (last, same) ↦ let R : Class → Type 0 = λ c. AreElementNumbers elements c.shared.living c.rows.items in subst R (sym same) is
+      | inr (last, same) ↦ let R : Class → Type 0 = λ c. AreRows elements c in subst R (sym same) is
     ]
 
 pub no_rows : (elements : List Element) (classes : List Class) → classes ≡ [] → HaveRows elements classes
@@ -74,20 +73,21 @@ shared_class old new p r n shared world is (class, at, same) =
     let W : WorldValue → Type 0 = λ w. IsSharedAt w p r class.shared in
     (class, at, subst W (sym world) (subst S (sym same) is))
 
--- what follows from the statements that match the requests of a class is the verdict on them
-pub numbered : (old new : MemoValue) (n a number : ℕ) (text : List ℕ) (frame : Frame) (found : List Matched) → n < length old.classes
+-- what follows from the statements that match the requests of a class for an action is the verdict on those for each action on which
+-- the same statements act
+pub numbered : (old new : MemoValue) (n a b number : ℕ) (text : List ℕ) (frame : Frame) (found : List Matched) → n < length old.classes
     → IsAction old.world a text
-    → ((it : Class) → slice_get old.classes n ≡ Some it → IsAction old.world a text → Finds old.world it.shared text frame found)
-    → HasRuling new.rulings frame found number → new.classes ≡ old.classes → new.world ≡ old.world → HasNumber new.world new.classes new.rulings n a number
-numbered old new n a number text frame found below named finds (ruling, there, is) classes world =
+    → ((it : Class) → slice_get old.classes n ≡ Some it → IsAction old.world a text → FindsAlike old.world it.shared text frame found)
+    → ((it : Class) (other : List ℕ) → slice_get old.classes n ≡ Some it → IsAction old.world b other → ActAlike text other it.shared.living)
+    → HasRuling new.rulings frame found number → new.classes ≡ old.classes → new.world ≡ old.world → HasNumber new.world new.classes new.rulings n b number
+numbered old new n a b number text frame found below named finds alike (ruling, there, is) classes world =
     let (class, at) = get_within old.classes n below in
     let C : List Class → Type 0 = λ cs. slice_get cs n ≡ Some class in
-    let W : WorldValue → Type 0 = λ w. IsSharedVerdict w class.shared a ruling.verdict in
-    let verdict : IsSharedVerdict old.world class.shared a ruling.verdict =
+    let W : WorldValue → Type 0 = λ w. IsSharedVerdict w class.shared b ruling.verdict in
+    let verdict : IsSharedVerdict old.world class.shared b ruling.verdict =
     λ action applicable access asked shared.
-    let V : List ℕ → Type 0 = λ t. IsVerdict applicable (request_for access t) ruling.verdict in
-    let (framed, matched) = finds class at named applicable access shared in
-    subst V (some_same text action (sym named ∙ asked)) (is.follows applicable (request_for access text) (framed ∙ shared.frame) matched) in
+    let (framed, matched) = finds class at named action (is_asked old.world b action asked) (alike class action at asked) applicable access shared in
+    is.follows applicable (request_for access action) (framed ∙ shared.frame) matched in
     (class, subst C (sym classes) at, (ruling, there, subst W (sym world) verdict))
 
 -- where no class is kept all of the room is left

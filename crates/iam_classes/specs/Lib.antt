@@ -2,4 +2,5 @@ pub mod Code
 pub mod Engine
 pub mod Memo
 pub mod Survey
+pub mod Told
 pub mod Words

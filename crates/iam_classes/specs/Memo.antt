@@ -1,7 +1,7 @@
 -- What an engine keeps: classes of requests that share the same, and verdicts on them. It may keep anything that is right,
 -- and let go of it at any time. LOGIC 1.1.
 use Rattle.std.specs.Prelude.{◌≡◌, ◌+◌, ◌<◌, ◌≤◌, ◌⊎◌, ◌++◌, ℕ, [], List, Option, Some, length, sum_by}
-use Rattle.std.specs.List.{slice_get}
+use Rattle.std.specs.List.{Contains, slice_get}
 use Rattle.iam_match.specs.Statement.{AccessValue, request_for}
 use Rattle.iam_decision.specs.Applicable.{ApplicableValue}
 use Rattle.iam_decision.specs.Decision.{IsVerdict}
@@ -13,10 +13,11 @@ use Rattle.iam_decision.specs.declared.living.Matched.{Matched}
 use Rattle.iam_decision.specs.declared.verdict.Verdict.{Verdict}
 use Rattle.iam_layers.specs.Cell.{IsAction, IsSharedAt, IsVerdictAt}
 use Rattle.iam_world.specs.World.{WorldValue}
-use Rattle.iam_index.specs.Elements.{AreElements, AreElementNumbers}
+use Rattle.iam_index.specs.Elements.{ActAlike, AreActs, AreElements, AreElementNumbers}
 use Rattle.iam_slots.specs.Slots.{AllAre}
 use Rattle.iam_slots.specs.declared.numbered.Numbered.{Numbered}
 use Rattle.iam_index.specs.declared.elements.Element.{Element}
+use Rattle.iam_index.specs.declared.signs.Sign.{Sign}
 use Rattle.iam_classes.specs.declared.memo.Class.{Class}
 use Rattle.iam_classes.specs.declared.memo.Room.{Room}
 
@@ -76,6 +77,20 @@ Finds world shared action frame found =
     (applicable : ApplicableValue) (access : AccessValue) → IsShared world.actions applicable access shared
     → (frame ≡ shared.frame) × AreFound (request_for access action) (placed applicable) found
 
+-- the same of each action of the world whose acts on these statements are those of this one
+abbrev pub FindsAlike : WorldValue → SharedValue → List ℕ → Frame → List Matched → Type 0
+FindsAlike world shared action frame found =
+    (other : List ℕ) → Contains world.actions other → ActAlike action other shared.living → Finds world shared other frame found
+
+-- the word is the signature of action a in the class
+abbrev pub IsSign : WorldValue → List Class → ℕ → ℕ → ℕ → Type 0
+IsSign world classes n a word =
+    (class : Class) (text : List ℕ) → slice_get classes n ≡ Some class → IsAction world a text → AreActs text class.shared.living word
+
+-- the verdict of this number is the one on requests of the class for each action of this signature
+abbrev pub HasSigned : WorldValue → List Class → List RulingValue → ℕ → ℕ → ℕ → Type 0
+HasSigned world classes rulings n word number = (a : ℕ) → IsSign world classes n a word → HasNumber world classes rulings n a number
+
 -- each pair of a principal and a resource is of its class
 abbrev pub ArePairs : WorldValue → List Class → List (Option Numbered) → Type 0
 ArePairs world classes pairs = AllAre (λ pair. HasClass world classes pair.one pair.other pair.number) pairs
@@ -85,10 +100,18 @@ abbrev pub AreAnswers : WorldValue → List Class → List RulingValue → List 
 AreAnswers world classes rulings answers =
     AllAre (λ answer. HasNumber world classes rulings answer.one answer.other answer.number) answers
 
--- the kept elements of each class are those of its statements
+-- so each number under a class and a signature
+abbrev pub AreSigns : WorldValue → List Class → List RulingValue → List (Option Sign) → Type 0
+AreSigns world classes rulings signs = AllAre (λ sign. HasSigned world classes rulings sign.class sign.word sign.number) signs
+
+-- for each statement of a class there is a row, and the elements that the rows name are those of the statements
+pub record AreRows (elements : List Element) (class : Class) : Type 0 where
+  pub count : length class.rows.items ≡ length class.shared.living
+  pub are : AreElementNumbers elements class.shared.living class.rows.items
+
+-- so it is of each class
 abbrev pub HaveRows : List Element → List Class → Type 0
-HaveRows elements classes =
-    (n : ℕ) (class : Class) → slice_get classes n ≡ Some class → AreElementNumbers elements class.shared.living class.rows.items
+HaveRows elements classes = (n : ℕ) (class : Class) → slice_get classes n ≡ Some class → AreRows elements class
 
 -- what the classes cost of the room: each of them its statements, and one more
 abbrev pub cost : List Class → ℕ
@@ -106,9 +129,10 @@ IsFreeFor room classes shared = (length shared.living < room.left) ⊎ (classes 
 -- everything that is kept is right, and no more than may be
 pub record IsRight
     (world : WorldValue) (elements : List Element) (classes : List Class) (rulings : List RulingValue) (pairs : List (Option Numbered))
-    (answers : List (Option Numbered)) (room : Room) (most_verdicts : ℕ) : Type 0 where
+    (answers : List (Option Numbered)) (signs : List (Option Sign)) (room : Room) (most_verdicts : ℕ) : Type 0 where
   pub pairs_are : ArePairs world classes pairs
   pub answers_are : AreAnswers world classes rulings answers
+  pub signs_are : AreSigns world classes rulings signs
   pub elements_are : AreElements world elements
   pub rows_are : HaveRows elements classes
   pub classes_fit : AreWithin room classes

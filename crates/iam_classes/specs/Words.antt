@@ -2,13 +2,12 @@
 use Rattle.std.specs.Prelude.{◌≡◌, ◌⊎◌, ℕ, List, IfSome, Option, Some}
 use Rattle.std.specs.List.{slice_get}
 use Rattle.iam_match.specs.Statement.{AccessValue}
-use Rattle.iam_decision.specs.Applicable.{ApplicableValue, frame_of}
 use Rattle.iam_decision.specs.Living.{AreLiving}
 use Rattle.iam_decision.specs.Matched.{Placed}
 use Rattle.iam_layers.specs.Cell.{IsPrincipal}
 use Rattle.iam_world.specs.World.{WorldValue}
 use Rattle.iam_slots.specs.Slots.{AllAre, Keeps}
-use Rattle.iam_living.specs.Listing.{Lists, LiveAt}
+use Rattle.iam_living.specs.Listing.{Lists, LiveAt, statements_of}
 use Rattle.iam_living.specs.Word.{AreBits}
 use Rattle.iam_classes.specs.declared.memo.Class.{Class}
 use Rattle.iam_classes.specs.declared.words.Asker.{Asker}
@@ -24,27 +23,27 @@ pub record IsWord (world : WorldValue) (classes : List Class) (p : ℕ) (stateme
   pub bits : AreBits access statements kept.word
   pub living : AreLiving access statements class.shared.living
 
--- the class is that of principal p's requests for resource r, with which no statement stands: it has those of these that live in them
+-- the class is that of principal p's requests for resource r, in which none lives of the statements that stand with the resource: it has
+-- those of these that live in them
 abbrev pub IsFoundAmong : WorldValue → List Class → ℕ → ℕ → List Placed → ℕ → Type 0
 IsFoundAmong world classes p r statements n =
-    (class : Class) × (slice_get classes n ≡ Some class) × (a : ApplicableValue) × (class.shared.frame ≡ frame_of a)
-    × LiveAt world p r statements a class.shared.living
+    (class : Class) × (slice_get classes n ≡ Some class) × LiveAt world p r statements class.shared.frame class.shared.living
 
 -- by the number of alike resources the class of the principal's requests for one of them is kept
 abbrev pub AreAlikeClasses : WorldValue → List Class → Asker → List (Option ℕ) → Type 0
 AreAlikeClasses world classes asker kept =
     (number class : ℕ) → Keeps kept number class
-    → (r : ℕ) × Keeps asker.listing.alikes r number × IsFoundAmong world classes asker.principal r asker.listing.statements class
+    → (r : ℕ) × Keeps asker.listing.alikes r number × IsFoundAmong world classes asker.principal r (statements_of asker.listing) class
 
 -- these statements are listed for the principal
 abbrev pub IsAsker : WorldValue → Asker → Type 0
-IsAsker world asker = (asker.listing.world ≡ world) × Lists world asker.principal asker.listing.statements
+IsAsker world asker = (asker.listing.world ≡ world) × Lists world asker.principal asker.listing.org asker.listing.own
 
 -- everything that is kept is right
 abbrev pub AreWords : WorldValue → List Class → Words → Type 0
 AreWords world classes words =
     IfSome words.asker
-    (λ asker. IsAsker world asker × AllAre (IsWord world classes asker.principal asker.listing.statements) words.slots.items
+    (λ asker. IsAsker world asker × AllAre (IsWord world classes asker.principal (statements_of asker.listing)) words.slots.items
     × AreAlikeClasses world classes asker words.alikes.items)
 
 -- nothing more is kept, but this under this number

@@ -4,7 +4,7 @@ ghost use Rattle.iam_slots.specs.Slots.{AreEmpty};
 
 use crate::held::Held;
 use iam_decision::acting_are_found;
-use iam_index::{Elements, Index};
+use iam_index::{Elements, Index, Sign, keep_signed, number_signed};
 use iam_layers::{Frame, Matched, Ruling, Shared, Verdict, World};
 use iam_slots::{
     Numbered, WIDTH, empty, empty_slots, keep, keep_number, kept, number_in, slot_at, slot_of,
@@ -25,6 +25,9 @@ const MOST_VERDICTS: usize = 262_144;
 
 /// The classes and the verdicts that were found last, by the prints of what they hang on.
 const PRINTS: u64 = 4_096;
+
+/// The verdicts that were found last, by the signatures of actions.
+const SIGNS: u64 = 4_096;
 
 /// Requests that share the same: what they share, and which of the kept action elements are those of its statements.
 #[derive(Drop)]
@@ -58,26 +61,6 @@ pub struct Room {
     pub most: usize,
 }
 
-impl Room {
-    ghost use Rattle.std.specs.Prelude.{◌≡◌, ◌+◌, ◌-◌, ◌<◌, ◌≤◌, false, true};
-
-    /// Whether there is no room for a class of so many statements, and for the class itself.
-    fn lacks(&self, statements: usize) -> bool
-        ensures room { result ≡ false → statements < self.now.left }
-        ensures none { result ≡ true → self.now.left ≤ statements }
-    {
-        self.left <= statements
-    }
-
-    /// Takes room for a class of so many statements, and for the class itself; all of it, where there is less.
-    fn take(&mut self, statements: usize)
-        ensures left { self.new.left ≡ self.old.left - (statements + 1) }
-        ensures most { self.new.most ≡ self.old.most }
-    {
-        self.left = self.left.saturating_sub(statements).saturating_sub(1);
-    }
-}
-
 /// What is kept: requests that share the same are a class, and of some classes and actions the verdict is known. A contract
 /// sees the world, the classes, the verdicts with what they follow from, and how many of them may be kept.
 #[derive(Drop)]
@@ -86,9 +69,11 @@ pub struct Memo<'a> {
     elements: &'a Elements<'a>,
     classes: Vec<Class<'a>>,
     rulings: Vec<Ruling>,
-    // The class of a principal and a resource, and the number of the verdict on a class and an action.
+    // The class of a principal and a resource, and the number of the verdict on a class and an action, and on a class and the
+    // actions of a signature.
     pairs: Vec<Option<Numbered>>,
     answers: Vec<Option<Numbered>>,
+    signs: Vec<Option<Sign>>,
     // By a print the class, and the ruling, that was last found with it: a hint.
     class_prints: Vec<Option<usize>>,
     ruling_prints: Vec<Option<usize>>,
@@ -112,15 +97,15 @@ impl<'a> Model for Memo<'a> {
     } };
 
     ghost invariant = { λ memo. IsRight memo.world.now memo.elements.now.elements.items memo.classes.items memo.rulings.items
-        memo.pairs.items memo.answers.items memo.room memo.most_verdicts };
+        memo.pairs.items memo.answers.items memo.signs.items memo.room memo.most_verdicts };
 }
 
 impl<'a> Memo<'a> {
     ghost use Rattle.std.specs.Prelude.{◌≡◌, ◌<◌, ◌≤◌, ◌+◌, ℕ, [], IfOk, IfSome, OnOk, Some, false, length, true};
     ghost use Rattle.std.specs.List.{slice_get};
     ghost use Rattle.iam_layers.specs.Cell.{IsAction, IsSharedAt, IsVerdictAt};
-    ghost use Rattle.iam_classes.specs.Memo.{ArePairs, Finds, HasClass, HasMore, HasNumber, HasRuling, HasShared, HasVerdict};
-    ghost use Rattle.iam_classes.specs.Memo.{IsFreeFor, IsSameMemo};
+    ghost use Rattle.iam_classes.specs.Memo.{ArePairs, FindsAlike, HasClass, HasMore, HasNumber, HasRuling, HasShared, HasVerdict};
+    ghost use Rattle.iam_classes.specs.Memo.{HasSigned, IsFreeFor, IsSameMemo, IsSign};
     ghost use Rattle.iam_classes.specs.declared.memo.Class.{Class};
 
     /// A memo of the world of an index, one of so many that share the bounds, which keeps nothing yet.
@@ -141,6 +126,7 @@ impl<'a> Memo<'a> {
             rulings: Vec::new(alloc),
             pairs: pair_slots(alloc, world, MOST_PAIRS / memos as u64)?,
             answers: empty_slots(alloc, answers.min(MOST_ANSWERS / memos as u64))?,
+            signs: empty_slots(alloc, answers.min(SIGNS))?,
             class_prints: empty_slots(alloc, PRINTS)?,
             ruling_prints: empty_slots(alloc, PRINTS)?,
             resources: world.resources(),
@@ -225,7 +211,7 @@ impl<'a> Memo<'a> {
                 cleared: false,
             });
         }
-        let cleared = self.room.lacks(shared.get().living().len());
+        let cleared = self.room.left <= shared.get().living().len();
         self.clear_if(cleared);
         let class = self.add(alloc, print, shared)?;
         Ok(Found { class, cleared })
@@ -257,6 +243,7 @@ impl<'a> Memo<'a> {
         if cleared {
             empty(&mut self.pairs);
             empty(&mut self.answers);
+            empty(&mut self.signs);
             self.classes.clear();
             self.rulings.clear();
             self.room.left = self.room.most;
@@ -276,7 +263,8 @@ impl<'a> Memo<'a> {
         let rows = self.elements.rows(alloc, living)?;
         let class = self.classes.len();
         self.classes.push(Class { shared, rows })?;
-        self.room.take(statements);
+        let left = self.room.left.saturating_sub(statements);
+        self.room.left = left.saturating_sub(1);
         keep(
             &mut self.class_prints,
             slot_of(0, print, PRINTS as usize),
@@ -315,7 +303,7 @@ impl<'a> Memo<'a> {
         number_in(self.answers.as_slice(), slot, class as u64, a)
     }
 
-    /// The same where it is not known, from the statements of the class that act on it.
+    /// The same where it is not known: that of actions of the same signature, or else from the statements of the class that act.
     #[inline(never)]
     fn find_number(
         &mut self,
@@ -330,19 +318,43 @@ impl<'a> Memo<'a> {
         ensures classes { self.new.classes ≡ self.old.classes }
         ensures same { IsSameMemo self.old self.new }
     {
+        let word = self.signature(class, a);
+        if let Some(number) = self.number_of_sign(class, word) {
+            self.keep_number(class, a, None, number);
+            return Ok(number);
+        }
         let frame = self.find(found, class, a, self.world.action_text(a))?;
         let number = self.ruling(alloc, frame, found.as_slice())?;
-        self.keep_number(class, a, number);
+        self.keep_number(class, a, word, number);
         Ok(number)
     }
 
-    /// Keeps the number of the verdict on requests of the class for action a.
-    fn keep_number(&mut self, class: usize, a: u64, number: usize)
-        requires { HasNumber self.old.world self.old.classes self.old.rulings class a number }
+    /// The signature of action a in the class, where it has one.
+    fn signature(&self, class: usize, a: u64) -> Option<u64>
+        requires { class < length self.now.classes }
+        ensures { IfSome result (IsSign self.now.world self.now.classes class a) }
+    {
+        let rows = self.classes[class].rows.as_slice();
+        self.elements.signature(rows, a)
+    }
+
+    /// The number of the verdict on requests of the class for actions of the signature, where it is known.
+    fn number_of_sign(&self, class: usize, word: Option<u64>) -> Option<usize>
+        ensures { IfSome result (λ number. (a : ℕ) → IfSome word (IsSign self.now.world self.now.classes class a)
+            → HasNumber self.now.world self.now.classes self.now.rulings class a number) }
+    {
+        number_signed(self.signs.as_slice(), class, word)
+    }
+
+    /// Keeps the number of the verdict on requests of the class for action a, and for actions of the signature, where there is one.
+    fn keep_number(&mut self, class: usize, a: u64, word: Option<u64>, number: usize)
+        requires number { HasNumber self.old.world self.old.classes self.old.rulings class a number }
+        requires sign { IfSome word (λ w. HasSigned self.old.world self.old.classes self.old.rulings class w number) }
         ensures { self.new ≡ self.old }
     {
         let slot = slot_of(a, class as u64, self.answers.len());
         keep_number(&mut self.answers, slot, class as u64, a, number);
+        keep_signed(&mut self.signs, class, word, number);
     }
 
     /// Puts the statements that match requests of the class for action a, which has this text, into `found`, in place of what
@@ -356,7 +368,7 @@ impl<'a> Memo<'a> {
     ) -> Result<Frame, OutOfMemory>
         requires { class < length self.now.classes }
         ensures { (it : Class) → slice_get self.now.classes class ≡ Some it → IsAction self.now.world a text.now
-            → IfOk result (λ frame. Finds self.now.world it.shared text.now frame found.new.items) }
+            → IfOk result (λ frame. FindsAlike self.now.world it.shared text.now frame found.new.items) }
     {
         let class = &self.classes[class];
         let rows = class.rows.as_slice();
@@ -411,6 +423,7 @@ impl<'a> Memo<'a> {
     {
         if self.rulings.len() >= self.most_verdicts {
             empty(&mut self.answers);
+            empty(&mut self.signs);
             self.rulings.clear();
         }
     }

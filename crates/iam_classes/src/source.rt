@@ -5,10 +5,19 @@ use crate::held::Held;
 use crate::survey::Survey;
 use iam_index::Index;
 use iam_layers::{Frame, Shared, World};
-use iam_living::{Keys, Listing, no_keys, shared_by, word_by};
+use iam_living::{Asking, Lives, none_concerns};
 use iam_text::OutOfMemory;
 use std::alloc::Global;
 use std::marker::Model;
+
+/// What is known of the requests of a principal for a resource.
+#[derive(Drop)]
+pub enum Told<'a> {
+    /// None of the statements that stand with the resource lives in them, and by this word those that are listed for the principal.
+    Word(u64),
+    /// What they share.
+    Shared(Held<'a>),
+}
 
 /// What requests share is what a survey found, or else follows from the statements that an index lists. A contract sees the world,
 /// and whether there is a survey.
@@ -16,8 +25,6 @@ use std::marker::Model;
 pub struct Source<'a> {
     index: &'a Index<'a>,
     survey: Option<&'a Survey<'a>>,
-    // The derived keys that were made last, of one principal.
-    keys: Vec<Keys>,
 }
 
 impl<'a> Model for Source<'a> {
@@ -29,25 +36,23 @@ impl<'a> Model for Source<'a> {
 
     ghost view = { λ source. record { world = source.index.now; surveyed = is_some source.survey } };
 
-    ghost invariant = { λ source. IfSome source.survey (λ survey. survey.now ≡ source.index.now) × All (AreKeys source.index.now) source.keys.items };
+    ghost invariant = { λ source. IfSome source.survey (λ survey. survey.now ≡ source.index.now) };
 }
 
 impl<'a> Source<'a> {
-    ghost use Rattle.std.specs.Prelude.{◌≡◌, ◌<◌, IfOk, IfSome, is_some, length};
+    ghost use Rattle.std.specs.Prelude.{◌≡◌, ◌<◌, IfOk, IfSome, IsTrue, is_some, length};
     ghost use Rattle.iam_decision.specs.Applicable.{ApplicableValue, frame_of};
     ghost use Rattle.iam_layers.specs.Cell.{IsApplicableAt, IsSharedAt};
-    ghost use Rattle.iam_living.specs.Listing.{IsWordAt};
+    ghost use Rattle.iam_living.specs.Listing.{Lists, statements_of};
+    ghost use Rattle.iam_living.specs.Living.{NoneConcerns};
+    ghost use Rattle.iam_classes.specs.Told.{IsTold};
 
     /// An index, and a survey of its world where there is one.
     pub fn new(alloc: Global, index: &'a Index<'a>, survey: Option<&'a Survey<'a>>) -> Source<'a>
         requires { IfSome survey (λ survey. survey.now ≡ index.now) }
         ensures { result ≡ record { world = index.entry.now; surveyed = is_some survey.entry } }
     {
-        Source {
-            index,
-            survey,
-            keys: no_keys(alloc),
-        }
+        Source { index, survey }
     }
 
     /// The world.
@@ -73,38 +78,39 @@ impl<'a> Source<'a> {
         self.index.frame(p, r)
     }
 
-    /// Which of the statements listed for principal p live in its requests for resource r, as a word: where it is not known already what
-    /// these share, and no statement stands with the resource.
-    pub fn word(
+    /// What is known of the requests of principal p for resource r: what a survey found, or else which statements live in them.
+    pub fn told(
         &mut self,
         alloc: Global,
-        listing: &Listing<'a>,
+        listing: &mut Asking<'a>,
         p: u64,
         r: u64,
-    ) -> Result<Option<u64>, OutOfMemory>
+    ) -> Result<Told<'a>, OutOfMemory>
         requires principal { p < length self.old.world.principals }
         requires resource { r < length self.old.world.resources }
-        requires listing { listing.now.world ≡ self.old.world }
-        ensures word { IfOk result (λ found. IfSome found (IsWordAt self.old.world p r listing.now.statements)) }
+        requires listing { listing.old.world ≡ self.old.world }
+        requires lists { Lists self.old.world p listing.old.org listing.old.own }
+        ensures told { IfOk result (IsTold self.old.world p r (statements_of listing.old)) }
+        ensures listing { listing.new ≡ listing.old }
         ensures same { self.new ≡ self.old }
     {
-        if self.lent(p, r).is_some() {
-            return Ok(None);
+        if let Some(shared) = self.lent(p, r) {
+            return Ok(Told::Shared(Held::lent(shared)));
         }
-        word_by(alloc, self.index, listing, &mut self.keys, p, r)
+        match listing.lives(alloc, self.index, p, r)? {
+            Lives::Word(word) => Ok(Told::Word(word)),
+            Lives::Shared(shared) => Ok(Told::Shared(Held::own(shared))),
+        }
     }
 
-    /// What the requests of principal p for resource r share.
-    pub fn shared(&mut self, alloc: Global, p: u64, r: u64) -> Result<Held<'a>, OutOfMemory>
-        requires principal { p < length self.old.world.principals }
-        requires resource { r < length self.old.world.resources }
-        ensures shared { IfOk result (IsSharedAt self.old.world p r) }
-        ensures same { self.new ≡ self.old }
+    /// Whether none of the statements that stand with resource r is about principal p.
+    #[inline(always)]
+    pub fn none_concerns(&self, p: u64, r: u64) -> bool
+        requires principal { p < length self.now.world.principals }
+        requires resource { r < length self.now.world.resources }
+        ensures { IsTrue result → NoneConcerns self.now.world p r }
     {
-        match self.lent(p, r) {
-            Some(shared) => Ok(Held::lent(shared)),
-            None => Ok(Held::own(shared_by(alloc, self.index, &mut self.keys, p, r)?)),
-        }
+        none_concerns(self.index, p, r)
     }
 
     /// What the requests of principal p for resource r share, where a survey found it.

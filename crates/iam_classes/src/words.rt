@@ -3,10 +3,10 @@ ghost use Rattle.std.specs.Prelude.{◌≡◌, IsTrue};
 
 use crate::held::Held;
 use crate::memo::{Found, Memo};
-use crate::source::Source;
+use crate::source::{Source, Told};
 use iam_index::Index;
 use iam_layers::{Frame, Shared, World};
-use iam_living::{Listing, same_word};
+use iam_living::{Asking, same_word};
 use iam_slots::{empty, empty_slots, keep, kept, slot_of};
 use iam_text::OutOfMemory;
 use std::alloc::Global;
@@ -28,11 +28,11 @@ pub struct Word {
 #[derive(Drop)]
 pub struct Asker<'a> {
     pub principal: u64,
-    pub listing: Listing<'a>,
+    pub listing: Asking<'a>,
 }
 
-/// The classes of one principal's requests for resources with which no statement stands, by the words of these requests, and by the
-/// numbers of resources that are alike.
+/// The classes of one principal's requests in which no statement lives that stands with their resource: by the words of these requests,
+/// and by the numbers of resources that are alike. They serve for all resources whose own statements do not live in the requests.
 #[derive(Drop)]
 pub struct Words<'a> {
     pub asker: Option<Asker<'a>>,
@@ -48,8 +48,9 @@ impl<'a> Words<'a> {
     ghost use Rattle.iam_living.specs.Word.{AreBits};
     ghost use Rattle.iam_slots.specs.Slots.{AreEmpty, GainsOnly, Keeps};
     ghost use Rattle.iam_classes.specs.Memo.{HasClass, HasMore, HasShared, IsSameMemo};
-    ghost use Rattle.iam_classes.specs.Words.{AreWords, GainsAt, IsFoundAmong};
-    ghost use Rattle.iam_living.specs.Listing.{AreAlikes, IsWordAt};
+    ghost use Rattle.iam_classes.specs.Told.{IsTold};
+    ghost use Rattle.iam_classes.specs.Words.{AreWords, GainsAt, IsAsker, IsFoundAmong};
+    ghost use Rattle.iam_living.specs.Listing.{AreAlikes, IsWordAt, statements_of};
     ghost use Rattle.iam_classes.specs.declared.memo.Class.{Class};
     ghost use Rattle.iam_classes.specs.declared.words.Asker.{Asker};
     ghost use Rattle.iam_classes.specs.declared.words.Word.{Word};
@@ -65,8 +66,8 @@ impl<'a> Words<'a> {
         })
     }
 
-    /// The class of principal p and resource r, which are of no known one: that of a resource that is alike, or what is kept of both
-    /// serves where their word does.
+    /// The class of principal p and resource r, which are of no known one. That of a resource that is alike serves where none of the
+    /// statements that stand with resource r is about the principal, and that of the word where none of them lives in the requests.
     pub fn class_at(
         &mut self,
         alloc: Global,
@@ -86,30 +87,29 @@ impl<'a> Words<'a> {
         ensures source { source.new ≡ source.old }
         ensures same { IsSameMemo memo.old memo.new }
     {
-        self.turn_to(source.index(), p);
+        self.turn_to(alloc, source.index(), p);
         let number = self.number(r);
-        if let Some(class) = self.class_of(number) {
-            memo.keep_class(p, r, class);
-            return Ok(Found {
-                class,
-                cleared: false,
-            });
+        if let Some(class) = self.alike_class(number) {
+            if source.none_concerns(p, r) {
+                memo.keep_class(p, r, class);
+                return Ok(Found {
+                    class,
+                    cleared: false,
+                });
+            }
         }
-        match self.word(alloc, source, p, r)? {
-            Some(word) => {
+        match self.told(alloc, source, p, r)? {
+            Told::Word(word) => {
                 let found = self.class_by(alloc, source, memo, p, r, word)?;
-                self.keep_class(number, found.class);
+                self.keep_alike(number, found.class);
                 Ok(found)
             }
-            None => {
-                let shared = source.shared(alloc, p, r)?;
-                self.class_with(alloc, memo, p, r, shared)
-            }
+            Told::Shared(shared) => self.class_with(alloc, memo, p, r, shared),
         }
     }
 
     /// Turns to principal p: what is kept of another is let go.
-    fn turn_to(&mut self, index: &'a Index<'a>, p: u64)
+    fn turn_to(&mut self, alloc: Global, index: &'a Index<'a>, p: u64)
         requires { p < length index.now.principals }
         ensures asker { (asker : Asker) × (self.new.asker ≡ Some asker) × (asker.principal ≡ p) }
         ensures right { (classes : List Class) → AreWords index.entry.now classes self.old → AreWords index.entry.now classes self.new }
@@ -122,28 +122,29 @@ impl<'a> Words<'a> {
         self.forget();
         self.asker = Some(Asker {
             principal: p,
-            listing: Listing::of(index, p),
+            listing: Asking::of(alloc, index, p),
         });
     }
 
-    /// The word of the requests of principal p for resource r, where there is one.
-    fn word(
-        &self,
+    /// What is known of the requests of principal p, which asked last, for resource r.
+    fn told(
+        &mut self,
         alloc: Global,
         source: &mut Source<'a>,
         p: u64,
         r: u64,
-    ) -> Result<Option<u64>, OutOfMemory>
+    ) -> Result<Told<'a>, OutOfMemory>
         requires principal { p < length source.old.world.principals }
         requires resource { r < length source.old.world.resources }
-        requires asker { IfSome self.now.asker (λ asker. asker.listing.world ≡ source.old.world) }
-        ensures word { IfOk result (λ found. IfSome found (λ word.
-            (asker : Asker) × (self.now.asker ≡ Some asker) × IsWordAt source.old.world p r asker.listing.statements word)) }
+        requires asker { (asker : Asker) × (self.old.asker ≡ Some asker) × (asker.principal ≡ p) × IsAsker source.old.world asker }
+        ensures told { (asker : Asker) → self.old.asker ≡ Some asker
+            → IfOk result (IsTold source.old.world p r (statements_of asker.listing)) }
         ensures source { source.new ≡ source.old }
+        ensures same { self.new ≡ self.old }
     {
-        match &self.asker {
-            Some(asker) => source.word(alloc, &asker.listing, p, r),
-            None => Ok(None),
+        match &mut self.asker {
+            Some(asker) => source.told(alloc, &mut asker.listing, p, r),
+            None => unreachable!(),
         }
     }
 
@@ -162,12 +163,12 @@ impl<'a> Words<'a> {
         requires resource { r < length memo.old.world.resources }
         requires words { AreWords memo.old.world memo.old.classes self.old }
         requires word { (asker : Asker) × (self.old.asker ≡ Some asker) × (asker.principal ≡ p)
-            × IsWordAt memo.old.world p r asker.listing.statements word }
+            × IsWordAt memo.old.world p r (statements_of asker.listing) word }
         ensures class { IfOk result (λ found. HasClass memo.new.world memo.new.classes p r found.class) }
         ensures kept { IfOk result (λ found. found.cleared ≡ false → HasMore memo.old.classes memo.new.classes) }
         ensures let_go { IfOk result (λ found. found.cleared ≡ true → length memo.new.classes ≡ 1) }
         ensures found { (asker : Asker) → self.old.asker ≡ Some asker → IfOk result (λ found.
-            IsFoundAmong memo.new.world memo.new.classes p r asker.listing.statements found.class) }
+            IsFoundAmong memo.new.world memo.new.classes p r (statements_of asker.listing) found.class) }
         ensures words { AreWords memo.new.world memo.new.classes self.new }
         ensures asker { self.new.asker ≡ self.old.asker }
         ensures same { IsSameMemo memo.old memo.new }
@@ -201,13 +202,14 @@ impl<'a> Words<'a> {
         requires { p < length source.now.world.principals }
         ensures { (asker : Asker) (access : AccessValue) → self.now.asker ≡ Some asker
             → IsPrincipal source.now.world p (λ principal. access.requester ≡ principal.requester)
-            → AreBits access asker.listing.statements word
-            → IfOk result (λ shared. (shared.frame ≡ frame) × AreLiving access asker.listing.statements shared.living) }
+            → AreBits access (statements_of asker.listing) word
+            → IfOk result (λ shared. (shared.frame ≡ frame) × AreLiving access (statements_of asker.listing) shared.living) }
     {
         match &self.asker {
             Some(asker) => {
                 let living = asker
                     .listing
+                    .listing()
                     .living(alloc, word, source.world().requester(p))?;
                 Ok(Shared::of(frame, living))
             }
@@ -265,21 +267,21 @@ impl<'a> Words<'a> {
             × AreAlikes asker.listing) }
     {
         match &self.asker {
-            Some(asker) => asker.listing.alike(r),
+            Some(asker) => asker.listing.listing().alike(r),
             None => None,
         }
     }
 
     /// The class that is kept for resources of this number.
     #[inline(always)]
-    fn class_of(&self, number: Option<usize>) -> Option<usize>
+    fn alike_class(&self, number: Option<usize>) -> Option<usize>
         ensures { IfSome result (λ class. (n : ℕ) × (number ≡ Some n) × Keeps self.now.alikes.items n class) }
     {
         kept(self.alikes.as_slice(), number? as u64)
     }
 
     /// Keeps a class for resources of this number, if there is room for it.
-    fn keep_class(&mut self, number: Option<usize>, class: usize)
+    fn keep_alike(&mut self, number: Option<usize>, class: usize)
         ensures gains { GainsAt self.old.alikes.items self.new.alikes.items number class }
         ensures slots { self.new.slots ≡ self.old.slots }
         ensures asker { self.new.asker ≡ self.old.asker }

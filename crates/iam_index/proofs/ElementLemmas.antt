@@ -1,13 +1,14 @@
 -- What is kept of action elements stays right where more is kept.
-use Rattle.std.proofs.Common.{◌≡◌, ◌⊎◌, ◌+◌, ◌<◌, inl, inr, ℕ, zero, suc, get_or, refl, arith, List, [], ◌∷◌, ◌++◌, length, Option, Some, IfSome, sym, ap, subst, ◌∙◌}
+use Rattle.std.proofs.Common.{◌≡◌, ◌⊎◌, ◌+◌, ◌*◌, ◌/◌, ◌%◌, ◌<◌, inl, inr, ℕ, zero, suc, get_or, refl, arith, List, [], ◌∷◌, ◌++◌, length, Option, None, Some, IfSome, sym, ap, subst, ◌∙◌}
 use Rattle.std.proofs.lemmas.Option.{slice_get-get_or}
 use Rattle.std.specs.List.{slice_get}
+use Rattle.std.specs.Option.{SomeIff}
 use Rattle.iam_element.specs.Reading.{ActionElement}
 use Rattle.iam_match.specs.Statement.{ActionMatches}
 use Rattle.iam_decision.specs.Living.{LivingValue}
 use Rattle.iam_layers.specs.Cell.{IsAction}
 use Rattle.iam_world.specs.World.{WorldValue}
-use Rattle.iam_index.specs.Elements.{AreElements, AreElementNumbers, HasElement, IsElement, MatchesNone}
+use Rattle.iam_index.specs.Elements.{AreActs, AreElements, AreElementNumbers, HasElement, IsElement, MatchesNone}
 use Rattle.iam_index.specs.declared.elements.Element.{Element}
 use Rattle.iam_index.proofs.ListLemmas.{get_back, some_same}
 
@@ -62,3 +63,23 @@ rows_more elements living rows x row at is all i n statement kept there =
           let R : Option ℕ → Type 0 = λ r. IfSome r (λ m. HasElement elements m x.action) in
           subst A own (subst R (sym same) is)
     ]
+
+-- one more statement before those of a word, on which the action acts or does not
+pub acting_first : (text : List ℕ) (s : LivingValue) (living : List LivingValue) (word next : ℕ) → next ≡ word * 2 + 1 → ActionMatches s.action text
+    → AreActs text living word → AreActs text (s ∷ living) next
+acting_first text s living word next is acts bits =
+    let half : word ≡ next / 2 = omega (arith, is) in
+    let odd : next % 2 ≡ 1 = omega (arith, is) in
+    (((λ _. acts), (λ _. odd)), subst (λ (w : ℕ). AreActs text living w) half bits)
+
+pub idle_first : (text : List ℕ) (s : LivingValue) (living : List LivingValue) (word next : ℕ) → next ≡ word * 2 → ¬ ActionMatches s.action text
+    → AreActs text living word → AreActs text (s ∷ living) next
+idle_first text s living word next is idle bits =
+    let half : word ≡ next / 2 = omega (arith, is) in
+    let even : next % 2 ≡ 0 = omega (arith, is) in
+    (((λ odd. absurd (omega (arith, odd, even))), (λ acts. absurd (idle acts))), subst (λ (w : ℕ). AreActs text living w) half bits)
+
+-- what holds of a number holds of it where there is one
+pub if_number : (found : Option ℕ) (fits : Type 0) (n : ℕ) (P : ℕ → Type 0) → SomeIff found fits n → P n → IfSome found P
+if_number None fits n P is holds = tt
+if_number (Some x) fits n P (within, same) holds = subst P (sym same) holds

@@ -1,5 +1,5 @@
 -- Action elements of which it is kept what they match. LOGIC 1.1.
-use Rattle.std.specs.Prelude.{◌≡◌, ◌↔◌, ◌++◌, ◌∷◌, [], ℕ, Bool, All, Any, IsTrue, List, length, Option, Some, false}
+use Rattle.std.specs.Prelude.{◌≡◌, ◌↔◌, ◌/◌, ◌%◌, ◌++◌, ◌∷◌, [], ℕ, Bool, All, Any, IsTrue, List, length, Option, Some, false}
 use Rattle.std.specs.List.{Contains, slice_get}
 use Rattle.std.specs.Str.{chars}
 use Rattle.iam_glob.specs.Glob.{MatchesFold}
@@ -63,3 +63,13 @@ HasElement elements n action = (element : Element) × (slice_get elements n ≡ 
 abbrev pub AreElementNumbers : List Element → List LivingValue → List (Option ℕ) → Type 0
 AreElementNumbers elements living rows =
     (i n : ℕ) (statement : LivingValue) → Keeps rows i n → slice_get living i ≡ Some statement → HasElement elements n statement.action
+
+-- the bits of the word, from the least on, say of each of the living statements whether its action element matches the action;
+-- behind them is none
+abbrev pub AreActs : List ℕ → List LivingValue → ℕ → Type 0
+AreActs text [] word = word ≡ 0
+AreActs text (s ∷ living) word = ((word % 2 ≡ 1) ↔ ActionMatches s.action text) × AreActs text living (word / 2)
+
+-- the same of these living statements act on both actions
+abbrev pub ActAlike : List ℕ → List ℕ → List LivingValue → Type 0
+ActAlike one other living = All (λ s. ActionMatches s.action one ↔ ActionMatches s.action other) living

@@ -1,6 +1,8 @@
 -- An index of a world: of the statements that apply to requests those that may match one for some action of the world. LOGIC 1.1.
-use Rattle.std.specs.Prelude.{◌≡◌, ℕ, All, List, [], ◌∷◌, Option, Some, length, map}
+use Rattle.std.specs.Prelude.{◌≡◌, ℕ, All, IfSome, List, [], ◌∷◌, Option, Some, length, map}
 use Rattle.std.specs.List.{slice_get}
+use Rattle.iam_unasked.specs.Names.{HasNames}
+use Rattle.iam_unasked.specs.declared.names.Names.{Names}
 use Rattle.iam_match.specs.Statement.{ActionMatches, RequestValue}
 use Rattle.iam_decision.specs.Applicable.{ApplicableValue}
 use Rattle.iam_decision.specs.Code.Scan.{org_placed, placed_value, requester_placed, resource_placed}
@@ -15,6 +17,7 @@ use Rattle.iam_index.specs.Elements.{AreElements}
 use Rattle.iam_columns.specs.Columns.{AreColumns}
 use Rattle.iam_columns.specs.Rows.{AreRows}
 use Rattle.iam_columns.specs.declared.rows.Row.{Row}
+use Rattle.iam_index.specs.Given.{given_keys}
 use Rattle.iam_index.specs.Rows.{AreListRows}
 use Rattle.iam_index.specs.declared.elements.Element.{Element}
 use Rattle.iam_index.specs.declared.list_rows.ListRows.{ListRows}
@@ -59,7 +62,7 @@ AreOrgs world orgs = (n : ℕ) (org : Org) → slice_get orgs n ≡ Some org →
 
 -- everything that an index has is right
 pub record IsIndex (world parts : WorldValue) (elements : List Element) (orgs : List Org) (numbers : List ℕ) (requesters resources : List Listed)
-    (rows : List Row) (org_rows requester_rows : List ListRows) (columns : List (Option ℕ)) : Type 0 where
+    (rows : List Row) (org_rows requester_rows : List ListRows) (columns : List (Option ℕ)) (given : Option Names) : Type 0 where
   pub parts_are : parts ≡ world
   pub elements_are : AreElements world elements
   pub orgs_are : HaveOrgs world orgs numbers
@@ -72,6 +75,7 @@ pub record IsIndex (world parts : WorldValue) (elements : List Element) (orgs : 
   pub org_rows_are : AreListRows (λ org. org.statements.items) rows orgs org_rows
   pub requester_rows_are : AreListRows (λ listed. listed.statements.items) rows requesters requester_rows
   pub columns_are : AreColumns world rows columns
+  pub given_are : IfSome given (λ keys. HasNames keys (given_keys world))
 
 -- the candidates of a request: some of the statements that apply, in place order, and among them each whose action element matches
 -- its action

@@ -1,5 +1,7 @@
 pub mod Elements
+pub mod Given
 pub mod Index
 pub mod Known
 pub mod Parts
 pub mod Rows
+pub mod Signs

@@ -1,14 +1,14 @@
 // Action elements, and which actions of a world they match.
-ghost use Rattle.std.specs.Prelude.{[], ◌∷◌, ◌≡◌, ◌↔◌, ◌++◌, ℕ, List, IfOk, IfSome, IsTrue, OnOk, false, map};
+ghost use Rattle.std.specs.Prelude.{[], ◌∷◌, ◌≡◌, ◌↔◌, ◌++◌, ℕ, List, IfOk, IfSome, IsTrue, OnOk, false, length, map};
 ghost use Rattle.std.specs.Str.{chars};
 ghost use Rattle.iam_glob.specs.Glob.{MatchesFold};
 ghost use Rattle.iam_glob.specs.declared.sign.Sign.{Sign};
 ghost use Rattle.iam_services.specs.Services.{AreServices, TriesMatched, numbers_of};
-ghost use Rattle.iam_decision.specs.Living.{AreActing, living_value};
+ghost use Rattle.iam_decision.specs.Living.{AreActing, LivingValue, living_value};
 ghost use Rattle.iam_layers.specs.Cell.{IsAction};
 ghost use Rattle.iam_match.specs.Statement.{ActionMatches};
 ghost use Rattle.iam_world.specs.World.{WorldValue};
-ghost use Rattle.iam_index.specs.Elements.{AreElements, AreElementNumbers, AreKept, HasElement, IsElement, Marked, MatchesNone, TellSome};
+ghost use Rattle.iam_index.specs.Elements.{AreActs, AreElements, AreElementNumbers, AreKept, HasElement, IsElement, Marked, MatchesNone, TellSome};
 ghost use Rattle.iam_element.specs.Reading.{ActionElement};
 ghost use Rattle.iam_index.specs.declared.elements.Element.{Element};
 
@@ -105,7 +105,8 @@ impl<'a> Elements<'a> {
         alloc: Global,
         living: &[Living<'_>],
     ) -> Result<Vec<Option<usize>>, OutOfMemory>
-        ensures { IfOk result (λ rows. AreElementNumbers self.now.elements.items (map living_value living.now) rows.items) }
+        ensures count { IfOk result (λ rows. length rows.items ≡ length living.now) }
+        ensures elements { IfOk result (λ rows. AreElementNumbers self.now.elements.items (map living_value living.now) rows.items) }
     {
         let mut rows = Vec::with_capacity(alloc, living.len())?;
         for statement in living {
@@ -158,6 +159,20 @@ impl<'a> Elements<'a> {
         Ok(())
     }
 
+    /// Which of the elements of these numbers match action a, as the bits of a number from the least on; `None` where it has more
+    /// than 64, or one of the elements is not kept.
+    pub fn signature(&self, rows: &[Option<usize>], a: u64) -> Option<u64>
+        ensures { (world : WorldValue) (living : List LivingValue) (text : List ℕ) → AreElements world self.now.elements.items
+            → AreElementNumbers self.now.elements.items living rows.now → length rows.now ≡ length living → IsAction world a text
+            → IfSome result (AreActs text living) }
+    {
+        let mut word = 0;
+        for i in (0..rows.len()).rev() {
+            word = with_act(word, self.act_of(kept(rows, i as u64), a)?)?;
+        }
+        Some(word)
+    }
+
     /// Whether an action element, which is that of the number where there is one, matches action a, which has this text.
     fn acts(&self, row: Option<usize>, action: &Actions, a: u64, text: &str) -> bool
         ensures { (world : WorldValue) → AreElements world self.now.elements.items
@@ -181,6 +196,16 @@ impl<'a> Elements<'a> {
         let act = *element.acts.get(a as usize)?;
         Some(act)
     }
+}
+
+/// The signature of elements that begin with one that matches, or does not; `None` where it has more than 64 bits.
+#[inline(always)]
+fn with_act(word: u64, acts: bool) -> Option<u64>
+    ensures { (text : List ℕ) (s : LivingValue) (living : List LivingValue) → (IsTrue acts ↔ ActionMatches s.action text)
+        → AreActs text living word → IfSome result (AreActs text (s ∷ living)) }
+{
+    let bit: u64 = if acts { 1 } else { 0 };
+    word.checked_mul(2)?.checked_add(bit)
 }
 
 /// The actions of the world by their services; by none where they are few, or there is no memory.

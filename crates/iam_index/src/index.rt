@@ -6,6 +6,7 @@ ghost use Rattle.iam_decision.specs.Matched.{Placed};
 ghost use Rattle.iam_index.specs.Index.{AllAct};
 
 use crate::elements::Elements;
+use crate::given::given_keys;
 use crate::known::{Known, Theirs};
 use crate::list_rows::{ListRows, are_told, list_at, org_rows, requester_rows};
 use crate::lists::{Listed, Org, Orgs, org_lists, requester_lists, resource_lists};
@@ -15,6 +16,7 @@ use iam_columns::{Columns, Rows};
 use iam_layers::{Frame, Place, Standing, World};
 use iam_match::action_matches;
 use iam_text::OutOfMemory;
+use iam_unasked::Names;
 use std::alloc::Global;
 use std::marker::Model;
 
@@ -36,6 +38,8 @@ pub struct Index<'a> {
     requester_rows: Vec<ListRows>,
     // Which resources the rows tell apart.
     columns: Columns,
+    // The keys that the resources give.
+    given: Option<Names<'a>>,
 }
 
 impl<'a> Model for Index<'a> {
@@ -48,7 +52,7 @@ impl<'a> Model for Index<'a> {
 
     ghost invariant = { λ index. IsIndex index.world.now index.parts index.elements.elements.items index.orgs.orgs.items index.orgs.numbers.items
         index.requesters.items index.resources.items index.rows.rows.items index.org_rows.items index.requester_rows.items
-        index.columns.numbers.items };
+        index.columns.numbers.items index.given };
 }
 
 impl<'a> Index<'a> {
@@ -94,10 +98,12 @@ impl<'a> Index<'a> {
             org_rows: Vec::new(alloc),
             requester_rows: Vec::new(alloc),
             columns: Columns::none(alloc),
+            given: None,
         })
     }
 
-    /// Finds which resources the resource elements match, and which of them are alike. Where memory is refused, fewer are known.
+    /// Finds which resources the resource elements match, which of them are alike, and the keys that they give. Where memory is
+    /// refused, fewer are known.
     fn fill(&mut self, alloc: Global)
         ensures { self.new ≡ self.old }
     {
@@ -106,6 +112,7 @@ impl<'a> Index<'a> {
         let orgs = org_rows(alloc, world, &mut rows, self.orgs.orgs.as_slice());
         let requesters = requester_rows(alloc, world, &mut rows, self.requesters.as_slice());
         self.columns = Columns::of(alloc, world, &rows);
+        self.given = given_keys(alloc, world);
         self.rows = rows;
         self.org_rows = orgs;
         self.requester_rows = requesters;
@@ -170,8 +177,8 @@ impl<'a> Index<'a> {
         let own_rows = list_at(self.requester_rows.as_slice(), p as usize);
         let told = are_told(org_rows, own_rows);
         Theirs {
-            org: Known::of(self.world, org, &self.rows, org_rows),
-            own: Known::of(self.world, own, &self.rows, own_rows),
+            org: Known::of(self.world, org, &self.rows, org_rows, self.given.as_ref()),
+            own: Known::of(self.world, own, &self.rows, own_rows, self.given.as_ref()),
             alikes: self.columns.numbers_where(told),
         }
     }

@@ -2,11 +2,13 @@
 #![tactic(auto)]
 
 mod elements;
+mod given;
 mod index;
 mod known;
 mod list_rows;
 mod lists;
 mod parts;
+mod signs;
 mod texts;
 
 pub use elements::{Element, Elements};
@@ -16,4 +18,5 @@ pub use iam_text::OutOfMemory;
 pub use index::Index;
 pub use known::{Known, Theirs};
 pub use parts::Parts;
+pub use signs::{Sign, keep_signed, number_signed};
 pub use texts::Texts;

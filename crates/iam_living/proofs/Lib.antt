@@ -1,3 +1,5 @@
+mod AccessLemmas
 mod AlikeLemmas
 mod KnownLemmas
-mod WordLemmas
+mod MarkLemmas
+pub mod WordLemmas

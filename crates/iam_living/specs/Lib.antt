@@ -1,4 +1,5 @@
 pub mod Keys
 pub mod Listing
+pub mod Marks
 pub mod Living
 pub mod Word

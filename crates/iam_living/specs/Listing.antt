@@ -1,43 +1,57 @@
 -- The statements that an index lists for all requests of a principal. LOGIC 11.1.
-use Rattle.std.specs.Prelude.{ℕ, List, [], Option}
+use Rattle.std.specs.Prelude.{◌≡◌, ◌++◌, ℕ, List, Option, map}
 use Rattle.iam_match.specs.Statement.{AccessValue}
-use Rattle.iam_decision.specs.Applicable.{ApplicableValue}
+use Rattle.iam_decision.specs.Applicable.{ApplicableValue, frame_of}
+use Rattle.iam_decision.specs.Code.Scan.{placed_value}
 use Rattle.iam_decision.specs.Living.{AreCandidates, AreLiving, LivingValue}
 use Rattle.iam_decision.specs.Matched.{Placed, placed}
+use Rattle.iam_decision.specs.declared.frame.Frame.{Frame}
+use Rattle.iam_decision.specs.declared.scan.Standing.{Standing}
 use Rattle.iam_layers.specs.Cell.{IsAccessAt, IsApplicableAt}
 use Rattle.iam_world.specs.World.{WorldValue}
 use Rattle.iam_slots.specs.Slots.{Keeps}
 use Rattle.iam_index.specs.Index.{ListsResource}
+use Rattle.iam_living.specs.Living.{NoneConcerns, NoneLives}
 use Rattle.iam_living.specs.Word.{AreBits}
 
--- statements of a world, and the numbers of resources that are alike to them
+-- statements of a world, those of an organisation and those of a principal, and the numbers of resources that are alike to them
 pub record ListingValue : Type 0 where
   pub world : WorldValue
-  pub statements : List Placed
+  pub org : List Placed
+  pub own : List Placed
   pub alikes : List (Option ℕ)
 
--- these statements are the candidates of principal p's requests for resources with which none is listed
-abbrev pub Lists : WorldValue → ℕ → List Placed → Type 0
-Lists world p statements =
-    (r : ℕ) (a : ApplicableValue) → IsApplicableAt world p r a → ListsResource world r []
-    → AreCandidates world.actions (placed a) statements
+-- all of them
+abbrev pub statements_of : ListingValue → List Placed
+statements_of listing = listing.org ++ listing.own
 
--- the word says which of these statements live in principal p's requests for resource r, with which no statement is listed
+-- these statements, and between them those that are listed with a resource, are the candidates of principal p's requests for it
+abbrev pub Lists : WorldValue → ℕ → List Placed → List Placed → Type 0
+Lists world p org own =
+    (r : ℕ) (a : ApplicableValue) (listed : List Standing) → IsApplicableAt world p r a → ListsResource world r listed
+    → AreCandidates world.actions (placed a) (org ++ (map placed_value listed ++ own))
+
+-- the word says which of these statements live in principal p's requests for resource r, in which none lives of those that are listed
+-- with the resource
 abbrev pub IsWordAt : WorldValue → ℕ → ℕ → List Placed → ℕ → Type 0
 IsWordAt world p r statements word =
     (applicable : ApplicableValue) × (access : AccessValue) × IsAccessAt world p r applicable access × AreBits access statements word
-    × ListsResource world r []
+    × NoneLives world r access
 
--- these policies apply to principal p's requests for resource r, with which no statement is listed, and these are the living ones of
--- the statements in them
-pub record LiveAt (world : WorldValue) (p r : ℕ) (statements : List Placed) (a : ApplicableValue) (living : List LivingValue) : Type 0 where
+-- in principal p's requests for resource r none lives of the statements that are listed with it, these are the living ones of the
+-- statements, and this is asked beside them
+pub record LiveAt (world : WorldValue) (p r : ℕ) (statements : List Placed) (frame : Frame) (living : List LivingValue) : Type 0 where
+  pub applicable : ApplicableValue
   pub access : AccessValue
-  pub at : IsAccessAt world p r a access
+  pub at : IsAccessAt world p r applicable access
+  pub frame_is : frame ≡ frame_of applicable
   pub living_are : AreLiving access statements living
-  pub alone : ListsResource world r []
+  pub none : NoneLives world r access
 
--- in a principal's requests for resources of one number the same policies apply, and the same of the statements live
+-- in a principal's requests for resources of one number the same of the statements live, and the same is asked beside them: where none
+-- lives of those that are listed with the one, and none of those that are listed with the other is about the principal
 abbrev pub AreAlikes : ListingValue → Type 0
 AreAlikes listing =
-    (p r other n : ℕ) (a : ApplicableValue) (living : List LivingValue) → Keeps listing.alikes r n → Keeps listing.alikes other n
-    → LiveAt listing.world p r listing.statements a living → LiveAt listing.world p other listing.statements a living
+    (p r other n : ℕ) (frame : Frame) (living : List LivingValue) → Keeps listing.alikes r n → Keeps listing.alikes other n
+    → NoneConcerns listing.world p other → LiveAt listing.world p r (statements_of listing) frame living
+    → LiveAt listing.world p other (statements_of listing) frame living

@@ -1,16 +1,21 @@
 // The derived keys that were made last, which further resources of their accounts may share.
-ghost use Rattle.std.specs.Prelude.{[], ◌≡◌, ◌<◌, ℕ, All, IfOk, IfSome, length};
-ghost use Rattle.iam_layers.specs.Cell.{IsDerivedAt, IsSharedAt};
+ghost use Rattle.std.specs.Prelude.{◌≡◌, ◌<◌, ℕ, All, IfOk, IfSome, length};
+ghost use Rattle.iam_context.specs.Context.{ContextValue};
+ghost use Rattle.iam_match.specs.Request.{access_of};
+ghost use Rattle.iam_decision.specs.Applicable.{ApplicableValue};
+ghost use Rattle.iam_layers.specs.Cell.{IsAccessAt, IsApplicableAt, IsContextAt, IsDerivedAt, IsSharedAt};
 ghost use Rattle.iam_world.specs.World.{WorldValue};
-ghost use Rattle.iam_index.specs.Index.{ListsResource};
-ghost use Rattle.iam_living.specs.Keys.{AreKeys, HasKeys, IsReady};
-ghost use Rattle.iam_living.specs.Listing.{IsWordAt};
+ghost use Rattle.iam_living.specs.Keys.{AreKeys, HasKeys, IsReady, TellsLives};
+ghost use Rattle.iam_living.specs.Listing.{Lists, statements_of};
+ghost use Rattle.iam_living.specs.Marks.{AreListingMarks};
 
 use crate::listing::Listing;
-use crate::walk::living;
-use iam_context::Derived;
+use crate::marks::ListingMarks;
+use crate::walk::{add_all, living};
+use iam_context::{Context, Derived};
 use iam_index::Index;
 use iam_layers::{Shared, World};
+use iam_match::Access;
 use iam_text::OutOfMemory;
 use std::alloc::Global;
 
@@ -23,6 +28,7 @@ pub struct Keys {
     pub principal: u64,
     pub resource: u64,
     pub derived: Derived,
+    pub told: ListingMarks,
 }
 
 /// Derived keys that are kept, by their number, or that there was no memory to keep.
@@ -30,6 +36,15 @@ pub struct Keys {
 pub enum Ready {
     Kept(usize),
     Made(Derived),
+}
+
+/// What is found of the statements that live in the requests of a principal for a resource.
+#[derive(Drop)]
+pub enum Lives<'a> {
+    /// None of those that stand with the resource, and by this word those that are listed for the principal.
+    Word(u64),
+    /// What the requests share, in all other cases.
+    Shared(Shared<'a>),
 }
 
 /// No derived keys yet.
@@ -58,40 +73,6 @@ pub fn shared_by<'a>(
     shared_with(alloc, index, p, r, keys_of(&ready, kept.as_slice()))
 }
 
-/// The word of principal p's requests for resource r: which of the statements listed for it live in them. `None` where these are more
-/// than a word has bits, or a statement stands with the resource.
-pub fn word_by<'a>(
-    alloc: Global,
-    index: &'a Index<'a>,
-    listing: &Listing<'a>,
-    kept: &mut Vec<Keys>,
-    p: u64,
-    r: u64,
-) -> Result<Option<u64>, OutOfMemory>
-    requires principal { p < length index.now.principals }
-    requires resource { r < length index.now.resources }
-    requires listing { listing.now.world ≡ index.now }
-    requires keys { All (AreKeys index.now) kept.old.items }
-    ensures keys { All (AreKeys index.entry.now) kept.new.items }
-    ensures word { IfOk result (λ found. IfSome found (IsWordAt index.entry.now p r listing.now.statements)) }
-{
-    if listing.is_long() {
-        return Ok(None);
-    }
-    if !index.resource_statements(r).is_empty() {
-        return Ok(None);
-    }
-    let ready = make_ready(alloc, index.world(), kept, p, r)?;
-    word_with(
-        alloc,
-        index,
-        listing,
-        p,
-        r,
-        keys_of(&ready, kept.as_slice()),
-    )
-}
-
 /// The derived keys of principal p's requests for resource r: where they are not found among those that are kept, they are made, and
 /// kept beside others of the principal.
 fn make_ready(
@@ -117,10 +98,15 @@ fn make_ready(
         Err(_) => return Ok(Ready::Made(derived)),
     }
     let n = kept.len();
+    let told = ListingMarks {
+        org: Vec::new(alloc),
+        own: Vec::new(alloc),
+    };
     kept.push(Keys {
         principal: p,
         resource: r,
         derived,
+        told,
     })?;
     Ok(Ready::Kept(n))
 }
@@ -157,30 +143,57 @@ fn shared_with<'a: 'c, 'c>(
     Ok(Shared::of(index.frame(p, r), living))
 }
 
-/// Which of the listed statements of principal p live in its requests for resource r, with which none stands, where these derived keys
-/// complete their context.
-fn word_with<'a: 'c, 'c>(
+/// Who asks for what where principal p asks for resource r, in this context, which is the one that is given.
+fn access_in<'a, 'c>(world: &'a World, p: u64, r: u64, context: &'a Context<'c>) -> Access<'a, 'c>
+    requires principal { p < length world.now.principals }
+    requires resource { r < length world.now.resources }
+    ensures context { result.context.now ≡ context.entry.now }
+    ensures access { (derived : ContextValue) (applicable : ApplicableValue) → IsDerivedAt world.entry.now p r derived
+        → IsContextAt world.entry.now p r derived context.entry.now → IsApplicableAt world.entry.now p r applicable
+        → IsAccessAt world.entry.now p r applicable (access_of result) }
+{
+    Access {
+        requester: world.requester(p),
+        resource: world.resource_text(r),
+        context,
+    }
+}
+
+/// Which statements live in principal p's requests for resource r, where these derived keys complete their context: those that stand
+/// with the resource are tried first.
+pub fn lives_with<'a: 'c, 'c>(
     alloc: Global,
     index: &'a Index<'a>,
     listing: &Listing<'a>,
+    told: &mut ListingMarks,
     p: u64,
     r: u64,
     derived: &'c Derived,
-) -> Result<Option<u64>, OutOfMemory>
+) -> Result<Lives<'a>, OutOfMemory>
     requires principal { p < length index.now.principals }
     requires resource { r < length index.now.resources }
     requires listing { listing.now.world ≡ index.now }
+    requires lists { Lists index.now p listing.now.org listing.now.own }
     requires derived { IsDerivedAt index.now p r derived.now.items }
-    requires alone { ListsResource index.now r [] }
-    ensures { IfOk result (λ found. IfSome found (IsWordAt index.entry.now p r listing.now.statements)) }
+    requires told { AreListingMarks listing.now p derived.now.items told.old }
+    ensures told { AreListingMarks listing.now p derived.entry.now.items told.new }
+    ensures lives { IfOk result (TellsLives index.entry.now p r (statements_of listing.now)) }
 {
     let context = index.parts().context(p, r, derived);
-    let access = index.world().access(p, r, &context);
-    listing.word(alloc, r, access)
+    let access = access_in(index.world(), p, r, &context);
+    let mut found = Vec::new(alloc);
+    add_all(alloc, &mut found, index.resource_statements(r), access)?;
+    if found.as_slice().is_empty() {
+        if let Some(word) = listing.word(alloc, told, r, access)? {
+            return Ok(Lives::Word(word));
+        }
+    }
+    let living = listing.living_around(alloc, told, r, access, found)?;
+    Ok(Lives::Shared(Shared::of(index.frame(p, r), living)))
 }
 
 /// The number of derived keys of principal p's requests for resource r, where some are found among these.
-fn known(world: &World, kept: &[Keys], p: u64, r: u64) -> Option<usize>
+pub fn known(world: &World, kept: &[Keys], p: u64, r: u64) -> Option<usize>
     requires resource { r < length world.now.resources }
     requires keys { All (AreKeys world.now) kept.now }
     ensures { IfSome result (HasKeys world.now p r kept.now) }
@@ -196,7 +209,7 @@ fn known(world: &World, kept: &[Keys], p: u64, r: u64) -> Option<usize>
 
 /// How many of these stay where derived keys of this principal come: all, or none where they are another's or as many as may be
 /// kept.
-fn staying(kept: &[Keys], p: u64) -> usize {
+pub fn staying(kept: &[Keys], p: u64) -> usize {
     match kept.first() {
         Some(keys) if keys.principal == p && kept.len() < MOST => kept.len(),
         _ => 0,

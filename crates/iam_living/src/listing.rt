@@ -1,16 +1,20 @@
 // The statements that an index lists for all requests of a principal, and which of them live in those for a resource.
-ghost use Rattle.std.specs.Prelude.{[], ◌∷◌, ◌++◌, ◌≡◌, IfOk, IfSome, OnOk, map};
+ghost use Rattle.std.specs.Prelude.{◌++◌, ◌≡◌, ℕ, IfOk, IfSome, OnOk, map};
 ghost use Rattle.iam_match.specs.Request.{access_of};
 ghost use Rattle.iam_decision.specs.Code.Scan.{placed_value};
-ghost use Rattle.iam_decision.specs.Living.{living_of, living_value};
-ghost use Rattle.iam_layers.specs.Cell.{IsResource};
+ghost use Rattle.iam_decision.specs.Living.{living_value};
+ghost use Rattle.iam_context.specs.Context.{ContextValue};
+ghost use Rattle.iam_layers.specs.Cell.{IsContextAt, IsResource};
+ghost use Rattle.iam_living.specs.Marks.{AreMarks};
 ghost use Rattle.iam_living.specs.Word.{GoesBefore, TakesBits};
 
+use crate::marks::{ListingMarks, Marks, none_told};
+use crate::walk::{add_known, lives};
 use crate::word::with_bit;
-use iam_decision::Matched;
+use iam_decision::push_living;
 use iam_index::{Index, Known, Theirs};
 use iam_layers::{Living, Standing, World};
-use iam_match::{Access, Requester, grant_kind, rest_matches_with};
+use iam_match::{Access, Requester};
 use iam_slots::kept;
 use iam_text::OutOfMemory;
 use std::alloc::Global;
@@ -20,7 +24,7 @@ use std::marker::Model;
 const BITS: usize = 64;
 
 /// The statements that an index lists for all requests of a principal: those of its organisation, and its own. A contract sees the
-/// world, the statements and the numbers of resources that are alike to them.
+/// world, the ones and the others, and the numbers of resources that are alike to them.
 #[derive(Drop)]
 pub struct Listing<'a> {
     world: &'a World,
@@ -39,7 +43,8 @@ impl<'a> Model for Listing<'a> {
 
     ghost view = { λ listing. record {
       world = listing.world.now;
-      statements = map placed_value listing.org.statements ++ map placed_value listing.own.statements;
+      org = map placed_value listing.org.statements;
+      own = map placed_value listing.own.statements;
       alikes = listing.alikes.now;
     } };
 
@@ -48,20 +53,24 @@ impl<'a> Model for Listing<'a> {
 }
 
 impl<'a> Listing<'a> {
-    ghost use Rattle.std.specs.Prelude.{◌≡◌, ◌<◌, IfOk, IfSome, length, map};
+    ghost use Rattle.std.specs.Prelude.{◌≡◌, ◌++◌, ◌<◌, ℕ, IfOk, IfSome, List, length, map};
     ghost use Rattle.iam_match.specs.Request.{access_of};
     ghost use Rattle.iam_match.specs.Statement.{AccessValue};
     ghost use Rattle.iam_decision.specs.Living.{AreLiving, living_value};
+    ghost use Rattle.iam_decision.specs.Matched.{Placed};
     ghost use Rattle.iam_layers.specs.Cell.{IsResource};
     ghost use Rattle.iam_slots.specs.Slots.{Keeps};
-    ghost use Rattle.iam_living.specs.Listing.{AreAlikes, Lists};
+    ghost use Rattle.iam_context.specs.Context.{ContextValue};
+    ghost use Rattle.iam_layers.specs.Cell.{IsContextAt};
+    ghost use Rattle.iam_living.specs.Listing.{AreAlikes, Lists, statements_of};
+    ghost use Rattle.iam_living.specs.Marks.{AreListingMarks};
     ghost use Rattle.iam_living.specs.Word.{AreBits};
 
     /// Those that an index lists for principal p.
     pub fn of(index: &'a Index<'a>, p: u64) -> Listing<'a>
         requires { p < length index.now.principals }
         ensures world { result.world ≡ index.entry.now }
-        ensures lists { Lists index.entry.now p result.statements }
+        ensures lists { Lists index.entry.now p result.org result.own }
     {
         let Theirs { org, own, alikes } = index.theirs(p);
         Listing {
@@ -81,26 +90,45 @@ impl<'a> Listing<'a> {
         kept(self.alikes, r)
     }
 
+    /// Nothing told yet of them.
+    pub fn none_told(&self, alloc: Global) -> ListingMarks
+        ensures { (p : ℕ) (derived : ContextValue) → AreListingMarks self.now p derived result }
+    {
+        ListingMarks {
+            org: none_told(alloc, self.org.statements().len()),
+            own: none_told(alloc, self.own.statements().len()),
+        }
+    }
+
     /// Whether they are more than a word has bits.
-    pub fn is_long(&self) -> bool {
+    fn is_long(&self) -> bool {
         let own = self.own.statements().len();
         self.org.statements().len().saturating_add(own) > BITS
     }
 
-    /// Which of them live in requests for resource r of the world, as the bits of a number; `None` where it has more than 64.
+    /// Which of them live in requests for resource r of the world, as the bits of a number; `None` where they are more than a word has
+    /// bits.
     pub fn word<'c>(
         &self,
         alloc: Global,
+        told: &mut ListingMarks,
         r: u64,
         access: Access<'_, 'c>,
     ) -> Result<Option<u64>, OutOfMemory>
     where
         'a: 'c,
-        requires { IsResource self.now.world r (λ resource. access.resource.now ≡ resource.arn) }
-        ensures { IfOk result (λ found. IfSome found (AreBits (access_of access.entry) self.now.statements)) }
+        requires resource { IsResource self.now.world r (λ resource. access.resource.now ≡ resource.arn) }
+        requires told { (p : ℕ) × (derived : ContextValue) × IsContextAt self.now.world p r derived access.context.now
+            × AreListingMarks self.now p derived told.old }
+        ensures told { (p : ℕ) (derived : ContextValue) → IsContextAt self.now.world p r derived access.entry.context.now
+            → AreListingMarks self.now p derived told.old → AreListingMarks self.now p derived told.new }
+        ensures word { IfOk result (λ found. IfSome found (AreBits (access_of access.entry) (statements_of self.now))) }
     {
-        match bits_before(alloc, &self.own, r, access, 0)? {
-            Some(own) => bits_before(alloc, &self.org, r, access, own),
+        if self.is_long() {
+            return Ok(None);
+        }
+        match bits_before(alloc, &self.own, &mut told.own, r, access, 0)? {
+            Some(own) => bits_before(alloc, &self.org, &mut told.org, r, access, own),
             None => Ok(None),
         }
     }
@@ -112,13 +140,41 @@ impl<'a> Listing<'a> {
         word: u64,
         requester: &Requester,
     ) -> Result<Vec<Living<'a>>, OutOfMemory>
-        ensures { (access : AccessValue) → access.requester ≡ requester.now → AreBits access self.now.statements word
-            → IfOk result (λ living. AreLiving access self.now.statements (map living_value living.items)) }
+        ensures { (access : AccessValue) → access.requester ≡ requester.now → AreBits access (statements_of self.now) word
+            → IfOk result (λ living. AreLiving access (statements_of self.now) (map living_value living.items)) }
     {
         let mut living = Vec::new(alloc);
         let own = add_of_bits(&mut living, self.org.statements(), word, requester)?;
         add_of_bits(&mut living, self.own.statements(), own, requester)?;
         Ok(living)
+    }
+
+    /// Those of them that live in requests for resource r of the world, and behind those of the organisation the ones that were found
+    /// of the statements that stand with the resource.
+    pub fn living_around<'c>(
+        &self,
+        alloc: Global,
+        told: &mut ListingMarks,
+        r: u64,
+        access: Access<'_, 'c>,
+        found: Vec<Living<'a>>,
+    ) -> Result<Vec<Living<'a>>, OutOfMemory>
+    where
+        'a: 'c,
+        requires resource { IsResource self.now.world r (λ resource. access.resource.now ≡ resource.arn) }
+        requires told { (p : ℕ) × (derived : ContextValue) × IsContextAt self.now.world p r derived access.context.now
+            × AreListingMarks self.now p derived told.old }
+        ensures told { (p : ℕ) (derived : ContextValue) → IsContextAt self.now.world p r derived access.entry.context.now
+            → AreListingMarks self.now p derived told.old → AreListingMarks self.now p derived told.new }
+        ensures living { (listed : List Placed) → AreLiving (access_of access.entry) listed (map living_value found.entry.items)
+            → IfOk result (λ living.
+            AreLiving (access_of access.entry) (self.now.org ++ (listed ++ self.now.own)) (map living_value living.items)) }
+    {
+        let mut living = Vec::new(alloc);
+        add_known(alloc, &mut living, &self.org, &mut told.org, r, access)?;
+        let mut all = joined(living, found)?;
+        add_known(alloc, &mut all, &self.own, &mut told.own, r, access)?;
+        Ok(all)
     }
 }
 
@@ -127,20 +183,24 @@ impl<'a> Listing<'a> {
 fn bits_before<'a: 'c, 'c>(
     alloc: Global,
     known: &Known<'a>,
+    told: &mut Marks,
     r: u64,
     access: Access<'_, 'c>,
     behind: u64,
 ) -> Result<Option<u64>, OutOfMemory>
-    requires { IsResource known.now.world r (λ resource. access.resource.now ≡ resource.arn) }
-    ensures { IfOk result (λ found. IfSome found
+    requires resource { IsResource known.now.world r (λ resource. access.resource.now ≡ resource.arn) }
+    requires told { (p : ℕ) × (derived : ContextValue) × IsContextAt known.now.world p r derived access.context.now
+        × AreMarks known.now.world p derived (map placed_value known.now.statements) told.old.items }
+    ensures told { (p : ℕ) (derived : ContextValue) → IsContextAt known.now.world p r derived access.entry.context.now
+        → AreMarks known.now.world p derived (map placed_value known.now.statements) told.old.items
+        → AreMarks known.now.world p derived (map placed_value known.now.statements) told.new.items }
+    ensures word { IfOk result (λ found. IfSome found
         (GoesBefore (access_of access.entry) (map placed_value known.now.statements) behind)) }
 {
     let statements = known.statements();
     let mut word = behind;
     for i in (0..statements.len()).rev() {
-        let matched = known.matches(i, r);
-        let lives = rest_matches_with(alloc, statements[i].statement, access, matched)?;
-        match with_bit(word, lives) {
+        match with_bit(word, lives(alloc, known, told, i, r, access)?) {
             Some(longer) => word = longer,
             None => return Ok(None),
         }
@@ -168,24 +228,18 @@ fn add_of_bits<'a>(
     Ok(bits)
 }
 
-/// Adds the statement, which lives, with what its principals grant the requester.
-fn push_living<'a>(
-    living: &mut Vec<Living<'a>>,
-    standing: Standing<'a>,
-    requester: &Requester,
-) -> Result<(), OutOfMemory>
-    ensures { OnOk result (map living_value living.new.items
-        ≡ map living_value living.old.items ++ living_of requester.now (placed_value standing.entry) ∷ []) }
+/// Living ones, and behind them those of other statements.
+fn joined<'a>(
+    living: Vec<Living<'a>>,
+    found: Vec<Living<'a>>,
+) -> Result<Vec<Living<'a>>, OutOfMemory>
+    ensures { IfOk result (λ joined. map living_value joined.items
+        ≡ map living_value living.entry.items ++ map living_value found.entry.items) }
 {
-    let statement = standing.statement;
-    let matched = Matched {
-        place: standing.place,
-        effect: statement.effect(),
-        grant: grant_kind(statement, requester),
-    };
-    living.push(Living {
-        matched,
-        action: statement.action(),
-    })?;
-    Ok(())
+    if living.as_slice().is_empty() {
+        return Ok(found);
+    }
+    let mut joined = living;
+    joined.extend_from_slice(found.as_slice())?;
+    Ok(joined)
 }

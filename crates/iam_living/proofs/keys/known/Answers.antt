@@ -13,4 +13,4 @@ returns-then-has_same_derived c =
     let right = subst (AreKeys world) (sym c.index-kept-i.is) (c.requires.keys i keys c.loop-i-test.true) in
     let D : ℕ → Type 0 = λ p. IsDerivedAt world p keys.resource keys.derived.items in
     let own = subst D c.if-keys-p.true right.derived in
-    (keys, there, c.has_same_derived.ensures c.if-has_same_derived.true c.args.p keys.derived.items own)
+    (keys, there, c.if-keys-p.true, c.has_same_derived.ensures c.if-has_same_derived.true c.args.p keys.derived.items own)

@@ -45,3 +45,20 @@ returns c =
       accessed,
       subst S (sym c.of.ensures) (record { candidates = candidates; frame = c.frame.ensures a applies; are = listed; living = living }),
     )
+
+pub living-requires-clause-context : goal.living-requires-clause-context
+living-requires-clause-context c =
+    let world = c.args.index.now in
+    let p = c.args.p in
+    let r = c.args.r in
+    let (a, applies) = some_apply world p r c.requires.principal c.requires.resource in
+    let access = access_of c.access-access.result in
+    let B : WorldValue → Type 0 = λ w. IsApplicableAt w p r a → IsAccessAt w p r a access in
+    let accessed = subst B c.world-world.ensures (c.access-access.ensures a) applies in (
+      accessed.derived,
+      (
+        accessed.principal,
+        accessed.principal_is,
+        (accessed.resource, accessed.resource_is, ap (λ (x : AccessValue). x.context) accessed.access_is),
+      ),
+    )

@@ -3,10 +3,11 @@ use Rattle.std.proofs.lemmas.Option.{slice_get-get_or}
 use Rattle.std.specs.List.{slice_get}
 use Rattle.iam_decision.specs.Living.{AreActing, IsShared, LivingValue, SharedValue, living_value}
 use Rattle.iam_layers.specs.Cell.{IsAction}
-use Rattle.iam_index.specs.Elements.{AreElementNumbers}
-use Rattle.iam_classes.specs.Memo.{Finds, MemoValue}
+use Rattle.iam_index.specs.Elements.{ActAlike, AreElementNumbers}
+use Rattle.iam_classes.specs.Memo.{FindsAlike, MemoValue}
 use Rattle.iam_classes.specs.declared.memo.Class.{Class}
-use Rattle.iam_index.proofs.ListLemmas.{is_asked, some_same}
+use Rattle.iam_index.proofs.ListLemmas.{some_same}
+use Rattle.iam_classes.proofs.SignLemmas.{same_acting}
 use Rattle.iam_classes.proofs.memo.Memo.find.Goals as goal
 
 pub returns : goal.returns
@@ -26,14 +27,16 @@ returns c = λ it.
     let own_living = c.living.ensures ∙ ap (λ (s : SharedValue). s.living) c.get-shared.ensures in
     let L : List LivingValue → Type 0 = λ l. AreElementNumbers elements l class.rows.items in
     let R : List (Option ℕ) → Type 0 = λ r. AreElementNumbers elements living r in
-    let rows = subst R (sym c.as_slice-rows.ensures.value) (subst L (sym own_living) (c.self.invariant.rows_are n class there)) in
+    let rows = subst R (sym c.as_slice-rows.ensures.value) (subst L (sym own_living) (c.self.invariant.rows_are n class there).are) in
     let A : List LivingValue → Type 0 = λ l. AreActing text l found in
-    let G : MemoValue → Type 0 = λ memo. slice_get memo.classes n ≡ Some it → IsAction memo.world c.args.a text → Finds memo.world it.shared text c.frame.result found in
+    let G : MemoValue → Type 0 = λ memo. slice_get memo.classes n ≡ Some it → IsAction memo.world c.args.a text → FindsAlike memo.world it.shared text c.frame.result found in
     subst G c.self.view_is
-    (λ at asked applicable access shared.
+    (λ at asked other among alike applicable access shared.
     let same : class ≡ it = some_same class it (sym there ∙ at) in
     let acting = subst A own_living (c.in_ok-put_acting.ensures world c.self.invariant.elements_are rows asked) in
+    let K : Class → Type 0 = λ k. ActAlike text other k.shared.living in
+    let acts = same_acting text other class.shared.living found (subst K (sym same) alike) acting in
     let S : Class → Type 0 = λ k. IsShared world.actions applicable access k.shared in (
       c.frame.ensures ∙ ap (λ (s : SharedValue). s.frame) c.get-shared.ensures ∙ ap (λ (k : Class). k.shared.frame) same,
-      c.acting_are_found.ensures.found world.actions applicable access text class.shared found (is_asked world c.args.a text asked) (subst S (sym same) shared) acting,
+      c.acting_are_found.ensures.found world.actions applicable access other class.shared found among (subst S (sym same) shared) acts,
     ))

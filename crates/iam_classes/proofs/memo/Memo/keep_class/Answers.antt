@@ -15,6 +15,7 @@ invariant_of-self c =
     record {
       pairs_are = all_gained P own.pairs.items new pair c.keep_number.ensures.gains right.pairs_are (subst M (sym c.self.view_is) c.requires);
       answers_are = right.answers_are;
+      signs_are = right.signs_are;
       elements_are = right.elements_are;
       rows_are = right.rows_are;
       classes_fit = right.classes_fit;

@@ -2,7 +2,8 @@ use Rattle.std.proofs.Common.{List, ap, arith, length, refl, sym, subst}
 use Rattle.iam_decision.specs.Ruling.{RulingValue}
 use Rattle.iam_world.specs.World.{WorldValue}
 use Rattle.iam_index.specs.Elements.{AreElements}
-use Rattle.iam_classes.specs.Memo.{HasClass, HasNumber}
+use Rattle.iam_classes.specs.Memo.{HasClass, HasNumber, HasSigned}
+use Rattle.iam_index.specs.declared.signs.Sign.{Sign}
 use Rattle.iam_slots.specs.declared.numbered.Numbered.{Numbered}
 use Rattle.iam_classes.proofs.MemoLemmas.{no_rows, none_within}
 use Rattle.iam_slots.proofs.SlotLemmas.{all_empty}
@@ -19,6 +20,9 @@ invariant_of-result c =
       answers_are =
           all_empty (λ (a : Numbered). HasNumber world classes rulings a.one a.other a.number) c.in_ok-empty_slots.field-0.items
           c.in_ok-empty_slots.ensures.empty;
+      signs_are =
+          all_empty (λ (s : Sign). HasSigned world classes rulings s.class s.word s.number) c.in_ok-empty_slots-2.field-0.items
+          c.in_ok-empty_slots-2.ensures.empty;
       elements_are = subst W (sym c.world-world.ensures) c.elements.ensures;
       rows_are = no_rows c.elements.result.now.elements.items classes c.new.ensures.items;
       classes_fit = none_within _ classes c.new.ensures.items refl;

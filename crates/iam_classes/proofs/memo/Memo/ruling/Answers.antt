@@ -1,9 +1,10 @@
 use Rattle.std.proofs.Common.{◌≡◌, ◌<◌, ℕ, List, [], ◌∷◌, ◌++◌, Some, length, sym, subst, arith}
 use Rattle.std.specs.List.{slice_get}
 use Rattle.iam_decision.specs.Ruling.{RulingValue}
-use Rattle.iam_classes.specs.Memo.{AreAnswers, HasRuling, MemoValue}
+use Rattle.iam_classes.specs.Memo.{AreAnswers, AreSigns, HasRuling, MemoValue}
 use Rattle.iam_index.proofs.ListLemmas.{get_next}
 use Rattle.iam_classes.proofs.MemoLemmas.{answers_behind}
+use Rattle.iam_classes.proofs.SignLemmas.{signs_behind}
 use Rattle.iam_classes.proofs.memo.Memo.ruling.Goals as goal
 
 pub invariant_of-self-2 : goal.invariant_of-self-2
@@ -12,12 +13,16 @@ invariant_of-self-2 c =
     let right = c.self.invariant in
     let world = own.world.now in
     let Q : List RulingValue → Type 0 = λ rulings. AreAnswers world own.classes.items rulings own.answers.items in
+    let S : List RulingValue → Type 0 = λ rulings. AreSigns world own.classes.items rulings own.signs.items in
     let B : MemoValue → Type 0 = λ memo. length memo.rulings < memo.most_verdicts in
     record {
       pairs_are = right.pairs_are;
       answers_are =
           subst Q (sym c.in_ok-push.ensures.items)
           (answers_behind world own.classes.items own.rulings.items (c.in_ok-ruling.ruling ∷ []) own.answers.items right.answers_are);
+      signs_are =
+          subst S (sym c.in_ok-push.ensures.items)
+          (signs_behind world own.classes.items own.rulings.items (c.in_ok-ruling.ruling ∷ []) own.signs.items right.signs_are);
       elements_are = right.elements_are;
       rows_are = right.rows_are;
       classes_fit = right.classes_fit;

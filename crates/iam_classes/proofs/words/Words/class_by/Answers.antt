@@ -5,12 +5,11 @@ use Rattle.iam_decision.specs.Applicable.{ApplicableValue, frame_of}
 use Rattle.iam_decision.specs.Living.{SharedValue}
 use Rattle.iam_layers.specs.Cell.{IsApplicableAt, IsPrincipal, IsSharedAt}
 use Rattle.iam_world.specs.World.{WorldValue}
-use Rattle.iam_living.specs.Listing.{Lists}
+use Rattle.iam_living.specs.Listing.{IsWordAt, Lists, statements_of}
 use Rattle.iam_index.proofs.IndexLemmas.{access_applies}
 use Rattle.iam_index.proofs.ListLemmas.{some_same}
 use Rattle.iam_classes.specs.Memo.{HasClass, HasShared, MemoValue}
 use Rattle.iam_classes.specs.Words.{IsFoundAmong, IsWord}
-use Rattle.iam_living.specs.Listing.{IsWordAt}
 use Rattle.iam_classes.specs.declared.words.Asker.{Asker}
 use Rattle.iam_classes.specs.declared.words.Word.{Word}
 use Rattle.iam_classes.proofs.WordsLemmas.{asked_by, class_for_word, class_is_word, found_anew, shared_by_word, words_kept, words_of}
@@ -54,8 +53,8 @@ returns-then-are_same-clause-found c = λ asker is.
     let (other, there, same, told) = c.requires.word in
     let (slot, at) = c.in-Some.ensures in
     let F : WorldValue → Type 0 = λ w. (a : ApplicableValue) → IsApplicableAt w c.args.p c.args.r a → c.frame-frame.result ≡ frame_of a in
-    let M : MemoValue → Type 0 = λ memo. IsFoundAmong memo.world memo.classes c.args.p c.args.r asker.listing.statements c.in-Some.class in
-    let O : Asker → Type 0 = λ it. IsFoundAmong memo.world memo.classes c.args.p c.args.r it.listing.statements c.in-Some.class in
+    let M : MemoValue → Type 0 = λ memo. IsFoundAmong memo.world memo.classes c.args.p c.args.r (statements_of asker.listing) c.in-Some.class in
+    let O : Asker → Type 0 = λ it. IsFoundAmong memo.world memo.classes c.args.p c.args.r (statements_of it.listing) c.in-Some.class in
     subst M (sym c.keep_class.ensures)
     (subst O (some_same other asker (sym there ∙ is))
     (class_for_word c.same_word.ensures memo.world memo.classes c.args.self.now other c.args.p c.args.r c.args.word c.in-Some.class slot c.frame-frame.result
@@ -68,15 +67,15 @@ class_with-requires-clause-shared c =
     let p = c.args.p in
     let r = c.args.r in
     let (asker, is, same, told) = c.requires.word in
-    let (a, access, there, bits, alone) = told in
+    let (a, access, there, bits, none) = told in
     let (asked, all, alikes) = words_of memo.world memo.classes c.args.self.now asker is c.requires.words in
-    let L : ℕ → Type 0 = λ q. Lists memo.world q asker.listing.statements in
+    let L : ℕ → Type 0 = λ q. Lists memo.world q asker.listing.org asker.listing.own in
     let A : WorldValue → Type 0 = λ w. IsPrincipal w p (λ principal. access.requester ≡ principal.requester) in
     let F : WorldValue → Type 0 = λ w. (a : ApplicableValue) → IsApplicableAt w p r a → c.frame-frame.result ≡ frame_of a in
     let S : SharedValue → Type 0 = IsSharedAt memo.world p r in
     let (framed, living) = c.in_ok-shared.ensures asker access is (subst A (sym c.requires.world) (asked_by memo.world p r a access there)) bits in
     subst S (sym c.own.ensures)
-    (shared_by_word memo.world p r asker.listing.statements a access c.in_ok-shared.shared (subst L same asked.1) there alone
+    (shared_by_word memo.world p r asker.listing.org asker.listing.own a access c.in_ok-shared.shared (subst L same asked.1) there none
     (framed ∙ subst F c.requires.world c.frame-frame.ensures a (access_applies memo.world p r a access there)) living)
 
 pub returns-clause-words : goal.returns-clause-words
@@ -87,7 +86,7 @@ returns-clause-words c =
     let r = c.args.r in
     let n = c.in_ok-found.found.class in
     let (asker, is, same, told) = c.requires.word in
-    let statements = asker.listing.statements in
+    let statements = statements_of asker.listing in
     let W : WorldValue → Type 0 = λ w. IsWordAt w p r statements c.args.word in
     let K : ℕ → Type 0 = λ q. IsWord new.world new.classes q statements (record { word = c.args.word; class = n }) in
     let S : SharedValue → Type 0 = λ s. HasShared new.classes s n in
@@ -106,17 +105,17 @@ returns-clause-found c = λ asker is.
     let r = c.args.r in
     let n = c.in_ok-found.found.class in
     let (other, there, same, told) = c.requires.word in
-    let statements = other.listing.statements in
+    let statements = statements_of other.listing in
     let W : WorldValue → Type 0 = λ w. IsWordAt w p r statements c.args.word in
     let S : SharedValue → Type 0 = λ s. HasShared new.classes s n in
     let F : WorldValue → Type 0 = λ w. (a : ApplicableValue) → IsApplicableAt w p r a → c.frame-frame.result ≡ frame_of a in
-    let O : Asker → Type 0 = λ it. IsFoundAmong new.world new.classes p r it.listing.statements n in
+    let O : Asker → Type 0 = λ it. IsFoundAmong new.world new.classes p r (statements_of it.listing) n in
     let kept = c.in_ok-found.ensures.same.0 in
     let asks : (w : WorldValue) → w ≡ c.args.source.now.world → (access : AccessValue)
     → IsPrincipal w p (λ principal. access.requester ≡ principal.requester)
     → IsPrincipal c.args.source.now.world p (λ principal. access.requester ≡ principal.requester) = λ w same access asks.
     let A : WorldValue → Type 0 = λ w. IsPrincipal w p (λ principal. access.requester ≡ principal.requester) in subst A same asks in
-    let (a, own, at, bits, alone) = told in
+    let (a, own, at, bits, none) = told in
     let memo = c.args.memo.now in
     let (framed, living) = c.in_ok-shared.ensures other own there (asks memo.world (sym c.requires.world) own (asked_by memo.world p r a own at)) bits in
     subst O (some_same other asker (sym there ∙ is))

@@ -1,5 +1,8 @@
-use Rattle.std.proofs.Common.{List, subst}
+use Rattle.std.proofs.Common.{IfSome, List, Option, sym, subst}
+use Rattle.iam_unasked.specs.Names.{HasNames}
+use Rattle.iam_unasked.specs.declared.names.Names.{Names}
 use Rattle.iam_decision.specs.declared.scan.Standing.{Standing}
+use Rattle.iam_index.specs.Given.{given_keys}
 use Rattle.iam_index.specs.Rows.{AreListRows}
 use Rattle.iam_index.specs.declared.lists.Listed.{Listed}
 use Rattle.iam_index.specs.declared.lists.Org.{Org}
@@ -30,4 +33,5 @@ invariant_of-self c =
       org_rows_are = list_rows_grow of_org first more rows c.self.inside.orgs.orgs.items c.org_rows-orgs.result.items grown orgs;
       requester_rows_are = subst R c.as_slice-2.ensures.value c.requester_rows-requesters.ensures.are;
       columns_are = c.of.ensures (c.requester_rows-requesters.ensures.right (c.org_rows-orgs.ensures.right (c.new-rows.ensures c.self.inside.world.now)));
+      given_are = c.given_keys.ensures;
     }

@@ -16,4 +16,5 @@ invariant_of-result c = record {
   requester_rows_are =
       no_list_rows (λ listed. listed.statements.items) c.new-2.result.rows.items c.in_ok-requesters.requesters.items c.new-4.result.items c.new-4.ensures.items;
   columns_are = c.none.ensures c.args.world.now c.new-2.result.rows.items;
+  given_are = tt;
 }

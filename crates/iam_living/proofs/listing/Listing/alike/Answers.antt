@@ -1,4 +1,4 @@
-use Rattle.std.proofs.Common.{◌++◌, IfSome, map, subst}
+use Rattle.std.proofs.Common.{IfSome, map, subst}
 use Rattle.iam_decision.specs.Code.Scan.{placed_value}
 use Rattle.iam_slots.specs.Slots.{Keeps}
 use Rattle.iam_living.specs.Listing.{AreAlikes, ListingValue}
@@ -15,7 +15,8 @@ returns-clause-alikes c =
     let (_, _, alike) = c.self.invariant in
     let value : ListingValue = record {
       world = inside.world.now;
-      statements = map placed_value inside.org.statements ++ map placed_value inside.own.statements;
+      org = map placed_value inside.org.statements;
+      own = map placed_value inside.own.statements;
       alikes = inside.alikes.now;
     } in
     subst AreAlikes c.self.view_is (are_alikes value alike)

@@ -3,7 +3,7 @@ use Rattle.std.proofs.lemmas.List.{append-nil}
 use Rattle.iam_decision.specs.Code.Scan.{placed_value}
 use Rattle.iam_decision.specs.Living.{AreLiving, living_value}
 use Rattle.iam_decision.specs.Matched.{Placed}
-use Rattle.iam_living.specs.Listing.{ListingValue}
+use Rattle.iam_living.specs.Listing.{ListingValue, statements_of}
 use Rattle.iam_living.specs.Word.{AreBits, TakesBits}
 use Rattle.iam_living.proofs.listing.Listing.living.Goals as goal
 
@@ -17,7 +17,7 @@ returns c = λ access asks are.
     rw c.statements.ensures at c.in_ok-own.ensures in
     let second : TakesBits c.args.requester.now own c.in_ok-own.own some all c.in_ok-add_of_bits.field-0 =
     rw c.statements-2.ensures at c.in_ok-add_of_bits.ensures in
-    let P : ListingValue → Type 0 = λ v. AreBits access v.statements c.args.word → AreLiving access v.statements all in
+    let P : ListingValue → Type 0 = λ v. AreBits access (statements_of v) c.args.word → AreLiving access (statements_of v) all in
     let Q : List Placed → Type 0 = λ z. AreBits access z c.in_ok-own.own in
     subst P c.self.view_is
     (λ bits.
