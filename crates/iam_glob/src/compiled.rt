@@ -1,5 +1,5 @@
 // A pattern that is held against many texts.
-ghost use Rattle.std.specs.Prelude.{◌≡◌, ◌≢◌, ◌↔◌, ◌++◌, ◌∷◌, ◌≤◌, ℕ, List, IsTrue, IfOk, IfSome, IfNone, MatchOption, false, length, map, take};
+ghost use Rattle.std.specs.Prelude.{◌≡◌, ◌≢◌, ◌↔◌, ◌++◌, ◌∷◌, ◌≤◌, ℕ, List, IsTrue, IfOk, IfSome, IfNone, MatchOption, drop, false, length, map, take};
 ghost use Rattle.std.specs.Str.{chars, IsAscii};
 ghost use Rattle.iam_glob.specs.Glob.{Matches, MatchesFold, plain_sign, wild_sign};
 ghost use Rattle.iam_glob.specs.Signs.{signs_in};
@@ -168,10 +168,31 @@ fn behind<'t>(front: &[u8], text: &'t str) -> Option<&'t str>
     ensures { MatchOption result ((rest : List ℕ) → chars text.entry.now ≢ front.now ++ rest)
         (λ rest. chars text.entry.now ≡ front.now ++ chars rest.now) }
 {
-    if text.as_bytes().starts_with(front) {
+    if begins_with(text.as_bytes(), front) {
         Some(&text[front.len()..])
     } else {
         None
+    }
+}
+
+/// Whether the text begins with the front. Most texts are told off by the last byte of it.
+#[inline(always)]
+fn begins_with(text: &[u8], front: &[u8]) -> bool
+    ensures bound { IsTrue result → length front.now ≤ length text.now }
+    ensures begins { IsTrue result → text.now ≡ front.now ++ drop (length front.now) text.now }
+    ensures off { result ≡ false → (rest : List ℕ) → text.now ≢ front.now ++ rest }
+{
+    !is_off(front, text) && text.starts_with(front)
+}
+
+/// `true` only where the last byte of the front is not at its place in the text.
+#[inline(always)]
+fn is_off(front: &[u8], text: &[u8]) -> bool
+    ensures { IsTrue result → (rest : List ℕ) → text.now ≢ front.now ++ rest }
+{
+    match front.split_last() {
+        Some((last, before)) => text.get(before.len()) != Some(last),
+        None => false,
     }
 }
 
