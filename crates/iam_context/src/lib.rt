@@ -11,6 +11,7 @@ mod parts;
 mod pattern;
 mod places;
 mod sought;
+mod values;
 mod wide;
 
 pub use context::Context;
@@ -20,4 +21,5 @@ pub use keys::Keys;
 pub use part::{Derived, Part, part_fault};
 pub use pattern::{lone_value, resolve};
 pub use sought::Sought;
+pub use values::{DerivedKey, KeyName, Values};
 pub use wide::wide_pattern;

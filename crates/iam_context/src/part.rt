@@ -9,14 +9,14 @@ ghost use Rattle.iam_context.specs.ContextFault.{IsClean, IsPartFault};
 use crate::OutOfMemory;
 use crate::fault::ContextFault;
 use crate::keys::Keys;
-use iam_text::{Items, Text};
+use crate::values::{KeyName, Values};
 use std::alloc::Global;
 
 /// Keys of a context, each with its values.
-pub type Part = Vec<(Text, Items<Text>)>;
+pub type Part = Vec<(KeyName, Values)>;
 
 /// The keys that follow from requester, resource and moment, each with its values.
-pub type Derived = Vec<(Text, Items<Text>)>;
+pub type Derived = Vec<(KeyName, Values)>;
 
 /// The keys that follow from requester, resource and moment.
 const DERIVED_NAMES: [&str; 7] = [

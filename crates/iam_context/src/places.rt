@@ -7,7 +7,7 @@ ghost use Rattle.iam_context.specs.Code.Values.{first_values};
 use crate::OutOfMemory;
 use crate::find::find_in_part;
 use crate::part::{Part, is_same_key};
-use iam_text::{Items, Text};
+use iam_text::Text;
 use std::alloc::Global;
 use std::collections::BTreeMap;
 

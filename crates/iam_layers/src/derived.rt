@@ -2,21 +2,24 @@
 ghost use Rattle.std.specs.Prelude.{◌≡◌, ◌≤◌, ◌++◌, pos, string_bytes, option_map, IfOk, OnOk};
 ghost use Rattle.iam_value.specs.Moment.{IsStamp};
 ghost use Rattle.iam_layers.specs.Code.Keys.{moment_keys, requester_keys, username_key, word_of};
+ghost use Rattle.iam_context.specs.Code.Entries.{derived_name};
 ghost use Rattle.iam_layers.specs.Derived.{derived_of, key};
 
-use iam_context::Derived;
+use iam_context::{Derived, DerivedKey, KeyName, Values};
 use iam_match::{OutOfMemory, Requester};
-use iam_text::{Items, Text};
+use iam_text::Text;
 use iam_value::stamp;
 use std::alloc::Global;
 
+/// So many keys follow at most.
+const MOST: usize = 7;
+
 /// Adds a key with one value.
-fn add(alloc: Global, keys: &mut Derived, name: &str, value: &str) -> Result<(), OutOfMemory>
-    ensures { OnOk result (keys.new.items ≡ keys.old.items ++ key name.now value.now) }
+fn add(alloc: Global, keys: &mut Derived, name: DerivedKey, value: &str) -> Result<(), OutOfMemory>
+    ensures { OnOk result (keys.new.items ≡ keys.old.items ++ key (derived_name name) value.now) }
 {
-    let mut values = Vec::new(alloc);
-    values.push(Text::read(alloc, value)?)?;
-    keys.push((Text::read(alloc, name)?, Items::from_vec(values)))?;
+    let value = Text::read(alloc, value)?;
+    keys.push((KeyName::derived(name), Values::one(value)))?;
     Ok(())
 }
 
@@ -29,7 +32,7 @@ fn add_username(
     ensures { OnOk result (keys.new.items ≡ keys.old.items ++ username_key (option_map (λ name. name.now) username.entry)) }
 {
     match username {
-        Some(name) => add(alloc, keys, "aws:username", name),
+        Some(name) => add(alloc, keys, DerivedKey::Username, name),
         None => Ok(()),
     }
 }
@@ -53,10 +56,15 @@ fn add_requester(
     ensures { OnOk result (keys.new.items ≡ keys.old.items ++ requester_keys requester.now) }
 {
     let username = requester.username();
-    add(alloc, keys, "aws:PrincipalArn", requester.arn())?;
+    add(alloc, keys, DerivedKey::PrincipalArn, requester.arn())?;
     add_username(alloc, keys, username)?;
-    add(alloc, keys, "aws:PrincipalType", type_word(username))?;
-    add(alloc, keys, "aws:PrincipalAccount", requester.account())
+    add(alloc, keys, DerivedKey::PrincipalType, type_word(username))?;
+    add(
+        alloc,
+        keys,
+        DerivedKey::PrincipalAccount,
+        requester.account(),
+    )
 }
 
 /// Adds the keys of a moment, which is written so.
@@ -69,8 +77,8 @@ fn add_moment(
     ensures { OnOk result (keys.new.items ≡ keys.old.items ++ moment_keys moment stamp.now) }
 {
     let seconds = moment.to_string(alloc)?;
-    add(alloc, keys, "aws:CurrentTime", stamp)?;
-    add(alloc, keys, "aws:EpochTime", seconds.as_str())
+    add(alloc, keys, DerivedKey::CurrentTime, stamp)?;
+    add(alloc, keys, DerivedKey::EpochTime, seconds.as_str())
 }
 
 /// The keys that follow from a requester, an account of a resource and a moment, which is written so.
@@ -83,9 +91,9 @@ pub fn keys_with(
 ) -> Result<Derived, OutOfMemory>
     ensures { IfOk result (λ keys. keys.items ≡ derived_of requester.now account.now moment stamp.now) }
 {
-    let mut keys = Vec::new(alloc);
+    let mut keys = Vec::with_capacity(alloc, MOST)?;
     add_requester(alloc, &mut keys, requester)?;
-    add(alloc, &mut keys, "aws:ResourceAccount", account)?;
+    add(alloc, &mut keys, DerivedKey::ResourceAccount, account)?;
     add_moment(alloc, &mut keys, moment, stamp)?;
     Ok(keys)
 }

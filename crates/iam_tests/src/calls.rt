@@ -1,7 +1,7 @@
 // Calls that take memory and that the program does not make, each of which has to succeed; and the letters of base64, which no
 // command tells from other letters.
 use iam_app::{Options, Task, options_of};
-use iam_context::{Context, Derived, Part};
+use iam_context::{Context, Derived, KeyName, Part, Values};
 use iam_services::Services;
 use iam_text::{Draft, Glob, Items, Piece, Sign, Text};
 use iam_value::bytes;
@@ -43,10 +43,12 @@ fn a_literal_draft_has_no_form(rt: HostRuntime) -> Result<(), Fail> {
 #[test]
 fn a_part_is_joined(rt: HostRuntime) -> Result<(), Fail> {
     let alloc = rt.alloc();
-    let mut values = Vec::new(alloc);
-    values.push(Text::read(alloc, "a*")?)?;
     let mut given: Part = Vec::new(alloc);
-    given.push((Text::read(alloc, "Dept")?, Items::from_vec(values)))?;
+    let value = Text::read(alloc, "a*")?;
+    given.push((
+        KeyName::given(Text::read(alloc, "Dept")?),
+        Values::one(value),
+    ))?;
     let derived: Derived = Vec::new(alloc);
     let context = Context::join(alloc, &[&given], &derived)?;
     assert_eq!(rt; context.values("dEPT").len(), 1);

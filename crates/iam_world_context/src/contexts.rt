@@ -14,13 +14,12 @@ ghost use Rattle.iam_world_context.specs.Part.{members_part, part_of, value_text
 ghost use Rattle.iam_world_context.specs.declared.fault.PartFault.TheVariants as p;
 
 use crate::fault::PartFault;
-use iam_context::{Keys, Part, part_fault};
+use iam_context::{KeyName, Keys, Part, Values, part_fault};
 use iam_json::{scalar_text, values};
 use iam_shape::{Name, Path, PrincipalView, ResourceView, WorldView};
-use iam_text::{Items, OutOfMemory, Text};
+use iam_text::{OutOfMemory, Text};
 use serde_json::{Map, Value};
 use std::alloc::Global;
-use std::slice;
 
 /// The contexts that a document gives: that of the world, of each principal and of each resource.
 #[derive(Debug, Drop)]
@@ -44,14 +43,16 @@ fn scalar_texts(alloc: Global, values: &[Value]) -> Result<Vec<Text>, OutOfMemor
 }
 
 /// The texts of a key's value: of each of a list, or of the one value.
-fn value_texts(alloc: Global, value: &Value) -> Result<Items<Text>, OutOfMemory>
+fn value_texts(alloc: Global, value: &Value) -> Result<Values, OutOfMemory>
     ensures { IfOk result (λ texts. texts ≡ value_texts (view value.now)) }
 {
-    let list = match values(value) {
-        Some(list) => list,
-        None => slice::from_ref(value),
-    };
-    Ok(Items::from_vec(scalar_texts(alloc, list)?))
+    if let Some(list) = values(value) {
+        return Ok(Values::from_vec(scalar_texts(alloc, list)?));
+    }
+    match scalar_text(alloc, value)? {
+        Some(text) => Ok(Values::one(Text::from_string(text))),
+        None => Ok(Values::from_vec(Vec::new(alloc))),
+    }
 }
 
 /// The keys of an object, with their values.
@@ -60,7 +61,8 @@ fn members_part(alloc: Global, members: &Map<String, Value>) -> Result<Part, Out
 {
     let mut part = Vec::new(alloc);
     for (key, value) in members.iter() {
-        part.push((Text::read(alloc, key.as_str())?, value_texts(alloc, value)?))?;
+        let name = KeyName::given(Text::read(alloc, key.as_str())?);
+        part.push((name, value_texts(alloc, value)?))?;
     }
     Ok(part)
 }
