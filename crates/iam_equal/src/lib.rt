@@ -1,0 +1,13 @@
+//! Whether two statements are the same, and lists of them.
+#![tactic(auto)]
+
+mod conditions;
+mod lists;
+mod principals;
+mod prints;
+mod statement;
+
+pub use iam_policy::Statement;
+pub use lists::{are_all_equal, print_all};
+pub use prints::{action_print, print, text_print};
+pub use statement::are_equal;
