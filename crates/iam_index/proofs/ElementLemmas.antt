@@ -1,14 +1,16 @@
 -- What is kept of action elements stays right where more is kept.
-use Rattle.std.proofs.Common.{◌≡◌, ◌⊎◌, ◌+◌, ◌*◌, ◌/◌, ◌%◌, ◌<◌, inl, inr, ℕ, zero, suc, get_or, refl, arith, List, [], ◌∷◌, ◌++◌, length, Option, None, Some, IfSome, sym, ap, subst, ◌∙◌}
+use Rattle.std.proofs.Common.{◌≡◌, ◌⊎◌, ◌+◌, ◌*◌, ◌/◌, ◌%◌, ◌<◌, inl, inr, ℕ, zero, suc, get_or, refl, arith, Bool, Bor, List, [], ◌∷◌, ◌++◌, length, MatchOption, Option, Some, sym, take, ap, subst, ◌∙◌}
+use Rattle.std.proofs.lemmas.List.{take_more}
 use Rattle.std.proofs.lemmas.Option.{slice_get-get_or}
+use Rattle.std.proofs.lemmas.Slice.Zip.{AllZip-right, all_zipped_more}
 use Rattle.std.specs.List.{slice_get}
-use Rattle.std.specs.Option.{SomeIff}
+use Rattle.std.specs.Option.{IsSomeAnd}
 use Rattle.iam_element.specs.Reading.{ActionElement}
 use Rattle.iam_match.specs.Statement.{ActionMatches}
 use Rattle.iam_decision.specs.Living.{LivingValue}
 use Rattle.iam_layers.specs.Cell.{IsAction}
 use Rattle.iam_world.specs.World.{WorldValue}
-use Rattle.iam_index.specs.Elements.{AreActs, AreElements, AreElementNumbers, HasElement, IsElement, MatchesNone}
+use Rattle.iam_index.specs.Elements.{AreActRows, AreActs, AreElements, IsElement, MatchesNone, TellActs}
 use Rattle.iam_index.specs.declared.elements.Element.{Element}
 use Rattle.iam_index.proofs.ListLemmas.{get_back, some_same}
 
@@ -51,18 +53,24 @@ elements_more world elements element is all n other at =
     ]
 
 -- one more statement
-pub rows_more : (elements : List Element) (living : List LivingValue) (rows : List (Option ℕ)) (x : LivingValue) (row : Option ℕ)
-    → slice_get living (length rows) ≡ Some x → IfSome row (λ n. HasElement elements n x.action) → AreElementNumbers elements living rows
-    → AreElementNumbers elements living (rows ++ row ∷ [])
-rows_more elements living rows x row at is all i n statement kept there =
-    elim (get_back rows row i (Some n) kept) [
-      | inl before ↦ all i n statement before there
-      | inr (last, same) ↦
-          let own : x ≡ statement = some_same x statement (sym at ∙ ap (slice_get living) (sym last) ∙ there) in
-          let A : LivingValue → Type 0 = λ l. HasElement elements n l.action in
-          let R : Option ℕ → Type 0 = λ r. IfSome r (λ m. HasElement elements m x.action) in
-          subst A own (subst R (sym same) is)
-    ]
+pub row_more : (world : WorldValue) (living : List LivingValue) (i : ℕ) (x : LivingValue) (rows : List (Bor (List Bool))) (row : Bor (List Bool))
+    → i < length living → x ≡ get_or living i x → AreActRows world (take i living) rows → TellActs world x.action row.now
+    → AreActRows world (take (i + 1) living) (rows ++ row ∷ [])
+row_more world living i x rows row below is all tells =
+    let R : LivingValue → Bor (List Bool) → Type 0 = λ s r. TellActs world s.action r.now in
+    let Q : List LivingValue → Type 0 = λ l. AreActRows world l (rows ++ row ∷ []) in
+    let next : take (i + 1) living ≡ take i living ++ x ∷ [] =
+    take_more living i x below ∙ ap (λ (z : LivingValue). take i living ++ z ∷ []) (sym is) in
+    subst Q (sym next) (all_zipped_more R (take i living) rows x row all tells)
+
+-- what the row of a statement tells
+pub row_at : (world : WorldValue) (living : List LivingValue) (rows : List (Bor (List Bool))) (i : ℕ) (s : LivingValue) (row : Bor (List Bool))
+    → AreActRows world living rows → slice_get living i ≡ Some s → slice_get rows i ≡ Some row → TellActs world s.action row.now
+row_at world living rows i s row all at there =
+    let R : LivingValue → Bor (List Bool) → Type 0 = λ l r. TellActs world l.action r.now in
+    let H : Option (Bor (List Bool)) → Type 0 = λ o. MatchOption o (Unit {0}) (λ r. IsSomeAnd (slice_get living i) (λ l. R l r)) in
+    let S : Option LivingValue → Type 0 = λ o. IsSomeAnd o (λ l. R l row) in
+    subst S at (subst H there (AllZip-right R living rows all i))
 
 -- one more statement before those of a word, on which the action acts or does not
 pub acting_first : (text : List ℕ) (s : LivingValue) (living : List LivingValue) (word next : ℕ) → next ≡ word * 2 + 1 → ActionMatches s.action text
@@ -78,8 +86,3 @@ idle_first text s living word next is idle bits =
     let half : word ≡ next / 2 = omega (arith, is) in
     let even : next % 2 ≡ 0 = omega (arith, is) in
     (((λ odd. absurd (omega (arith, odd, even))), (λ acts. absurd (idle acts))), subst (λ (w : ℕ). AreActs text living w) half bits)
-
--- what holds of a number holds of it where there is one
-pub if_number : (found : Option ℕ) (fits : Type 0) (n : ℕ) (P : ℕ → Type 0) → SomeIff found fits n → P n → IfSome found P
-if_number None fits n P is holds = tt
-if_number (Some x) fits n P (within, same) holds = subst P (sym same) holds

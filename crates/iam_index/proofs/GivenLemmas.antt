@@ -1,11 +1,11 @@
 -- The keys that resources give, and conditions that ask for none of them.
-use Rattle.std.proofs.Common.{◌≡◌, ◌↔◌, ◌∙◌, ℕ, zero, suc, ◌+◌, List, [], ◌∷◌, ◌++◌, All, false, IfOk, IfSome, Result, Ok, Err, Some, arith, take, sym, ap, subst}
+use Rattle.std.proofs.Common.{◌≡◌, ◌↔◌, ◌∙◌, ℕ, zero, suc, ◌+◌, Bor, List, [], ◌∷◌, ◌++◌, All, false, IfSome, Option, None, Some, arith, take, sym, ap, subst}
 use Rattle.std.proofs.lemmas.List.{append-nil, take_more}
 use Rattle.std.proofs.lemmas.List.Concat.{flat_map-append}
 use Rattle.std.proofs.lemmas.List.Folds.{list_any-append}
 use Rattle.std.proofs.lemmas.Option.{get_or_from_slice_get, slice_get_within}
 use Rattle.std.specs.List.{flat_map, slice_get}
-use Rattle.std.specs.Result.{result_ok}
+use Rattle.std.specs.Option.{option_copied}
 use Rattle.iam_context.specs.Context.{ContextValue, has_key, is_same_key, keys_of}
 use Rattle.iam_policy.specs.Reading.{StatementValue}
 use Rattle.iam_match.specs.Entry.{EntryHolds}
@@ -60,3 +60,9 @@ held_alike world p r other derived one two s free (principal, at, (resource, the
     let A : ContextValue → Type 0 = λ c. AgreeBut (given_keys world) c two in
     let B : ContextValue → Type 0 = λ c. AgreeBut (given_keys world) (context_of world principal resource derived) c in
     all_same (given_keys world) one two s.conditions (subst A (sym is) (subst B is_two agree)) free
+
+-- what is lent has a property of what it is lent from
+pub if_lent : {X : Type 0} (P : X → Type 0) (lent : Option (Bor X)) (own : Option X) → option_copied lent ≡ own → IfSome own P
+    → IfSome lent (λ x. P x.now)
+if_lent P None own same is = tt
+if_lent P (Some x) own same is = subst (λ o. IfSome o P) (sym same) is

@@ -1,9 +1,11 @@
 -- Lists of statements, one more at a time.
-use Rattle.std.proofs.Common.{◌≡◌, ◌<◌, inl, inr, ℕ, List, [], ◌∷◌, ◌++◌, length, Some, ap, refl, sym, subst, arith, ◌∙◌}
+use Rattle.std.proofs.Common.{◌≡◌, ◌<◌, inl, inr, ℕ, List, [], ◌∷◌, ◌++◌, length, Some, ap, map, refl, sym, subst, arith, ◌∙◌}
 use Rattle.std.proofs.lemmas.Option.{slice_get_within}
 use Rattle.std.specs.List.{slice_get}
 use Rattle.iam_decision.specs.Applicable.{ApplicableValue}
-use Rattle.iam_decision.specs.Matched.{in_layer}
+use Rattle.iam_decision.specs.Code.Scan.{placed_value, resource_placed}
+use Rattle.iam_decision.specs.Living.{AreCandidates}
+use Rattle.iam_decision.specs.Matched.{Placed, in_layer}
 use Rattle.iam_decision.specs.declared.place.Layer.TheVariants as layer
 use Rattle.iam_decision.specs.declared.scan.Standing.{Standing}
 use Rattle.iam_policy.specs.Reading.{PolicyValue}
@@ -11,7 +13,7 @@ use Rattle.iam_world.specs.World.{WorldValue}
 use Rattle.iam_layers.specs.Applicable.{applicable_of}
 use Rattle.iam_layers.specs.Cell.{IsApplicableAt}
 use Rattle.iam_layers.specs.Code.Statements.{HaveSameOrg}
-use Rattle.iam_index.specs.Index.{AreListed, AreLists, AreOrgs, HasOrg, HaveOrgs, IsOrg, ListsOrg, ListsRequester, ListsResource}
+use Rattle.iam_index.specs.Index.{AreListed, AreLists, AreOrgs, AreResourceLists, HasOrg, HaveOrgs, HasResourceList, IsListOf, IsOrg, ListsOrg, ListsRequester, ListsResource}
 use Rattle.iam_index.specs.declared.lists.Listed.{Listed}
 use Rattle.iam_index.specs.declared.lists.Org.{Org}
 use Rattle.iam_index.proofs.ListLemmas.{get_back, get_more, get_within}
@@ -25,6 +27,27 @@ lists_more P lists listed is all i other at =
           let Q : ℕ → Type 0 = λ k. P k listed.statements.items in
           let R : Listed → Type 0 = λ l. P i l.statements.items in
           subst R (sym same) (subst Q (sym last) is)
+    ]
+
+-- a list with the statements of that of a resource
+pub has_same_list : (world : WorldValue) (lists : List Listed) (r n : ℕ) (statements : List Standing) → IsListOf lists n (map placed_value statements)
+    → ListsResource world r statements → HasResourceList world lists r n
+has_same_list world lists r n statements (listed, at, same) is =
+    (listed, at, λ p a there. let P : List Placed → Type 0 = AreCandidates world.actions (resource_placed a) in subst P (sym same) (is p a there))
+
+list_grows : (world : WorldValue) (lists more : List Listed) (r n : ℕ) → HasResourceList world lists r n → HasResourceList world (lists ++ more) r n
+list_grows world lists more r n (listed, at, is) = (listed, get_more lists more n listed at, is)
+
+pub resource_lists_more : (world : WorldValue) (lists more : List Listed) (numbers : List ℕ) (number : ℕ)
+    → HasResourceList world (lists ++ more) (length numbers) number → AreResourceLists world lists numbers
+    → AreResourceLists world (lists ++ more) (numbers ++ number ∷ [])
+resource_lists_more world lists more numbers number has all r other at =
+    elim (get_back numbers number r other at) [
+      | inl before ↦ list_grows world lists more r other (all r other before)
+      | inr (last, same) ↦
+          let Q : ℕ → Type 0 = λ k. HasResourceList world (lists ++ more) k number in
+          let R : ℕ → Type 0 = λ o. HasResourceList world (lists ++ more) r o in
+          subst R (sym same) (subst Q (sym last) has)
     ]
 
 pub orgs_more : (world : WorldValue) (orgs : List Org) (org : Org) → IsOrg world org.principal org → AreOrgs world orgs

@@ -1,6 +1,7 @@
 -- Action elements of which it is kept what they match. LOGIC 1.1.
-use Rattle.std.specs.Prelude.{◌≡◌, ◌↔◌, ◌/◌, ◌%◌, ◌++◌, ◌∷◌, [], ℕ, Bool, All, Any, IsTrue, List, length, Option, Some, false}
-use Rattle.std.specs.List.{Contains, slice_get}
+use Rattle.std.specs.Prelude.{◌≡◌, ◌↔◌, ◌/◌, ◌%◌, ◌++◌, ◌∷◌, [], ℕ, Bool, All, Any, IsTrue, List, length, Some, false}
+use Rattle.std.specs.Borrow.{Bor}
+use Rattle.std.specs.List.{AllZip, Contains, slice_get}
 use Rattle.std.specs.Str.{chars}
 use Rattle.iam_glob.specs.Glob.{MatchesFold}
 use Rattle.iam_glob.specs.declared.sign.Sign.{Sign}
@@ -10,7 +11,6 @@ use Rattle.iam_match.specs.Statement.{ActionMatches}
 use Rattle.iam_decision.specs.Living.{LivingValue}
 use Rattle.iam_layers.specs.Cell.{IsAction}
 use Rattle.iam_world.specs.World.{WorldValue}
-use Rattle.iam_slots.specs.Slots.{Keeps}
 use Rattle.iam_index.specs.declared.elements.Element.{Element}
 use Rattle.iam_index.specs.declared.elements.Elements.{Elements}
 
@@ -59,10 +59,9 @@ pub record Marked (world : WorldValue) (mark : Bool) (done : List (List Sign)) (
 abbrev pub HasElement : List Element → ℕ → ActionElement → Type 0
 HasElement elements n action = (element : Element) × (slice_get elements n ≡ Some element) × (element.action.now ≡ action)
 
--- the elements of living statements, of those of which they are kept
-abbrev pub AreElementNumbers : List Element → List LivingValue → List (Option ℕ) → Type 0
-AreElementNumbers elements living rows =
-    (i n : ℕ) (statement : LivingValue) → Keeps rows i n → slice_get living i ≡ Some statement → HasElement elements n statement.action
+-- for each living statement there is a row, which says of actions of the world, from the first on, whether its action element matches
+abbrev pub AreActRows : WorldValue → List LivingValue → List (Bor (List Bool)) → Type 0
+AreActRows world living rows = AllZip (λ s row. TellActs world s.action row.now) living rows
 
 -- the bits of the word, from the least on, say of each of the living statements whether its action element matches the action;
 -- behind them is none

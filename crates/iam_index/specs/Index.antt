@@ -60,17 +60,29 @@ HaveOrgs world orgs numbers = (p n : ℕ) → slice_get numbers p ≡ Some n →
 abbrev pub AreOrgs : WorldValue → List Org → Type 0
 AreOrgs world orgs = (n : ℕ) (org : Org) → slice_get orgs n ≡ Some org → IsOrg world org.principal org
 
+-- the list of this number has these statements
+abbrev pub IsListOf : List Listed → ℕ → List Placed → Type 0
+IsListOf lists n statements = (listed : Listed) × (slice_get lists n ≡ Some listed) × (map placed_value listed.statements.items ≡ statements)
+
+-- the list of this number is that of the statements that stand with resource r
+abbrev pub HasResourceList : WorldValue → List Listed → ℕ → ℕ → Type 0
+HasResourceList world lists r n = (listed : Listed) × (slice_get lists n ≡ Some listed) × ListsResource world r listed.statements.items
+
+-- these are the numbers of the lists of resources
+abbrev pub AreResourceLists : WorldValue → List Listed → List ℕ → Type 0
+AreResourceLists world lists numbers = (r n : ℕ) → slice_get numbers r ≡ Some n → HasResourceList world lists r n
+
 -- everything that an index has is right
 pub record IsIndex (world parts : WorldValue) (elements : List Element) (orgs : List Org) (numbers : List ℕ) (requesters resources : List Listed)
-    (rows : List Row) (org_rows requester_rows : List ListRows) (columns : List (Option ℕ)) (given : Option Names) : Type 0 where
+    (resource_numbers : List ℕ) (rows : List Row) (org_rows requester_rows : List ListRows) (columns : List (Option ℕ)) (given : Option Names) : Type 0 where
   pub parts_are : parts ≡ world
   pub elements_are : AreElements world elements
   pub orgs_are : HaveOrgs world orgs numbers
   pub orgs_count : length numbers ≡ length world.principals
   pub requesters_are : AreLists (ListsRequester world) requesters
   pub requesters_count : length requesters ≡ length world.principals
-  pub resources_are : AreLists (ListsResource world) resources
-  pub resources_count : length resources ≡ length world.resources
+  pub resources_are : AreResourceLists world resources resource_numbers
+  pub resources_count : length resource_numbers ≡ length world.resources
   pub rows_are : AreRows world rows
   pub org_rows_are : AreListRows (λ org. org.statements.items) rows orgs org_rows
   pub requester_rows_are : AreListRows (λ listed. listed.statements.items) rows requesters requester_rows

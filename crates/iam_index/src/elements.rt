@@ -1,5 +1,6 @@
 // Action elements, and which actions of a world they match.
-ghost use Rattle.std.specs.Prelude.{[], ◌∷◌, ◌≡◌, ◌↔◌, ◌++◌, ℕ, List, IfOk, IfSome, IsTrue, OnOk, false, length, map};
+ghost use Rattle.std.specs.Prelude.{[], ◌∷◌, ◌≡◌, ◌↔◌, ◌++◌, ◌+◌, ◌*◌, ◌^◌, ◌<◌, ◌≤◌, ℕ, List, IfOk, IfSome, IsTrue, OnOk, Some, false, map};
+ghost use Rattle.std.specs.List.{slice_get};
 ghost use Rattle.std.specs.Str.{chars};
 ghost use Rattle.iam_glob.specs.Glob.{MatchesFold};
 ghost use Rattle.iam_glob.specs.declared.sign.Sign.{Sign};
@@ -8,11 +9,11 @@ ghost use Rattle.iam_decision.specs.Living.{AreActing, LivingValue, living_value
 ghost use Rattle.iam_layers.specs.Cell.{IsAction};
 ghost use Rattle.iam_match.specs.Statement.{ActionMatches};
 ghost use Rattle.iam_world.specs.World.{WorldValue};
-ghost use Rattle.iam_index.specs.Elements.{AreActs, AreElements, AreElementNumbers, AreKept, HasElement, IsElement, Marked, MatchesNone, TellSome};
-ghost use Rattle.iam_element.specs.Reading.{ActionElement};
+ghost use Rattle.iam_index.specs.Elements.{AreActRows, AreActs, AreElements, AreKept, HasElement, IsElement, Marked, MatchesNone, TellActs, TellSome};
 ghost use Rattle.iam_index.specs.declared.elements.Element.{Element};
 
 use iam_decision::acting_are_found;
+use iam_equal::action_print;
 use iam_layers::{Living, Matched, World};
 use iam_match::action_matches;
 use iam_policy::Actions;
@@ -71,7 +72,7 @@ impl<'a> Elements<'a> {
         ensures right { AreKept world.now self.new }
         ensures idle { result ≡ false → MatchesNone world.now action.entry.now }
     {
-        let slot = slot_of(0, print_of(action), PRINTS as usize);
+        let slot = slot_of(0, action_print(action), PRINTS as usize);
         if let Some(number) = self.known(slot, action) {
             return self.elements[number].some;
         }
@@ -99,28 +100,31 @@ impl<'a> Elements<'a> {
         some
     }
 
-    /// The element of each of the living statements, where it is kept.
-    pub fn rows(
-        &self,
+    /// What the action element of each of the living statements matches; of one that is not kept nothing is told.
+    pub fn rows<'e>(
+        &'e self,
         alloc: Global,
         living: &[Living<'_>],
-    ) -> Result<Vec<Option<usize>>, OutOfMemory>
-        ensures count { IfOk result (λ rows. length rows.items ≡ length living.now) }
-        ensures elements { IfOk result (λ rows. AreElementNumbers self.now.elements.items (map living_value living.now) rows.items) }
+    ) -> Result<Vec<&'e [bool]>, OutOfMemory>
+        ensures { IfOk result (λ rows. (world : WorldValue) → AreElements world self.now.elements.items
+            → AreActRows world (map living_value living.now) rows.items) }
     {
         let mut rows = Vec::with_capacity(alloc, living.len())?;
         for statement in living {
-            rows.push(self.number(statement.action))?;
+            rows.push(self.row(statement.action))?;
         }
         Ok(rows)
     }
 
-    /// The number of an action element, where it is kept.
-    fn number(&self, action: &Actions) -> Option<usize>
-        ensures { IfSome result (λ n. HasElement self.now.elements.items n action.now) }
+    /// What an action element matches, where it is kept.
+    fn row(&self, action: &Actions) -> &[bool]
+        ensures { (world : WorldValue) → AreElements world self.now.elements.items → TellActs world action.now result.now }
     {
-        let slot = slot_of(0, print_of(action), PRINTS as usize);
-        self.known(slot, action)
+        let slot = slot_of(0, action_print(action), PRINTS as usize);
+        match self.known(slot, action) {
+            Some(number) => self.elements[number].acts.as_slice(),
+            None => &[],
+        }
     }
 
     /// The element that a slot has, where it is this one.
@@ -134,78 +138,76 @@ impl<'a> Elements<'a> {
             None
         }
     }
+}
 
-    /// Puts into `found`, in place of what is there, those of the living statements whose action elements match action a,
-    /// which has this text.
-    pub fn put_acting(
-        &self,
-        found: &mut Vec<Matched>,
-        living: &[Living<'_>],
-        rows: &[Option<usize>],
-        a: u64,
-        text: &str,
-    ) -> Result<(), OutOfMemory>
-        ensures { (world : WorldValue) → AreElements world self.now.elements.items → AreElementNumbers self.now.elements.items (map living_value living.now) rows.now
-            → IsAction world a text.now → OnOk result (AreActing text.now (map living_value living.now) found.new.items) }
-    {
-        acting_are_found();
-        found.clear();
-        for i in 0..living.len() {
-            let row = kept(rows, i as u64);
-            if self.acts(row, living[i].action, a, text) {
-                found.push(living[i].matched)?;
-            }
-        }
-        Ok(())
-    }
-
-    /// Which of the elements of these numbers match action a, as the bits of a number from the least on; `None` where it has more
-    /// than 64, or one of the elements is not kept.
-    pub fn signature(&self, rows: &[Option<usize>], a: u64) -> Option<u64>
-        ensures { (world : WorldValue) (living : List LivingValue) (text : List ℕ) → AreElements world self.now.elements.items
-            → AreElementNumbers self.now.elements.items living rows.now → length rows.now ≡ length living → IsAction world a text
-            → IfSome result (AreActs text living) }
-    {
-        let mut word = 0;
-        for i in (0..rows.len()).rev() {
-            word = with_act(word, self.act_of(kept(rows, i as u64), a)?)?;
-        }
-        Some(word)
-    }
-
-    /// Whether an action element, which is that of the number where there is one, matches action a, which has this text.
-    fn acts(&self, row: Option<usize>, action: &Actions, a: u64, text: &str) -> bool
-        ensures { (world : WorldValue) → AreElements world self.now.elements.items
-            → IfSome row (λ n. HasElement self.now.elements.items n action.now) → IsAction world a text.now
-            → IsTrue result ↔ ActionMatches action.now text.now }
-    {
-        match self.act_of(row, a) {
-            Some(acts) => acts,
-            None => action_matches(action, text),
+/// Puts the living statements whose action elements, of these rows, match action a of this text into `found`, in place of what is there.
+pub fn put_acting(
+    found: &mut Vec<Matched>,
+    living: &[Living<'_>],
+    rows: &[&[bool]],
+    a: u64,
+    text: &str,
+) -> Result<(), OutOfMemory>
+    ensures { (world : WorldValue) → AreActRows world (map living_value living.now) rows.now → IsAction world a text.now
+        → OnOk result (AreActing text.now (map living_value living.now) found.new.items) }
+{
+    acting_are_found();
+    found.clear();
+    for i in 0..living.len() {
+        if acts(act_of(rows, i, a), living[i].action, text) {
+            found.push(living[i].matched)?;
         }
     }
+    Ok(())
+}
 
-    /// Whether the element of the number matches action a, where both are kept.
-    fn act_of(&self, row: Option<usize>, a: u64) -> Option<bool>
-        ensures { (world : WorldValue) (action : ActionElement) (text : List ℕ) → AreElements world self.now.elements.items
-            → IfSome row (λ n. HasElement self.now.elements.items n action) → IsAction world a text
-            → IfSome result (λ act. IsTrue act ↔ ActionMatches action text) }
-    {
-        let number = row?;
-        let element = self.elements.get(number)?;
-        let act = *element.acts.get(a as usize)?;
-        Some(act)
+/// Which of the action elements of the rows match action a, as the bits of a number from the least on; `None` where there are more
+/// than 64, or some row tells nothing of it.
+pub fn signature(rows: &[&[bool]], a: u64) -> Option<u64>
+    ensures { (world : WorldValue) (living : List LivingValue) (text : List ℕ) → AreActRows world living rows.now → IsAction world a text
+        → IfSome result (AreActs text living) }
+{
+    if rows.len() > 64 {
+        return None;
+    }
+    let mut word = 0;
+    for i in (0..rows.len()).rev() {
+        word = with_act(word, act_of(rows, i, a)?);
+    }
+    Some(word)
+}
+
+/// The signature of elements that begin with one that matches, or does not.
+#[inline(always)]
+fn with_act(word: u64, acts: bool) -> u64
+    requires { word < 2 ^ 63 }
+    ensures bound { result ≤ word * 2 + 1 }
+    ensures bits { (text : List ℕ) (s : LivingValue) (living : List LivingValue) → (IsTrue acts ↔ ActionMatches s.action text)
+        → AreActs text living word → AreActs text (s ∷ living) result }
+{
+    let bit: u64 = if acts { 1 } else { 0 };
+    word * 2 + bit
+}
+
+/// Whether an action element matches an action, which has this text; it may be told already.
+fn acts(told: Option<bool>, action: &Actions, text: &str) -> bool
+    ensures { IfSome told (λ act. IsTrue act ↔ ActionMatches action.now text.now) → IsTrue result ↔ ActionMatches action.now text.now }
+{
+    match told {
+        Some(act) => act,
+        None => action_matches(action, text),
     }
 }
 
-/// The signature of elements that begin with one that matches, or does not; `None` where it has more than 64 bits.
+/// What row i tells of action a.
 #[inline(always)]
-fn with_act(word: u64, acts: bool) -> Option<u64>
-    ensures { (text : List ℕ) (s : LivingValue) (living : List LivingValue) → (IsTrue acts ↔ ActionMatches s.action text)
-        → AreActs text living word → IfSome result (AreActs text (s ∷ living)) }
+fn act_of(rows: &[&[bool]], i: usize, a: u64) -> Option<bool>
+    ensures { (world : WorldValue) (living : List LivingValue) (s : LivingValue) (text : List ℕ) → AreActRows world living rows.now
+        → slice_get living i ≡ Some s → IsAction world a text → IfSome result (λ act. IsTrue act ↔ ActionMatches s.action text) }
 {
-    let bit: u64 = if acts { 1 } else { 0 };
-    word.checked_mul(2)?.checked_add(bit)
+    let row = rows.get(i)?;
+    let act = *row.get(a as usize)?;
+    Some(act)
 }
 
 /// The actions of the world by their services; by none where they are few, or there is no memory.
@@ -322,13 +324,4 @@ fn some_left(world: &World, action: &Actions) -> bool
         }
     }
     false
-}
-
-/// A number that tells most action elements apart.
-fn print_of(action: &Actions) -> u64 {
-    let mut print: u64 = if action.is_negated() { 1 } else { 0 };
-    for pattern in action.patterns() {
-        print = pattern.print(print);
-    }
-    print
 }

@@ -6,17 +6,17 @@ ghost use Rattle.iam_decision.specs.Matched.{Placed};
 ghost use Rattle.iam_index.specs.Index.{AllAct};
 
 use crate::elements::Elements;
-use crate::given::given_keys;
+use crate::given::{given_keys, is_free};
 use crate::known::{Known, Theirs};
 use crate::list_rows::{ListRows, are_told, list_at, org_rows, requester_rows};
-use crate::lists::{Listed, Org, Orgs, org_lists, requester_lists, resource_lists};
+use crate::lists::{Listed, Org, Orgs, ResourceLists, org_lists, requester_lists, resource_lists};
 use crate::parts::Parts;
 use crate::texts::Texts;
 use iam_columns::{Columns, Rows};
 use iam_layers::{Frame, Place, Standing, World};
 use iam_match::action_matches;
 use iam_text::OutOfMemory;
-use iam_unasked::Names;
+use iam_unasked::{Names, Statement};
 use std::alloc::Global;
 use std::marker::Model;
 
@@ -29,9 +29,9 @@ pub struct Index<'a> {
     elements: Elements<'a>,
     texts: Texts<'a>,
     orgs: Orgs<'a>,
-    // Those of each principal, and those that stand with each resource.
+    // Those of each principal, and those that stand with resources.
     requesters: Vec<Listed<'a>>,
-    resources: Vec<Listed<'a>>,
+    resources: ResourceLists<'a>,
     // Which resources the resource elements match, and the rows of those of the listed statements.
     rows: Rows<'a>,
     org_rows: Vec<ListRows>,
@@ -51,12 +51,12 @@ impl<'a> Model for Index<'a> {
     ghost view = { λ index. index.world.now };
 
     ghost invariant = { λ index. IsIndex index.world.now index.parts index.elements.elements.items index.orgs.orgs.items index.orgs.numbers.items
-        index.requesters.items index.resources.items index.rows.rows.items index.org_rows.items index.requester_rows.items
-        index.columns.numbers.items index.given };
+        index.requesters.items index.resources.lists.items index.resources.numbers.items index.rows.rows.items index.org_rows.items
+        index.requester_rows.items index.columns.numbers.items index.given };
 }
 
 impl<'a> Index<'a> {
-    ghost use Rattle.std.specs.Prelude.{[], ◌∷◌, ◌≡◌, ◌<◌, ℕ, IfOk, List, length, map};
+    ghost use Rattle.std.specs.Prelude.{[], ◌∷◌, ◌≡◌, ◌<◌, ℕ, IfOk, IsTrue, List, length, map};
     ghost use Rattle.iam_decision.specs.Applicable.{ApplicableValue, frame_of};
     ghost use Rattle.iam_decision.specs.Code.Scan.{placed_value};
     ghost use Rattle.iam_decision.specs.Living.{AreCandidates};
@@ -64,7 +64,8 @@ impl<'a> Index<'a> {
     ghost use Rattle.iam_world.specs.World.{world_cells};
     ghost use Rattle.iam_layers.specs.Cell.{IsAction, IsApplicableAt};
     ghost use Rattle.iam_index.specs.Elements.{AreElements};
-    ghost use Rattle.iam_index.specs.Index.{AllAct, AreCandidatesOf, IsOrg, ListsOrg, ListsRequester, ListsResource};
+    ghost use Rattle.iam_index.specs.Given.{IsFree};
+    ghost use Rattle.iam_index.specs.Index.{AllAct, AreCandidatesOf, AreResourceLists, IsOrg, ListsOrg, ListsRequester, ListsResource};
     ghost use Rattle.iam_index.specs.Known.{AreAlike};
 
     /// The index of a world.
@@ -85,7 +86,7 @@ impl<'a> Index<'a> {
         let orgs = org_lists(alloc, world, &mut elements)?;
         let requesters = requester_lists(alloc, world, &mut elements)?;
         let resources = resource_lists(alloc, world, &mut elements)?;
-        let texts = Texts::of(alloc, &orgs, requesters.as_slice(), resources.as_slice());
+        let texts = Texts::of(alloc, &orgs, requesters.as_slice(), &resources);
         Ok(Index {
             world,
             parts,
@@ -202,6 +203,13 @@ impl<'a> Index<'a> {
         &self.texts
     }
 
+    /// `true` only where the conditions of the statement ask for no key that a resource of the world gives.
+    pub fn is_free(&self, statement: &Statement) -> bool
+        ensures { IsTrue result → IsFree self.now statement.now }
+    {
+        is_free(statement, self.given.as_ref())
+    }
+
     /// What a decision on principal p's requests for resource r asks beside the statements, each below the number of its kind.
     pub fn frame(&self, p: u64, r: u64) -> Frame
         requires principal { p < length self.now.principals }
@@ -233,7 +241,15 @@ impl<'a> Index<'a> {
         requires { r < length self.now.resources }
         ensures { ListsResource self.now r result.now }
     {
-        self.resources[r as usize].statements.as_slice()
+        self.resources.statements(self.resources.number(r))
+    }
+
+    /// The statements that stand with resources, list by list.
+    pub fn resource_lists(&self) -> &ResourceLists<'a>
+        ensures are { AreResourceLists self.now result.now.lists.items result.now.numbers.items }
+        ensures count { length result.now.numbers.items ≡ length self.now.resources }
+    {
+        &self.resources
     }
 }
 

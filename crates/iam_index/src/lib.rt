@@ -11,12 +11,13 @@ mod parts;
 mod signs;
 mod texts;
 
-pub use elements::{Element, Elements};
+pub use elements::{Element, Elements, put_acting, signature};
 pub use iam_columns::{Columns, Row, Rows};
 pub use iam_layers::{Living, Place, Standing, World};
 pub use iam_text::OutOfMemory;
 pub use index::Index;
 pub use known::{Known, Theirs};
+pub use lists::{Listed, ResourceLists};
 pub use parts::Parts;
 pub use signs::{Sign, keep_signed, number_signed};
 pub use texts::Texts;

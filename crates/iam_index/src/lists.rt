@@ -1,12 +1,14 @@
 // Which statements of a world an index lists, by whom their policies are had.
-ghost use Rattle.std.specs.Prelude.{[], ◌∷◌, ◌≡◌, ◌++◌, ◌<◌, IfOk, IfSome, List, OnOk, length, map};
+ghost use Rattle.std.specs.Prelude.{[], ◌∷◌, ◌≡◌, ◌++◌, ◌<◌, IfOk, IfSome, IsTrue, List, OnOk, length, map};
 ghost use Rattle.iam_decision.specs.Code.Scan.{placed_value};
 ghost use Rattle.iam_decision.specs.Matched.{Placed};
 ghost use Rattle.iam_index.specs.Elements.{AreKept};
-ghost use Rattle.iam_index.specs.Index.{AreListed, AreLists, AreOrgs, HasOrg, HaveOrgs, ListsOrg, ListsRequester, ListsResource};
+ghost use Rattle.iam_index.specs.Index.{AreListed, AreLists, AreOrgs, AreResourceLists, HasOrg, HaveOrgs, IsListOf, ListsOrg, ListsRequester, ListsResource};
+ghost use Rattle.iam_index.specs.declared.lists.Listed.{Listed};
 ghost use Rattle.iam_index.specs.declared.lists.Org.{Org};
 
 use crate::elements::Elements;
+use iam_equal::{are_all_equal, print_all, text_print};
 use iam_layers::{Standing, World, statements_are_kept};
 use iam_text::OutOfMemory;
 use std::alloc::Global;
@@ -33,6 +35,38 @@ pub struct Orgs<'a> {
     pub orgs: Vec<Org<'a>>,
     /// The number of that of each principal.
     pub numbers: Vec<usize>,
+}
+
+/// The statements that stand with a world's resources. Lists that are known to be the same are kept once.
+#[derive(Drop)]
+pub struct ResourceLists<'a> {
+    pub lists: Vec<Listed<'a>>,
+    /// The number of that of each resource.
+    pub numbers: Vec<usize>,
+}
+
+impl<'a> ResourceLists<'a> {
+    ghost use Rattle.std.specs.Prelude.{◌≡◌, ◌<◌, Some, length};
+    ghost use Rattle.std.specs.List.{slice_get};
+    ghost use Rattle.iam_index.specs.declared.lists.Listed.{Listed};
+
+    /// The number of the list of resource r.
+    #[inline(always)]
+    pub fn number(&self, r: u64) -> usize
+        requires { r < length self.now.numbers.items }
+        ensures { slice_get self.now.numbers.items r ≡ Some result }
+    {
+        self.numbers[r as usize]
+    }
+
+    /// The statements of list n.
+    #[inline(always)]
+    pub fn statements(&self, n: usize) -> &[Standing<'a>]
+        requires { n < length self.now.lists.items }
+        ensures { (listed : Listed) → slice_get self.now.lists.items n ≡ Some listed → result.now ≡ listed.statements.items }
+    {
+        self.lists[n].statements.as_slice()
+    }
 }
 
 /// Adds the statement to those listed before it, if its action element matches some action of the world.
@@ -155,34 +189,54 @@ pub fn requester_lists<'a>(
     Ok(lists)
 }
 
-/// The lists of all resources.
+/// `true` only where there is a list of the number, with the same statements at the same places.
+fn is_list(lists: &[Listed<'_>], number: usize, statements: &[Standing<'_>]) -> bool
+    ensures { IsTrue result → IsListOf lists.now number (map placed_value statements.now) }
+{
+    number < lists.len() && are_all_equal(lists[number].statements.as_slice(), statements)
+}
+
+/// The number of a list with these statements, which are put behind the others where they are not found.
+fn list_number<'a>(
+    lists: &mut Vec<Listed<'a>>,
+    prints: &mut BTreeMap<u64, usize>,
+    statements: Vec<Standing<'a>>,
+) -> Result<usize, OutOfMemory>
+    ensures more { IfOk result (λ _. (more : List Listed) × (lists.new.items ≡ lists.old.items ++ more)) }
+    ensures number { IfOk result (λ number. IsListOf lists.new.items number (map placed_value statements.entry.items)) }
+{
+    let print = print_all(statements.as_slice());
+    let next = lists.len();
+    let known = *prints.get(&print).unwrap_or(&next);
+    if is_list(lists.as_slice(), known, statements.as_slice()) {
+        return Ok(known);
+    }
+    lists.push(Listed { statements })?;
+    prints.insert(print, next)?;
+    Ok(next)
+}
+
+/// The lists of all resources, each put behind those before it where it is not found among them.
 pub fn resource_lists<'a>(
     alloc: Global,
     world: &'a World,
     elements: &mut Elements<'a>,
-) -> Result<Vec<Listed<'a>>, OutOfMemory>
+) -> Result<ResourceLists<'a>, OutOfMemory>
     requires { AreKept world.now elements.old }
     ensures right { AreKept world.entry.now elements.new }
-    ensures count { IfOk result (λ lists. length lists.items ≡ length world.entry.now.resources) }
-    ensures lists { IfOk result (λ lists. AreLists (ListsResource world.entry.now) lists.items) }
+    ensures count { IfOk result (λ found. length found.numbers.items ≡ length world.entry.now.resources) }
+    ensures lists { IfOk result (λ found. AreResourceLists world.entry.now found.lists.items found.numbers.items) }
 {
-    let mut lists = Vec::with_capacity(alloc, world.resources() as usize)?;
+    let mut lists = Vec::new(alloc);
+    // By the print of a list its number.
+    let mut prints = BTreeMap::new(alloc);
+    let mut numbers = Vec::with_capacity(alloc, world.resources() as usize)?;
     for r in 0..world.resources() {
         let statements = resource_list(alloc, world, elements, r)?;
-        lists.push(Listed { statements })?;
+        let number = list_number(&mut lists, &mut prints, statements)?;
+        numbers.push(number)?;
     }
-    Ok(lists)
-}
-
-/// A number that tells most accounts of principals apart.
-fn account_print(world: &World, p: u64) -> u64
-    requires { p < length world.now.principals }
-{
-    let mut print: u64 = 0;
-    for byte in world.requester(p).account().as_bytes() {
-        print = print.wrapping_mul(31).wrapping_add(u64::from(*byte));
-    }
-    print
+    Ok(ResourceLists { lists, numbers })
 }
 
 /// The number of the organisation of principal p among these, where it is that of the principal that its account has there.
@@ -196,7 +250,7 @@ fn known_org(
     requires orgs { AreOrgs world.now orgs.now }
     ensures { IfSome result (HasOrg world.now orgs.now p) }
 {
-    let number = *accounts.get(&account_print(world, p))?;
+    let number = *accounts.get(&text_print(world.requester(p).account()))?;
     if number < orgs.len() {
         let other = orgs[number].principal;
         if other < world.principals() && world.has_same_org(p, other) {
@@ -233,7 +287,7 @@ fn org_number<'a>(
         levels: world.org_levels(p),
         statements,
     })?;
-    accounts.insert(account_print(world, p), number)?;
+    accounts.insert(text_print(world.requester(p).account()), number)?;
     Ok(number)
 }
 

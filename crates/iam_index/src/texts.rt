@@ -2,7 +2,7 @@
 ghost use Rattle.std.specs.Prelude.{◌≡◌, IfSome, Some, map};
 ghost use Rattle.std.specs.List.{slice_get};
 
-use crate::lists::{Listed, Orgs};
+use crate::lists::{Listed, Orgs, ResourceLists};
 use iam_layers::Standing;
 use iam_policy::Resources;
 use iam_text::{Glob, Sign, TemplateForm};
@@ -41,7 +41,7 @@ impl<'a> Texts<'a> {
         alloc: Global,
         orgs: &Orgs<'a>,
         requesters: &[Listed<'a>],
-        resources: &[Listed<'a>],
+        resources: &ResourceLists<'a>,
     ) -> Texts<'a> {
         let mut texts = Texts {
             globs: Vec::new(alloc),
@@ -51,7 +51,7 @@ impl<'a> Texts<'a> {
             texts.add_all(org.statements.as_slice());
         }
         texts.add_lists(requesters);
-        texts.add_lists(resources);
+        texts.add_lists(resources.lists.as_slice());
         texts
     }
 

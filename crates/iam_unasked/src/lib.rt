@@ -1,4 +1,4 @@
-//! Which conditions ask for none of some keys, and so hold whatever values these have.
+//! Which conditions ask for none of some keys: they hold or not, whatever values these have.
 #![tactic(auto)]
 
 mod asks;

@@ -1,29 +1,34 @@
-use Rattle.std.proofs.Common.{◌≡◌, ◌+◌, ◌<◌, ◌++◌, ◌∷◌, [], ℕ, List, Option, Some, length, map, sym, ◌∙◌, ap, subst, arith}
-use Rattle.std.proofs.lemmas.List.{get_or-map, length-append, length-map}
-use Rattle.std.proofs.lemmas.Option.{slice_get-get_or}
-use Rattle.std.specs.List.{slice_get}
+use Rattle.std.proofs.Common.{◌≡◌, ◌+◌, ◌<◌, [], Bool, Bor, List, get_or, length, map, take, sym, ◌∙◌, ap, subst, arith}
+use Rattle.std.proofs.lemmas.List.{get_or-map, length-map, take_all}
 use Rattle.iam_decision.specs.Living.{LivingValue, living_value}
-use Rattle.iam_index.specs.Elements.{AreElementNumbers}
-use Rattle.iam_index.proofs.ElementLemmas.{rows_more}
+use Rattle.iam_index.specs.Elements.{AreActRows}
+use Rattle.iam_index.proofs.ElementLemmas.{row_more}
 use Rattle.iam_index.proofs.elements.Elements.rows.Goals as goal
 
+pub loop-statement-init : goal.loop-statement-init
+loop-statement-init c = λ world right.
+    let P : List (Bor (List Bool)) → Type 0 = AreActRows world [] in subst P (sym c.in_ok-rows.ensures.items) tt
+
 pub loop-statement-preserved : goal.loop-statement-preserved
-loop-statement-preserved c =
+loop-statement-preserved c = λ world right.
     let living = c.args.living.now in
     let xs : List LivingValue = map living_value living in
     let i = c.loop-statement.statement-index in
     let y = c.statement-item.result in
     let x : LivingValue = living_value y in
-    let elements = c.args.self.now.elements.items in
     let rows = c.loop-statement.rows.items in
-    let row = c.number.result in
-    let (count, are) = c.loop-statement.invariant in
+    let row = c.row.result in
     let inside : i < length living = c.loop-statement-test.true in
     let long : length xs ≡ length living = length-map living living_value in
     let below : i < length xs = omega (arith, long, inside) in
-    let is = ap living_value c.statement-item.is ∙ sym (get_or-map living_value living i y x inside) in
-    let at : slice_get xs i ≡ Some x = slice_get-get_or xs i x below ∙ ap Some (sym is) in
-    let here : slice_get xs (length rows) ≡ Some x = ap (slice_get xs) count ∙ at in
-    let P : List (Option ℕ) → Type 0 = λ items. (length items ≡ i + 1) × AreElementNumbers elements xs items in
-    let number : length (rows ++ row ∷ []) ≡ i + 1 = length-append rows (row ∷ []) ∙ ap (λ n. n + 1) count in
-    subst P (sym c.in_ok-push.ensures.items) (number, rows_more elements xs rows x row here c.number.ensures are)
+    let is : x ≡ get_or xs i x = ap living_value c.statement-item.is ∙ sym (get_or-map living_value living i y x inside) in
+    let P : List (Bor (List Bool)) → Type 0 = AreActRows world (take (i + 1) xs) in
+    subst P (sym c.in_ok-push.ensures.items)
+    (row_more world xs i x rows row below is (c.loop-statement.invariant world right) (c.row.ensures world right))
+
+pub returns : goal.returns
+returns c = λ world right.
+    let xs : List LivingValue = map living_value c.args.living.now in
+    let long : length xs ≡ length c.args.living.now = length-map c.args.living.now living_value in
+    let P : List LivingValue → Type 0 = λ l. AreActRows world l c.loop-statement.rows.items in
+    subst P (take_all c.loop-statement.statement-index xs (omega (arith, long, c.loop-statement-test.false))) (c.loop-statement.invariant world right)

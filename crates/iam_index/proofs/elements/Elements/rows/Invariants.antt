@@ -1,8 +1,10 @@
-use Rattle.std.proofs.Common.{◌≡◌, length, map}
+use Rattle.std.proofs.Common.{map, take}
 use Rattle.iam_decision.specs.Living.{living_value}
-use Rattle.iam_index.specs.Elements.{AreElementNumbers}
+use Rattle.iam_world.specs.World.{WorldValue}
+use Rattle.iam_index.specs.Elements.{AreActRows, AreElements}
 use Rattle.iam_index.proofs.elements.Elements.rows.Given as goal
 
 abbrev pub invariant-loop-statement : goal.invariant-loop-statement
 invariant-loop-statement l =
-    (length l.rows.items ≡ l.statement-index) × AreElementNumbers l.self.elements.items (map living_value l.living) l.rows.items
+    (world : WorldValue) → AreElements world l.self.elements.items
+    → AreActRows world (take l.statement-index (map living_value l.living)) l.rows.items

@@ -1,8 +1,5 @@
-use Rattle.std.proofs.Common.{IfSome, List, Option, sym, subst}
-use Rattle.iam_unasked.specs.Names.{HasNames}
-use Rattle.iam_unasked.specs.declared.names.Names.{Names}
+use Rattle.std.proofs.Common.{List, subst}
 use Rattle.iam_decision.specs.declared.scan.Standing.{Standing}
-use Rattle.iam_index.specs.Given.{given_keys}
 use Rattle.iam_index.specs.Rows.{AreListRows}
 use Rattle.iam_index.specs.declared.lists.Listed.{Listed}
 use Rattle.iam_index.specs.declared.lists.Org.{Org}

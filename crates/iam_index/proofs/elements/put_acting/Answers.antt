@@ -6,17 +6,14 @@ use Rattle.iam_match.specs.Statement.{ActionMatches}
 use Rattle.iam_decision.specs.Living.{Acts, AreActing, LivingValue, living_value}
 use Rattle.iam_decision.specs.declared.living.Living.{Living}
 use Rattle.iam_decision.specs.declared.living.Matched.{Matched}
-use Rattle.iam_index.specs.Elements.{HasElement}
-use Rattle.iam_slots.specs.Slots.{Keeps}
-use Rattle.iam_index.proofs.ListLemmas.{if_some, some_same}
-use Rattle.iam_index.proofs.elements.Elements.put_acting.Goals as goal
-use Rattle.iam_index.proofs.elements.Elements.put_acting.Goals.{then-acts+in_ok-push, else-acts}
+use Rattle.iam_index.proofs.ListLemmas.{some_same}
+use Rattle.iam_index.proofs.elements.put_acting.Goals as goal
+use Rattle.iam_index.proofs.elements.put_acting.Goals.{then-acts+in_ok-push, else-acts}
 
 pub loop-i-preserved : goal.loop-i-preserved
-loop-i-preserved c = λ world right rows asked.
+loop-i-preserved c = λ world rows asked.
     let action = c.args.text.now in
     let living = c.args.living.now in
-    let elements = c.args.self.now.elements.items in
     let xs : List LivingValue = map living_value living in
     let i = c.loop-i.i in
     let y = c.index-living-i.result in
@@ -27,11 +24,11 @@ loop-i-preserved c = λ world right rows asked.
     let below : i < length xs = omega (arith, long, inside) in
     let here : x ≡ get_or xs i x = ap living_value c.index-living-i.is ∙ sym (get_or-map living_value living i y x inside) in
     let at : slice_get xs i ≡ Some x = slice_get-get_or xs i x below ∙ ap Some (sym here) in
-    let H : Living → Type 0 = λ z. IfSome c.kept-row.result (λ n. HasElement elements n z.action.now) in
+    let told = c.act_of.ensures world xs x action rows at asked in
+    let T : Living → Type 0 = λ z. IfSome c.act_of.result (λ act. IsTrue act ↔ ActionMatches z.action.now action) in
     let A : Living → Type 0 = λ z. IsTrue c.acts.result ↔ ActionMatches z.action.now action in
-    let row = if_some (Keeps c.args.rows.now i) (λ n. HasElement elements n x.action) c.kept-row.result (λ n kept. rows i n x kept at) c.kept-row.ensures.found in
-    let act : IsTrue c.acts.result ↔ Acts action x = subst A (sym c.index-living-i.is) (c.acts.ensures world right (subst H c.index-living-i.is row) asked) in
-    let more = c.acting_are_found.ensures.more action xs i x found below here (c.loop-i.invariant world right rows asked) in
+    let act : IsTrue c.acts.result ↔ Acts action x = subst A (sym c.index-living-i.is) (c.acts.ensures (subst T c.index-living-i.is told)) in
+    let more = c.acting_are_found.ensures.more action xs i x found below here (c.loop-i.invariant world rows asked) in
     let Q : List Matched → Type 0 = λ items. AreActing action (take (i + 1) xs) items in
     elim c.if-acts.branch [
       | then-acts+in_ok-push w ↦
