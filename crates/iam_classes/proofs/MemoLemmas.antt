@@ -11,10 +11,9 @@ use Rattle.iam_decision.specs.declared.frame.Frame.{Frame}
 use Rattle.iam_decision.specs.declared.living.Matched.{Matched}
 use Rattle.iam_layers.specs.Cell.{IsAction, IsSharedAt}
 use Rattle.iam_world.specs.World.{WorldValue}
-use Rattle.iam_index.specs.Elements.{ActAlike}
+use Rattle.iam_index.specs.Elements.{ActAlike, AreActRows}
 use Rattle.iam_slots.specs.Slots.{AllAre}
-use Rattle.iam_classes.specs.Memo.{AreAnswers, ArePairs, AreRows, AreWithin, cost, FindsAlike, HasClass, HasMore, HasNumber, HasRuling, HasShared, HaveRows, IsFreeFor, IsSharedVerdict, MemoValue}
-use Rattle.iam_index.specs.declared.elements.Element.{Element}
+use Rattle.iam_classes.specs.Memo.{AreAnswers, ArePairs, AreWithin, cost, FindsAlike, HasClass, HasMore, HasNumber, HasRuling, HasShared, HaveRows, IsFreeFor, IsSharedVerdict, MemoValue}
 use Rattle.iam_slots.specs.declared.numbered.Numbered.{Numbered}
 use Rattle.iam_classes.specs.declared.memo.Class.{Class}
 use Rattle.iam_classes.specs.declared.memo.Room.{Room}
@@ -41,16 +40,16 @@ answers_behind world classes rulings more answers all =
     (λ (a : Numbered). HasNumber world classes (rulings ++ more) a.one a.other a.number) answers
     (λ a (class, at, (ruling, here, is)). (class, at, (ruling, get_more rulings more a.number ruling here, is))) all
 
-pub class_rows_more : (elements : List Element) (classes : List Class) (class : Class) → AreRows elements class
-    → HaveRows elements classes → HaveRows elements (classes ++ class ∷ [])
-class_rows_more elements classes class is all n other at =
+pub class_rows_more : (world : WorldValue) (classes : List Class) (class : Class) → AreActRows world class.shared.living class.rows.items
+    → HaveRows world classes → HaveRows world (classes ++ class ∷ [])
+class_rows_more world classes class are all n other at =
     elim (get_back classes class n other at) [
       | inl before ↦ all n other before
-      | inr (last, same) ↦ let R : Class → Type 0 = λ c. AreRows elements c in subst R (sym same) is
+      | inr (last, same) ↦ let R : Class → Type 0 = λ c. AreActRows world c.shared.living c.rows.items in subst R (sym same) are
     ]
 
-pub no_rows : (elements : List Element) (classes : List Class) → classes ≡ [] → HaveRows elements classes
-no_rows elements classes none n class at =
+pub no_rows : (world : WorldValue) (classes : List Class) → classes ≡ [] → HaveRows world classes
+no_rows world classes none n class at =
     let H : List Class → Type 0 = λ cs. slice_get cs n ≡ Some class in
     let within = slice_get_within [] n class (subst H none at) in
     absurd (omega (arith, within))

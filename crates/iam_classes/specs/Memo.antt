@@ -13,7 +13,7 @@ use Rattle.iam_decision.specs.declared.living.Matched.{Matched}
 use Rattle.iam_decision.specs.declared.verdict.Verdict.{Verdict}
 use Rattle.iam_layers.specs.Cell.{IsAction, IsSharedAt, IsVerdictAt}
 use Rattle.iam_world.specs.World.{WorldValue}
-use Rattle.iam_index.specs.Elements.{ActAlike, AreActs, AreElements, AreElementNumbers}
+use Rattle.iam_index.specs.Elements.{ActAlike, AreActRows, AreActs, AreElements}
 use Rattle.iam_slots.specs.Slots.{AllAre}
 use Rattle.iam_slots.specs.declared.numbered.Numbered.{Numbered}
 use Rattle.iam_index.specs.declared.elements.Element.{Element}
@@ -104,14 +104,9 @@ AreAnswers world classes rulings answers =
 abbrev pub AreSigns : WorldValue → List Class → List RulingValue → List (Option Sign) → Type 0
 AreSigns world classes rulings signs = AllAre (λ sign. HasSigned world classes rulings sign.class sign.word sign.number) signs
 
--- for each statement of a class there is a row, and the elements that the rows name are those of the statements
-pub record AreRows (elements : List Element) (class : Class) : Type 0 where
-  pub count : length class.rows.items ≡ length class.shared.living
-  pub are : AreElementNumbers elements class.shared.living class.rows.items
-
--- so it is of each class
-abbrev pub HaveRows : List Element → List Class → Type 0
-HaveRows elements classes = (n : ℕ) (class : Class) → slice_get classes n ≡ Some class → AreRows elements class
+-- the rows of each class tell what the action elements of its statements match
+abbrev pub HaveRows : WorldValue → List Class → Type 0
+HaveRows world classes = (n : ℕ) (class : Class) → slice_get classes n ≡ Some class → AreActRows world class.shared.living class.rows.items
 
 -- what the classes cost of the room: each of them its statements, and one more
 abbrev pub cost : List Class → ℕ
@@ -134,7 +129,7 @@ pub record IsRight
   pub answers_are : AreAnswers world classes rulings answers
   pub signs_are : AreSigns world classes rulings signs
   pub elements_are : AreElements world elements
-  pub rows_are : HaveRows elements classes
+  pub rows_are : HaveRows world classes
   pub classes_fit : AreWithin room classes
   pub rulings_fit : length rulings ≤ most_verdicts
   pub some_fit : 1 ≤ most_verdicts

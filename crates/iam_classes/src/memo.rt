@@ -4,7 +4,7 @@ ghost use Rattle.iam_slots.specs.Slots.{AreEmpty};
 
 use crate::held::Held;
 use iam_decision::acting_are_found;
-use iam_index::{Elements, Index, Sign, keep_signed, number_signed};
+use iam_index::{Elements, Index, Sign, keep_signed, number_signed, put_acting, signature};
 use iam_layers::{Frame, Matched, Ruling, Shared, Verdict, World};
 use iam_slots::{
     Numbered, WIDTH, empty, empty_slots, keep, keep_number, kept, number_in, slot_at, slot_of,
@@ -29,11 +29,11 @@ const PRINTS: u64 = 4_096;
 /// The verdicts that were found last, by the signatures of actions.
 const SIGNS: u64 = 4_096;
 
-/// Requests that share the same: what they share, and which of the kept action elements are those of its statements.
+/// Requests that share the same: what they share, and what the action elements of its statements match, where it is kept.
 #[derive(Drop)]
 pub struct Class<'a> {
     pub shared: Held<'a>,
-    pub rows: Vec<Option<usize>>,
+    pub rows: Vec<&'a [bool]>,
 }
 
 /// Slots for the classes of a world's pairs, about so many at most; none where there is one action, so that no requests share anything.
@@ -334,8 +334,7 @@ impl<'a> Memo<'a> {
         requires { class < length self.now.classes }
         ensures { IfSome result (IsSign self.now.world self.now.classes class a) }
     {
-        let rows = self.classes[class].rows.as_slice();
-        self.elements.signature(rows, a)
+        signature(self.classes[class].rows.as_slice(), a)
     }
 
     /// The number of the verdict on requests of the class for actions of the signature, where it is known.
@@ -374,8 +373,7 @@ impl<'a> Memo<'a> {
         let rows = class.rows.as_slice();
         let shared = class.shared.get();
         acting_are_found();
-        self.elements
-            .put_acting(found, shared.living(), rows, a, text)?;
+        put_acting(found, shared.living(), rows, a, text)?;
         Ok(shared.frame())
     }
 

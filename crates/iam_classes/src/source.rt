@@ -5,7 +5,7 @@ use crate::held::Held;
 use crate::survey::Survey;
 use iam_index::Index;
 use iam_layers::{Frame, Shared, World};
-use iam_living::{Asking, Lives, none_concerns};
+use iam_living::{Asking, Bits, Lives};
 use iam_text::OutOfMemory;
 use std::alloc::Global;
 use std::marker::Model;
@@ -13,8 +13,8 @@ use std::marker::Model;
 /// What is known of the requests of a principal for a resource.
 #[derive(Drop)]
 pub enum Told<'a> {
-    /// None of the statements that stand with the resource lives in them, and by this word those that are listed for the principal.
-    Word(u64),
+    /// Which statements live in them.
+    Words(Bits),
     /// What they share.
     Shared(Held<'a>),
 }
@@ -40,11 +40,10 @@ impl<'a> Model for Source<'a> {
 }
 
 impl<'a> Source<'a> {
-    ghost use Rattle.std.specs.Prelude.{◌≡◌, ◌<◌, IfOk, IfSome, IsTrue, is_some, length};
+    ghost use Rattle.std.specs.Prelude.{◌≡◌, ◌<◌, IfOk, IfSome, is_some, length};
     ghost use Rattle.iam_decision.specs.Applicable.{ApplicableValue, frame_of};
     ghost use Rattle.iam_layers.specs.Cell.{IsApplicableAt, IsSharedAt};
-    ghost use Rattle.iam_living.specs.Listing.{Lists, statements_of};
-    ghost use Rattle.iam_living.specs.Living.{NoneConcerns};
+    ghost use Rattle.iam_living.specs.Asker.{IsAsker};
     ghost use Rattle.iam_classes.specs.Told.{IsTold};
 
     /// An index, and a survey of its world where there is one.
@@ -82,35 +81,24 @@ impl<'a> Source<'a> {
     pub fn told(
         &mut self,
         alloc: Global,
-        listing: &mut Asking<'a>,
+        asking: &mut Asking<'a>,
         p: u64,
         r: u64,
     ) -> Result<Told<'a>, OutOfMemory>
         requires principal { p < length self.old.world.principals }
         requires resource { r < length self.old.world.resources }
-        requires listing { listing.old.world ≡ self.old.world }
-        requires lists { Lists self.old.world p listing.old.org listing.old.own }
-        ensures told { IfOk result (IsTold self.old.world p r (statements_of listing.old)) }
-        ensures listing { listing.new ≡ listing.old }
+        requires asker { IsAsker self.old.world p asking.old }
+        ensures told { IfOk result (IsTold self.old.world p r asking.old) }
+        ensures asking { asking.new ≡ asking.old }
         ensures same { self.new ≡ self.old }
     {
         if let Some(shared) = self.lent(p, r) {
             return Ok(Told::Shared(Held::lent(shared)));
         }
-        match listing.lives(alloc, self.index, p, r)? {
-            Lives::Word(word) => Ok(Told::Word(word)),
+        match asking.lives(alloc, self.index, p, r)? {
+            Lives::Words(bits) => Ok(Told::Words(bits)),
             Lives::Shared(shared) => Ok(Told::Shared(Held::own(shared))),
         }
-    }
-
-    /// Whether none of the statements that stand with resource r is about principal p.
-    #[inline(always)]
-    pub fn none_concerns(&self, p: u64, r: u64) -> bool
-        requires principal { p < length self.now.world.principals }
-        requires resource { r < length self.now.world.resources }
-        ensures { IsTrue result → NoneConcerns self.now.world p r }
-    {
-        none_concerns(self.index, p, r)
     }
 
     /// What the requests of principal p for resource r share, where a survey found it.

@@ -22,7 +22,7 @@ use Rattle.iam_living.specs.declared.marks.Mark.{Mark}
 use Rattle.iam_living.specs.declared.marks.Mark.TheVariants.{Held}
 use Rattle.iam_living.specs.declared.marks.ListingMarks.{ListingMarks}
 
-same_or_apart : (a b : ℕ) → (a ≡ b) ⊎ (a ≢ b)
+pub same_or_apart : (a b : ℕ) → (a ≡ b) ⊎ (a ≢ b)
 same_or_apart zero zero = inl refl
 same_or_apart zero (suc b) = inr (λ e. omega (arith, e))
 same_or_apart (suc a) zero = inr (λ e. omega (arith, e))

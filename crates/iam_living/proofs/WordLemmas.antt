@@ -5,21 +5,7 @@ use Rattle.iam_match.specs.Requester.{RequesterValue}
 use Rattle.iam_match.specs.Statement.{AccessValue}
 use Rattle.iam_decision.specs.Living.{AreLiving, Lives, LivingValue, living_of}
 use Rattle.iam_decision.specs.Matched.{Placed, Selects}
-use Rattle.iam_living.specs.Word.{AreBits, SameWord, TakesBits}
-
-same_chosen : (one other : AccessValue) (statements : List Placed) (word : ℕ) (chosen : List Placed) → AreBits one statements word
-    → AreBits other statements word → Selects (Lives one) statements chosen → Selects (Lives other) statements chosen
-same_chosen one other [] word chosen bits others none = none
-same_chosen one other (s ∷ statements) word chosen (bit, bits) (same, others) (inl (lives, (rest, is, more))) =
-    inl (same.0 (bit.1 lives), (rest, is, same_chosen one other statements (word / 2) rest bits others more))
-same_chosen one other (s ∷ statements) word chosen (bit, bits) (same, others) (inr (dead, more)) =
-    inr ((λ lives. dead (bit.0 (same.1 lives))), same_chosen one other statements (word / 2) chosen bits others more)
-
--- in requests of one requester of which the word is the same, the same statements live
-pub same_living : SameWord
-same_living one other statements word living asks bits others (chosen, selected, is) =
-    let P : RequesterValue → Type 0 = λ requester. living ≡ map (living_of requester) chosen in
-    (chosen, same_chosen one other statements word chosen bits others selected, subst P asks is)
+use Rattle.iam_living.specs.Word.{AreBits, TakesBits}
 
 -- what is chosen of two lists is chosen of the one after the other
 selects_append : {X : Type 0} (P : X → Type 0) (xs ys a b : List X) → Selects P xs a → Selects P ys b → Selects P (xs ++ ys) (a ++ b)
@@ -98,3 +84,14 @@ takes_unset requester statements s word old now new bits unset same takes access
     let Q : List LivingValue → Type 0 = λ z. AreLiving access ((before ++ statements) ++ (s ∷ [])) z in
     let skipped = living_skip access (before ++ statements) s now (λ lives. unset (bit.1 lives)) first in
     (subst P (append_assoc before statements (s ∷ [])) (subst Q (sym same) skipped), left)
+
+-- where no bit is set, none of the statements lives
+none_selected : (access : AccessValue) (statements : List Placed) (word : ℕ) → word ≡ 0 → AreBits access statements word
+    → Selects (Lives access) statements []
+none_selected access [] word unset bits = refl
+none_selected access (s ∷ statements) word unset (bit, bits) =
+    inr ((λ lives. let set = bit.1 lives in omega (arith, set, unset)), none_selected access statements (word / 2) (omega (arith, unset)) bits)
+
+pub none_lives : (access : AccessValue) (statements : List Placed) (word : ℕ) → word ≡ 0 → AreBits access statements word
+    → AreLiving access statements []
+none_lives access statements word unset bits = ([], none_selected access statements word unset bits, refl)

@@ -1,3 +1,4 @@
+pub mod Asker
 pub mod Keys
 pub mod Listing
 pub mod Marks

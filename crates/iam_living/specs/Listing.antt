@@ -12,7 +12,6 @@ use Rattle.iam_world.specs.World.{WorldValue}
 use Rattle.iam_slots.specs.Slots.{Keeps}
 use Rattle.iam_index.specs.Index.{ListsResource}
 use Rattle.iam_living.specs.Living.{NoneConcerns, NoneLives}
-use Rattle.iam_living.specs.Word.{AreBits}
 
 -- statements of a world, those of an organisation and those of a principal, and the numbers of resources that are alike to them
 pub record ListingValue : Type 0 where
@@ -30,13 +29,6 @@ abbrev pub Lists : WorldValue → ℕ → List Placed → List Placed → Type 0
 Lists world p org own =
     (r : ℕ) (a : ApplicableValue) (listed : List Standing) → IsApplicableAt world p r a → ListsResource world r listed
     → AreCandidates world.actions (placed a) (org ++ (map placed_value listed ++ own))
-
--- the word says which of these statements live in principal p's requests for resource r, in which none lives of those that are listed
--- with the resource
-abbrev pub IsWordAt : WorldValue → ℕ → ℕ → List Placed → ℕ → Type 0
-IsWordAt world p r statements word =
-    (applicable : ApplicableValue) × (access : AccessValue) × IsAccessAt world p r applicable access × AreBits access statements word
-    × NoneLives world r access
 
 -- in principal p's requests for resource r none lives of the statements that are listed with it, these are the living ones of the
 -- statements, and this is asked beside them

@@ -1,5 +1,6 @@
 -- The living ones of the statements that an index lists. LOGIC 11.1.
 use Rattle.std.specs.Prelude.{◌≡◌, ◌++◌, ℕ, List, [], map}
+use Rattle.iam_match.specs.Requester.{RequesterValue}
 use Rattle.iam_match.specs.Statement.{AccessValue}
 use Rattle.iam_decision.specs.Applicable.{ApplicableValue}
 use Rattle.iam_decision.specs.Code.Scan.{placed_value}
@@ -24,7 +25,11 @@ abbrev pub NoneLives : WorldValue → ℕ → AccessValue → Type 0
 NoneLives world r access =
     (listed : List Standing) × ListsResource world r listed × AreLiving access (map placed_value listed) []
 
--- in no request of principal p, in whatever context, one of these lives
+-- in no request of this requester, in whatever context, one of these lives
+abbrev pub ConcernNone : RequesterValue → List Placed → Type 0
+ConcernNone requester statements = (access : AccessValue) → access.requester ≡ requester → AreLiving access statements []
+
+-- in no request of principal p, in whatever context, one of those lives that are listed with resource r
 abbrev pub NoneConcerns : WorldValue → ℕ → ℕ → Type 0
 NoneConcerns world p r =
     (access : AccessValue) → IsPrincipal world p (λ principal. access.requester ≡ principal.requester) → NoneLives world r access

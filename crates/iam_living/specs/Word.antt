@@ -10,12 +10,6 @@ abbrev pub AreBits : AccessValue → List Placed → ℕ → Type 0
 AreBits access [] word = word ≡ 0
 AreBits access (s ∷ statements) word = ((word % 2 ≡ 1) ↔ Lives access s) × AreBits access statements (word / 2)
 
--- in requests of one requester of which the word is the same, the same statements live
-abbrev pub SameWord : Type 0
-SameWord =
-    (one other : AccessValue) (statements : List Placed) (word : ℕ) (living : List LivingValue) → one.requester ≡ other.requester
-    → AreBits one statements word → AreBits other statements word → AreLiving one statements living → AreLiving other statements living
-
 -- where another word is that of any statements, this word is that of these ones with those behind them
 abbrev pub GoesBefore : AccessValue → List Placed → ℕ → ℕ → Type 0
 GoesBefore access statements behind word =

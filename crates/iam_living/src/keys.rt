@@ -5,11 +5,11 @@ ghost use Rattle.iam_match.specs.Request.{access_of};
 ghost use Rattle.iam_decision.specs.Applicable.{ApplicableValue};
 ghost use Rattle.iam_layers.specs.Cell.{IsAccessAt, IsApplicableAt, IsContextAt, IsDerivedAt, IsSharedAt};
 ghost use Rattle.iam_world.specs.World.{WorldValue};
+ghost use Rattle.iam_living.specs.Asker.{AreTold, IsAsker};
 ghost use Rattle.iam_living.specs.Keys.{AreKeys, HasKeys, IsReady, TellsLives};
-ghost use Rattle.iam_living.specs.Listing.{Lists, statements_of};
-ghost use Rattle.iam_living.specs.Marks.{AreListingMarks};
 
-use crate::listing::Listing;
+use crate::asker::{Asker, Bits};
+use crate::lists::ListMarks;
 use crate::marks::ListingMarks;
 use crate::walk::{add_all, living};
 use iam_context::{Context, Derived};
@@ -28,7 +28,14 @@ pub struct Keys {
     pub principal: u64,
     pub resource: u64,
     pub derived: Derived,
-    pub told: ListingMarks,
+    pub told: Told,
+}
+
+/// What is told by derived keys, of the statements of a listing and of lists.
+#[derive(Drop)]
+pub struct Told {
+    pub listing: ListingMarks,
+    pub lists: ListMarks,
 }
 
 /// Derived keys that are kept, by their number, or that there was no memory to keep.
@@ -41,9 +48,9 @@ pub enum Ready {
 /// What is found of the statements that live in the requests of a principal for a resource.
 #[derive(Drop)]
 pub enum Lives<'a> {
-    /// None of those that stand with the resource, and by this word those that are listed for the principal.
-    Word(u64),
-    /// What the requests share, in all other cases.
+    /// Those of these bits.
+    Words(Bits),
+    /// What the requests share, where a word has no bits for them.
     Shared(Shared<'a>),
 }
 
@@ -98,17 +105,24 @@ fn make_ready(
         Err(_) => return Ok(Ready::Made(derived)),
     }
     let n = kept.len();
-    let told = ListingMarks {
-        org: Vec::new(alloc),
-        own: Vec::new(alloc),
-    };
     kept.push(Keys {
         principal: p,
         resource: r,
         derived,
-        told,
+        told: nothing_told(alloc),
     })?;
     Ok(Ready::Kept(n))
+}
+
+/// Nothing, ever.
+fn nothing_told(alloc: Global) -> Told {
+    Told {
+        listing: ListingMarks {
+            org: Vec::new(alloc),
+            own: Vec::new(alloc),
+        },
+        lists: Vec::new(alloc),
+    }
 }
 
 /// The derived keys.
@@ -159,36 +173,34 @@ fn access_in<'a, 'c>(world: &'a World, p: u64, r: u64, context: &'a Context<'c>)
     }
 }
 
-/// Which statements live in principal p's requests for resource r, where these derived keys complete their context: those that stand
-/// with the resource are tried first.
+/// Which statements live in the requests of an asker, principal p, for resource r, where these derived keys complete their context.
 pub fn lives_with<'a: 'c, 'c>(
     alloc: Global,
     index: &'a Index<'a>,
-    listing: &Listing<'a>,
-    told: &mut ListingMarks,
+    asker: &Asker<'a>,
+    told: &mut Told,
     p: u64,
     r: u64,
     derived: &'c Derived,
 ) -> Result<Lives<'a>, OutOfMemory>
     requires principal { p < length index.now.principals }
     requires resource { r < length index.now.resources }
-    requires listing { listing.now.world ≡ index.now }
-    requires lists { Lists index.now p listing.now.org listing.now.own }
+    requires asker { IsAsker index.now p asker.now }
     requires derived { IsDerivedAt index.now p r derived.now.items }
-    requires told { AreListingMarks listing.now p derived.now.items told.old }
-    ensures told { AreListingMarks listing.now p derived.entry.now.items told.new }
-    ensures lives { IfOk result (TellsLives index.entry.now p r (statements_of listing.now)) }
+    requires told { AreTold asker.now p derived.now.items told.old }
+    ensures told { AreTold asker.now p derived.entry.now.items told.new }
+    ensures lives { IfOk result (TellsLives index.entry.now p r asker.now) }
 {
     let context = index.parts().context(p, r, derived);
     let access = access_in(index.world(), p, r, &context);
+    if let Some(bits) = asker.bits(alloc, index, told, r, access)? {
+        return Ok(Lives::Words(bits));
+    }
     let mut found = Vec::new(alloc);
     add_all(alloc, &mut found, index.resource_statements(r), access)?;
-    if found.as_slice().is_empty() {
-        if let Some(word) = listing.word(alloc, told, r, access)? {
-            return Ok(Lives::Word(word));
-        }
-    }
-    let living = listing.living_around(alloc, told, r, access, found)?;
+    let living = asker
+        .listing
+        .living_around(alloc, &mut told.listing, r, access, found)?;
     Ok(Lives::Shared(Shared::of(index.frame(p, r), living)))
 }
 

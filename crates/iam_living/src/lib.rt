@@ -1,18 +1,21 @@
-//! Which of the statements that an index lists live in requests, as a list and as a number that tells such lists apart.
+//! Which of the statements that an index lists live in requests, as a list and as the bits of numbers that tell such lists apart.
 #![tactic(auto)]
 
+mod asker;
 mod asking;
 mod keys;
 mod listing;
+mod lists;
 mod marks;
 mod walk;
 mod word;
 
+pub use asker::{Asker, Bits};
 pub use asking::Asking;
 pub use iam_index::Index;
 pub use iam_layers::Living;
 pub use iam_text::OutOfMemory;
-pub use keys::{Keys, Lives, no_keys, shared_by};
+pub use keys::{Keys, Lives, Told, no_keys, shared_by};
 pub use listing::Listing;
-pub use walk::{living, none_concerns};
-pub use word::same_word;
+pub use lists::{ListMark, ListMarks};
+pub use walk::living;

@@ -10,7 +10,7 @@ ghost use Rattle.iam_living.specs.Word.{GoesBefore, TakesBits};
 
 use crate::marks::{ListingMarks, Marks, none_told};
 use crate::walk::{add_known, lives};
-use crate::word::with_bit;
+use crate::word::{BITS, with_bit};
 use iam_decision::push_living;
 use iam_index::{Index, Known, Theirs};
 use iam_layers::{Living, Standing, World};
@@ -19,9 +19,6 @@ use iam_slots::kept;
 use iam_text::OutOfMemory;
 use std::alloc::Global;
 use std::marker::Model;
-
-/// How many bits a word has.
-const BITS: usize = 64;
 
 /// The statements that an index lists for all requests of a principal: those of its organisation, and its own. A contract sees the
 /// world, the ones and the others, and the numbers of resources that are alike to them.
@@ -101,13 +98,12 @@ impl<'a> Listing<'a> {
     }
 
     /// Whether they are more than a word has bits.
-    fn is_long(&self) -> bool {
+    pub fn is_long(&self) -> bool {
         let own = self.own.statements().len();
         self.org.statements().len().saturating_add(own) > BITS
     }
 
-    /// Which of them live in requests for resource r of the world, as the bits of a number; `None` where they are more than a word has
-    /// bits.
+    /// Which of them live in requests for resource r of the world, as the bits of a number; `None` where a word has no bits for them.
     pub fn word<'c>(
         &self,
         alloc: Global,
@@ -124,27 +120,29 @@ impl<'a> Listing<'a> {
             → AreListingMarks self.now p derived told.old → AreListingMarks self.now p derived told.new }
         ensures word { IfOk result (λ found. IfSome found (AreBits (access_of access.entry) (statements_of self.now))) }
     {
-        if self.is_long() {
-            return Ok(None);
-        }
         match bits_before(alloc, &self.own, &mut told.own, r, access, 0)? {
             Some(own) => bits_before(alloc, &self.org, &mut told.org, r, access, own),
             None => Ok(None),
         }
     }
 
-    /// Those of them that live by the bits of a word, with what their principals grant the requester.
+    /// Those of them that live by the bits of a word, and behind those of the organisation those of other statements that live by the
+    /// bits of their word, with what their principals grant the requester.
     pub fn living(
         &self,
         alloc: Global,
         word: u64,
+        between: &[Standing<'a>],
+        other: u64,
         requester: &Requester,
     ) -> Result<Vec<Living<'a>>, OutOfMemory>
         ensures { (access : AccessValue) → access.requester ≡ requester.now → AreBits access (statements_of self.now) word
-            → IfOk result (λ living. AreLiving access (statements_of self.now) (map living_value living.items)) }
+            → AreBits access (map placed_value between.now) other → IfOk result (λ living.
+            AreLiving access (self.now.org ++ (map placed_value between.now ++ self.now.own)) (map living_value living.items)) }
     {
         let mut living = Vec::new(alloc);
         let own = add_of_bits(&mut living, self.org.statements(), word, requester)?;
+        add_of_bits(&mut living, between, other, requester)?;
         add_of_bits(&mut living, self.own.statements(), own, requester)?;
         Ok(living)
     }

@@ -1,18 +1,17 @@
 // The statements that live in requests of a principal for a resource.
-ghost use Rattle.std.specs.Prelude.{[], ℕ, All, ◌≡◌, ◌↔◌, ◌<◌, IfOk, IsTrue, OnOk, Some, length, map};
+ghost use Rattle.std.specs.Prelude.{ℕ, All, ◌≡◌, ◌↔◌, ◌<◌, IfOk, IsTrue, OnOk, Some, length, map};
 ghost use Rattle.std.specs.List.{slice_get};
 ghost use Rattle.iam_match.specs.Entry.{EntryHolds};
 ghost use Rattle.iam_match.specs.Principal.{PrincipalMatches};
 ghost use Rattle.iam_match.specs.Request.{access_of};
-ghost use Rattle.iam_match.specs.Statement.{AccessValue};
 ghost use Rattle.iam_decision.specs.Applicable.{ApplicableValue};
 ghost use Rattle.iam_decision.specs.Code.Scan.{placed_value};
-ghost use Rattle.iam_decision.specs.Living.{AreLiving, Lives, living_value};
+ghost use Rattle.iam_decision.specs.Living.{Lives, living_value};
 ghost use Rattle.iam_decision.specs.declared.scan.Standing.{Standing};
 ghost use Rattle.iam_context.specs.Context.{ContextValue};
 ghost use Rattle.iam_layers.specs.Cell.{IsApplicableAt, IsContextAt, IsResource};
 ghost use Rattle.iam_living.specs.Marks.{AreMarks};
-ghost use Rattle.iam_living.specs.Living.{AddsLiving, AreLivingAt, NoneConcerns};
+ghost use Rattle.iam_living.specs.Living.{AddsLiving, AreLivingAt, ConcernNone};
 
 use crate::marks::{Marks, conditions_hold};
 use iam_decision::{add_living, push_living};
@@ -142,21 +141,10 @@ fn lives_by_conditions<'a: 'c, 'c>(
     conditions_hold(alloc, known, told, i, access.context)
 }
 
-/// `true` only where none of the statements that are listed with resource r is about principal p, by its principal element: then none of
-/// them lives in its requests, in whatever context.
-pub fn none_concerns<'a>(index: &'a Index<'a>, p: u64, r: u64) -> bool
-    requires principal { p < length index.now.principals }
-    requires resource { r < length index.now.resources }
-    ensures { IsTrue result → NoneConcerns index.entry.now p r }
-{
-    let statements = index.resource_statements(r);
-    concern_none(statements, index.world().requester(p))
-}
-
-/// `true` only where none of these statements is about the requester.
-fn concern_none(statements: &[Standing<'_>], requester: &Requester) -> bool
-    ensures { IsTrue result → (access : AccessValue) → access.requester ≡ requester.now
-        → AreLiving access (map placed_value statements.now) [] }
+/// `true` only where none of these statements is about the requester, by its principal element: then none of them lives in its
+/// requests, in whatever context.
+pub fn concern_none(statements: &[Standing<'_>], requester: &Requester) -> bool
+    ensures { IsTrue result → ConcernNone requester.now (map placed_value statements.now) }
 {
     for &standing in statements {
         if principal_matches(standing.statement, requester) {

@@ -3,7 +3,10 @@ ghost use Rattle.std.specs.Prelude.{◌∷◌, ◌↔◌, IfSome, IsTrue, List};
 ghost use Rattle.iam_match.specs.Statement.{AccessValue};
 ghost use Rattle.iam_decision.specs.Living.{Lives};
 ghost use Rattle.iam_decision.specs.Matched.{Placed};
-ghost use Rattle.iam_living.specs.Word.{AreBits, SameWord};
+ghost use Rattle.iam_living.specs.Word.{AreBits};
+
+/// How many bits a word has.
+pub const BITS: usize = 64;
 
 /// The word of statements that begin with one that lives, or does not; `None` where it has more than 64 bits.
 #[inline(always)]
@@ -14,8 +17,3 @@ pub fn with_bit(word: u64, lives: bool) -> Option<u64>
     let bit: u64 = if lives { 1 } else { 0 };
     word.checked_mul(2)?.checked_add(bit)
 }
-
-/// In requests of one requester of which the word is the same, the same statements live.
-pub fn same_word()
-    ensures { SameWord }
-{}

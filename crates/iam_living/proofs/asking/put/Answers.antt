@@ -1,4 +1,4 @@
-use Rattle.std.proofs.Common.{◌≡◌, ◌∷◌, [], ◌++◌, ◌∙◌, All, List, refl, sym, take}
+use Rattle.std.proofs.Common.{◌∷◌, [], ◌++◌, List, take}
 use Rattle.std.proofs.lemmas.List.Elements.{All-push, All-same, All-take}
 use Rattle.iam_living.specs.Keys.{AreToldKeys}
 use Rattle.iam_living.specs.declared.keys.Keys.{Keys}
@@ -6,8 +6,8 @@ use Rattle.iam_living.proofs.asking.put.Goals as goal
 use Rattle.iam_living.proofs.asking.put.Goals.{in-Ok, in-Err}
 
 pub returns : goal.returns
-returns c = λ listing own all.
-    let P = AreToldKeys listing in
+returns c = λ asker own all.
+    let P = AreToldKeys asker in
     let rest : List Keys = c.truncate.new.self.items in
     let there = All-same P rest (take c.staying.result c.args.kept.now.items) c.truncate.ensures.items
     (All-take P c.staying.result c.args.kept.now.items all) in

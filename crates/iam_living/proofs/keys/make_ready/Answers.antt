@@ -31,14 +31,14 @@ pub returns-clause-keys : goal.returns-clause-keys
 returns-clause-keys c =
     let P = AreKeys c.args.world.now in
     let rest = c.reserve.new.self.items in
-    let keys : Keys = record { principal = c.args.p; resource = c.args.r; derived = c.in_ok-derived.derived; told = record { org = c.new.result; own = c.new-2.result } } in
+    let keys : Keys = record { principal = c.args.p; resource = c.args.r; derived = c.in_ok-derived.derived; told = c.nothing_told.result } in
     let there = stay P c.staying.result c.args.kept.now.items rest (c.reserve.ensures.items ∙ c.truncate.ensures.items) c.requires.keys in
     All-same P c.push.new.self.items (rest ++ keys ∷ []) c.in_ok-push.ensures.items
     (All-push P rest keys there (record { resource = c.requires.resource; derived = c.in_ok-derived.ensures }))
 
 pub returns-clause-ready : goal.returns-clause-ready
 returns-clause-ready c =
-    let keys : Keys = record { principal = c.args.p; resource = c.args.r; derived = c.in_ok-derived.derived; told = record { org = c.new.result; own = c.new-2.result } } in
+    let keys : Keys = record { principal = c.args.p; resource = c.args.r; derived = c.in_ok-derived.derived; told = c.nothing_told.result } in
     let rest = c.reserve.new.self.items in
     let last : c.len-n.result ≡ length rest = omega (arith, c.len-n.ensures) in (
       keys,

@@ -1,5 +1,4 @@
-use Rattle.std.proofs.Common.{◌≡◌, ◌↔◌, ◌∙◌, All, IfOk, IsTrue, List, Option, Some, map, ap, sym, subst}
-use Rattle.std.specs.List.{slice_get}
+use Rattle.std.proofs.Common.{◌↔◌, ◌∙◌, All, IfOk, IsTrue, List, Option, ap, subst}
 use Rattle.iam_match.specs.Entry.{EntryHolds}
 use Rattle.iam_decision.specs.Code.Scan.{placed_value}
 use Rattle.iam_decision.specs.declared.scan.Standing.{Standing}

@@ -2,8 +2,8 @@ use Rattle.std.proofs.Common.{◌≡◌, ℕ, List, [], ◌∷◌, ◌++◌, ◌
 use Rattle.std.proofs.lemmas.List.{length-map}
 use Rattle.std.specs.List.{slice_get}
 use Rattle.iam_decision.specs.Living.{LivingValue, SharedValue, living_value}
-use Rattle.iam_index.specs.Elements.{AreElementNumbers}
-use Rattle.iam_classes.specs.Memo.{AreAnswers, ArePairs, AreRows, AreSigns, AreWithin, HasShared, HaveRows, IsFreeFor, MemoValue}
+use Rattle.iam_index.specs.Elements.{AreActRows}
+use Rattle.iam_classes.specs.Memo.{AreAnswers, ArePairs, AreSigns, AreWithin, HasShared, HaveRows, IsFreeFor, MemoValue}
 use Rattle.iam_classes.specs.declared.memo.Class.{Class}
 use Rattle.iam_classes.specs.declared.memo.Room.{Room}
 use Rattle.iam_index.proofs.ListLemmas.{get_next}
@@ -17,13 +17,12 @@ invariant_of-self-2 c =
     let right = c.self.invariant in
     let world = own.world.now in
     let classes = own.classes.items in
-    let elements = own.elements.now.elements.items in
     let class : Class = record { shared = c.args.shared; rows = c.in_ok-rows.rows } in
     let P : List Class → Type 0 = λ cs. ArePairs world cs own.pairs.items in
     let Q : List Class → Type 0 = λ cs. AreAnswers world cs own.rulings.items own.answers.items in
     let S : List Class → Type 0 = λ cs. AreSigns world cs own.rulings.items own.signs.items in
-    let R : List Class → Type 0 = λ cs. HaveRows elements cs in
-    let L : List LivingValue → Type 0 = λ living. AreElementNumbers elements living class.rows.items in
+    let R : List Class → Type 0 = λ cs. HaveRows world cs in
+    let L : List LivingValue → Type 0 = λ living. AreActRows world living class.rows.items in
     let own_living = c.living-living.ensures ∙ ap (λ (s : SharedValue). s.living) c.get.ensures in
     let F : MemoValue → Type 0 = λ memo. IsFreeFor memo.room memo.classes c.args.shared in
     let room : Room = record { left = c.saturating_sub-self-inside.result; most = own.room.most } in
@@ -31,7 +30,7 @@ invariant_of-self-2 c =
     let many = sym (length-map c.living-living.result.now living_value) ∙ ap (λ (l : List LivingValue). length l) own_living in
     let left : room.left ≡ own.room.left - (length class.shared.living + 1) =
     omega (arith, c.saturating_sub-left.ensures, c.saturating_sub-self-inside.ensures, many) in
-    let rows : AreRows elements class = record { count = c.in_ok-rows.ensures.count ∙ many; are = subst L own_living c.in_ok-rows.ensures.elements } in
+    let rows = subst L own_living (c.in_ok-rows.ensures world right.elements_are) in
     record {
       pairs_are = subst P (sym c.in_ok-push.ensures.items) (pairs_more world classes (class ∷ []) own.pairs.items right.pairs_are);
       answers_are =
@@ -45,7 +44,7 @@ invariant_of-self-2 c =
           (within_more own.room room classes class right.classes_fit (subst F (sym c.self.view_is) c.requires) left refl);
       rulings_fit = right.rulings_fit;
       some_fit = right.some_fit;
-      rows_are = subst R (sym c.in_ok-push.ensures.items) (class_rows_more elements classes class rows right.rows_are);
+      rows_are = subst R (sym c.in_ok-push.ensures.items) (class_rows_more world classes class rows right.rows_are);
     }
 
 pub returns-clause-class : goal.returns-clause-class

@@ -24,7 +24,7 @@ invariant_of-result c =
           all_empty (λ (s : Sign). HasSigned world classes rulings s.class s.word s.number) c.in_ok-empty_slots-2.field-0.items
           c.in_ok-empty_slots-2.ensures.empty;
       elements_are = subst W (sym c.world-world.ensures) c.elements.ensures;
-      rows_are = no_rows c.elements.result.now.elements.items classes c.new.ensures.items;
+      rows_are = no_rows world classes c.new.ensures.items;
       classes_fit = none_within _ classes c.new.ensures.items refl;
       rulings_fit = omega (arith, ap (λ (rs : List RulingValue). length rs) c.new-2.ensures.items);
       some_fit = omega (arith, c.max-2.ensures);
