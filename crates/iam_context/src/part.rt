@@ -5,11 +5,12 @@ ghost use Rattle.std.specs.List.{list_any};
 ghost use Rattle.iam_context.specs.Context.{all_of, derived_names, has_derived, has_key, has_twice, is_same_key, keys_of};
 ghost use Rattle.iam_context.specs.Keys.{HasKeys, shares};
 ghost use Rattle.iam_context.specs.ContextFault.{IsClean, IsPartFault};
+ghost use Rattle.iam_context.specs.Code.Entries.{derived_name};
 
 use crate::OutOfMemory;
 use crate::fault::ContextFault;
 use crate::keys::Keys;
-use crate::values::{KeyName, Values};
+use crate::values::{DerivedKey, KeyName, Values};
 use std::alloc::Global;
 
 /// Keys of a context, each with its values.
@@ -19,14 +20,14 @@ pub type Part = Vec<(KeyName, Values)>;
 pub type Derived = Vec<(KeyName, Values)>;
 
 /// The keys that follow from requester, resource and moment.
-const DERIVED_NAMES: [&str; 7] = [
-    "aws:PrincipalArn",
-    "aws:username",
-    "aws:PrincipalType",
-    "aws:PrincipalAccount",
-    "aws:ResourceAccount",
-    "aws:CurrentTime",
-    "aws:EpochTime",
+const DERIVED: [DerivedKey; 7] = [
+    DerivedKey::PrincipalArn,
+    DerivedKey::Username,
+    DerivedKey::PrincipalType,
+    DerivedKey::PrincipalAccount,
+    DerivedKey::ResourceAccount,
+    DerivedKey::CurrentTime,
+    DerivedKey::EpochTime,
 ];
 
 /// The first fault of a part beside other parts that have these keys: `KeyTwice` where a key of it is one of theirs or
@@ -97,14 +98,14 @@ pub fn has_derived(part: &Part) -> bool
 fn is_derived(key: &str) -> bool
     ensures { result ≡ has_key derived_names key.now }
 {
-    is_one_of(&DERIVED_NAMES, key)
+    is_one_of(&DERIVED, key)
 }
 
 /// Whether the key is one of these.
-fn is_one_of(names: &[&str], key: &str) -> bool
-    ensures { result ≡ list_any (λ name. is_same_key name.now key.now) names.now }
+fn is_one_of(derived: &[DerivedKey], key: &str) -> bool
+    ensures { result ≡ list_any (λ it. is_same_key (derived_name it) key.now) derived.now }
 {
-    names.iter().any(|&name| is_same_key(name, key))
+    derived.iter().any(|it| is_same_key(it.name(), key))
 }
 
 /// Whether the keys differ in the case of ASCII letters alone.

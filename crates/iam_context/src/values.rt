@@ -9,7 +9,7 @@ pub struct KeyName {
     written: Written,
 }
 
-/// A key that follows from requester, resource or moment.
+/// A derived key: one that follows from requester, resource or moment.
 ///
 /// AWS IAM User Guide, "AWS global condition context keys".
 #[derive(Clone, Copy, Debug, PartialEq, Eq)]
@@ -74,7 +74,7 @@ impl KeyName {
     ghost use Rattle.std.specs.Prelude.{◌≡◌};
     ghost use Rattle.iam_context.specs.Code.Entries.{derived_name};
 
-    /// That of a key that follows. It takes no memory.
+    /// The name of a derived key. It takes no memory.
     pub fn derived(key: DerivedKey) -> KeyName
         ensures { result ≡ derived_name key }
     {
@@ -83,7 +83,7 @@ impl KeyName {
         }
     }
 
-    /// One that is given.
+    /// A name as a world gives it.
     pub fn given(name: Text) -> KeyName
         ensures { result ≡ name }
     {
@@ -125,7 +125,7 @@ impl Values {
         }
     }
 
-    /// So many values.
+    /// These values.
     pub fn from_vec(values: Vec<Text>) -> Values
         ensures { result ≡ values.items }
     {

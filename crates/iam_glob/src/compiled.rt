@@ -175,7 +175,7 @@ fn behind<'t>(front: &[u8], text: &'t str) -> Option<&'t str>
     }
 }
 
-/// Whether the text begins with the front. Most texts are told off by the last byte of it.
+/// Whether the text begins with the front. Most texts are ruled out by its last byte.
 #[inline(always)]
 fn begins_with(text: &[u8], front: &[u8]) -> bool
     ensures bound { IsTrue result → length front.now ≤ length text.now }
@@ -241,7 +241,7 @@ fn behind_first<'t>(piece: &[u8], text: &'t [u8]) -> Option<&'t [u8]>
     }
 }
 
-/// What is left of the text behind the piece, where it begins with that. Most places are told off by one byte.
+/// What is left of the text behind the piece, where it begins with that. Most places are ruled out by one byte.
 #[inline(always)]
 fn without_front<'t>(piece: &[u8], text: &'t [u8]) -> Option<&'t [u8]>
     ensures { MatchOption result ((rest : List ℕ) → text.entry.now ≢ piece.now ++ rest)
