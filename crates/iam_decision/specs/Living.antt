@@ -7,10 +7,13 @@ use Rattle.iam_match.specs.Principal.{grant_of}
 use Rattle.iam_match.specs.Requester.{RequesterValue}
 use Rattle.iam_match.specs.Statement.{AccessValue, ActionMatches, RequestValue, RestMatches, request_for}
 use Rattle.iam_decision.specs.Applicable.{ApplicableValue, frame_of}
+use Rattle.iam_decision.specs.Code.Found.{AllowsIn, DeniesIn, GrantsIn}
+use Rattle.iam_decision.specs.Decision.{IsDecided, IsDecision}
 use Rattle.iam_decision.specs.Matched.{IsMatched, Placed, Selects, placed}
 use Rattle.iam_decision.specs.declared.frame.Frame.{Frame}
 use Rattle.iam_decision.specs.declared.living.Living.{Living}
 use Rattle.iam_decision.specs.declared.living.Matched.{Matched}
+use Rattle.iam_decision.specs.declared.verdict.Decision.{Decision}
 
 -- what is kept of a statement that matches
 abbrev pub item_of : RequesterValue → Placed → Matched
@@ -93,3 +96,9 @@ ActingAreFound =
     (actions : List (List ℕ)) (a : ApplicableValue) (access : AccessValue) (action : List ℕ) (shared : SharedValue) (found : List Matched)
     → Contains actions action → IsShared actions a access shared → AreActing action shared.living found
     → AreFound (request_for access action) (placed a) found
+
+-- what the statements that match a request decide is the decision on it
+abbrev pub FoundDecide : Type 0
+FoundDecide =
+    (a : ApplicableValue) (q : RequestValue) (found : List Matched) (decision : Decision) → AreFound q (placed a) found
+    → IsDecided (DeniesIn found) (AllowsIn found) (GrantsIn found) (frame_of a) decision → IsDecision a q decision

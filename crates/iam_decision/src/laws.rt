@@ -1,5 +1,5 @@
 // What follows from the definition of a decision, for all policies and requests.
-ghost use Rattle.iam_decision.specs.Living.{ActingAreFound, ActingOneByOne};
+ghost use Rattle.iam_decision.specs.Living.{ActingAreFound, ActingOneByOne, FoundDecide};
 ghost use Rattle.iam_decision.specs.Laws.{AllowedIsGranted, BothAccountsAllow, BoundaryBinds, DenyWins, DirectGrantNamesItself, EachLevelAllows, FurtherAllowTakesNothing, FurtherDenyAllowsNoMore, FurtherLimitsAllowNoMore, OneDecision, OneVerdict, OnlyDenyDenies, OrderIsFree, SealedResourceGrants, SessionBinds};
 
 /// The living statements whose action elements match an action are those that match the request for it; and they can be found
@@ -7,6 +7,11 @@ ghost use Rattle.iam_decision.specs.Laws.{AllowedIsGranted, BothAccountsAllow, B
 pub fn acting_are_found()
     ensures found { ActingAreFound }
     ensures more { ActingOneByOne }
+{}
+
+/// What the statements that match a request decide is the decision on it.
+pub fn found_decide()
+    ensures { FoundDecide }
 {}
 
 /// A request has at most one decision.

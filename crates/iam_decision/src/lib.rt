@@ -24,9 +24,9 @@ pub use iam_policy::{Actions, Effect, Policy};
 pub use iam_text::{Items, OutOfMemory};
 pub use laws::{
     acting_are_found, allowed_is_granted, both_accounts_allow, boundary_and_session_bind,
-    deny_wins, direct_grant_names_itself, each_level_allows, further_allow_takes_nothing,
-    further_deny_allows_no_more, further_limits_allow_no_more, one_decision, one_verdict,
-    order_is_free, sealed_resource_grants,
+    deny_wins, direct_grant_names_itself, each_level_allows, found_decide,
+    further_allow_takes_nothing, further_deny_allows_no_more, further_limits_allow_no_more,
+    one_decision, one_verdict, order_is_free, sealed_resource_grants,
 };
 pub use living::{Living, Matched, add_living, push_living};
 pub use place::{Layer, Place};
