@@ -1,20 +1,22 @@
 // The walk over the accounts of a world.
 ghost use Rattle.std.specs.Prelude.{◌≡◌, ◌≢◌, ℕ, List, [], ◌∷◌, ◌++◌, None, Some, length, map, IfOk, IfErr, IsTrue};
 ghost use Rattle.std.specs.List.{AllZip};
+ghost use Rattle.serde_json.specs.Data.{Data};
 ghost use Rattle.serde_json.specs.View.{view};
 ghost use Rattle.iam_shape.specs.Texts.{AreFirstPlaces};
 ghost use Rattle.iam_shape.specs.Lent.{account_of};
+ghost use Rattle.iam_shape.specs.Code.Members.{AreMembers};
 ghost use Rattle.iam_shape.specs.Code.Walk.{MayWalk, account_front, checks_behind, is_new_beside};
-ghost use Rattle.iam_shape.specs.Shape.{IsShapeFault, account_checks, each, first_bad, has_only, text_at};
+ghost use Rattle.iam_shape.specs.Shape.{IsShapeFault, account_checks, each, first_bad, text_at};
 ghost use Rattle.iam_shape.specs.View.{IsAccountView, is_true_at};
 ghost use Rattle.iam_shape.specs.declared.fault.ShapeFault.TheVariants as s;
 
+use crate::account_members::{Found, members_of};
 use crate::fault::ShapeFault;
-use crate::levels::walk_levels_at;
-use crate::look::{text_at, truth_at};
+use crate::levels::walk_levels_of;
+use crate::look::{text_of, truth_of};
 use crate::path::{Name, Path};
 use crate::view::{AccountView, Accounts};
-use iam_json::has_unknown;
 use iam_text::{OutOfMemory, is_account};
 use serde_json::Value;
 use std::alloc::Global;
@@ -43,40 +45,25 @@ fn walk_front<'v>(
     alloc: Global,
     ids: &mut HashMap<String, usize>,
     i: usize,
-    account: &'v Value,
+    account: &Found<'v>,
 ) -> Result<(&'v str, bool), ShapeFault>
-    ensures { (earlier : List (List ℕ)) → AreFirstPlaces ids.old earlier → i ≡ length earlier
-        → MayWalk (account_front earlier i (view account.entry.now))
-        (λ found. (text_at Name.Id (view account.entry.now) ≡ Some found.0.now)
-        × (found.1 ≡ is_true_at Name.Management (view account.entry.now))
+    ensures { (d : Data) → AreMembers d account.now
+        → (earlier : List (List ℕ)) → AreFirstPlaces ids.old earlier → i ≡ length earlier
+        → MayWalk (account_front earlier i d) (λ found. (text_at Name.Id d ≡ Some found.0.now)
+        × (found.1 ≡ is_true_at Name.Management d)
         × AreFirstPlaces ids.new (earlier ++ found.0.now ∷ [])) result }
 {
     let list = Name::Accounts;
-    if !account.is_object() {
-        return Err(ShapeFault::At(Path::Item(list, i)));
-    }
-    let Some(id) = text_at(account, Name::Id) else {
+    let Some(id) = text_of(account.id) else {
         return Err(ShapeFault::At(Path::Field(list, i, Name::Id)));
     };
     if !add_id(alloc, ids, id, i)? {
         return Err(ShapeFault::At(Path::Field(list, i, Name::Id)));
     }
-    match truth_at(account, Name::Management) {
+    match truth_of(account.management) {
         Some(management) => Ok((id, management)),
         None => Err(ShapeFault::At(Path::Field(list, i, Name::Management))),
     }
-}
-
-/// Whether an account has no member of another name.
-fn has_only_members(account: &Value) -> bool
-    ensures { result ≡ has_only (Name.Id ∷ (Name.Management ∷ (Name.Org ∷ []))) (view account.now) }
-{
-    let names = [
-        Name::Id.as_str(),
-        Name::Management.as_str(),
-        Name::Org.as_str(),
-    ];
-    !has_unknown(account, &names)
 }
 
 /// Walks an account behind those that have these ids, which its own joins.
@@ -91,9 +78,12 @@ fn walk_account<'v>(
         (λ found. IsAccountView (view account.entry.now) (account_of found)
         × AreFirstPlaces ids.new (earlier ++ found.id.now ∷ [])) result }
 {
-    let (id, management) = walk_front(alloc, ids, i, account)?;
-    let org = walk_levels_at(account, Name::Accounts, i, Name::Org)?;
-    if !has_only_members(account) {
+    let Some(members) = members_of(account) else {
+        return Err(ShapeFault::At(Path::Item(Name::Accounts, i)));
+    };
+    let (id, management) = walk_front(alloc, ids, i, &members)?;
+    let org = walk_levels_of(members.org, Name::Accounts, i, Name::Org)?;
+    if members.has_other {
         return Err(ShapeFault::At(Path::Item(Name::Accounts, i)));
     }
     Ok(AccountView {
