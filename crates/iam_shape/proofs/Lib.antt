@@ -1,4 +1,5 @@
 pub mod AccountIds
+pub mod Found
 pub mod LevelLists
 pub mod Members
 pub mod OneView

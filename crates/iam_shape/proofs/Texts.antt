@@ -1,5 +1,5 @@
 -- A map of texts, and one text more.
-use Rattle.std.proofs.Common.{◌≡◌, ℕ, ◌+◌, List, [], ◌∷◌, ◌++◌, Bool, true, false, ◌||◌, cond, length, Option, Some, None, is_some, String, string_bytes, refl, sym, ap, ◌∙◌, arith}
+use Rattle.std.proofs.Common.{◌≡◌, ℕ, ◌+◌, List, [], ◌∷◌, ◌++◌, Bool, true, false, ◌||◌, cond, length, Option, Some, None, is_some, not, String, string_bytes, refl, sym, ap, ◌∙◌, arith}
 use Rattle.std.specs.Bool.{Decides}
 use Rattle.std.specs.HashMap.{UpdatesBy, get_by_text}
 use Rattle.std.specs.List.{list_any, position_from}
@@ -20,6 +20,16 @@ has_place test i (t ∷ texts) = step (test t) (has_place test (i + 1) texts)
         → is_some (cond b (Some i) (position_from test (i + 1) texts)) ≡ (b || list_any test texts)
     step true later = refl
     step false later = later
+
+pub not_true : (b : Bool) → not b ≡ true → b ≡ false
+not_true true e = sym e
+not_true false e = refl
+
+pub turned : (a b : Bool) → a ≡ not b → b ≡ not a
+turned true true e = e
+turned true false e = refl
+turned false true e = refl
+turned false false e = e
 
 -- the places with one text more
 place_more : (test : List ℕ → Bool) (i : ℕ) (texts : List (List ℕ)) (text : List ℕ)

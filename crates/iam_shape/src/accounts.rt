@@ -1,98 +1,90 @@
 // The walk over the accounts of a world.
-ghost use Rattle.std.specs.Prelude.{◌≡◌, ◌≢◌, ℕ, List, [], ◌∷◌, ◌++◌, None, Some, false, length, map, IfOk, IfErr, OnOk};
+ghost use Rattle.std.specs.Prelude.{◌≡◌, ◌≢◌, ℕ, List, [], ◌∷◌, ◌++◌, None, Some, length, map, IfOk, IfErr, IsTrue};
 ghost use Rattle.std.specs.List.{AllZip};
+ghost use Rattle.serde_json.specs.Data.{Data};
 ghost use Rattle.serde_json.specs.View.{view};
-ghost use Rattle.iam_json.specs.Look.{is_one_of};
 ghost use Rattle.iam_shape.specs.Texts.{AreFirstPlaces};
 ghost use Rattle.iam_shape.specs.Lent.{account_of};
-ghost use Rattle.iam_shape.specs.Code.Walk.{Walks, account_front, checks_behind, is_new_beside};
-ghost use Rattle.iam_shape.specs.Shape.{IsShapeFault, account_checks, each, first_bad, has_only, text_at};
+ghost use Rattle.iam_shape.specs.Code.Members.{AreMembers};
+ghost use Rattle.iam_shape.specs.Code.Walk.{MayWalk, account_front, checks_behind, is_new_beside};
+ghost use Rattle.iam_shape.specs.Shape.{IsShapeFault, account_checks, each, first_bad, text_at};
 ghost use Rattle.iam_shape.specs.View.{IsAccountView, is_true_at};
 ghost use Rattle.iam_shape.specs.declared.fault.ShapeFault.TheVariants as s;
 
+use crate::account_members::{Found, members_of};
 use crate::fault::ShapeFault;
-use crate::levels::walk_levels_at;
-use crate::look::{text_at, truth_at};
+use crate::levels::walk_levels_of;
+use crate::look::{text_of, truth_of};
 use crate::path::{Name, Path};
 use crate::view::{AccountView, Accounts};
-use iam_json::has_unknown;
 use iam_text::{OutOfMemory, is_account};
 use serde_json::Value;
 use std::alloc::Global;
 use std::collections::HashMap;
 
-/// Adds the id of an account with this number, which is none of the earlier ones.
-fn keep(
+/// Adds the id of an account with this number, where it is one; whether it is, and is none of the earlier ones.
+fn add_id(
     alloc: Global,
     ids: &mut HashMap<String, usize>,
-    id: &str,
+    text: &str,
     number: usize,
-) -> Result<(), OutOfMemory>
-    ensures { OnOk result ((earlier : List (List ℕ)) → AreFirstPlaces ids.old earlier → number ≡ length earlier
-        → is_one_of earlier id.now ≡ false → AreFirstPlaces ids.new (earlier ++ id.now ∷ [])) }
+) -> Result<bool, OutOfMemory>
+    ensures { IfOk result (λ is_new. (earlier : List (List ℕ)) → AreFirstPlaces ids.old earlier
+        → (is_new ≡ is_new_beside earlier text.now)
+        × (IsTrue is_new → number ≡ length earlier → AreFirstPlaces ids.new (earlier ++ text.now ∷ []))) }
 {
-    ids.insert(String::from_str(alloc, id)?, number)?;
-    Ok(())
+    if !is_account(text) {
+        return Ok(false);
+    }
+    let earlier = ids.insert(String::from_str(alloc, text)?, number)?;
+    Ok(earlier.is_none())
 }
 
-/// Whether it is the id of an account, and none of these.
-fn is_new_id(ids: &HashMap<String, usize>, text: &str) -> bool
-    ensures { (earlier : List (List ℕ)) → AreFirstPlaces ids.now earlier → result ≡ is_new_beside earlier text.now }
-{
-    is_account(text) && !ids.contains_key(text)
-}
-
-/// The id of an account behind those that have these ids, and whether it manages its organisation.
+/// The id of an account behind those that have these ids, which it joins, and whether it manages its organisation.
 fn walk_front<'v>(
-    ids: &HashMap<String, usize>,
+    alloc: Global,
+    ids: &mut HashMap<String, usize>,
     i: usize,
-    account: &'v Value,
-) -> Result<(&'v str, bool), Path>
-    ensures { (earlier : List (List ℕ)) → AreFirstPlaces ids.now earlier
-        → Walks (account_front earlier i (view account.entry.now))
-        (λ found. (text_at Name.Id (view account.entry.now) ≡ Some found.0.now)
-        × (found.1 ≡ is_true_at Name.Management (view account.entry.now))) result }
+    account: &Found<'v>,
+) -> Result<(&'v str, bool), ShapeFault>
+    ensures { (d : Data) → AreMembers d account.now
+        → (earlier : List (List ℕ)) → AreFirstPlaces ids.old earlier → i ≡ length earlier
+        → MayWalk (account_front earlier i d) (λ found. (text_at Name.Id d ≡ Some found.0.now)
+        × (found.1 ≡ is_true_at Name.Management d)
+        × AreFirstPlaces ids.new (earlier ++ found.0.now ∷ [])) result }
 {
     let list = Name::Accounts;
-    if !account.is_object() {
-        return Err(Path::Item(list, i));
-    }
-    let id = match text_at(account, Name::Id) {
-        Some(id) if is_new_id(ids, id) => id,
-        _ => return Err(Path::Field(list, i, Name::Id)),
+    let Some(id) = text_of(account.id) else {
+        return Err(ShapeFault::At(Path::Field(list, i, Name::Id)));
     };
-    match truth_at(account, Name::Management) {
+    if !add_id(alloc, ids, id, i)? {
+        return Err(ShapeFault::At(Path::Field(list, i, Name::Id)));
+    }
+    match truth_of(account.management) {
         Some(management) => Ok((id, management)),
-        None => Err(Path::Field(list, i, Name::Management)),
+        None => Err(ShapeFault::At(Path::Field(list, i, Name::Management))),
     }
 }
 
-/// Whether an account has no member of another name.
-fn has_only_members(account: &Value) -> bool
-    ensures { result ≡ has_only (Name.Id ∷ (Name.Management ∷ (Name.Org ∷ []))) (view account.now) }
-{
-    let names = [
-        Name::Id.as_str(),
-        Name::Management.as_str(),
-        Name::Org.as_str(),
-    ];
-    !has_unknown(account, &names)
-}
-
-/// Walks an account behind those that have these ids.
+/// Walks an account behind those that have these ids, which its own joins.
 fn walk_account<'v>(
-    ids: &HashMap<String, usize>,
+    alloc: Global,
+    ids: &mut HashMap<String, usize>,
     i: usize,
     account: &'v Value,
-) -> Result<AccountView<'v>, Path>
-    ensures { (earlier : List (List ℕ)) → AreFirstPlaces ids.now earlier
-        → Walks (checks_behind earlier i (view account.entry.now))
-        (λ found. IsAccountView (view account.entry.now) (account_of found)) result }
+) -> Result<AccountView<'v>, ShapeFault>
+    ensures { (earlier : List (List ℕ)) → AreFirstPlaces ids.old earlier → i ≡ length earlier
+        → MayWalk (checks_behind earlier i (view account.entry.now))
+        (λ found. IsAccountView (view account.entry.now) (account_of found)
+        × AreFirstPlaces ids.new (earlier ++ found.id.now ∷ [])) result }
 {
-    let (id, management) = walk_front(ids, i, account)?;
-    let org = walk_levels_at(account, Name::Accounts, i, Name::Org)?;
-    if !has_only_members(account) {
-        return Err(Path::Item(Name::Accounts, i));
+    let Some(members) = members_of(account) else {
+        return Err(ShapeFault::At(Path::Item(Name::Accounts, i)));
+    };
+    let (id, management) = walk_front(alloc, ids, i, &members)?;
+    let org = walk_levels_of(members.org, Name::Accounts, i, Name::Org)?;
+    if members.has_other {
+        return Err(ShapeFault::At(Path::Item(Name::Accounts, i)));
     }
     Ok(AccountView {
         id,
@@ -112,9 +104,7 @@ pub fn walk_accounts(alloc: Global, accounts: &[Value]) -> Result<Accounts<'_>, 
     let mut views = Vec::with_capacity(alloc, accounts.len())?;
     let mut ids = HashMap::new(alloc);
     for (i, account) in accounts.iter().enumerate() {
-        let view = walk_account(&ids, i, account)?;
-        keep(alloc, &mut ids, view.id, i)?;
-        views.push(view)?;
+        views.push(walk_account(alloc, &mut ids, i, account)?)?;
     }
     Ok(Accounts { views, ids })
 }

@@ -2,12 +2,13 @@
 //! one of the wrong shape is wrong.
 //!
 //! `walk` (`shape.rt`) goes through a document in a fixed order, with `accounts.rt`, `principals.rt`, `resources.rt`,
-//! `levels.rt` and `context.rt` for its parts, and lends what it finds as a `WorldView` (`view.rt`): texts, numbers and lists, with
-//! policies and contexts as the JSON values that they are. Whether a text is an ARN or an action, and whether a policy
-//! is one, is left to the caller. `path.rt` names places, `fault.rt` says why a walk stops, `look.rt` looks into JSON
-//! objects.
+//! `levels.rt` and `context.rt` for its parts, and lends what it finds as a `WorldView` (`view.rt`): texts, numbers and
+//! lists, with policies and contexts as the JSON values that they are. Whether a text is an ARN or an action, and
+//! whether a policy is one, is left to the caller. `path.rt` names places, `fault.rt` says why a walk stops, `look.rt`
+//! looks into JSON objects, and `account_members.rt` finds the members of an account at once.
 #![tactic(auto)]
 
+mod account_members;
 mod accounts;
 mod context;
 mod fault;

@@ -1,5 +1,5 @@
 -- What the walk of a shape gives, and the checks that each of its steps makes.
-use Rattle.std.specs.Prelude.{◌≡◌, ℕ, List, [], ◌∷◌, ◌++◌, Bool, not, ◌&&◌, ◌||◌, Result, Some, None, false, is_some, nat_le, MatchResult}
+use Rattle.std.specs.Prelude.{◌≡◌, ◌≢◌, ℕ, List, [], ◌∷◌, ◌++◌, Bool, not, ◌&&◌, ◌||◌, Result, Some, None, false, is_some, nat_le, MatchResult}
 use Rattle.std.specs.List.{list_all}
 use Rattle.std.specs.Option.{option_map_or}
 use Rattle.serde_json.specs.Data.{Data}
@@ -11,11 +11,18 @@ use Rattle.iam_shape.specs.declared.path.Name.{Name}
 use Rattle.iam_shape.specs.declared.path.Name.TheVariants.{Moment, Accounts, Principals, Actions, Resources, Context, Id, Management, Org, User, Role, Session, Identity, Boundary, SessionPolicies, Arn, Account, Policy, Sealed, Control}
 use Rattle.iam_shape.specs.declared.path.Path.{Path}
 use Rattle.iam_shape.specs.declared.path.Path.TheVariants.{Root, Member, Item, Field, Entry}
-use Rattle.iam_shape.specs.Shape.{Check, first_bad, has_only, is_absent_or, is_bool, is_context, is_list, is_string, levels_checks, member, number_at, text_at}
+use Rattle.iam_shape.specs.declared.fault.ShapeFault.{ShapeFault}
+use Rattle.iam_shape.specs.declared.fault.ShapeFault.TheVariants.{OutOfMemory}
+use Rattle.iam_shape.specs.Shape.{Check, IsShapeFault, first_bad, has_only, is_absent_or, is_bool, is_context, is_list, is_string, levels_checks, member, number_at, text_at}
 
 -- no check fails, and P holds of what was found; or this is the path of the first that fails
 abbrev pub Walks : {A : Type 0} → List Check → (A → Type 0) → Result A Path → Type 0
 Walks checks P result = MatchResult result (λ found. (first_bad checks ≡ None) × P found) (λ path. first_bad checks ≡ Some path)
+
+-- the same of a walk that needs memory, which may be refused
+abbrev pub MayWalk : {A : Type 0} → List Check → (A → Type 0) → Result A ShapeFault → Type 0
+MayWalk checks P result =
+    MatchResult result (λ found. (first_bad checks ≡ None) × P found) (λ fault. fault ≢ OutOfMemory → IsShapeFault checks fault)
 
 -- a text, a Boolean or a whole number, or a list of these
 abbrev pub is_context_value : Data → Bool
