@@ -12,6 +12,7 @@ use Rattle.iam_shape.specs.Path.{name_text}
 use Rattle.iam_shape.specs.Shape as shape
 use Rattle.iam_shape.specs.Shape.{has_only}
 use Rattle.iam_shape.specs.declared.path.Name.TheVariants.{User, Identity, Boundary, Context, SessionPolicies}
+use Rattle.iam_shape.proofs.Texts.{not_true}
 
 absent_member : (names : List (List ℕ)) (name : List ℕ) → is_one_of names name ≡ false → (ms : Members) → has_other (is_one_of names) ms ≡ false → get_member name ms ≡ None
 absent_member names name apart no_members none = refl
@@ -36,10 +37,6 @@ absent names name (number n) apart none = refl
 absent names name (string s) apart none = refl
 absent names name (array ds) apart none = refl
 absent names name (object ms) apart none = absent_member names name apart ms none
-
-not_true : (b : Bool) → not b ≡ true → b ≡ false
-not_true true is = sym is
-not_true false is = refl
 
 -- a user has no session policies
 pub no_session_policies : (d : Data) → has_only (User ∷ (Identity ∷ (Boundary ∷ (Context ∷ [])))) d ≡ true → shape.member SessionPolicies d ≡ None
