@@ -6,4 +6,4 @@ mod slots;
 
 pub use iam_text::OutOfMemory;
 pub use numbered::{Numbered, keep_number, number_in};
-pub use slots::{WIDTH, empty, empty_slots, keep, kept, slot_at, slot_of};
+pub use slots::{WIDTH, empty, empty_slots, keep, kept, slot_at, slot_of, slots_or_none};

@@ -37,6 +37,16 @@ pub fn empty_slots<T: Copy>(alloc: Global, count: u64) -> Result<Vec<Option<T>>,
     vec![in alloc; None; count as usize]
 }
 
+/// The same, for what may be kept or not: where memory is refused there are no slots.
+pub fn slots_or_none<T: Copy>(alloc: Global, count: u64) -> Vec<Option<T>>
+    ensures { AreEmpty result.items }
+{
+    match empty_slots(alloc, count) {
+        Ok(slots) => slots,
+        Err(_) => Vec::new(alloc),
+    }
+}
+
 /// What a slot keeps.
 pub fn kept<T: Copy>(slots: &[Option<T>], slot: u64) -> Option<T>
     ensures found { IfSome result (Keeps slots.now slot) }
