@@ -7,7 +7,5 @@ mod principals;
 mod prints;
 mod statement;
 
-pub use iam_policy::Statement;
 pub use lists::{are_all_equal, print_all};
-pub use prints::{action_print, print, text_print};
-pub use statement::are_equal;
+pub use prints::{action_print, text_print};

@@ -190,7 +190,7 @@ pub fn requester_lists<'a>(
 }
 
 /// `true` only where there is a list of the number, with the same statements at the same places.
-fn is_list(lists: &[Listed<'_>], number: usize, statements: &[Standing<'_>]) -> bool
+fn is_same_list(lists: &[Listed<'_>], number: usize, statements: &[Standing<'_>]) -> bool
     ensures { IsTrue result → IsListOf lists.now number (map placed_value statements.now) }
 {
     number < lists.len() && are_all_equal(lists[number].statements.as_slice(), statements)
@@ -208,7 +208,7 @@ fn list_number<'a>(
     let print = print_all(statements.as_slice());
     let next = lists.len();
     let known = *prints.get(&print).unwrap_or(&next);
-    if is_list(lists.as_slice(), known, statements.as_slice()) {
+    if is_same_list(lists.as_slice(), known, statements.as_slice()) {
         return Ok(known);
     }
     lists.push(Listed { statements })?;

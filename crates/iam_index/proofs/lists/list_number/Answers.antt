@@ -7,12 +7,12 @@ use Rattle.iam_index.specs.declared.lists.Listed.{Listed}
 use Rattle.iam_index.proofs.ListLemmas.{get_next}
 use Rattle.iam_index.proofs.lists.list_number.Goals as goal
 
-pub returns-then-is_list-clause-number : goal.returns-then-is_list-clause-number
-returns-then-is_list-clause-number c =
+pub returns-then-is_same_list-clause-number : goal.returns-then-is_same_list-clause-number
+returns-then-is_same_list-clause-number c =
     let known = c.unwrap_or-known.result.now in
     let L : List Listed → Type 0 = λ lists. IsListOf lists known (map placed_value c.args.statements.items) in
     let S : List Standing → Type 0 = λ statements. IsListOf c.as_slice-2.result.now known (map placed_value statements) in
-    subst L c.as_slice-2.ensures.value (subst S c.as_slice-3.ensures.value (c.is_list.ensures c.if-is_list.true))
+    subst L c.as_slice-2.ensures.value (subst S c.as_slice-3.ensures.value (c.is_same_list.ensures c.if-is_same_list.true))
 
 pub returns-clause-number : goal.returns-clause-number
 returns-clause-number c =

@@ -1,7 +1,7 @@
 use Rattle.std.proofs.Common.{◌<◌, get_or, length, map, ap, sym, ◌∙◌, arith}
 use Rattle.std.proofs.lemmas.Option.{slice_get-get_or}
 use Rattle.iam_decision.specs.Code.Scan.{placed_value}
-use Rattle.iam_index.proofs.lists.is_list.Goals as goal
+use Rattle.iam_index.proofs.lists.is_same_list.Goals as goal
 
 pub returns-then-number-lists : goal.returns-then-number-lists
 returns-then-number-lists c = λ same.
