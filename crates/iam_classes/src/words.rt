@@ -90,6 +90,32 @@ impl<'a> Words<'a> {
                 cleared: false,
             });
         }
+        self.told_class(alloc, source, memo, p, r)
+    }
+
+    /// The same of principal p, which asked last, where no alike resource has a class that serves.
+    #[inline(never)]
+    fn told_class(
+        &mut self,
+        alloc: Global,
+        source: &mut Source<'a>,
+        memo: &mut Memo<'a>,
+        p: u64,
+        r: u64,
+    ) -> Result<Found, OutOfMemory>
+        requires world { source.old.world ≡ memo.old.world }
+        requires principal { p < length memo.old.world.principals }
+        requires resource { r < length memo.old.world.resources }
+        requires words { AreWords memo.old.world memo.old.classes self.old }
+        requires asker { (asker : Asker) × (self.old.asker ≡ Some asker) × (asker.principal ≡ p) }
+        ensures class { IfOk result (λ found. HasClass memo.new.world memo.new.classes p r found.class) }
+        ensures kept { IfOk result (λ found. found.cleared ≡ false → HasMore memo.old.classes memo.new.classes) }
+        ensures let_go { IfOk result (λ found. found.cleared ≡ true → length memo.new.classes ≡ 1) }
+        ensures words { AreWords memo.new.world memo.new.classes self.new }
+        ensures source { source.new ≡ source.old }
+        ensures same { IsSameMemo memo.old memo.new }
+    {
+        let number = self.number(r);
         match self.told(alloc, source, p, r)? {
             Told::Words(bits) => {
                 let found = self.class_by(alloc, source, memo, p, r, bits)?;
@@ -111,6 +137,16 @@ impl<'a> Words<'a> {
                 return;
             }
         }
+        self.begin(alloc, index, p);
+    }
+
+    /// The same where another principal asked last, or none.
+    #[inline(never)]
+    fn begin(&mut self, alloc: Global, index: &'a Index<'a>, p: u64)
+        requires { p < length index.now.principals }
+        ensures asker { (asker : Asker) × (self.new.asker ≡ Some asker) × (asker.principal ≡ p) }
+        ensures right { (classes : List Class) → AreWords index.entry.now classes self.new }
+    {
         self.forget();
         self.asker = Some(Asking::of(alloc, index, p));
     }

@@ -12,7 +12,7 @@ use Rattle.iam_layers.specs.Cell.{IsAccessAt, IsContextAt, IsPrincipal}
 use Rattle.iam_slots.specs.Slots.{Keeps}
 use Rattle.iam_world.specs.World.{WorldValue}
 use Rattle.iam_index.specs.Given.{IsFree}
-use Rattle.iam_index.specs.Index.{AreResourceLists, ListsResource}
+use Rattle.iam_index.specs.Index.{AreResourceLists, IsListOf, ListsResource}
 use Rattle.iam_index.specs.declared.lists.Listed.{Listed}
 use Rattle.iam_living.specs.Listing.{Lists, statements_of}
 use Rattle.iam_living.specs.Living.{ConcernNone}
@@ -20,8 +20,6 @@ use Rattle.iam_living.specs.Marks.{AreListingMarks}
 use Rattle.iam_living.specs.Word.{AreBits}
 use Rattle.iam_living.specs.declared.asker.Asker.{Asker}
 use Rattle.iam_living.specs.declared.asker.Bits.{Bits}
-use Rattle.iam_living.specs.declared.lists.ListMark.{ListMark}
-use Rattle.iam_living.specs.declared.lists.ListMark.TheVariants.{Word}
 use Rattle.iam_living.specs.declared.keys.Told.{Told}
 
 -- principal p asks; its statements, and those that stand with resources, are listed
@@ -32,11 +30,7 @@ pub record IsAsker (world : WorldValue) (p : ℕ) (asker : Asker) : Type 0 where
   pub resources : AreResourceLists world asker.lists.now.lists.items asker.lists.now.numbers.items
   pub count : length asker.lists.now.numbers.items ≡ length world.resources
 
--- these are the statements of the list of this number
-abbrev pub IsList : List Listed → ℕ → List Placed → Type 0
-IsList lists n statements = (listed : Listed) × (slice_get lists n ≡ Some listed) × (statements ≡ map placed_value listed.statements.items)
-
--- they are those of the list of resource r
+-- this is the list of resource r
 abbrev pub AreNumbered : Asker → ℕ → Listed → Type 0
 AreNumbered asker r listed =
     (n : ℕ) × (slice_get asker.lists.now.numbers.items r ≡ Some n) × (slice_get asker.lists.now.lists.items n ≡ Some listed)
@@ -47,7 +41,7 @@ pub record AreBitsOf (asker : Asker) (access : AccessValue) (statements : List P
   pub asks : access.requester ≡ asker.requester.now
   pub principal : AreBits access (statements_of asker.listing) bits.principal
   pub resource : AreBits access statements bits.resource
-  pub list : (bits.resource ≡ 0) ⊎ IsList asker.lists.now.lists.items bits.list statements
+  pub list : (bits.resource ≡ 0) ⊎ IsListOf asker.lists.now.lists.items bits.list statements
 
 -- so the bits say of principal p's requests for resource r and the statements that stand with the resource
 pub record AreBitsAt (world : WorldValue) (p r : ℕ) (asker : Asker) (bits : Bits) : Type 0 where
@@ -69,15 +63,15 @@ LiveBy world p derived requester statements word =
     → AreBits access statements word
 
 -- what is told of the lists is right
-abbrev pub AreListMarks : WorldValue → ℕ → ContextValue → RequesterValue → List Listed → List (Option ListMark) → Type 0
-AreListMarks world p derived requester lists told =
-    (n word : ℕ) (listed : Listed) → Keeps told n (Word word) → slice_get lists n ≡ Some listed
+abbrev pub AreListWords : WorldValue → ℕ → ContextValue → RequesterValue → List Listed → List (Option ℕ) → Type 0
+AreListWords world p derived requester lists told =
+    (n word : ℕ) (listed : Listed) → Keeps told n word → slice_get lists n ≡ Some listed
     → LiveBy world p derived requester (map placed_value listed.statements.items) word
 
 -- what is told by the derived keys is right
 pub record AreTold (asker : Asker) (p : ℕ) (derived : ContextValue) (told : Told) : Type 0 where
   pub listing : AreListingMarks asker.listing p derived told.listing
-  pub lists : AreListMarks asker.listing.world p derived asker.requester.now asker.lists.now.lists.items told.lists.items
+  pub lists : AreListWords asker.listing.world p derived asker.requester.now asker.lists.now.lists.items told.lists.items
 
 -- where it is kept that the list concerns the requester in nothing, that is so
 abbrev pub AreConcerns : Asker → List (Option Bool) → Type 0

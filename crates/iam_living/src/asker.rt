@@ -3,7 +3,7 @@ ghost use Rattle.std.specs.Prelude.{◌≡◌, ◌⊎◌, IfSome, Some};
 
 use crate::keys::Told;
 use crate::listing::Listing;
-use crate::lists::{list_word, no_list_told};
+use crate::lists::list_word;
 use crate::walk::concern_none;
 use iam_index::{Index, ResourceLists};
 use iam_layers::{Living, Standing};
@@ -39,8 +39,9 @@ impl<'a> Asker<'a> {
     ghost use Rattle.iam_decision.specs.Living.{AreLiving, living_value};
     ghost use Rattle.iam_decision.specs.Matched.{Placed};
     ghost use Rattle.iam_layers.specs.Cell.{IsContextAt, IsResource};
+    ghost use Rattle.iam_index.specs.Index.{IsListOf};
     ghost use Rattle.iam_index.specs.declared.lists.Listed.{Listed};
-    ghost use Rattle.iam_living.specs.Asker.{AreBitsOf, AreNumbered, AreTold, IsAsker, IsList};
+    ghost use Rattle.iam_living.specs.Asker.{AreBitsOf, AreNumbered, AreTold, IsAsker};
     ghost use Rattle.iam_living.specs.Living.{ConcernNone};
 
     /// Principal p.
@@ -63,7 +64,7 @@ impl<'a> Asker<'a> {
     {
         Told {
             listing: self.listing.none_told(alloc),
-            lists: no_list_told(alloc, self.lists.lists.len()),
+            lists: Vec::new(alloc),
         }
     }
 
@@ -117,7 +118,7 @@ impl<'a> Asker<'a> {
 
     /// The statements of the list of which some live by the bits; none where none does.
     fn list_of(&self, bits: Bits) -> &[Standing<'a>]
-        ensures { (statements : List Placed) → (bits.resource ≡ 0) ⊎ IsList self.now.lists.now.lists.items bits.list statements
+        ensures { (statements : List Placed) → (bits.resource ≡ 0) ⊎ IsListOf self.now.lists.now.lists.items bits.list statements
             → ((bits.resource ≡ 0) × (result.now ≡ [])) ⊎ (statements ≡ map placed_value result.now) }
     {
         if bits.resource == 0 {

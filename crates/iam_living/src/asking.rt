@@ -1,7 +1,6 @@
 // A principal that asks, and what is found again in its requests.
 ghost use Rattle.std.specs.Prelude.{◌≡◌, ◌<◌, All, IfOk, length};
 ghost use Rattle.iam_layers.specs.Cell.{IsDerivedAt};
-ghost use Rattle.iam_slots.specs.Slots.{AreEmpty};
 ghost use Rattle.iam_living.specs.Asker.{IsAsker};
 ghost use Rattle.iam_living.specs.Keys.{AreToldKeys, TellsLives};
 ghost use Rattle.iam_living.specs.declared.asker.Asker.{Asker};
@@ -10,7 +9,7 @@ use crate::asker::{Asker, Bits};
 use crate::keys::{Keys, Lives, known, lives_with, staying};
 use iam_index::Index;
 use iam_layers::Living;
-use iam_slots::{empty_slots, keep, kept};
+use iam_slots::{keep, kept, slots_or_none};
 use iam_text::OutOfMemory;
 use std::alloc::Global;
 use std::marker::Model;
@@ -60,7 +59,7 @@ impl<'a> Asking<'a> {
         ensures principal { result.principal ≡ p }
     {
         let asker = Asker::of(index, p);
-        let concerns = no_concerns(alloc, asker.lists.lists.len());
+        let concerns = slots_or_none(alloc, (asker.lists.lists.len() as u64).min(MOST));
         Asking {
             asker,
             keys: Vec::new(alloc),
@@ -125,16 +124,6 @@ impl<'a> Asking<'a> {
         ensures same { self.new ≡ self.old }
     {
         lives_among(alloc, index, &self.asker, &mut self.keys, p, r)
-    }
-}
-
-/// Nothing in mind yet of so many lists; where memory is refused, nothing ever.
-fn no_concerns(alloc: Global, count: usize) -> Vec<Option<bool>>
-    ensures { AreEmpty result.items }
-{
-    match empty_slots(alloc, (count as u64).min(MOST)) {
-        Ok(concerns) => concerns,
-        Err(_) => Vec::new(alloc),
     }
 }
 

@@ -9,7 +9,7 @@ ghost use Rattle.iam_living.specs.Asker.{AreTold, IsAsker};
 ghost use Rattle.iam_living.specs.Keys.{AreKeys, HasKeys, IsReady, TellsLives};
 
 use crate::asker::{Asker, Bits};
-use crate::lists::ListMarks;
+use crate::lists::ListWords;
 use crate::marks::ListingMarks;
 use crate::walk::{add_all, living};
 use iam_context::{Context, Derived};
@@ -35,7 +35,7 @@ pub struct Keys {
 #[derive(Drop)]
 pub struct Told {
     pub listing: ListingMarks,
-    pub lists: ListMarks,
+    pub lists: ListWords,
 }
 
 /// Derived keys that are kept, by their number, or that there was no memory to keep.

@@ -15,7 +15,4 @@ pub use asking::Asking;
 pub use iam_index::Index;
 pub use iam_layers::Living;
 pub use iam_text::OutOfMemory;
-pub use keys::{Keys, Lives, Told, no_keys, shared_by};
-pub use listing::Listing;
-pub use lists::{ListMark, ListMarks};
-pub use walk::living;
+pub use keys::{Keys, Lives, no_keys, shared_by};

@@ -8,14 +8,14 @@ ghost use Rattle.iam_layers.specs.Cell.{IsContextAt, IsResource};
 ghost use Rattle.iam_living.specs.Marks.{AreMarks};
 ghost use Rattle.iam_living.specs.Word.{GoesBefore, TakesBits};
 
-use crate::marks::{ListingMarks, Marks, none_told};
+use crate::marks::{ListingMarks, Marks};
 use crate::walk::{add_known, lives};
 use crate::word::{BITS, with_bit};
 use iam_decision::push_living;
 use iam_index::{Index, Known, Theirs};
 use iam_layers::{Living, Standing, World};
 use iam_match::{Access, Requester};
-use iam_slots::kept;
+use iam_slots::{kept, slots_or_none};
 use iam_text::OutOfMemory;
 use std::alloc::Global;
 use std::marker::Model;
@@ -92,8 +92,8 @@ impl<'a> Listing<'a> {
         ensures { (p : ℕ) (derived : ContextValue) → AreListingMarks self.now p derived result }
     {
         ListingMarks {
-            org: none_told(alloc, self.org.statements().len()),
-            own: none_told(alloc, self.own.statements().len()),
+            org: slots_or_none(alloc, self.org.statements().len() as u64),
+            own: slots_or_none(alloc, self.own.statements().len() as u64),
         }
     }
 

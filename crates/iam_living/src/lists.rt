@@ -1,48 +1,28 @@
 // Which statements live of the list that stands with a resource.
-ghost use Rattle.std.specs.Prelude.{◌≡◌, ◌<◌, ℕ, All, IfOk, IfSome, IsTrue, Some, length, map};
+ghost use Rattle.std.specs.Prelude.{◌≡◌, ◌⊎◌, ◌<◌, ℕ, All, IfOk, IfSome, IsTrue, Some, length, map};
 ghost use Rattle.std.specs.List.{slice_get};
 ghost use Rattle.iam_context.specs.Context.{ContextValue};
 ghost use Rattle.iam_match.specs.Request.{access_of};
 ghost use Rattle.iam_decision.specs.Code.Scan.{placed_value};
 ghost use Rattle.iam_layers.specs.Cell.{IsContextAt};
-ghost use Rattle.iam_slots.specs.Slots.{AreEmpty};
+ghost use Rattle.iam_slots.specs.Slots.{Keeps};
 ghost use Rattle.iam_index.specs.declared.lists.Listed.{Listed};
-ghost use Rattle.iam_living.specs.Asker.{AreListMarks, AsksForNone};
+ghost use Rattle.iam_living.specs.Asker.{AreListWords, AsksForNone};
 ghost use Rattle.iam_living.specs.Word.{AreBits};
-ghost use Rattle.iam_living.specs.declared.lists.ListMark.TheVariants as mark;
 
-use crate::word::{BITS, with_bit};
+use crate::word::with_bit;
 use iam_index::{Index, ResourceLists};
 use iam_layers::Standing;
 use iam_match::{Access, rest_matches};
-use iam_slots::{empty_slots, keep, kept};
+use iam_slots::{keep, kept, slots_or_none};
 use iam_text::OutOfMemory;
 use std::alloc::Global;
 
 /// So many lists are told of at most: those of the first resources, since room for them is taken with each set of derived keys.
-const MOST: u64 = 64;
+const MOST: usize = 64;
 
-/// What is told of the statements of a list.
-#[derive(Clone, Copy)]
-pub enum ListMark {
-    /// They may ask for the resource, or for a key that it gives.
-    Asks,
-    /// Which of them live, for whatever resource, as the bits of a number.
-    Word(u64),
-}
-
-/// What is told so far of lists, by their numbers.
-pub type ListMarks = Vec<Option<ListMark>>;
-
-/// Nothing yet of so many lists; where memory is refused, nothing ever.
-pub fn no_list_told(alloc: Global, count: usize) -> ListMarks
-    ensures { AreEmpty result.items }
-{
-    match empty_slots(alloc, (count as u64).min(MOST)) {
-        Ok(told) => told,
-        Err(_) => Vec::new(alloc),
-    }
-}
+/// What is told so far of lists, by their numbers: which of their statements live, for whatever resource, as the bits of a number.
+pub type ListWords = Vec<Option<u64>>;
 
 /// Which statements of list n live in requests for this access, as the bits of a number: as it is told, or else tried, and then told
 /// where they ask neither for the resource nor for a key that a resource gives. `None` where a word has no bits for them.
@@ -50,40 +30,50 @@ pub fn list_word<'a: 'c, 'c>(
     alloc: Global,
     index: &Index<'a>,
     lists: &ResourceLists<'a>,
-    told: &mut ListMarks,
+    told: &mut ListWords,
     n: usize,
     access: Access<'_, 'c>,
 ) -> Result<Option<u64>, OutOfMemory>
     requires { n < length lists.now.lists.items }
     ensures told { (p r : ℕ) (derived : ContextValue) → IsContextAt index.now p r derived access.entry.context.now
-        → AreListMarks index.now p derived access.entry.requester.now lists.now.lists.items told.old.items
-        → AreListMarks index.now p derived access.entry.requester.now lists.now.lists.items told.new.items }
+        → AreListWords index.now p derived access.entry.requester.now lists.now.lists.items told.old.items
+        → AreListWords index.now p derived access.entry.requester.now lists.now.lists.items told.new.items }
     ensures word { (p r : ℕ) (derived : ContextValue) (listed : Listed) → IsContextAt index.now p r derived access.entry.context.now
-        → AreListMarks index.now p derived access.entry.requester.now lists.now.lists.items told.old.items
+        → AreListWords index.now p derived access.entry.requester.now lists.now.lists.items told.old.items
         → slice_get lists.now.lists.items n ≡ Some listed
         → IfOk result (λ found. IfSome found (AreBits (access_of access.entry) (map placed_value listed.statements.items))) }
 {
+    if let Some(word) = kept(told.as_slice(), n as u64) {
+        return Ok(Some(word));
+    }
     let statements = lists.statements(n);
-    match kept(told.as_slice(), n as u64) {
-        Some(ListMark::Word(word)) => Ok(Some(word)),
-        Some(ListMark::Asks) => word_of(alloc, statements, access),
-        None => {
-            let word = word_of(alloc, statements, access)?;
-            keep(told, n as u64, mark_of(index, statements, word));
-            Ok(word)
-        }
+    let word = word_of(alloc, statements, access)?;
+    if let Some(word) = free_word(index, statements, word) {
+        tell(alloc, told, lists.lists.len(), n, word);
+    }
+    Ok(word)
+}
+
+/// The word of statements, where it is that of requests for whatever resource.
+fn free_word(index: &Index<'_>, statements: &[Standing<'_>], word: Option<u64>) -> Option<u64>
+    ensures { IfSome result (λ told. (word ≡ Some told) × All (λ s. AsksForNone index.now (placed_value s)) statements.now) }
+{
+    let word = word?;
+    if ask_for_none(index, statements) {
+        Some(word)
+    } else {
+        None
     }
 }
 
-/// What is told of the statements, which have this word in requests for one access.
-fn mark_of(index: &Index<'_>, statements: &[Standing<'_>], word: Option<u64>) -> ListMark
-    ensures { (told : ℕ) → result ≡ mark.Word told
-        → (word ≡ Some told) × All (λ s. AsksForNone index.now (placed_value s)) statements.now }
+/// Tells the word of list n, one of so many, where there is room for it.
+fn tell(alloc: Global, told: &mut ListWords, count: usize, n: usize, word: u64)
+    ensures { (i kept : ℕ) → Keeps told.new.items i kept → ((i ≡ n) × (kept ≡ word)) ⊎ Keeps told.old.items i kept }
 {
-    match word {
-        Some(word) if ask_for_none(index, statements) => ListMark::Word(word),
-        _ => ListMark::Asks,
+    if told.is_empty() {
+        *told = slots_or_none(alloc, count.min(MOST) as u64);
     }
+    keep(told, n as u64, word);
 }
 
 /// `true` only where none of the statements asks for the resource, or for a key that a resource gives.
@@ -113,9 +103,6 @@ fn word_of<'a: 'c, 'c>(
 ) -> Result<Option<u64>, OutOfMemory>
     ensures { IfOk result (λ found. IfSome found (AreBits (access_of access.entry) (map placed_value statements.now))) }
 {
-    if statements.len() > BITS {
-        return Ok(None);
-    }
     let mut word = 0;
     for i in (0..statements.len()).rev() {
         match with_bit(word, rest_matches(alloc, statements[i].statement, access)?) {

@@ -7,14 +7,13 @@ ghost use Rattle.iam_match.specs.Entry.{EntryHolds};
 ghost use Rattle.iam_decision.specs.Code.Scan.{placed_value};
 ghost use Rattle.iam_decision.specs.declared.scan.Standing.{Standing};
 ghost use Rattle.iam_layers.specs.Cell.{IsContextAt};
-ghost use Rattle.iam_slots.specs.Slots.{AreEmpty};
 ghost use Rattle.iam_index.specs.Given.{IsFree};
 ghost use Rattle.iam_living.specs.Marks.{AreMarks};
 ghost use Rattle.iam_living.specs.declared.marks.Mark.TheVariants as mark;
 
 use iam_index::Known;
 use iam_match::{Context, Entry, holds};
-use iam_slots::{empty_slots, keep, kept};
+use iam_slots::{keep, kept};
 use iam_text::OutOfMemory;
 use std::alloc::Global;
 
@@ -35,16 +34,6 @@ pub type Marks = Vec<Option<Mark>>;
 pub struct ListingMarks {
     pub org: Marks,
     pub own: Marks,
-}
-
-/// Nothing yet of so many statements; where memory is refused, nothing ever.
-pub fn none_told(alloc: Global, count: usize) -> Marks
-    ensures { AreEmpty result.items }
-{
-    match empty_slots(alloc, count as u64) {
-        Ok(told) => told,
-        Err(_) => Vec::new(alloc),
-    }
 }
 
 /// Whether the conditions of statement i of these hold in this context: as it is told, or else tried, and then told where they ask for
