@@ -1,5 +1,5 @@
+mod BatchLemmas
 mod MemoLemmas
 mod SignLemmas
-mod SurveyLemmas
 mod WordsLemmas
 pub mod EngineLemmas

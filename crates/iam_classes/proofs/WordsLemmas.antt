@@ -1,5 +1,5 @@
 -- What is kept by bits stays right where classes are added, and the class of bits is that of all requests that have them.
-use Rattle.std.proofs.Common.{◌≡◌, ◌++◌, inl, inr, ℕ, List, [], Option, Some, IfSome, map, sym, ap, ◌∙◌, subst}
+use Rattle.std.proofs.Common.{◌≡◌, ◌++◌, inl, inr, ℕ, List, [], Option, None, Some, IfSome, map, sym, ap, ◌∙◌, subst}
 use Rattle.std.specs.List.{slice_get}
 use Rattle.iam_decision.specs.Applicable.{ApplicableValue, frame_of}
 use Rattle.iam_decision.specs.Code.Scan.{placed_value}
@@ -206,3 +206,11 @@ pub frame_of_class : (classes : List Class) (n : ℕ) (shared : SharedValue) (fr
     → (it : Class) → slice_get classes n ≡ Some it → it.shared.frame ≡ frame
 frame_of_class classes n shared frame (class, at, same) framed it there =
     ap (λ (c : Class). c.shared.frame) (some_same it class (sym there ∙ at)) ∙ ap (λ (s : SharedValue). s.frame) same ∙ framed
+
+-- nothing is kept where no principal asked
+pub no_words : (world : WorldValue) (classes : List Class) (words : Words) → words.asker ≡ None → AreWords world classes words
+no_words world classes words none =
+    let O : Option Asker → Type 0 =
+    λ o. IfSome o (λ asker. IsAsker world asker.principal asker × AllAre (IsWord classes asker) words.slots.items
+    × AreAlikeClasses world classes asker words.alikes.items) in
+    subst O (sym none) tt

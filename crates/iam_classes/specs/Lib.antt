@@ -1,6 +1,6 @@
+pub mod Batches
 pub mod Code
 pub mod Engine
 pub mod Memo
-pub mod Survey
 pub mod Told
 pub mod Words

@@ -1,13 +1,14 @@
 // The engine as its callers see it.
 ghost use Rattle.std.specs.Prelude.{◌≡◌};
 
+use crate::batches::Batches;
 use crate::memo::{Found, Memo};
 use crate::source::Source;
-use crate::survey::Survey;
 use crate::words::Words;
 use iam_index::Index;
 use iam_layers::{Decision, Matched, Verdict, World};
 use iam_slots::Numbered;
+use iam_survey::Survey;
 use iam_text::OutOfMemory;
 use std::alloc::Global;
 use std::marker::Model;
@@ -19,6 +20,7 @@ pub struct ClassEngine<'a> {
     source: Source<'a>,
     memo: Memo<'a>,
     words: Words<'a>,
+    batches: Batches,
     // Room for the statements that match a request.
     found: Vec<Matched>,
 }
@@ -26,6 +28,7 @@ pub struct ClassEngine<'a> {
 impl<'a> Model for ClassEngine<'a> {
     ghost use Rattle.std.specs.Prelude.{◌≡◌};
     ghost use Rattle.iam_classes.specs.Engine.{EngineValue};
+    ghost use Rattle.iam_classes.specs.Batches.{AreBatches};
     ghost use Rattle.iam_classes.specs.Words.{AreWords};
 
     ghost Value = { EngineValue };
@@ -37,13 +40,14 @@ impl<'a> Model for ClassEngine<'a> {
       surveyed = engine.source.surveyed;
     } };
 
-    ghost invariant = { λ engine. (engine.source.world ≡ engine.memo.world) × AreWords engine.memo.world engine.memo.classes engine.words };
+    ghost invariant = { λ engine. (engine.source.world ≡ engine.memo.world) × AreWords engine.memo.world engine.memo.classes engine.words
+        × AreBatches engine.memo.world engine.memo.classes engine.batches };
 }
 
 impl<'a> ClassEngine<'a> {
     ghost use Rattle.std.specs.Prelude.{◌≡◌, ◌<◌, ℕ, IfOk, IfSome, false, is_some, length, true};
     ghost use Rattle.iam_world.specs.World.{world_cells};
-    ghost use Rattle.iam_layers.specs.Cell.{IsDecisionOf, IsVerdictAt, IsVerdictOf};
+    ghost use Rattle.iam_layers.specs.Cell.{IsDecisionAt, IsDecisionOf, IsVerdictAt, IsVerdictOf};
     ghost use Rattle.iam_slots.specs.Slots.{AllAre};
     ghost use Rattle.iam_classes.specs.Engine.{HasMore, IsClassAt, IsNumberAt, IsSameEngine, OfClass};
 
@@ -86,6 +90,7 @@ impl<'a> ClassEngine<'a> {
             source: Source::new(alloc, index, survey),
             memo,
             words: Words::new(alloc, index.world())?,
+            batches: Batches::new(alloc, index.world())?,
             found: Vec::new(alloc),
         })
     }
@@ -175,8 +180,37 @@ impl<'a> ClassEngine<'a> {
         ensures let_go { IfOk result (λ found. found.cleared ≡ true → length self.new.classes ≡ 1) }
         ensures same { IsSameEngine self.old self.new }
     {
-        self.words
+        match self
+            .words
             .class_at(alloc, &mut self.source, &mut self.memo, p, r)
+        {
+            Ok(found) => {
+                if found.cleared {
+                    self.batches.forget();
+                }
+                Ok(found)
+            }
+            Err(fault) => {
+                self.batches.forget();
+                Err(fault)
+            }
+        }
+    }
+
+    /// The decision on the requests of a class for action a.
+    #[inline(always)]
+    pub fn decision(&mut self, alloc: Global, class: usize, a: u64) -> Result<Decision, OutOfMemory>
+        requires action { a < length self.old.world.actions }
+        requires class { class < length self.old.classes }
+        ensures decision { IfOk result (λ decision. OfClass self.new class (λ p r. IsDecisionAt self.new.world p a r decision)) }
+        ensures classes { self.new.classes ≡ self.old.classes }
+        ensures same { IsSameEngine self.old self.new }
+    {
+        if let Some(decision) = self.batches.decision(&self.memo, class, a) {
+            return Ok(decision);
+        }
+        let number = self.memo.number(alloc, &mut self.found, class, a)?;
+        Ok(self.memo.verdict(number).decision)
     }
 
     /// The number of the verdict on the requests of a class for action a. It is that of the verdict until the next call.

@@ -2,11 +2,11 @@
 //! same are of one class.
 #![tactic(auto)]
 
+mod batches;
 mod engine;
 mod held;
 mod memo;
 mod source;
-mod survey;
 mod words;
 
 pub use engine::ClassEngine;
@@ -15,4 +15,3 @@ pub use iam_layers::{Decision, Shared, Verdict, World};
 pub use iam_slots::Numbered;
 pub use iam_text::OutOfMemory;
 pub use memo::Found;
-pub use survey::{Block, Survey, Surveyor, wants_survey};

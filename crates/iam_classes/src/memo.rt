@@ -2,7 +2,9 @@
 ghost use Rattle.std.specs.Prelude.{◌≡◌, IfOk};
 ghost use Rattle.iam_slots.specs.Slots.{AreEmpty};
 
+use crate::batches::TOGETHER;
 use crate::held::Held;
+use iam_batch::{Decided, decided};
 use iam_decision::acting_are_found;
 use iam_index::{Elements, Index, Sign, keep_signed, number_signed, put_acting, signature};
 use iam_layers::{Frame, Matched, Ruling, Shared, Verdict, World};
@@ -101,10 +103,11 @@ impl<'a> Model for Memo<'a> {
 }
 
 impl<'a> Memo<'a> {
-    ghost use Rattle.std.specs.Prelude.{◌≡◌, ◌<◌, ◌≤◌, ◌+◌, ℕ, [], IfOk, IfSome, OnOk, Some, false, length, true};
+    ghost use Rattle.std.specs.Prelude.{◌≡◌, ◌<◌, ◌≤◌, ◌+◌, ◌*◌, ℕ, [], IfOk, IfSome, OnOk, Some, false, length, true};
     ghost use Rattle.std.specs.List.{slice_get};
     ghost use Rattle.iam_layers.specs.Cell.{IsAction, IsSharedAt, IsVerdictAt};
     ghost use Rattle.iam_classes.specs.Memo.{ArePairs, FindsAlike, HasClass, HasMore, HasNumber, HasRuling, HasShared, HasVerdict};
+    ghost use Rattle.iam_classes.specs.Batches.{IsBatch};
     ghost use Rattle.iam_classes.specs.Memo.{HasSigned, IsFreeFor, IsSameMemo, IsSign};
     ghost use Rattle.iam_classes.specs.declared.memo.Class.{Class};
 
@@ -354,6 +357,26 @@ impl<'a> Memo<'a> {
         let slot = slot_of(a, class as u64, self.answers.len());
         keep_number(&mut self.answers, slot, class as u64, a, number);
         keep_signed(&mut self.signs, class, word, number);
+    }
+
+    /// What is decided on requests of the class for the batch of actions of this number, where the rows of its statements tell.
+    pub fn decided(&self, class: usize, number: u64) -> Option<Decided>
+        requires actions { 64 * number < length self.now.world.actions }
+        requires class { class < length self.now.classes }
+        ensures { IfSome result (IsBatch self.now.world self.now.classes class number) }
+    {
+        let actions = self.world.actions();
+        let from = number * TOGETHER;
+        let count = TOGETHER.min(actions - from);
+        let class = &self.classes[class];
+        let shared = class.shared.get();
+        decided(
+            shared.frame(),
+            shared.living(),
+            class.rows.as_slice(),
+            from as usize,
+            count as usize,
+        )
     }
 
     /// Puts the statements that match requests of the class for action a, which has this text, into `found`, in place of what

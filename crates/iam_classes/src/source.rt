@@ -2,10 +2,10 @@
 ghost use Rattle.std.specs.Prelude.{◌≡◌};
 
 use crate::held::Held;
-use crate::survey::Survey;
 use iam_index::Index;
 use iam_layers::{Frame, Shared, World};
 use iam_living::{Asking, Bits, Lives};
+use iam_survey::Survey;
 use iam_text::OutOfMemory;
 use std::alloc::Global;
 use std::marker::Model;

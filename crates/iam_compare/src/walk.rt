@@ -8,13 +8,14 @@ ghost use Rattle.iam_requests.specs.Requests.{Has};
 ghost use Rattle.iam_compare.specs.Code.Walk.{AddsChange, AddsSaid, AreEnginesOf, Gathers, IsCrew, IsLeftRow, IsPartOf, all_cells, asked_of, with_row};
 
 use iam_changes::{Change, Decisions, Gathered, Part, Verdicts, change_of};
-use iam_classes::{ClassEngine, Survey};
+use iam_classes::ClassEngine;
 use iam_crew::{Bound, Crew};
 use iam_layers::{Decision, Verdict, one_triple};
 use iam_matrix::Cut;
 use iam_requests::Requests;
 use iam_row::{Format, Position};
 use iam_selection::{Picker, past_row};
+use iam_survey::Survey;
 use iam_text::OutOfMemory;
 use std::alloc::Global;
 

@@ -12,10 +12,9 @@ use Rattle.iam_slots.specs.Slots.{Keeps}
 use Rattle.iam_world.specs.World.{PrincipalValue, WorldValue}
 use Rattle.iam_index.specs.declared.lists.Listed.{Listed}
 use Rattle.iam_index.proofs.ListLemmas.{some_same}
-use Rattle.iam_living.specs.Asker.{AreConcerns, AreListMarks, IsAsker}
+use Rattle.iam_living.specs.Asker.{AreConcerns, AreListWords, IsAsker}
 use Rattle.iam_living.specs.Living.{ConcernNone, NoneConcerns}
 use Rattle.iam_living.specs.declared.asker.Asker.{Asker}
-use Rattle.iam_living.specs.declared.lists.ListMark.{ListMark}
 use Rattle.iam_living.proofs.MarkLemmas.{same_or_apart}
 
 -- who asks is the requester
@@ -68,20 +67,20 @@ concerns_more asker n old new none is put others count are m listed kept there =
     ]
 
 -- what is told of lists is so in requests of the requester
-pub told_to : (world : WorldValue) (p : ℕ) (derived : ContextValue) (asker : Asker) (requester : RequesterValue) (told : List (Option ListMark))
+pub told_to : (world : WorldValue) (p : ℕ) (derived : ContextValue) (asker : Asker) (requester : RequesterValue) (told : List (Option ℕ))
     → asker.listing.world ≡ world → requester ≡ asker.requester.now
-    → AreListMarks asker.listing.world p derived asker.requester.now asker.lists.now.lists.items told
-    → AreListMarks world p derived requester asker.lists.now.lists.items told
+    → AreListWords asker.listing.world p derived asker.requester.now asker.lists.now.lists.items told
+    → AreListWords world p derived requester asker.lists.now.lists.items told
 told_to world p derived asker requester told of asks right =
-    let W : WorldValue → Type 0 = λ w. AreListMarks w p derived asker.requester.now asker.lists.now.lists.items told in
-    let R : RequesterValue → Type 0 = λ x. AreListMarks world p derived x asker.lists.now.lists.items told in
+    let W : WorldValue → Type 0 = λ w. AreListWords w p derived asker.requester.now asker.lists.now.lists.items told in
+    let R : RequesterValue → Type 0 = λ x. AreListWords world p derived x asker.lists.now.lists.items told in
     subst R (sym asks) (subst W of right)
 
-pub told_back : (world : WorldValue) (p : ℕ) (derived : ContextValue) (asker : Asker) (requester : RequesterValue) (told : List (Option ListMark))
+pub told_back : (world : WorldValue) (p : ℕ) (derived : ContextValue) (asker : Asker) (requester : RequesterValue) (told : List (Option ℕ))
     → asker.listing.world ≡ world → requester ≡ asker.requester.now
-    → AreListMarks world p derived requester asker.lists.now.lists.items told
-    → AreListMarks asker.listing.world p derived asker.requester.now asker.lists.now.lists.items told
+    → AreListWords world p derived requester asker.lists.now.lists.items told
+    → AreListWords asker.listing.world p derived asker.requester.now asker.lists.now.lists.items told
 told_back world p derived asker requester told of asks right =
-    let W : WorldValue → Type 0 = λ w. AreListMarks w p derived asker.requester.now asker.lists.now.lists.items told in
-    let R : RequesterValue → Type 0 = λ x. AreListMarks world p derived x asker.lists.now.lists.items told in
+    let W : WorldValue → Type 0 = λ w. AreListWords w p derived asker.requester.now asker.lists.now.lists.items told in
+    let R : RequesterValue → Type 0 = λ x. AreListWords world p derived x asker.lists.now.lists.items told in
     subst W (sym of) (subst R asks right)

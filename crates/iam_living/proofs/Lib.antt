@@ -2,6 +2,6 @@ mod AccessLemmas
 mod AlikeLemmas
 mod AskerLemmas
 mod KnownLemmas
-mod ListMarkLemmas
+mod ListWordLemmas
 mod MarkLemmas
 pub mod WordLemmas

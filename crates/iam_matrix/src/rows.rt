@@ -1,21 +1,22 @@
 // The tails of the rows of each tile.
 ghost use Rattle.std.specs.Prelude.{◌≡◌, ◌+◌, ◌<◌, ◌≤◌, ◌⊎◌, ◌^◌, ◌++◌, ◌∷◌, [], Bool, List, IfOk, OnOk, length};
-ghost use Rattle.iam_classes.specs.Engine.{IsClassAt, IsSameEngine};
+ghost use Rattle.iam_classes.specs.Engine.{IsClassAt, IsSameEngine, OfClass};
 ghost use Rattle.iam_decision.specs.declared.verdict.Verdict.{Verdict};
 ghost use Rattle.iam_layers.specs.Cell.{IsCell};
 ghost use Rattle.iam_world.specs.World.{world_cells};
-ghost use Rattle.iam_matrix.specs.Code.Leads.{AddsEntry, AreLeads, entry_of};
+ghost use Rattle.iam_matrix.specs.Code.Leads.{AddsEntry, AreLeads, IsEntryAt};
 ghost use Rattle.iam_matrix.specs.Code.Tiles.{AreEntriesOf, AreTailsOf};
 
 use crate::cut::{Cells, Cut};
 use crate::each::end_of;
 use crate::leads::{keep_lead, no_leads, put_known};
-use iam_classes::{ClassEngine, Survey};
+use iam_classes::ClassEngine;
 use iam_crew::{Bound, Crew};
-use iam_layers::{Verdict, World};
+use iam_layers::World;
 use iam_report::{Entries, Tile};
 use iam_row::{Format, Position};
 use iam_slots::{Numbered, empty};
+use iam_survey::Survey;
 use iam_text::OutOfMemory;
 use std::alloc::Global;
 
@@ -168,9 +169,8 @@ fn add(
     ensures same { IsSameEngine engine.old engine.new }
 {
     let class = class_of(alloc, engine, at.principal, at.resource, leads)?;
-    let number = engine.number(alloc, class, at.action)?;
     let place = entries.len();
-    push(alloc, brief, number, engine.verdict(number), entries)?;
+    push(alloc, engine, brief, class, at.action, entries)?;
     keep_lead(leads, class, at.action, place);
     Ok(())
 }
@@ -196,20 +196,27 @@ fn class_of(
     Ok(found.class)
 }
 
-/// Puts what a tile says for a verdict, which has this number, behind the entries.
+/// Puts what a tile says of the requests of a class for action a behind the entries.
 fn push(
     alloc: Global,
+    engine: &mut ClassEngine<'_>,
     brief: bool,
-    number: usize,
-    verdict: &Verdict,
+    class: usize,
+    a: u64,
     entries: &mut Entries,
 ) -> Result<(), OutOfMemory>
-    requires { length entries.old < 2 ^ 32 }
-    ensures { OnOk result (entries.new ≡ entries.old ++ entry_of brief verdict.now ∷ []) }
+    requires action { a < length engine.old.world.actions }
+    requires class { class < length engine.old.classes }
+    requires few { length entries.old < 2 ^ 32 }
+    ensures entry { OnOk result ((entry : Verdict) × (entries.new ≡ entries.old ++ entry ∷ [])
+        × OfClass engine.new class (λ p r. IsEntryAt brief engine.new.world p a r entry)) }
+    ensures classes { engine.new.classes ≡ engine.old.classes }
+    ensures same { IsSameEngine engine.old engine.new }
 {
     if brief {
-        entries.push_decision(alloc, verdict.decision)
-    } else {
-        entries.push_hinted(alloc, number, verdict)
+        let decision = engine.decision(alloc, class, a)?;
+        return entries.push_decision(alloc, decision);
     }
+    let number = engine.number(alloc, class, a)?;
+    entries.push_hinted(alloc, number, engine.verdict(number))
 }

@@ -3,8 +3,9 @@ ghost use Rattle.std.specs.Prelude.{◌≡◌, ◌<◌, IfOk, length};
 ghost use Rattle.iam_world.specs.World.{world_cells};
 
 use crate::matrix::{HOME, is_decision, is_verdict};
-use iam_classes::{ClassEngine, Index, Survey, Surveyor};
+use iam_classes::{ClassEngine, Index};
 use iam_layers::{Decision, Layer, Place, Verdict, World};
+use iam_survey::{Survey, Surveyor};
 use std::alloc::Global;
 use std::test::Fail;
 

@@ -4,8 +4,8 @@ use Rattle.iam_decision.specs.Code.Scan.{placed_value}
 use Rattle.iam_decision.specs.Matched.{Placed}
 use Rattle.iam_layers.specs.Cell.{IsContextAt}
 use Rattle.iam_world.specs.World.{WorldValue}
+use Rattle.iam_index.specs.Index.{IsListOf}
 use Rattle.iam_index.proofs.ListLemmas.{if_some}
-use Rattle.iam_living.specs.Asker.{IsList}
 use Rattle.iam_living.specs.Listing.{statements_of}
 use Rattle.iam_living.specs.Word.{AreBits}
 use Rattle.iam_living.proofs.AskerLemmas.{told_back, told_to}
@@ -61,7 +61,7 @@ returns-in_ok-principal-in-Some-clause-bits c =
     let marks = told_to c.args.index.now p derived self c.args.access.requester.now c.args.told.now.lists.items c.requires.world asks told.lists in
     let O : Option ℕ → Type 0 = λ o. IfSome o (AreBits access statements) in
     let T : Option ℕ → Type 0 = λ o. IfSome o (AreBits access (statements_of self.listing)) in
-    let L : ℕ → Type 0 = λ k. IsList self.lists.now.lists.items k statements in
+    let L : ℕ → Type 0 = λ k. IsListOf self.lists.now.lists.items k statements in
     let B : ℕ → Type 0 = AreBits access statements in
     let found : AreBits access statements c.in-Some.resource =
     subst O c.in-Some.is (c.in_ok-resource.ensures.word p r derived listed at marks there) in

@@ -1,0 +1,4 @@
+mod WordLemmas
+mod GatherLemmas
+mod FindLemmas
+mod LaneLemmas

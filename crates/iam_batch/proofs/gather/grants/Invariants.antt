@@ -1,0 +1,14 @@
+use Rattle.std.proofs.Common.{◌≡◌, ◌≤◌}
+use Rattle.iam_policy.specs.declared.effect.Effect.TheVariants.{Allow}
+use Rattle.iam_match.specs.Principal.{rank}
+use Rattle.iam_decision.specs.declared.living.Matched.{Matched}
+use Rattle.iam_decision.specs.declared.place.Layer.TheVariants.{Resource}
+use Rattle.iam_batch.specs.Batch.{matched_of}
+use Rattle.iam_batch.proofs.GatherLemmas.{AreGathered}
+use Rattle.iam_batch.proofs.gather.grants.Given as goal
+
+-- the bits of those looked at
+abbrev pub invariant-loop-i : goal.invariant-loop-i
+invariant-loop-i l =
+    AreGathered (λ (m : Matched). (m.effect ≡ Allow) × (m.place.layer ≡ Resource) × (rank l.least ≤ rank m.grant))
+    (matched_of l.living) l.rows l.from l.count l.i l.lanes
