@@ -1,5 +1,5 @@
 // The tails of the rows of each tile.
-ghost use Rattle.std.specs.Prelude.{◌≡◌, ◌+◌, ◌<◌, ◌≤◌, ◌⊎◌, ◌^◌, ◌++◌, ◌∷◌, [], Bool, List, IfOk, OnOk, length};
+ghost use Rattle.std.specs.Prelude.{◌≡◌, ◌+◌, ◌<◌, ◌≤◌, ◌⊎◌, ◌^◌, ◌++◌, ◌∷◌, [], ℕ, Bool, List, IfOk, OnOk, length};
 ghost use Rattle.iam_classes.specs.Engine.{IsClassAt, IsSameEngine, OfClass};
 ghost use Rattle.iam_decision.specs.declared.verdict.Verdict.{Verdict};
 ghost use Rattle.iam_layers.specs.Cell.{IsCell};
@@ -197,6 +197,7 @@ fn class_of(
 }
 
 /// Puts what a tile says of the requests of a class for action a behind the entries.
+#[inline(always)]
 fn push(
     alloc: Global,
     engine: &mut ClassEngine<'_>,
@@ -206,7 +207,7 @@ fn push(
     entries: &mut Entries,
 ) -> Result<(), OutOfMemory>
     requires action { a < length engine.old.world.actions }
-    requires class { class < length engine.old.classes }
+    requires class { (p : ℕ) × (r : ℕ) × IsClassAt engine.old p r class }
     requires few { length entries.old < 2 ^ 32 }
     ensures entry { OnOk result ((entry : Verdict) × (entries.new ≡ entries.old ++ entry ∷ [])
         × OfClass engine.new class (λ p r. IsEntryAt brief engine.new.world p a r entry)) }
