@@ -1,5 +1,5 @@
 -- Several actions at once: each statement that requests share has a row, which says of each action whether the statement
--- acts on it, and what holds of the requests for up to 64 of the actions is said by the bits of one word.
+-- acts on it, and what holds of the requests for up to 64 of the actions is said by the bits of one word. LOGIC 11.1, 11.2.
 use Rattle.std.specs.Prelude.{◌≡◌, ◌⊎◌, ◌↔◌, ◌+◌, ◌<◌, ◌≤◌, ℕ, Bool, true, false, List, [], ◌∷◌, All, Some, length, map}
 use Rattle.std.specs.Borrow.{Bor}
 use Rattle.std.specs.Int.{bit_at}
