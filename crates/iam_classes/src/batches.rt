@@ -1,4 +1,6 @@
 // Decisions on requests of classes, up to 64 actions at once.
+ghost use Rattle.std.specs.Prelude.{IfOk};
+ghost use Rattle.iam_slots.specs.Slots.{AreEmpty};
 
 use crate::memo::Memo;
 use iam_batch::{Decided, rows_find};
@@ -11,7 +13,8 @@ use std::alloc::Global;
 /// So many actions are decided on at once.
 pub const TOGETHER: u64 = 64;
 
-/// So many batches are kept at most.
+/// So many batches are kept at most, and none of a world of more resources: each of a principal's may have a class of its own, and is asked
+/// for the next action after all others.
 const MOST: u64 = 8_192;
 
 /// What is decided on the requests of a class for the actions from 64 times this number on, 64 at most.
@@ -28,6 +31,17 @@ pub struct Batches {
     pub slots: Vec<Option<Batch>>,
 }
 
+/// Slots for the batches of a world, if any are kept.
+fn batch_slots(alloc: Global, world: &World) -> Result<Vec<Option<Batch>>, OutOfMemory>
+    ensures { IfOk result (λ slots. AreEmpty slots.items) }
+{
+    if world.resources() > MOST {
+        return Ok(Vec::new(alloc));
+    }
+    let pairs = world.principals().saturating_mul(world.resources());
+    empty_slots(alloc, pairs.min(MOST))
+}
+
 impl Batches {
     ghost use Rattle.std.specs.Prelude.{◌<◌, ◌*◌, ℕ, IfOk, IfSome, List, length};
     ghost use Rattle.iam_slots.specs.Slots.{AreEmpty};
@@ -39,9 +53,8 @@ impl Batches {
     pub fn new(alloc: Global, world: &World) -> Result<Batches, OutOfMemory>
         ensures { IfOk result (λ batches. AreEmpty batches.slots.items) }
     {
-        let pairs = world.principals().saturating_mul(world.resources());
         Ok(Batches {
-            slots: empty_slots(alloc, pairs.min(MOST))?,
+            slots: batch_slots(alloc, world)?,
         })
     }
 
@@ -61,6 +74,9 @@ impl Batches {
         ensures decision { IfSome result (HasDecision memo.now.world memo.now.classes class a) }
         ensures right { AreBatches memo.now.world memo.now.classes self.new }
     {
+        if self.slots.is_empty() {
+            return None;
+        }
         found_decide();
         acting_are_found();
         rows_find();
