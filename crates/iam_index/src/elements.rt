@@ -28,8 +28,11 @@ const MOST_ACTS: u64 = 16_777_216;
 /// So few actions are sooner tried than sought by their services.
 const FEW: u64 = 1;
 
-/// The elements that were found last, by their prints.
+/// The slots for the numbers of elements, by their prints.
 const PRINTS: u64 = 8_192;
+
+/// An element is sought in so many slots, from that of its print on.
+const STEPS: u64 = 8;
 
 /// An action element, and of each action of a world whether it matches.
 #[derive(Drop)]
@@ -47,7 +50,7 @@ pub struct Elements<'a> {
     pub elements: Vec<Element<'a>>,
     // The actions of the world by their services.
     pub services: Services,
-    // By a print the element that was last found with it: a hint.
+    // By their prints the numbers of elements: a hint.
     prints: Vec<Option<usize>>,
     // How many elements there is room for.
     most: usize,
@@ -72,21 +75,21 @@ impl<'a> Elements<'a> {
         ensures right { AreKept world.now self.new }
         ensures idle { result ≡ false → MatchesNone world.now action.entry.now }
     {
-        let slot = slot_of(0, action_print(action), PRINTS as usize);
-        if let Some(number) = self.known(slot, action) {
+        let print = action_print(action);
+        if let Some(number) = self.known(print, action) {
             return self.elements[number].some;
         }
         if self.elements.len() >= self.most {
             return some_matches(world, &self.services, action);
         }
         match element_of(alloc, world, &self.services, action) {
-            Ok(element) => self.add(slot, element),
+            Ok(element) => self.add(print, element),
             Err(_) => some_matches(world, &self.services, action),
         }
     }
 
     /// Puts the element behind the others, where there is memory for it; whether it matches some action.
-    fn add(&mut self, slot: u64, element: Element<'a>) -> bool
+    fn add(&mut self, print: u64, element: Element<'a>) -> bool
         ensures right { (world : WorldValue) → IsElement world element.entry → AreKept world self.old → AreKept world self.new }
         ensures same { result ≡ element.entry.some }
     {
@@ -96,8 +99,17 @@ impl<'a> Elements<'a> {
             Ok(()) => (),
             Err(_) => return some,
         }
+        let slot = self.free_slot(print);
         keep(&mut self.prints, slot, number);
         some
+    }
+
+    /// The first slot of a print that keeps nothing, or else its first.
+    fn free_slot(&self, print: u64) -> u64 {
+        (0..STEPS)
+            .map(|step| slot_in_step(print, step))
+            .find(|slot| kept(self.prints.as_slice(), *slot).is_none())
+            .unwrap_or(slot_in_step(print, 0))
     }
 
     /// What the action element of each of the living statements matches; of one that is not kept nothing is told.
@@ -120,24 +132,29 @@ impl<'a> Elements<'a> {
     fn row(&self, action: &Actions) -> &[bool]
         ensures { (world : WorldValue) → AreElements world self.now.elements.items → TellActs world action.now result.now }
     {
-        let slot = slot_of(0, action_print(action), PRINTS as usize);
-        match self.known(slot, action) {
+        match self.known(action_print(action), action) {
             Some(number) => self.elements[number].acts.as_slice(),
             None => &[],
         }
     }
 
-    /// The element that a slot has, where it is this one.
-    fn known(&self, slot: u64, action: &Actions) -> Option<usize>
+    /// The number of an element, which has this print, where it is kept.
+    fn known(&self, print: u64, action: &Actions) -> Option<usize>
         ensures { IfSome result (λ n. HasElement self.now.elements.items n action.now) }
     {
-        let number = kept(self.prints.as_slice(), slot)?;
-        if number < self.elements.len() && self.elements[number].action.equals(action) {
-            Some(number)
-        } else {
-            None
+        for step in 0..STEPS {
+            let number = kept(self.prints.as_slice(), slot_in_step(print, step))?;
+            if number < self.elements.len() && self.elements[number].action.equals(action) {
+                return Some(number);
+            }
         }
+        None
     }
+}
+
+/// The slot of a print to look at in this step.
+fn slot_in_step(print: u64, step: u64) -> u64 {
+    slot_of(0, print.wrapping_add(step), PRINTS as usize)
 }
 
 /// Puts the living statements whose action elements, of these rows, match action a of this text into `found`, in place of what is there.
@@ -217,10 +234,7 @@ fn services_of(alloc: Global, world: &World) -> Services
     if world.actions() <= FEW {
         return Services::none(alloc);
     }
-    match found_services(alloc, world) {
-        Ok(services) => services,
-        Err(_) => Services::none(alloc),
-    }
+    found_services(alloc, world).unwrap_or(Services::none(alloc))
 }
 
 /// The actions of the world by their services.

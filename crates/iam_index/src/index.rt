@@ -253,23 +253,6 @@ impl<'a> Index<'a> {
     }
 }
 
-/// Adds the statement to those chosen before it, if its action element matches the action.
-fn add_candidate<'a>(
-    candidates: &mut Vec<Standing<'a>>,
-    standing: Standing<'a>,
-    action: &str,
-) -> Result<(), OutOfMemory>
-    ensures are { OnOk result ((before : List Placed) → AreCandidates (action.now ∷ []) before (map placed_value candidates.old.items)
-        → AreCandidates (action.now ∷ []) (before ++ placed_value standing.entry ∷ []) (map placed_value candidates.new.items)) }
-    ensures act { OnOk result (AllAct action.now candidates.old.items → AllAct action.now candidates.new.items) }
-{
-    if !action_matches(standing.statement.action(), action) {
-        return Ok(());
-    }
-    candidates.push(standing)?;
-    Ok(())
-}
-
 /// Adds those of the statements whose action element matches the action.
 fn add_candidates<'a>(
     candidates: &mut Vec<Standing<'a>>,
@@ -281,7 +264,9 @@ fn add_candidates<'a>(
     ensures act { OnOk result (AllAct action.now candidates.old.items → AllAct action.now candidates.new.items) }
 {
     for &standing in statements {
-        add_candidate(candidates, standing, action)?;
+        if action_matches(standing.statement.action(), action) {
+            candidates.push(standing)?;
+        }
     }
     Ok(())
 }

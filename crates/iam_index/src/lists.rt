@@ -1,7 +1,6 @@
 // Which statements of a world an index lists, by whom their policies are had.
-ghost use Rattle.std.specs.Prelude.{[], ◌∷◌, ◌≡◌, ◌++◌, ◌<◌, IfOk, IfSome, IsTrue, List, OnOk, length, map};
+ghost use Rattle.std.specs.Prelude.{◌≡◌, ◌++◌, ◌<◌, IfOk, IfSome, IsTrue, List, length, map};
 ghost use Rattle.iam_decision.specs.Code.Scan.{placed_value};
-ghost use Rattle.iam_decision.specs.Matched.{Placed};
 ghost use Rattle.iam_index.specs.Elements.{AreKept};
 ghost use Rattle.iam_index.specs.Index.{AreListed, AreLists, AreOrgs, AreResourceLists, HasOrg, HaveOrgs, IsListOf, ListsOrg, ListsRequester, ListsResource};
 ghost use Rattle.iam_index.specs.declared.lists.Listed.{Listed};
@@ -69,26 +68,6 @@ impl<'a> ResourceLists<'a> {
     }
 }
 
-/// Adds the statement to those listed before it, if its action element matches some action of the world.
-fn add_concerned<'a>(
-    alloc: Global,
-    world: &World,
-    elements: &mut Elements<'a>,
-    listed: &mut Vec<Standing<'a>>,
-    standing: Standing<'a>,
-) -> Result<(), OutOfMemory>
-    requires { AreKept world.now elements.old }
-    ensures right { AreKept world.now elements.new }
-    ensures listed { OnOk result ((before : List Placed) → AreListed world.now before listed.old.items
-        → AreListed world.now (before ++ placed_value standing.entry ∷ []) listed.new.items) }
-{
-    if !elements.concerns(alloc, world, standing.statement.action()) {
-        return Ok(());
-    }
-    listed.push(standing)?;
-    Ok(())
-}
-
 /// Those of the statements whose action element matches some action of the world.
 fn concerned<'a>(
     alloc: Global,
@@ -102,7 +81,9 @@ fn concerned<'a>(
 {
     let mut listed = Vec::new(alloc);
     for &standing in statements {
-        add_concerned(alloc, world, elements, &mut listed, standing)?;
+        if elements.concerns(alloc, world, standing.statement.action()) {
+            listed.push(standing)?;
+        }
     }
     Ok(listed)
 }

@@ -1,7 +1,7 @@
 // Whole reports.
-ghost use Rattle.std.specs.Prelude.{◌≡◌, ◌<◌, ◌^◌, IfOk, false, length, map, true};
+ghost use Rattle.std.specs.Prelude.{◌≡◌, ◌<◌, ◌≤◌, ◌^◌, IfOk, length, map};
 ghost use Rattle.iam_world.specs.World.{world_cells};
-ghost use Rattle.iam_row.specs.Piece.{IsTextOf, bare, text_of};
+ghost use Rattle.iam_row.specs.Piece.{brief_tail, full_tail, text_of};
 ghost use Rattle.iam_row.specs.Report.{IsReport, brief_layout, full_layout};
 ghost use Rattle.iam_row.specs.declared.quoted.Format.TheVariants.{Csv, Json};
 
@@ -10,7 +10,7 @@ use crate::output::buffer;
 use iam_layers::{Decision, Verdict, World};
 use iam_row::{Format, Quoted, brief_texts, full_texts};
 use iam_text::OutOfMemory;
-use iam_tiles::Entries;
+use iam_tiles::{Decisions, Entries, Tile};
 use std::alloc::Global;
 
 /// The text of a report.
@@ -25,43 +25,36 @@ fn written(alloc: Global, matrix: &MatrixText) -> Result<Vec<u8>, OutOfMemory>
     }
 }
 
-fn full_entries(alloc: Global, verdicts: &[Verdict]) -> Result<Entries, OutOfMemory>
+/// The tails of the rows of these verdicts.
+fn full_tile(alloc: Global, format: Format, verdicts: &[Verdict]) -> Result<Tile, OutOfMemory>
     requires { length verdicts.now < 2 ^ 32 }
-    ensures { IfOk result (λ entries. entries ≡ verdicts.now) }
+    ensures { IfOk result (λ tile. tile ≡ map (full_tail format) verdicts.now) }
 {
     let mut entries = Entries::new(alloc, verdicts.len())?;
     for verdict in verdicts {
         entries.push(alloc, verdict)?;
     }
-    Ok(entries)
+    entries.tile(alloc, format, false)
 }
 
-fn brief_entries(alloc: Global, decisions: &[Decision]) -> Result<Entries, OutOfMemory>
-    requires { length decisions.now < 2 ^ 32 }
-    ensures { IfOk result (λ entries. entries ≡ map bare decisions.now) }
+/// The tails of the rows of these decisions, in brief.
+fn brief_tile(alloc: Global, format: Format, decisions: &[Decision]) -> Result<Tile, OutOfMemory>
+    ensures { IfOk result (λ tile. tile ≡ map (brief_tail format) decisions.now) }
 {
-    let mut entries = Entries::new(alloc, decisions.len())?;
+    let mut kept = Decisions::new(alloc, decisions.len())?;
     for decision in decisions {
-        entries.push_decision(alloc, *decision)?;
+        kept.push(*decision)?;
     }
-    Ok(entries)
+    kept.tile(alloc, format)
 }
 
-/// The report with the rows of these entries, one for each cell of the world.
-fn report(
-    alloc: Global,
-    world: &World,
-    format: Format,
-    brief: bool,
-    entries: Entries,
-) -> Result<Vec<u8>, OutOfMemory>
-    requires { length entries ≡ world_cells world.now }
-    ensures { IfOk result (λ text. IsTextOf world.now format brief entries text.items) }
+/// The report of these texts with these tails.
+fn report(alloc: Global, quoted: Quoted, brief: bool, tile: Tile) -> Result<Vec<u8>, OutOfMemory>
+    requires { length tile ≤ 16777216 }
+    ensures { IfOk result (λ text. text.items ≡ text_of (record { quoted = quoted; brief = brief; tails = tile })) }
 {
-    let _cells = world.cells();
-    let quoted = Quoted::of(alloc, world, format)?;
     let mut tiles = Vec::new(alloc);
-    tiles.push(entries.tile(alloc, format, brief)?)?;
+    tiles.push(tile)?;
     written(alloc, &MatrixText::of(quoted, brief, tiles))
 }
 
@@ -76,8 +69,9 @@ fn full_report(
 {
     full_texts();
     let _cells = world.cells();
-    let entries = full_entries(alloc, verdicts)?;
-    report(alloc, world, format, false, entries)
+    let quoted = Quoted::of(alloc, world, format)?;
+    let tile = full_tile(alloc, format, verdicts)?;
+    report(alloc, quoted, false, tile)
 }
 
 fn brief_report(
@@ -91,8 +85,9 @@ fn brief_report(
 {
     brief_texts();
     let _cells = world.cells();
-    let entries = brief_entries(alloc, decisions)?;
-    report(alloc, world, format, true, entries)
+    let quoted = Quoted::of(alloc, world, format)?;
+    let tile = brief_tile(alloc, format, decisions)?;
+    report(alloc, quoted, true, tile)
 }
 
 /// The report of all cells as CSV, from one verdict a cell: a header and a row a cell, fields joined by commas and put

@@ -1,14 +1,17 @@
 //! Verdicts of cells that follow one another, of which equal ones are kept once, and the tails of their rows.
 //!
-//! `Kept` keeps items of any kind so, `Entries` keeps verdicts, and a `Tile` is what `Entries` are made for a report.
+//! `Kept` keeps items of any kind so, `Entries` keeps verdicts, and `Decisions` keeps decisions alone. A `Tile` is what
+//! `Entries` or `Decisions` are made for a report.
 #![tactic(auto)]
 
+mod decisions;
 mod entries;
 mod guess;
 mod kept;
 mod numbers;
 mod tile;
 
+pub use decisions::Decisions;
 pub use entries::{Entries, hash_of, is_bare, is_same};
 pub use guess::mix;
 pub use iam_layers::{Decision, Verdict};

@@ -1,6 +1,7 @@
 -- Items that are kept once, and a list of their numbers.
 use Rattle.std.specs.Prelude.{◌≡◌, ℕ, ◌≤◌, List, [], ◌∷◌, ◌++◌, Some, get_or, length, map, slice_get}
-use Rattle.iam_decision.specs.declared.verdict.Decision.TheVariants.{ImplicitDeny}
+use Rattle.iam_decision.specs.declared.verdict.Decision.{Decision}
+use Rattle.iam_decision.specs.declared.verdict.Decision.TheVariants.{Allowed, ExplicitDeny, ImplicitDeny}
 use Rattle.iam_decision.specs.declared.verdict.Verdict.{Verdict}
 use Rattle.iam_row.specs.declared.tail.Tail.{Tail}
 
@@ -20,3 +21,7 @@ no_verdict = record { decision = ImplicitDeny; statements = []; lacks = [] }
 
 abbrev pub no_tail : Tail
 no_tail = record { front = []; back = [] }
+
+-- the decisions by their numbers
+abbrev pub all_decisions : List Decision
+all_decisions = Allowed ∷ ExplicitDeny ∷ ImplicitDeny ∷ []

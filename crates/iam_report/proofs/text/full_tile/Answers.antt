@@ -1,6 +1,6 @@
 use Rattle.std.proofs.Common.{length, ap, arith}
 use Rattle.std.proofs.lemmas.List.{length-take}
-use Rattle.iam_report.proofs.text.full_entries.Goals as goal
+use Rattle.iam_report.proofs.text.full_tile.Goals as goal
 
 pub push-requires : goal.push-requires
 push-requires c =

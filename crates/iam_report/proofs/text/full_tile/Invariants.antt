@@ -1,5 +1,5 @@
 use Rattle.std.proofs.Common.{◌≡◌, take}
-use Rattle.iam_report.proofs.text.full_entries.Given as goal
+use Rattle.iam_report.proofs.text.full_tile.Given as goal
 
 abbrev pub invariant-loop-verdict : goal.invariant-loop-verdict
 invariant-loop-verdict l = l.entries ≡ take l.verdict-index l.verdicts
