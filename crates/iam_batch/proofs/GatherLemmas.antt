@@ -1,145 +1,126 @@
--- Words gathered from the rows of the statements that have a property.
-use Rattle.std.proofs.Common.{◌≡◌, ◌⊎◌, inl, inr, ◌↔◌, ℕ, suc, zero, ◌+◌, ◌<◌, Bool, List, [], ◌∷◌, length, get_or, map, refl, sym, ◌∙◌, ap, subst, arith}
+-- Words gathered from the rows of the statements of a kind, one statement after the other.
+use Rattle.std.proofs.Common.{◌≡◌, ◌⊎◌, inl, inr, ◌↔◌, ℕ, suc, zero, ◌+◌, ◌<◌, ◌≤◌, Bool, List, [], ◌∷◌, drop, get_or, length, refl, sym, subst, arith}
 use Rattle.std.specs.Borrow.{Bor}
 use Rattle.std.specs.Int.{bit_at}
 use Rattle.std.specs.Int.Bits.{bit_or}
 use Rattle.std.specs.List.{Any}
-use Rattle.std.proofs.lemmas.List.{get_or-map, length-map}
 use Rattle.std.proofs.lemmas.Nat.Bits.{bit_at-zero}
-use Rattle.iam_decision.specs.declared.living.Living.{Living}
 use Rattle.iam_decision.specs.declared.living.Matched.{Matched}
-use Rattle.iam_batch.specs.Batch.{Acts, AreFoundIn, AreLanes, IsWord, matched_of}
+use Rattle.iam_batch.specs.Batch.{Acts, AreFoundIn, IsWord, matched_of}
+use Rattle.iam_batch.specs.Code.{Tells}
+use Rattle.iam_batch.specs.declared.gather.Batch.{Batch}
+use Rattle.iam_decision.specs.declared.living.Living.{Living}
+use Rattle.std.proofs.lemmas.List.{drop_all, drop_more}
 use Rattle.iam_batch.proofs.WordLemmas.{or_bits}
+
+-- one of a list is the first or one behind it
+any_more : (P : Matched → Type 0) (s : Matched) (ss : List Matched) → Any P (s ∷ ss) ↔ (P s ⊎ Any P ss)
+any_more P s ss = (split, (λ h. elim h [ inl p ↦ (0, s, omega arith, refl, p) | inr (i, x, below, at, p) ↦ (suc i, x, omega arith, at, p) ]))
+  where
+    split : Any P (s ∷ ss) → P s ⊎ Any P ss
+    split (zero, x, below, at, p) = inl (subst P (sym at) p)
+    split (suc i, x, below, at, p) = inr (i, x, (let b : i < length ss = omega arith in b), at, p)
+
+-- of the statements found, one has the property if one looked at has, or one of those left
+abbrev pub IsLeft : (Matched → Type 0) → List Matched → Type 0 → List Matched → List (Bor (List Bool)) → ℕ → Type 0
+IsLeft P found seen statements rows a =
+    (rest : List Matched) × AreFoundIn statements rows a rest × (Any P found ↔ (seen ⊎ Any P rest))
+
+-- one more is looked at
+look : (P : Matched → Type 0) (found : List Matched) (before now : Type 0) (s : Matched) (ss : List Matched) (r : Bor (List Bool))
+    (rs : List (Bor (List Bool))) (a : ℕ) → (now ↔ (before ⊎ (Acts r.now a × P s)))
+    → IsLeft P found before (s ∷ ss) (r ∷ rs) a → IsLeft P found now ss rs a
+look P found before now s ss r rs a is (rest, inl (on, (later, same, are)), any) = (
+  later,
+  are,
+  (
+    (λ one. elim (any.0 one) [
+      | inl old ↦ inl (is.1 (inl old))
+      | inr more ↦ elim ((any_more P s later).0 (subst (Any P) same more)) [ inl p ↦ inl (is.1 (inr (on, p))) | inr behind ↦ inr behind ]
+    ]),
+    (λ h. any.1 (elim h [
+      | inl new ↦ elim (is.0 new) [ inl old ↦ inl old | inr last ↦ inr (subst (Any P) (sym same) ((any_more P s later).1 (inl last.1))) ]
+      | inr behind ↦ inr (subst (Any P) (sym same) ((any_more P s later).1 (inr behind)))
+    ])),
+  ),
+)
+look P found before now s ss r rs a is (rest, inr (off, are), any) = (
+  rest,
+  are,
+  (
+    (λ one. elim (any.0 one) [ inl old ↦ inl (is.1 (inl old)) | inr behind ↦ inr behind ]),
+    (λ h. any.1 (elim h [
+      | inl new ↦ elim (is.0 new) [ inl old ↦ inl old | inr last ↦ (let on = last.0 in let wrong : ⊥ = cc in absurd wrong) ]
+      | inr behind ↦ inr behind
+    ])),
+  ),
+)
 
 -- a row with nothing in it
 abbrev pub no_row : Bor (List Bool)
 no_row = record { ref_ptr = (0, 0); now = [] }
 
-abbrev pub row_at : List (Bor (List Bool)) → ℕ → List Bool
-row_at rows i = get_or (map (λ row. row.now) rows) i []
+-- the bits of the first n statements that have the property
+abbrev pub AreGathered : (Matched → Type 0) → Batch → ℕ → ℕ → Type 0
+AreGathered P b lanes n =
+    (k : ℕ) (found : List Matched) → k < b.count → AreFoundIn (matched_of b.living.now) b.rows.now (b.from + k) found
+    → IsLeft P found (bit_at lanes k ≡ 1) (matched_of (drop n b.living.now)) (drop n b.rows.now) (b.from + k)
 
--- one of the first n statements has the property, and acts on action a
-abbrev pub SomeActs : (Matched → Type 0) → List Matched → List (Bor (List Bool)) → ℕ → ℕ → Type 0
-SomeActs P statements rows n a =
-    (i : ℕ) × (m : Matched) × (i < n) × (get_or statements i m ≡ m) × Acts (row_at rows i) a × P m
-
--- the bits of these
-abbrev pub AreGathered : (Matched → Type 0) → List Matched → List (Bor (List Bool)) → ℕ → ℕ → ℕ → ℕ → Type 0
-AreGathered P statements rows from count n lanes =
-    (k : ℕ) → k < count → (bit_at lanes k ≡ 1) ↔ SomeActs P statements rows n (from + k)
-
-pub gathered_none : (P : Matched → Type 0) (statements : List Matched) (rows : List (Bor (List Bool))) (from count : ℕ)
-    → AreGathered P statements rows from count 0 0
-gathered_none P statements rows from count = λ k few. (
-  (λ one. let zero_is = bit_at-zero k in absurd (omega (arith, one, zero_is))),
-  (λ some. absurd (omega (arith, some.2))),
+pub gathered_none : (P : Matched → Type 0) (b : Batch) → AreGathered P b 0 0
+gathered_none P b = λ k found few are. (
+  found,
+  are,
+  (
+    (λ any. inr any),
+    (λ h. elim h [
+      | inl one ↦ absurd (let zero_is = bit_at-zero k in omega (arith, one, zero_is))
+      | inr any ↦ any
+    ]),
+  ),
 )
 
-compare : (i j : ℕ) → (i < j) ⊎ ((i ≡ j) ⊎ (j < i))
-compare zero zero = inr (inl refl)
-compare zero (suc j) = inl (omega arith)
-compare (suc i) zero = inr (inr (omega arith))
-compare (suc i) (suc j) = elim (compare i j) [
-  | inl less ↦ inl (omega (arith, less))
-  | inr rest ↦ elim rest [ inl same ↦ inr (inl (ap (λ n. suc n) same)) | inr more ↦ inr (inr (omega (arith, more))) ]
-]
+-- one more is looked at, which has the property or has it not
+gathered_next : (P : Matched → Type 0) (b : Batch) (lanes new n : ℕ) (l : Living) → n < length b.living.now
+    → ((k : ℕ) → k < b.count
+    → (bit_at new k ≡ 1) ↔ ((bit_at lanes k ≡ 1) ⊎ (Acts (get_or b.rows.now n no_row).now (b.from + k) × P (get_or b.living.now n l).matched)))
+    → AreGathered P b lanes n → AreGathered P b new (n + 1)
+gathered_next P b lanes new n l below is before = λ k found few are.
+    let seen = bit_at lanes k ≡ 1 in
+    let a = b.from + k in
+    let rows = drop n b.rows.now in
+    let first = subst (λ ls. IsLeft P found seen (matched_of ls) rows a) (drop_more b.living.now n l below) (before k found few are) in
+    let row = drop_more b.rows.now n no_row (omega (arith, below, b.lengths)) in
+    look P found seen (bit_at new k ≡ 1) (get_or b.living.now n l).matched (matched_of (drop (n + 1) b.living.now))
+    (get_or b.rows.now n no_row) (drop (n + 1) b.rows.now) a (is k few)
+    (subst (λ rs. IsLeft P found seen ((get_or b.living.now n l).matched ∷ matched_of (drop (n + 1) b.living.now)) rs a) row first)
 
--- one that was there stays
-still : (P : Matched → Type 0) (statements : List Matched) (rows : List (Bor (List Bool))) (n a : ℕ) → SomeActs P statements rows n a
-    → SomeActs P statements rows (n + 1) a
-still P statements rows n a (i, m, below, at, acts, p) = (i, m, omega arith, at, acts, p)
+pub gathered_more : (P : Matched → Type 0) (b : Batch) (lanes word n : ℕ) (l : Living) → n < length b.living.now
+    → P (get_or b.living.now n l).matched → IsWord (get_or b.rows.now n no_row).now b.from b.count word → AreGathered P b lanes n
+    → AreGathered P b (bit_or lanes word) (n + 1)
+gathered_more P b lanes word n l below p is = gathered_next P b lanes (bit_or lanes word) n l below (λ k few.
+    let or = or_bits lanes word k in (
+      (λ one. elim (or.0 one) [ inl old ↦ inl old | inr new ↦ inr ((is k few).0 new, p) ]),
+      (λ h. or.1 (elim h [ inl old ↦ inl old | inr last ↦ inr ((is k few).1 last.0) ])),
+    ))
 
--- one of one more was there, or is the last
-split : (P : Matched → Type 0) (statements : List Matched) (rows : List (Bor (List Bool))) (n a : ℕ) → SomeActs P statements rows (n + 1) a
-    → SomeActs P statements rows n a ⊎ ((m : Matched) × (get_or statements n m ≡ m) × Acts (row_at rows n) a × P m)
-split P statements rows n a (i, m, below, at, acts, p) = elim (compare i n) [
-  | inl less ↦ inl (i, m, less, at, acts, p)
-  | inr rest ↦ elim rest [
-    | inl same ↦ inr (m, subst (λ j. get_or statements j m ≡ m) same at, subst (λ j. Acts (row_at rows j) a) same acts, p)
-    | inr more ↦ absurd (omega arith)
-  ]
-]
+pub gathered_skip : (P : Matched → Type 0) (b : Batch) (lanes n : ℕ) (l : Living) → n < length b.living.now
+    → ¬ P (get_or b.living.now n l).matched → AreGathered P b lanes n → AreGathered P b lanes (n + 1)
+gathered_skip P b lanes n l below not = gathered_next P b lanes lanes n l below
+    (λ k few. ((λ one. inl one), (λ h. elim h [ inl one ↦ one | inr last ↦ absurd (not last.1) ])))
 
--- the statement that lives is the one that is kept
-kept : (living : List Living) (n : ℕ) (l : Living) → n < length living → (m : Matched) → get_or (matched_of living) n m ≡ (get_or living n l).matched
-kept living n l below m = get_or-map (λ x. x.matched) living n l m below
-
--- one more is looked at, and has the property
-pub gathered_more : (P : Matched → Type 0) (living : List Living) (rows : List (Bor (List Bool))) (from count n lanes word : ℕ) (l : Living)
-    → n < length living → length rows ≡ length living → P (get_or living n l).matched
-    → IsWord (get_or rows n no_row).now from count word → AreGathered P (matched_of living) rows from count n lanes
-    → AreGathered P (matched_of living) rows from count (n + 1) (bit_or lanes word)
-gathered_more P living rows from count n lanes word l below lengths p is before = λ k few.
-    let statements = matched_of living in
-    let m = (get_or living n l).matched in
-    let same : row_at rows n ≡ (get_or rows n no_row).now = get_or-map (λ r. r.now) rows n no_row [] (omega (arith, below, lengths)) in
-    let there : get_or statements n m ≡ m = kept living n l below m in (
-      λ one. elim ((or_bits lanes word k).0 one) [
-        | inl old ↦ still P statements rows n (from + k) ((before k few).0 old)
-        | inr new ↦ (n, m, omega arith, there, subst (λ r. Acts r (from + k)) (sym same) ((is k few).0 new), p)
-      ],
-      λ some. (or_bits lanes word k).1 (elim (split P statements rows n (from + k) some) [
-        | inl old ↦ inl ((before k few).1 old)
-        | inr last ↦ inr ((is k few).1 (subst (λ r. Acts r (from + k)) same last.2))
-      ]),
-    )
-
--- or has it not
-pub gathered_skip : (P : Matched → Type 0) (living : List Living) (rows : List (Bor (List Bool))) (from count n lanes : ℕ) (l : Living)
-    → n < length living → ¬ P (get_or living n l).matched → AreGathered P (matched_of living) rows from count n lanes
-    → AreGathered P (matched_of living) rows from count (n + 1) lanes
-gathered_skip P living rows from count n lanes l below not before = λ k few. (
-  λ one. still P (matched_of living) rows n (from + k) ((before k few).0 one),
-  λ some. elim (split P (matched_of living) rows n (from + k) some) [
-    | inl old ↦ (before k few).1 old
-    | inr last ↦ absurd (not (subst P (sym last.1 ∙ kept living n l below last.0) last.3))
-  ],
-)
-
-none_of : (P : Matched → Type 0) → Any P [] → ⊥
-none_of P (i, x, below, at, p) = omega arith
-
-found_any : (P : Matched → Type 0) (statements : List Matched) (rows : List (Bor (List Bool))) (a : ℕ) (found : List Matched)
-    → AreFoundIn statements rows a found → SomeActs P statements rows (length statements) a → Any P found
-found_any P [] rows a found are (i, m, below, at, acts, p) = absurd (omega arith)
-found_any P (s ∷ ss) [] a found are some = absurd are
-found_any P (s ∷ ss) (r ∷ rs) a found (inl (on, (rest, is, are))) (zero, m, below, at, acts, p) =
-    subst (Any P) (sym is) (0, s, omega arith, refl, subst P (sym at) p)
-found_any P (s ∷ ss) (r ∷ rs) a found (inl (on, (rest, is, are))) (suc i, m, below, at, acts, p) =
-    let later = found_any P ss rs a rest are (i, m, (let b : i < length ss = omega arith in b), at, acts, p) in
-    subst (Any P) (sym is) (suc later.0, later.1, (let b : later.0 < length rest = later.2 in omega arith), later.3, later.4)
-found_any P (s ∷ ss) (r ∷ rs) a found (inr (off, are)) (zero, m, below, at, acts, p) = absurd (cc)
-found_any P (s ∷ ss) (r ∷ rs) a found (inr (off, are)) (suc i, m, below, at, acts, p) =
-    found_any P ss rs a found are (i, m, (let b : i < length ss = omega arith in b), at, acts, p)
-
-behind : (P : Matched → Type 0) (s : Matched) (ss : List Matched) (r : Bor (List Bool)) (rs : List (Bor (List Bool))) (a : ℕ)
-    → SomeActs P ss rs (length ss) a → SomeActs P (s ∷ ss) (r ∷ rs) (length (s ∷ ss)) a
-behind P s ss r rs a (i, m, below, at, acts, p) = (suc i, m, omega arith, at, acts, p)
-
-first_or_behind : (P : Matched → Type 0) (s : Matched) (ss : List Matched) (r : Bor (List Bool)) (rs : List (Bor (List Bool))) (a : ℕ)
-    (rest : List Matched) → Acts r.now a → (Any P rest → SomeActs P ss rs (length ss) a) → Any P (s ∷ rest)
-    → SomeActs P (s ∷ ss) (r ∷ rs) (length (s ∷ ss)) a
-first_or_behind P s ss r rs a rest on later (zero, x, below, at, p) = (0, s, omega arith, refl, on, subst P (sym at) p)
-first_or_behind P s ss r rs a rest on later (suc i, x, below, at, p) =
-    behind P s ss r rs a (later (i, x, (let b : i < length rest = omega arith in b), at, p))
-
-any_found : (P : Matched → Type 0) (statements : List Matched) (rows : List (Bor (List Bool))) (a : ℕ) (found : List Matched)
-    → AreFoundIn statements rows a found → Any P found → SomeActs P statements rows (length statements) a
-any_found P [] [] a found is any = absurd (none_of P (subst (Any P) is any))
-any_found P [] (r ∷ rs) a found are any = absurd are
-any_found P (s ∷ ss) [] a found are any = absurd are
-any_found P (s ∷ ss) (r ∷ rs) a found (inl (on, (rest, is, are))) any =
-    first_or_behind P s ss r rs a rest on (λ later. any_found P ss rs a rest are later) (subst (Any P) is any)
-any_found P (s ∷ ss) (r ∷ rs) a found (inr (off, are)) any = behind P s ss r rs a (any_found P ss rs a found are any)
+none : (P : Matched → Type 0) → ¬ Any P []
+none P (i, x, below, at, p) = omega arith
 
 -- all are looked at
-pub gathered_all : (P : Matched → Type 0) (living : List Living) (rows : List (Bor (List Bool))) (from count lanes : ℕ)
-    → AreGathered P (matched_of living) rows from count (length living) lanes → AreLanes (matched_of living) rows from count lanes (Any P)
-gathered_all P living rows from count lanes before =
-    let statements = matched_of living in
-    let as_many : length living ≡ length statements = sym (length-map living (λ l. l.matched)) in
-    let gathered = subst (λ n. AreGathered P statements rows from count n lanes) as_many before in
-    λ k found few are. (
-      λ one. found_any P statements rows (from + k) found are ((gathered k few).0 one),
-      λ any. (gathered k few).1 (any_found P statements rows (from + k) found are any),
+pub gathered_all : (P : Matched → Type 0) (b : Batch) (lanes n : ℕ) → length b.living.now ≤ n → AreGathered P b lanes n → Tells b lanes (Any P)
+gathered_all P b lanes n all before = λ k found few are.
+    let left = subst (λ ls. IsLeft P found (bit_at lanes k ≡ 1) (matched_of ls) (drop n b.rows.now) (b.from + k))
+    (drop_all n b.living.now all) (before k found few are) in
+    ends (drop n b.rows.now) (b.from + k) found (bit_at lanes k ≡ 1) left
+  where
+    ends : (rows : List (Bor (List Bool))) (a : ℕ) (found : List Matched) (seen : Type 0) → IsLeft P found seen [] rows a → seen ↔ Any P found
+    ends [] a found seen (rest, are, any) = (
+      (λ one. any.1 (inl one)),
+      (λ h. elim (any.0 h) [ inl one ↦ one | inr more ↦ absurd (none P (subst (Any P) are more)) ]),
     )
+    ends (r ∷ rs) a found seen (rest, are, any) = absurd are

@@ -1,6 +1,6 @@
 -- Several actions at once: each statement that requests share has a row, which says of each action whether the statement
 -- acts on it, and what holds of the requests for up to 64 of the actions is said by the bits of one word. LOGIC 11.1, 11.2.
-use Rattle.std.specs.Prelude.{◌≡◌, ◌⊎◌, ◌↔◌, ◌+◌, ◌<◌, ◌≤◌, ℕ, Bool, true, false, List, [], ◌∷◌, All, Some, length, map}
+use Rattle.std.specs.Prelude.{◌≡◌, ◌⊎◌, ◌↔◌, ◌+◌, ◌<◌, ℕ, Bool, true, false, List, [], ◌∷◌, All, Some, length, map}
 use Rattle.std.specs.Borrow.{Bor}
 use Rattle.std.specs.Int.{bit_at}
 use Rattle.std.specs.List.{slice_get}
@@ -14,11 +14,6 @@ use Rattle.iam_batch.specs.declared.lanes.Decided.{Decided}
 -- what is kept of the living statements
 abbrev pub matched_of : List Living → List Matched
 matched_of living = map (λ l. l.matched) living
-
--- each statement has a row, which reaches to the last of these actions
-pub record Reach (living : List Living) (rows : List (Bor (List Bool))) (from count : ℕ) : Type 0 where
-  pub lengths : length rows ≡ length living
-  pub all : All (λ row. from + count ≤ length row.now) rows
 
 -- the statement with this row acts on action a
 abbrev pub Acts : List Bool → ℕ → Type 0

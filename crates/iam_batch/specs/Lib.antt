@@ -1,1 +1,2 @@
 pub mod Batch
+pub mod Code

@@ -1,13 +1,12 @@
 // The decisions on up to 64 actions, from the statements that requests for them share.
-ghost use Rattle.std.specs.Prelude.{◌≡◌, ◌↔◌, ◌+◌, ◌≤◌, All, IfSome, IsTrue, None, length, map};
+ghost use Rattle.std.specs.Prelude.{◌≡◌, ◌⊎◌, ◌↔◌, ◌+◌, ◌≤◌, All, IfSome, IsTrue, None, false, length, map};
+ghost use Rattle.std.specs.List.{Any};
 ghost use Rattle.iam_decision.specs.Code.Found.{AllowsIn, GrantsIn};
-ghost use Rattle.iam_decision.specs.Decision.{AllHold, BoundaryHolds, GrantSuffices, IsAllowed};
-ghost use Rattle.iam_decision.specs.Decision.{LevelsHold, MustGrant, SessionHolds};
-ghost use Rattle.iam_decision.specs.declared.place.Layer.TheVariants as layer;
-ghost use Rattle.iam_match.specs.declared.principal.Grant.TheVariants.{Account};
-ghost use Rattle.iam_batch.specs.Batch.{AreDecided, AreLanes, Reach, matched_of};
+ghost use Rattle.iam_decision.specs.Decision.{AllHold, GrantSuffices, IsAllowed, LevelsHold, MustGrant};
+ghost use Rattle.iam_batch.specs.Batch.{AreDecided};
+ghost use Rattle.iam_batch.specs.Code.{LimitsHold, Picks, Tells};
 
-use crate::gather::{allows, denies, grants};
+use crate::gather::{Batch, Pick};
 use crate::lanes::Decided;
 use iam_decision::{Frame, Grant, Layer, Living};
 
@@ -30,103 +29,20 @@ pub fn decided(
     ensures none { result ≡ None → ¬ (All (λ row. from + count ≤ length row.now) rows.now
         × (length rows.now ≡ length living.now)) }
 {
-    if !reach(living, rows, from, count) {
+    let reaches = |row: &&[bool]| from <= row.len() && count <= row.len() - from;
+    if rows.len() != living.len() || !rows.iter().all(reaches) {
         return None;
     }
+    let batch = Batch {
+        living,
+        rows,
+        from,
+        count,
+    };
     Some(Decided {
-        denied: denies(living, rows, from, count),
-        allowed: allowed(frame, living, rows, from, count),
+        denied: batch.lanes(Pick::Denies),
+        allowed: batch.allowed(frame),
     })
-}
-
-/// Whether each statement has a row that reaches so far.
-fn reach(living: &[Living<'_>], rows: &[&[bool]], from: usize, count: usize) -> bool
-    ensures { IsTrue result ↔ Reach living.now rows.now from count }
-{
-    rows.len() == living.len() && all_reach(rows, from, count)
-}
-
-fn all_reach(rows: &[&[bool]], from: usize, count: usize) -> bool
-    ensures { IsTrue result ↔ All (λ row. from + count ≤ length row.now) rows.now }
-{
-    for row in rows {
-        if row.len() < from || row.len() - from < count {
-            return false;
-        }
-    }
-    true
-}
-
-/// The actions for which what has to allow does.
-fn allowed(frame: Frame, living: &[Living<'_>], rows: &[&[bool]], from: usize, count: usize) -> u64
-    requires reach { Reach living.now rows.now from count }
-    requires few { count ≤ 64 }
-    ensures { AreLanes (matched_of living.now) rows.now from count result
-        (λ found. IsAllowed (AllowsIn found) (GrantsIn found) frame) }
-{
-    levels_hold(living, rows, Layer::Org, frame.org, from, count)
-        & levels_hold(living, rows, Layer::Control, frame.control, from, count)
-        & (grant_suffices(frame, living, rows, from, count)
-            | all_hold(frame, living, rows, from, count))
-}
-
-/// Those that each level of the layer allows.
-fn levels_hold(
-    living: &[Living<'_>],
-    rows: &[&[bool]],
-    layer: Layer,
-    levels: u32,
-    from: usize,
-    count: usize,
-) -> u64
-    requires reach { Reach living.now rows.now from count }
-    requires few { count ≤ 64 }
-    ensures { AreLanes (matched_of living.now) rows.now from count result
-        (λ found. LevelsHold (AllowsIn found) layer levels) }
-{
-    let mut lanes = u64::MAX;
-    for level in 0..levels {
-        lanes &= allows(living, rows, layer, level, from, count);
-    }
-    lanes
-}
-
-fn boundary_holds(
-    frame: Frame,
-    living: &[Living<'_>],
-    rows: &[&[bool]],
-    from: usize,
-    count: usize,
-) -> u64
-    requires reach { Reach living.now rows.now from count }
-    requires few { count ≤ 64 }
-    ensures { AreLanes (matched_of living.now) rows.now from count result
-        (λ found. BoundaryHolds (AllowsIn found) frame) }
-{
-    if frame.boundary {
-        allows(living, rows, Layer::Boundary, 0, from, count)
-    } else {
-        u64::MAX
-    }
-}
-
-fn session_holds(
-    frame: Frame,
-    living: &[Living<'_>],
-    rows: &[&[bool]],
-    from: usize,
-    count: usize,
-) -> u64
-    requires reach { Reach living.now rows.now from count }
-    requires few { count ≤ 64 }
-    ensures { AreLanes (matched_of living.now) rows.now from count result
-        (λ found. SessionHolds (AllowsIn found) frame) }
-{
-    if frame.session {
-        allows(living, rows, Layer::Session, 0, from, count)
-    } else {
-        u64::MAX
-    }
 }
 
 fn must_grant(frame: Frame) -> bool
@@ -135,56 +51,61 @@ fn must_grant(frame: Frame) -> bool
     !frame.same_account || frame.sealed
 }
 
-/// Those that the resource's policy grants something, or all where it need not.
-fn grant_holds(
-    frame: Frame,
-    living: &[Living<'_>],
-    rows: &[&[bool]],
-    from: usize,
-    count: usize,
-) -> u64
-    requires reach { Reach living.now rows.now from count }
-    requires few { count ≤ 64 }
-    ensures { AreLanes (matched_of living.now) rows.now from count result
-        (λ found. MustGrant frame → GrantsIn found Account) }
-{
-    if must_grant(frame) {
-        grants(living, rows, Grant::Account, from, count)
-    } else {
-        u64::MAX
+impl Batch<'_> {
+    /// The actions for which what has to allow does.
+    fn allowed(self, frame: Frame) -> u64
+        ensures { Tells self.entry result (λ found. IsAllowed (AllowsIn found) (GrantsIn found) frame) }
+    {
+        let limits = self.limits(frame);
+        self.levels_hold(Layer::Org, frame.org)
+            & self.levels_hold(Layer::Control, frame.control)
+            & (self.grant_suffices(frame, limits) | self.all_hold(frame, limits))
     }
-}
 
-fn all_hold(frame: Frame, living: &[Living<'_>], rows: &[&[bool]], from: usize, count: usize) -> u64
-    requires reach { Reach living.now rows.now from count }
-    requires few { count ≤ 64 }
-    ensures { AreLanes (matched_of living.now) rows.now from count result
-        (λ found. AllHold (AllowsIn found) (GrantsIn found) frame) }
-{
-    allows(living, rows, Layer::Identity, 0, from, count)
-        & boundary_holds(frame, living, rows, from, count)
-        & session_holds(frame, living, rows, from, count)
-        & grant_holds(frame, living, rows, from, count)
-}
+    /// Those that each level of the layer allows.
+    fn levels_hold(self, layer: Layer, levels: u32) -> u64
+        ensures { Tells self.entry result (λ found. LevelsHold (AllowsIn found) layer levels) }
+    {
+        let mut lanes = u64::MAX;
+        for level in 0..levels {
+            lanes &= self.lanes(Pick::Allows(layer, level));
+        }
+        lanes
+    }
 
-fn grant_suffices(
-    frame: Frame,
-    living: &[Living<'_>],
-    rows: &[&[bool]],
-    from: usize,
-    count: usize,
-) -> u64
-    requires reach { Reach living.now rows.now from count }
-    requires few { count ≤ 64 }
-    ensures { AreLanes (matched_of living.now) rows.now from count result
-        (λ found. GrantSuffices (AllowsIn found) (GrantsIn found) frame) }
-{
-    if frame.same_account {
-        grants(living, rows, Grant::Direct, from, count)
-            | (grants(living, rows, Grant::Role, from, count)
-                & boundary_holds(frame, living, rows, from, count)
-                & session_holds(frame, living, rows, from, count))
-    } else {
-        0
+    /// Those that a statement of this kind acts on, or all where that is not asked.
+    fn where_asked(self, asked: bool, pick: Pick) -> u64
+        ensures { Tells self.entry result (λ found. (asked ≡ false) ⊎ Any (λ m. Picks pick m) found) }
+    {
+        if asked { self.lanes(pick) } else { u64::MAX }
+    }
+
+    /// Those that boundary and session policies allow.
+    fn limits(self, frame: Frame) -> u64
+        ensures { Tells self.entry result (λ found. LimitsHold found frame) }
+    {
+        self.where_asked(frame.boundary, Pick::Allows(Layer::Boundary, 0))
+            & self.where_asked(frame.session, Pick::Allows(Layer::Session, 0))
+    }
+
+    /// Those that the same account needs no more for, where these are in the limits.
+    fn grant_suffices(self, frame: Frame, limits: u64) -> u64
+        requires { Tells self limits (λ found. LimitsHold found frame) }
+        ensures { Tells self.entry result (λ found. GrantSuffices (AllowsIn found) (GrantsIn found) frame) }
+    {
+        if frame.same_account {
+            self.lanes(Pick::Grants(Grant::Direct)) | self.lanes(Pick::Grants(Grant::Role)) & limits
+        } else {
+            0
+        }
+    }
+
+    fn all_hold(self, frame: Frame, limits: u64) -> u64
+        requires { Tells self limits (λ found. LimitsHold found frame) }
+        ensures { Tells self.entry result (λ found. AllHold (AllowsIn found) (GrantsIn found) frame) }
+    {
+        self.lanes(Pick::Allows(Layer::Identity, 0))
+            & limits
+            & self.where_asked(must_grant(frame), Pick::Grants(Grant::Account))
     }
 }

@@ -1,43 +1,77 @@
 // What the statements say that act on each action: a bit for each, found by going over the statements once.
-ghost use Rattle.std.specs.Prelude.{◌≡◌, ◌↔◌, ◌+◌, ◌≤◌, ℕ, IsTrue, length};
+ghost use Rattle.std.specs.Prelude.{◌≡◌, ◌↔◌, ◌+◌, ◌≤◌, ℕ, All, IsTrue, length};
 ghost use Rattle.std.specs.Int.{bit_at};
-ghost use Rattle.iam_policy.specs.declared.effect.Effect.TheVariants.{Allow, Deny};
-ghost use Rattle.iam_match.specs.Principal.{rank};
-ghost use Rattle.iam_decision.specs.Code.Found.{AllowsIn, DeniesIn, GrantsIn};
-ghost use Rattle.iam_decision.specs.declared.place.Layer.TheVariants as layer;
-ghost use Rattle.iam_batch.specs.Batch.{Acts, AreLanes, IsWord, Reach, matched_of};
+ghost use Rattle.iam_batch.specs.Batch.{Acts, IsWord};
 
 use iam_decision::{Effect, Grant, Layer, Living, Matched};
 
-fn is_deny(matched: Matched) -> bool
-    ensures { IsTrue result ↔ (matched.effect ≡ Deny) }
-{
-    matched.effect == Effect::Deny
+/// The `count` actions from number `from` on, beside statements with a row each that reaches so far.
+#[derive(Clone, Copy)]
+pub(crate) struct Batch<'a> {
+    pub(crate) living: &'a [Living<'a>],
+    pub(crate) rows: &'a [&'a [bool]],
+    pub(crate) from: usize,
+    pub(crate) count: usize,
+    ghost lengths: { length rows.now ≡ length living.now },
+    ghost reach: { All (λ row. from + count ≤ length row.now) rows.now },
+    ghost few: { count ≤ 64 },
 }
 
-fn is_allow(matched: Matched, layer: Layer, level: u32) -> bool
-    ensures { IsTrue result
-        ↔ ((matched.effect ≡ Allow) × (matched.place.layer ≡ layer) × (matched.place.level ≡ level)) }
-{
-    matched.effect == Effect::Allow && matched.place.layer == layer && matched.place.level == level
+/// A kind of statements.
+#[derive(Clone, Copy)]
+pub(crate) enum Pick {
+    /// The denies.
+    Denies,
+    /// The allows of this level of the layer.
+    Allows(Layer, u32),
+    /// The allows of the resource's policy that grant at least this.
+    Grants(Grant),
 }
 
-fn is_at_least(grant: Grant, least: Grant) -> bool
-    ensures { IsTrue result ↔ (rank least ≤ rank grant) }
-{
-    grant >= least
+impl Pick {
+    ghost use Rattle.iam_batch.specs.Code.{Picks};
+
+    /// Whether the statement is of this kind.
+    fn takes(self, matched: Matched) -> bool
+        ensures { IsTrue result ↔ Picks self matched }
+    {
+        match self {
+            Pick::Denies => matched.effect == Effect::Deny,
+            Pick::Allows(layer, level) => {
+                matched.effect == Effect::Allow
+                    && matched.place.layer == layer
+                    && matched.place.level == level
+            }
+            Pick::Grants(least) => {
+                matched.effect == Effect::Allow
+                    && matched.place.layer == Layer::Resource
+                    && matched.grant >= least
+            }
+        }
+    }
 }
 
-fn is_grant(matched: Matched, least: Grant) -> bool
-    ensures { IsTrue result
-        ↔ ((matched.effect ≡ Allow) × (matched.place.layer ≡ layer.Resource) × (rank least ≤ rank matched.grant)) }
-{
-    matched.effect == Effect::Allow
-        && matched.place.layer == Layer::Resource
-        && is_at_least(matched.grant, least)
+impl Batch<'_> {
+    ghost use Rattle.std.specs.List.{Any};
+    ghost use Rattle.iam_batch.specs.Code.{Picks, Tells};
+
+    /// The actions that a statement of this kind acts on.
+    #[inline(always)]
+    pub(crate) fn lanes(self, pick: Pick) -> u64
+        ensures { Tells self.entry result (λ found. Any (λ m. Picks pick m) found) }
+    {
+        let mut lanes: u64 = 0;
+        for i in 0..self.living.len() {
+            if pick.takes(self.living[i].matched) {
+                lanes |= word_of(self.rows[i], self.from, self.count);
+            }
+        }
+        lanes
+    }
 }
 
 /// What the row says of these actions: a bit for each, from the least on.
+#[inline(never)]
 fn word_of(row: &[bool], from: usize, count: usize) -> u64
     requires reach { from + count ≤ length row.now }
     requires few { count ≤ 64 }
@@ -59,62 +93,4 @@ fn bits(row: &[bool]) -> u64
         word = word * 2 + u64::from(row[k]);
     }
     word
-}
-
-/// The actions that a deny acts on.
-pub(crate) fn denies(living: &[Living<'_>], rows: &[&[bool]], from: usize, count: usize) -> u64
-    requires reach { Reach living.now rows.now from count }
-    requires few { count ≤ 64 }
-    ensures { AreLanes (matched_of living.now) rows.now from count result DeniesIn }
-{
-    let mut lanes: u64 = 0;
-    for i in 0..living.len() {
-        if is_deny(living[i].matched) {
-            lanes |= word_of(rows[i], from, count);
-        }
-    }
-    lanes
-}
-
-/// The actions that an allow of this level of the layer acts on.
-pub(crate) fn allows(
-    living: &[Living<'_>],
-    rows: &[&[bool]],
-    layer: Layer,
-    level: u32,
-    from: usize,
-    count: usize,
-) -> u64
-    requires reach { Reach living.now rows.now from count }
-    requires few { count ≤ 64 }
-    ensures { AreLanes (matched_of living.now) rows.now from count result (λ found. AllowsIn found layer level) }
-{
-    let mut lanes: u64 = 0;
-    for i in 0..living.len() {
-        if is_allow(living[i].matched, layer, level) {
-            lanes |= word_of(rows[i], from, count);
-        }
-    }
-    lanes
-}
-
-/// The actions that an allow of the resource's policy acts on which grants at least this.
-pub(crate) fn grants(
-    living: &[Living<'_>],
-    rows: &[&[bool]],
-    least: Grant,
-    from: usize,
-    count: usize,
-) -> u64
-    requires reach { Reach living.now rows.now from count }
-    requires few { count ≤ 64 }
-    ensures { AreLanes (matched_of living.now) rows.now from count result (λ found. GrantsIn found least) }
-{
-    let mut lanes: u64 = 0;
-    for i in 0..living.len() {
-        if is_grant(living[i].matched, least) {
-            lanes |= word_of(rows[i], from, count);
-        }
-    }
-    lanes
 }
