@@ -3,11 +3,9 @@ use Rattle.std.proofs.Common.{◌≡◌, ℕ, ◌<◌, List, [], Some, get_or, l
 use Rattle.std.proofs.lemmas.Option.{slice_get-get_or, slice_get_within}
 use Rattle.std.specs.List.{slice_get}
 use Rattle.iam_match.specs.Statement.{request_for}
-use Rattle.iam_decision.specs.declared.verdict.Decision.{Decision}
-use Rattle.iam_layers.specs.Cell.{IsDecisionAt, IsSharedAt}
+use Rattle.iam_layers.specs.Cell.{IsSharedAt}
 use Rattle.iam_world.specs.World.{WorldValue}
 use Rattle.iam_index.proofs.ListLemmas.{get_more, some_same}
-use Rattle.iam_classes.specs.Batches.{HasDecision}
 use Rattle.iam_classes.specs.Engine.{EngineValue, HasMore, IsClassAt, IsNumberAt, IsNumberOf, OfClass}
 use Rattle.iam_classes.specs.Memo.{HasClass}
 use Rattle.iam_classes.specs.declared.memo.Class.{Class}
@@ -46,16 +44,4 @@ of_number engine n a number below (class, at, (ruling, there, answer)) =
       at,
       λ p r (applicable, access, accessed, own).
           (ruling, there, (applicable, request_for access action, (access, action, accessed, asked, refl), answer action applicable access asked own)),
-    )
-
--- the decision on the requests of a class is that on each of them
-pub of_decision : (engine : EngineValue) (n a : ℕ) (d : Decision) → a < length engine.world.actions → HasDecision engine.world engine.classes n a d
-    → OfClass engine n (λ p r. IsDecisionAt engine.world p a r d)
-of_decision engine n a d below (class, at, answer) =
-    let action = get_or engine.world.actions a [] in
-    let asked = slice_get-get_or engine.world.actions a [] below in (
-      class,
-      at,
-      λ p r (applicable, access, accessed, own).
-          (applicable, request_for access action, (access, action, accessed, asked, refl), answer action applicable access asked own),
     )

@@ -1,9 +1,10 @@
 // The engine as its callers see it.
 ghost use Rattle.std.specs.Prelude.{◌≡◌};
 
-use crate::batches::Batches;
+use crate::batches::{Batches, TOGETHER};
 use crate::memo::{Found, Memo};
 use crate::source::Source;
+use crate::span::{Known, Span};
 use crate::words::Words;
 use iam_index::Index;
 use iam_layers::{Decision, Matched, Verdict, World};
@@ -21,6 +22,7 @@ pub struct ClassEngine<'a> {
     memo: Memo<'a>,
     words: Words<'a>,
     batches: Batches,
+    span: Span,
     // Room for the statements that match a request.
     found: Vec<Matched>,
 }
@@ -28,7 +30,7 @@ pub struct ClassEngine<'a> {
 impl<'a> Model for ClassEngine<'a> {
     ghost use Rattle.std.specs.Prelude.{◌≡◌};
     ghost use Rattle.iam_classes.specs.Engine.{EngineValue};
-    ghost use Rattle.iam_classes.specs.Batches.{AreBatches};
+    ghost use Rattle.iam_classes.specs.Batches.{AreBatches, IsSpan};
     ghost use Rattle.iam_classes.specs.Words.{AreWords};
 
     ghost Value = { EngineValue };
@@ -41,7 +43,7 @@ impl<'a> Model for ClassEngine<'a> {
     } };
 
     ghost invariant = { λ engine. (engine.source.world ≡ engine.memo.world) × AreWords engine.memo.world engine.memo.classes engine.words
-        × AreBatches engine.memo.world engine.memo.classes engine.batches };
+        × AreBatches engine.memo.world engine.memo.classes engine.batches × IsSpan engine.memo.world engine.span };
 }
 
 impl<'a> ClassEngine<'a> {
@@ -49,6 +51,7 @@ impl<'a> ClassEngine<'a> {
     ghost use Rattle.iam_world.specs.World.{world_cells};
     ghost use Rattle.iam_layers.specs.Cell.{IsDecisionAt, IsDecisionOf, IsVerdictAt, IsVerdictOf};
     ghost use Rattle.iam_slots.specs.Slots.{AllAre};
+    ghost use Rattle.iam_classes.specs.Batches.{AreKnownFrom};
     ghost use Rattle.iam_classes.specs.Engine.{HasMore, IsClassAt, IsNumberAt, IsSameEngine, OfClass};
 
     /// An engine of the world of an index, one of so many that share the bounds on what is kept.
@@ -90,7 +93,8 @@ impl<'a> ClassEngine<'a> {
             source: Source::new(alloc, index, survey),
             memo,
             words: Words::new(alloc, index.world())?,
-            batches: Batches::new(alloc, index.world())?,
+            batches: Batches::new(alloc),
+            span: Span::new(alloc, engines),
             found: Vec::new(alloc),
         })
     }
@@ -197,20 +201,52 @@ impl<'a> ClassEngine<'a> {
         }
     }
 
-    /// The decision on the requests of a class for action a.
+    /// What is known of the decisions on principal p's requests for action a on the resources from r on.
     #[inline(always)]
-    pub fn decision(&mut self, alloc: Global, class: usize, a: u64) -> Result<Decision, OutOfMemory>
+    pub fn decided_from(&self, p: u64, a: u64, r: u64) -> Known<'_>
+        ensures { AreKnownFrom self.now.world p a r result }
+    {
+        self.span.known_from(p, a, r)
+    }
+
+    /// The decision on principal p's request for action a on resource r, each below the number of its kind. It is kept with those
+    /// for other actions, behind those on the resources before it.
+    pub fn decision(
+        &mut self,
+        alloc: Global,
+        p: u64,
+        a: u64,
+        r: u64,
+    ) -> Result<Decision, OutOfMemory>
+        requires principal { p < length self.old.world.principals }
         requires action { a < length self.old.world.actions }
-        requires class { class < length self.old.classes }
-        ensures decision { IfOk result (λ decision. OfClass self.new class (λ p r. IsDecisionAt self.new.world p a r decision)) }
-        ensures classes { self.new.classes ≡ self.old.classes }
+        requires resource { r < length self.old.world.resources }
+        ensures decision { IfOk result (IsDecisionAt self.new.world p a r) }
         ensures same { IsSameEngine self.old self.new }
     {
-        if let Some(decision) = self.batches.decision(&self.memo, class, a) {
+        let class = self.class(alloc, p, r)?.class;
+        self.keep_decided(alloc, class, p, a, r);
+        if let Some(decision) = self.decided_from(p, a, r).decision(0) {
             return Ok(decision);
         }
-        let number = self.memo.number(alloc, &mut self.found, class, a)?;
-        Ok(self.memo.verdict(number).decision)
+        let number = self.number(alloc, class, a)?;
+        Ok(self.verdict(number).decision)
+    }
+
+    /// Keeps what is decided on the requests of principal p for resource r, which are of this class, and action a with others, where
+    /// there is room and the rows of their statements tell.
+    fn keep_decided(&mut self, alloc: Global, class: usize, p: u64, a: u64, r: u64)
+        requires action { a < length self.old.world.actions }
+        requires class { IsClassAt self.old p r class }
+        ensures { self.new ≡ self.old }
+    {
+        let number = a / TOGETHER;
+        if !self.span.has_room(p, number, r) {
+            return;
+        }
+        if let Some(decided) = self.batches.decided(alloc, &self.memo, class, number) {
+            self.span.keep(p, number, r, decided);
+        }
     }
 
     /// The number of the verdict on the requests of a class for action a. It is that of the verdict until the next call.

@@ -7,6 +7,7 @@ mod engine;
 mod held;
 mod memo;
 mod source;
+mod span;
 mod words;
 
 pub use engine::ClassEngine;
@@ -15,3 +16,4 @@ pub use iam_layers::{Decision, Shared, Verdict, World};
 pub use iam_slots::Numbered;
 pub use iam_text::OutOfMemory;
 pub use memo::Found;
+pub use span::Known;

@@ -138,6 +138,13 @@ impl<'a> Memo<'a> {
         })
     }
 
+    /// The world on whose requests it is.
+    pub fn world(&self) -> &'a World
+        ensures { result.now ≡ self.now.world }
+    {
+        self.world
+    }
+
     /// The class of principal p and resource r, where it is known.
     #[inline(always)]
     pub fn class_of(&self, p: u64, r: u64) -> Option<usize>
