@@ -1,23 +1,21 @@
 -- The tails of tiles that follow one another, put together.
-use Rattle.std.proofs.Common.{◌≡◌, ℕ, suc, ◌+◌, Bool, true, false, List, [], ◌∷◌, ◌++◌, length, map, sum, refl, sym, ap, ◌∙◌, subst, arith}
+use Rattle.std.proofs.Common.{◌≡◌, ℕ, ◌+◌, Bool, true, false, List, [], ◌∷◌, ◌++◌, length, map, sum, refl, sym, ap, ◌∙◌, subst, arith}
 use Rattle.std.specs.List.{flat_map}
 use Rattle.std.proofs.lemmas.List.{length-map, map-append}
 use Rattle.std.proofs.lemmas.List.Concat.{flat_map-cons}
 use Rattle.std.proofs.lemmas.List.Sums.{sum_by-cons}
 use Rattle.iam_decision.specs.declared.verdict.Decision.{Decision}
 use Rattle.iam_decision.specs.declared.verdict.Verdict.{Verdict}
-use Rattle.iam_row.specs.Piece.{IsQuotedOf, bare, brief_tail, full_tail, tail_of, text_of}
+use Rattle.iam_row.specs.Piece.{IsQuotedOf, brief_tail, full_tail, text_of}
 use Rattle.iam_row.specs.Report.{IsReport, brief_layout, full_layout}
 use Rattle.iam_row.specs.declared.quoted.Format.{Format}
 use Rattle.iam_row.specs.declared.quoted.Quoted.{Quoted}
 use Rattle.iam_row.specs.declared.tail.Tail.{Tail}
-use Rattle.iam_layers.specs.Cell.{IsCell, IsDecisionOf, IsVerdictOf}
+use Rattle.iam_layers.specs.Cell.{IsDecisionOf, IsVerdictOf}
 use Rattle.iam_world.specs.World.{WorldValue, world_cells}
-use Rattle.iam_matrix.specs.Matrix.{AreEntriesFrom}
 use Rattle.iam_matrix.specs.Report.{IsMatrixReport}
-use Rattle.iam_matrix.specs.Code.Leads.{IsEntryOf}
-use Rattle.iam_matrix.specs.Code.Tiles.{AreDecisions, AreEntries, AreEntriesOf, AreTails, AreTailsOf, Chain}
-use Rattle.iam_matrix.proofs.Tiles.{along_one, join_entries, no_entries, whole}
+use Rattle.iam_matrix.specs.Code.Tiles.{AreEntries, AreTails, AreTailsOf, Chain}
+use Rattle.iam_matrix.proofs.Tiles.{join_entries, no_entries, whole}
 
 chain_tails : {X : Type 0} (Is : ℕ → X → Type 0) (tail : X → Tail) (from : ℕ) (lengths : List ℕ) (outputs : List (List Tail))
     → Chain (λ f n output. AreTails Is tail f n output) from lengths outputs
@@ -35,41 +33,6 @@ chain_tails Is tail from (n ∷ lengths) (output ∷ outputs) ((xs, a, e), c) =
       flat_map-cons (λ (tile : List Tail). tile) output outputs ∙ ap (λ l. l ++ flat_map (λ tile. tile) outputs) e ∙ ap (λ l. map tail xs ++ l) rest.2
           ∙ sym (map-append tail xs rest.0),
     )
-
--- the decisions of bare verdicts
-of_bare : (format : Format) (decisions : List Decision) → map (tail_of format true) (map bare decisions) ≡ map (brief_tail format) decisions
-of_bare format [] = refl
-of_bare format (decision ∷ decisions) = ap (λ l. brief_tail format decision ∷ l) (of_bare format decisions)
-
--- the decisions of what tiles say in brief
-decided : (world : WorldValue) (from : ℕ) (entries : List Verdict) → AreEntriesFrom (IsEntryOf true world) from entries
-    → (decisions : List Decision) × AreDecisions world from (length entries) decisions × (entries ≡ map bare decisions)
-decided world from [] each = ([], no_entries (IsDecisionOf world) from, refl)
-decided world from (entry ∷ entries) each =
-    let (p, a, r, is, (decision, same, told)) = each 0 entry refl in
-    let rest = decided world (from + 1) entries
-    (λ i e at. let next : from + suc i ≡ from + 1 + i = omega arith in subst (λ n. IsEntryOf true world n e) next (each (suc i) e at)) in
-    let here : from + 0 ≡ from = omega arith in
-    let C : ℕ → Type 0 = λ n. IsCell world n p a r in
-    let one : AreDecisions world from 1 (decision ∷ []) = record {
-      count_is = refl;
-      each = along_one (IsDecisionOf world) from decision (p, a, r, subst C here is, told);
-    } in
-    let count : 1 + length entries ≡ length (entry ∷ entries) = omega arith in
-    let N : ℕ → Type 0 = λ n. AreDecisions world from n (decision ∷ rest.0) in (
-      decision ∷ rest.0,
-      subst N count (join_entries (IsDecisionOf world) from 1 (length entries) (decision ∷ []) rest.0 one rest.1),
-      ap (λ e. e ∷ entries) same ∙ ap (λ es. bare decision ∷ es) rest.2,
-    )
-
--- the tails of the entries of these cells
-pub tails_of : (format : Format) (brief : Bool) (world : WorldValue) (from count : ℕ) (entries : List Verdict) (tails : List Tail)
-    → AreEntriesOf brief world from count entries → tails ≡ map (tail_of format brief) entries → AreTailsOf format brief world from count tails
-tails_of format false world from count entries tails are is = (entries, are, is)
-tails_of format true world from count entries tails are is =
-    let (decisions, told, e) = decided world from entries are.each in
-    let N : ℕ → Type 0 = λ n. AreDecisions world from n decisions in
-    (decisions, subst N are.count_is told, is ∙ ap (map (tail_of format true)) e ∙ of_bare format decisions)
 
 -- there are as many tails as cells
 pub count_tails : (format : Format) (brief : Bool) (world : WorldValue) (lengths : List ℕ) (outputs : List (List Tail))

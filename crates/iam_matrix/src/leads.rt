@@ -1,10 +1,11 @@
-// Leads: under a class and an action the place, among what a tile has, of what has to be said of its requests, so that it is said again
-// of the next.
-ghost use Rattle.std.specs.Prelude.{◌+◌, ◌<◌, ◌≤◌, ◌^◌, Bool, List, IfOk, IfSome};
+// Leads: under a class and an action the place, among the verdicts of a tile, of the one on its requests, so that it is said again of the
+// next.
+ghost use Rattle.std.specs.Prelude.{◌+◌, ◌<◌, ◌≤◌, ◌^◌, List, IfOk, IfSome};
 ghost use Rattle.iam_classes.specs.Engine.{EngineValue};
 ghost use Rattle.iam_decision.specs.declared.verdict.Verdict.{Verdict};
-ghost use Rattle.iam_matrix.specs.Code.Leads.{AreKnown, AreLeads, HasEntry, IsLead};
-ghost use Rattle.iam_matrix.specs.Code.Tiles.{AddsEntries};
+ghost use Rattle.iam_layers.specs.Cell.{IsVerdictAt};
+ghost use Rattle.iam_matrix.specs.Code.Leads.{AreKnown, AreLeads, HasVerdict, IsLead};
+ghost use Rattle.iam_matrix.specs.Code.Tiles.{Adds};
 
 use iam_classes::ClassEngine;
 use iam_report::Entries;
@@ -18,7 +19,7 @@ const MOST: u64 = 1_024;
 
 /// No leads yet, for so many cells. Where there is no memory none is ever kept.
 pub fn no_leads(alloc: Global, cells: u64) -> Vec<Option<Numbered>>
-    ensures { (brief : Bool) (engine : EngineValue) (entries : List Verdict) → AreLeads brief engine result.items entries }
+    ensures { (engine : EngineValue) (verdicts : List Verdict) → AreLeads engine result.items verdicts }
 {
     match empty_slots(alloc, cells.min(MOST)) {
         Ok(leads) => leads,
@@ -26,8 +27,8 @@ pub fn no_leads(alloc: Global, cells: u64) -> Vec<Option<Numbered>>
     }
 }
 
-/// The place of what has to be said of the request of principal p for action a on resource r, where pair i of these is theirs and
-/// its class has led to it.
+/// The place of the verdict on principal p's request for action a on resource r, where pair i of these is theirs and its class has
+/// led to it.
 #[inline(always)]
 fn place_of(
     pairs: &[Option<Numbered>],
@@ -37,16 +38,16 @@ fn place_of(
     a: u64,
     r: u64,
 ) -> Option<usize>
-    ensures { (brief : Bool) (engine : EngineValue) (entries : List Verdict) → AreKnown engine pairs.now → AreLeads brief engine leads.now entries
-        → IfSome result (HasEntry brief engine.world p a r entries) }
+    ensures { (engine : EngineValue) (verdicts : List Verdict) → AreKnown engine pairs.now → AreLeads engine leads.now verdicts
+        → IfSome result (HasVerdict engine.world p a r verdicts) }
 {
     let class = number_in(pairs, i, p, r)? as u64;
     let slot = slot_of(0, class, leads.len());
     number_in(leads, slot, class, a)
 }
 
-/// Puts what has to be said of so many cells of a row, from a position on, behind the entries, as long as the class of each is
-/// known and has led to it; how many.
+/// Puts the verdicts on so many cells of a row, from a position on, behind the entries, as long as the class of each is known and has
+/// led to it; how many.
 #[inline(always)]
 pub fn put_known(
     engine: &ClassEngine<'_>,
@@ -56,10 +57,9 @@ pub fn put_known(
     entries: &mut Entries,
 ) -> Result<u64, OutOfMemory>
     requires few { at.resource + most < 2 ^ 64 }
-    requires leads { (brief : Bool) × AreLeads brief engine.now leads.now entries.old }
+    requires leads { AreLeads engine.now leads.now entries.old }
     ensures most { IfOk result (λ count. count ≤ most) }
-    ensures entries { (brief : Bool) → AreLeads brief engine.now leads.now entries.old
-        → IfOk result (λ count. AddsEntries brief engine.now.world at count entries.old entries.new) }
+    ensures entries { IfOk result (λ count. Adds (IsVerdictAt engine.now.world at.principal at.action) at.resource count entries.old entries.new) }
 {
     let pairs = engine.known_from(at.principal, at.resource);
     if pairs.is_empty() {
@@ -78,10 +78,10 @@ fn put_pairs(
     entries: &mut Entries,
 ) -> Result<u64, OutOfMemory>
     requires few { at.resource + most < 2 ^ 64 }
-    requires leads { (brief : Bool) × (engine : EngineValue) × AreKnown engine pairs.now × AreLeads brief engine leads.now entries.old }
+    requires leads { (engine : EngineValue) × AreKnown engine pairs.now × AreLeads engine leads.now entries.old }
     ensures most { IfOk result (λ count. count ≤ most) }
-    ensures entries { (brief : Bool) (engine : EngineValue) → AreKnown engine pairs.now → AreLeads brief engine leads.now entries.old
-        → IfOk result (λ count. AddsEntries brief engine.world at count entries.old entries.new) }
+    ensures entries { (engine : EngineValue) → AreKnown engine pairs.now → AreLeads engine leads.now entries.old
+        → IfOk result (λ count. Adds (IsVerdictAt engine.world at.principal at.action) at.resource count entries.old entries.new) }
 {
     for i in 0..most {
         let r = at.resource + i;
@@ -93,10 +93,10 @@ fn put_pairs(
     Ok(most)
 }
 
-/// Keeps the place of what has to be said of requests of a class for action a.
+/// Keeps the place of the verdict on requests of a class for action a.
 pub fn keep_lead(leads: &mut Vec<Option<Numbered>>, class: usize, a: u64, place: usize)
-    ensures { (brief : Bool) (engine : EngineValue) (entries : List Verdict) → AreLeads brief engine leads.old.items entries
-        → IsLead brief engine entries (record { one = class; other = a; number = place }) → AreLeads brief engine leads.new.items entries }
+    ensures { (engine : EngineValue) (verdicts : List Verdict) → AreLeads engine leads.old.items verdicts
+        → IsLead engine verdicts (record { one = class; other = a; number = place }) → AreLeads engine leads.new.items verdicts }
 {
     let slot = slot_of(0, class as u64, leads.len());
     keep_number(leads, slot, class as u64, a, place);

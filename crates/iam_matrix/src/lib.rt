@@ -11,6 +11,7 @@ mod laws;
 mod leads;
 mod report;
 mod rows;
+mod said;
 mod search;
 mod survey;
 mod workers;

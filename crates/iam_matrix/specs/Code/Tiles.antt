@@ -2,16 +2,13 @@
 use Rattle.std.specs.Prelude.{◌≡◌, ℕ, ◌+◌, ◌<◌, ◌≤◌, List, [], ◌∷◌, ◌++◌, ⊤, Bool, Option, Some, None, MatchBool, length, map, sum}
 use Rattle.iam_decision.specs.declared.verdict.Decision.{Decision}
 use Rattle.iam_decision.specs.declared.verdict.Decision.TheVariants.{Allowed}
-use Rattle.iam_decision.specs.declared.verdict.Verdict.{Verdict}
 use Rattle.iam_row.specs.Piece.{brief_tail, full_tail}
 use Rattle.iam_row.specs.declared.quoted.Format.{Format}
 use Rattle.iam_row.specs.declared.tail.Tail.{Tail}
 use Rattle.iam_world.specs.World.{WorldValue, world_cells}
 use Rattle.iam_lanes.specs.Lanes.{no_cell}
-use Rattle.iam_layers.specs.Cell.{IsDecisionOf, IsVerdictOf}
+use Rattle.iam_layers.specs.Cell.{IsCell, IsDecisionOf, IsVerdictOf}
 use Rattle.iam_matrix.specs.Matrix.{AreEntriesFrom, IsNotAllowed}
-use Rattle.iam_row.specs.declared.position.Position.{Position}
-use Rattle.iam_matrix.specs.Code.Leads.{IsEntryAt, IsEntryOf}
 
 -- the cut has this tile, and is one of the world's cells
 abbrev pub IsTileOf : WorldValue → List ℕ → ℕ → Type 0
@@ -26,15 +23,13 @@ pub record AreEntries {X : Type 0} (Is : ℕ → X → Type 0) (from count : ℕ
 abbrev pub AreDecisions : WorldValue → ℕ → ℕ → List Decision → Type 0
 AreDecisions world from count decisions = AreEntries (IsDecisionOf world) from count decisions
 
--- what a tile says of these cells
-abbrev pub AreEntriesOf : Bool → WorldValue → ℕ → ℕ → List Verdict → Type 0
-AreEntriesOf brief world from count entries = AreEntries (IsEntryOf brief world) from count entries
+-- it is said of a cell what has to be said of its request
+abbrev pub IsOf : {X : Type 0} → (WorldValue → ℕ → ℕ → ℕ → X → Type 0) → WorldValue → ℕ → X → Type 0
+IsOf Is world cell entry = (p : ℕ) × (a : ℕ) × (r : ℕ) × IsCell world cell p a r × Is world p a r entry
 
--- so many more are said, of the requests of a row from a position on
-abbrev pub AddsEntries : Bool → WorldValue → Position → ℕ → List Verdict → List Verdict → Type 0
-AddsEntries brief world at count old new =
-    (more : List Verdict) × (new ≡ old ++ more)
-    × AreEntries (λ r entry. IsEntryAt brief world at.principal at.action r entry) at.resource count more
+-- so many more are said, of what follows from this on
+abbrev pub Adds : {X : Type 0} → (ℕ → X → Type 0) → ℕ → ℕ → List X → List X → Type 0
+Adds {X} Is from count old new = (more : List X) × (new ≡ old ++ more) × AreEntries Is from count more
 
 -- the tails of the rows of the entries of these cells
 abbrev pub AreTails : {X : Type 0} → (ℕ → X → Type 0) → (X → Tail) → ℕ → ℕ → List Tail → Type 0

@@ -4,8 +4,8 @@ use Rattle.iam_slots.specs.declared.numbered.Numbered.{Numbered}
 use Rattle.iam_matrix.proofs.leads.keep_lead.Goals as goal
 
 pub returns : goal.returns
-returns c = λ brief engine entries all one.
+returns c = λ engine verdicts all one.
     let old = c.args.leads.now.items in
     let new = c.keep_number.new.slots.items in
     let lead : Numbered = record { one = c.args.class; other = c.args.a; number = c.args.place } in
-    all_gained (λ (l : Numbered). IsLead brief engine entries l) old new lead c.keep_number.ensures.gains all one
+    all_gained (λ (l : Numbered). IsLead engine verdicts l) old new lead c.keep_number.ensures.gains all one

@@ -2,12 +2,13 @@ use Rattle.std.proofs.Common.{ℕ}
 use Rattle.iam_slots.specs.Slots.{Keeps}
 use Rattle.iam_slots.specs.declared.numbered.Numbered.{Numbered}
 use Rattle.iam_index.proofs.ListLemmas.{if_some}
+use Rattle.iam_layers.specs.Cell.{IsVerdictAt}
 use Rattle.iam_classes.proofs.EngineLemmas.{of_class}
-use Rattle.iam_matrix.specs.Code.Leads.{HasEntry, IsEntryAt}
+use Rattle.iam_matrix.specs.Code.Leads.{HasVerdict}
 use Rattle.iam_matrix.proofs.leads.place_of.Goals as goal
 
 pub returns : goal.returns
-returns c = λ brief engine entries known leads.
+returns c = λ engine verdicts known leads.
     let p = c.args.p in
     let a = c.args.a in
     let r = c.args.r in
@@ -15,6 +16,6 @@ returns c = λ brief engine entries known leads.
     let class = c.in_ok-class.class in
     let of = known c.args.i (record { one = p; other = r; number = class }) c.in_ok-class.ensures.found in
     let lead : ℕ → Numbered = λ place. record { one = class; other = a; number = place } in
-    if_some (λ place. Keeps c.args.leads.now slot (lead place)) (HasEntry brief engine.world p a r entries) c.number_in-2.result
-    (λ place there. let (entry, at, is) = leads slot (lead place) there in
-    (entry, at, of_class engine p r class (λ p r. IsEntryAt brief engine.world p a r entry) of is)) c.number_in-2.ensures.found
+    if_some (λ place. Keeps c.args.leads.now slot (lead place)) (HasVerdict engine.world p a r verdicts) c.number_in-2.result
+    (λ place there. let (verdict, at, is) = leads slot (lead place) there in
+    (verdict, at, of_class engine p r class (λ p r. IsVerdictAt engine.world p a r verdict) of is)) c.number_in-2.ensures.found
