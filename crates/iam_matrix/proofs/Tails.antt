@@ -1,14 +1,16 @@
 -- The tails of tiles that follow one another, put together.
-use Rattle.std.proofs.Common.{◌≡◌, ℕ, ◌+◌, Bool, true, false, List, [], ◌∷◌, ◌++◌, length, map, sum, refl, sym, ap, ◌∙◌, subst, arith}
-use Rattle.std.specs.List.{flat_map}
+use Rattle.std.proofs.Common.{◌≡◌, ℕ, zero, suc, ◌+◌, Bool, true, false, Some, List, [], ◌∷◌, ◌++◌, length, map, sum, refl, sym, ap, ◌∙◌, subst, arith}
+use Rattle.std.specs.List.{flat_map, slice_get}
 use Rattle.std.proofs.lemmas.List.{length-map, map-append}
+use Rattle.std.proofs.lemmas.Option.{slice_get_within}
 use Rattle.std.proofs.lemmas.List.Concat.{flat_map-cons}
 use Rattle.std.proofs.lemmas.List.Sums.{sum_by-cons}
 use Rattle.iam_decision.specs.declared.verdict.Decision.{Decision}
 use Rattle.iam_decision.specs.declared.verdict.Verdict.{Verdict}
-use Rattle.iam_row.specs.Piece.{IsQuotedOf, brief_tail, full_tail, text_of}
+use Rattle.iam_row.specs.Piece.{IsQuotedOf, back_of, brief_tail, front_of, full_tail, tail_of, text_of}
 use Rattle.iam_row.specs.Report.{IsReport, brief_layout, full_layout}
 use Rattle.iam_row.specs.declared.quoted.Format.{Format}
+use Rattle.iam_row.specs.declared.quoted.Format.TheVariants.{Csv, Json}
 use Rattle.iam_row.specs.declared.quoted.Quoted.{Quoted}
 use Rattle.iam_row.specs.declared.tail.Tail.{Tail}
 use Rattle.iam_layers.specs.Cell.{IsDecisionOf, IsVerdictOf}
@@ -33,6 +35,42 @@ chain_tails Is tail from (n ∷ lengths) (output ∷ outputs) ((xs, a, e), c) =
       flat_map-cons (λ (tile : List Tail). tile) output outputs ∙ ap (λ l. l ++ flat_map (λ tile. tile) outputs) e ∙ ap (λ l. map tail xs ++ l) rest.2
           ∙ sym (map-append tail xs rest.0),
     )
+
+-- what became another thing was there before
+map_back : {A B : Type 0} (f : A → B) (xs : List A) (i : ℕ) (y : B) → slice_get (map f xs) i ≡ Some y → (x : A) × (slice_get xs i ≡ Some x) × (f x ≡ y)
+map_back f [] i y at = let within = slice_get_within [] i y at in absurd (omega (arith, within))
+map_back f (x ∷ xs) zero y at = let same : f x ≡ y = cc in (x, refl, same)
+map_back f (x ∷ xs) (suc i) y at = map_back f xs i y at
+
+-- the decisions of verdicts
+decided : (world : WorldValue) (from count : ℕ) (verdicts : List Verdict) → AreEntries (IsVerdictOf world) from count verdicts
+    → AreEntries (IsDecisionOf world) from count (map (λ v. v.decision) verdicts)
+decided world from count verdicts are = record {
+  count_is = length-map verdicts (λ v. v.decision) ∙ are.count_is;
+  each = λ i d at.
+      let (v, there, same) = map_back (λ (v : Verdict). v.decision) verdicts i d at in
+      let (p, a, r, is, (applicable, request, asked, holds)) = are.each i v there in
+      let D : Decision → Type 0 = λ e. IsDecisionOf world (from + i) e in
+      subst D same (p, a, r, is, (applicable, request, asked, holds.decided));
+}
+
+brief_is : (format : Format) (v : Verdict) → tail_of format true v ≡ brief_tail format v.decision
+unfolding front_of back_of
+brief_is Csv v = refl
+brief_is Json v = refl
+
+brief_tails : (format : Format) (verdicts : List Verdict)
+    → map (tail_of format true) verdicts ≡ map (brief_tail format) (map (λ (v : Verdict). v.decision) verdicts)
+brief_tails format [] = refl
+brief_tails format (v ∷ verdicts) =
+    ap (λ t. t ∷ map (tail_of format true) verdicts) (brief_is format v) ∙ ap (λ l. brief_tail format v.decision ∷ l) (brief_tails format verdicts)
+
+-- the tails of verdicts on these cells
+pub tails_of : (format : Format) (brief : Bool) (world : WorldValue) (from count : ℕ) (verdicts : List Verdict) (tails : List Tail)
+    → AreEntries (IsVerdictOf world) from count verdicts → tails ≡ map (tail_of format brief) verdicts → AreTailsOf format brief world from count tails
+tails_of format false world from count verdicts tails are is = (verdicts, are, is)
+tails_of format true world from count verdicts tails are is =
+    (map (λ v. v.decision) verdicts, decided world from count verdicts are, is ∙ brief_tails format verdicts)
 
 -- there are as many tails as cells
 pub count_tails : (format : Format) (brief : Bool) (world : WorldValue) (lengths : List ℕ) (outputs : List (List Tail))

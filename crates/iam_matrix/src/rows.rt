@@ -84,14 +84,19 @@ fn tile_of(
     ensures tails { IfOk result (λ tails. AreTailsOf format brief engine.old.world tile.from tile.count tails) }
     ensures same { IsSameEngine engine.old engine.new }
 {
-    if brief {
+    if brief && has_rows(engine.world(), tile) {
         let mut decisions = Decisions::new(alloc, tile.count as usize)?;
         say_all(alloc, engine, tile, &mut decisions)?;
         return decisions.tile(alloc, format);
     }
     let mut verdicts = Verdicts::new(alloc, tile.count)?;
     say_all(alloc, engine, tile, &mut verdicts)?;
-    verdicts.entries.tile(alloc, format, false)
+    verdicts.entries.tile(alloc, format, brief)
+}
+
+/// Whether a tile is as long as two rows, so that decisions that the engine keeps along one serve the next.
+fn has_rows(world: &World, tile: Cells) -> bool {
+    tile.count / 2 >= world.resources()
 }
 
 /// Says of each cell of a tile what has to be said, behind nothing.
