@@ -1,12 +1,10 @@
 // Decisions on requests of classes, up to 64 actions at once.
 
 use crate::memo::Memo;
-use iam_batch::Decided;
+use iam_layers::World;
 use iam_slots::{empty, keep, kept, slot_of, slots_or_none};
+use iam_span::{Decided, TOGETHER};
 use std::alloc::Global;
-
-/// So many actions are decided on at once.
-pub const TOGETHER: u64 = 64;
 
 /// So many batches are kept at most.
 const MOST: u64 = 8_192;
@@ -26,7 +24,7 @@ pub struct Batches {
 }
 
 impl Batches {
-    ghost use Rattle.std.specs.Prelude.{◌<◌, ◌*◌, ℕ, IfSome, List, length};
+    ghost use Rattle.std.specs.Prelude.{◌<◌, ◌*◌, IfSome, List, length};
     ghost use Rattle.iam_slots.specs.Slots.{AreEmpty};
     ghost use Rattle.iam_world.specs.World.{WorldValue};
     ghost use Rattle.iam_classes.specs.Batches.{AreBatches, IsBatch};
@@ -91,7 +89,7 @@ impl Batches {
         ensures right { AreBatches memo.now.world memo.now.classes self.new }
     {
         let decided = memo.decided(class, number)?;
-        self.make_room(alloc);
+        self.make_room(alloc, memo.world());
         let slot = slot_of(number, class as u64, self.slots.len());
         let batch = Batch {
             class,
@@ -102,12 +100,14 @@ impl Batches {
         Some(decided)
     }
 
-    /// Takes room for batches, where there is none yet and there is memory.
-    fn make_room(&mut self, alloc: Global)
-        ensures { (world : WorldValue) (classes : List Class) → AreBatches world classes self.old → AreBatches world classes self.new }
+    /// Takes room for the batches of a world, where there is none yet and there is memory.
+    fn make_room(&mut self, alloc: Global, world: &World)
+        ensures { (w : WorldValue) (classes : List Class) → AreBatches w classes self.old → AreBatches w classes self.new }
     {
         if self.slots.is_empty() {
-            self.slots = slots_or_none(alloc, MOST);
+            let pairs = world.principals().saturating_mul(world.resources());
+            let batches = pairs.saturating_mul(world.actions().div_ceil(TOGETHER));
+            self.slots = slots_or_none(alloc, batches.min(MOST));
         }
     }
 }

@@ -1,14 +1,18 @@
 // The engine as its callers see it.
-ghost use Rattle.std.specs.Prelude.{◌≡◌};
+ghost use Rattle.std.specs.Prelude.{◌≡◌, ◌<◌, ℕ, IfOk, IfSome, false, is_some, length, true};
+ghost use Rattle.iam_span.specs.Span.{IsSpan};
+ghost use Rattle.iam_classes.specs.Engine.{EngineValue};
+ghost use Rattle.iam_classes.specs.Batches.{AreBatches};
+ghost use Rattle.iam_classes.specs.Words.{AreWords};
 
-use crate::batches::{Batches, TOGETHER};
+use crate::batches::Batches;
 use crate::memo::{Found, Memo};
 use crate::source::Source;
-use crate::span::{Known, Span};
 use crate::words::Words;
 use iam_index::Index;
 use iam_layers::{Decision, Matched, Verdict, World};
 use iam_slots::Numbered;
+use iam_span::{Known, Span, TOGETHER};
 use iam_survey::Survey;
 use iam_text::OutOfMemory;
 use std::alloc::Global;
@@ -28,11 +32,6 @@ pub struct ClassEngine<'a> {
 }
 
 impl<'a> Model for ClassEngine<'a> {
-    ghost use Rattle.std.specs.Prelude.{◌≡◌};
-    ghost use Rattle.iam_classes.specs.Engine.{EngineValue};
-    ghost use Rattle.iam_classes.specs.Batches.{AreBatches, IsSpan};
-    ghost use Rattle.iam_classes.specs.Words.{AreWords};
-
     ghost Value = { EngineValue };
 
     ghost view = { λ engine. record {
@@ -47,11 +46,10 @@ impl<'a> Model for ClassEngine<'a> {
 }
 
 impl<'a> ClassEngine<'a> {
-    ghost use Rattle.std.specs.Prelude.{◌≡◌, ◌<◌, ℕ, IfOk, IfSome, false, is_some, length, true};
     ghost use Rattle.iam_world.specs.World.{world_cells};
     ghost use Rattle.iam_layers.specs.Cell.{IsDecisionAt, IsDecisionOf, IsVerdictAt, IsVerdictOf};
     ghost use Rattle.iam_slots.specs.Slots.{AllAre};
-    ghost use Rattle.iam_classes.specs.Batches.{AreKnownFrom};
+    ghost use Rattle.iam_span.specs.Span.{AreKnownFrom};
     ghost use Rattle.iam_classes.specs.Engine.{HasMore, IsClassAt, IsNumberAt, IsSameEngine, OfClass};
 
     /// An engine of the world of an index, one of so many that share the bounds on what is kept.

@@ -1,16 +1,17 @@
 // What an engine keeps: the classes of pairs, the acts of action elements, and verdicts by their numbers.
-ghost use Rattle.std.specs.Prelude.{◌≡◌, IfOk};
+ghost use Rattle.std.specs.Prelude.{◌≡◌, ◌<◌, ◌≤◌, ◌+◌, ◌*◌, [], IfOk, ℕ, IfSome, OnOk, Some, false, length, true};
 ghost use Rattle.iam_slots.specs.Slots.{AreEmpty};
+ghost use Rattle.iam_classes.specs.Memo.{ArePairs, FindsAlike, HasClass, HasMore, HasNumber, HasRuling, HasShared, HasVerdict, HasSigned, IsFreeFor, IsSameMemo, IsSign, IsRight, MemoValue};
 
-use crate::batches::TOGETHER;
 use crate::held::Held;
-use iam_batch::{Decided, decided};
+use iam_batch::decided;
 use iam_decision::acting_are_found;
 use iam_index::{Elements, Index, Sign, keep_signed, number_signed, put_acting, signature};
 use iam_layers::{Frame, Matched, Ruling, Shared, Verdict, World};
 use iam_slots::{
     Numbered, WIDTH, empty, empty_slots, keep, keep_number, kept, number_in, slot_at, slot_of,
 };
+use iam_span::{Decided, TOGETHER};
 use iam_text::OutOfMemory;
 use std::alloc::Global;
 use std::marker::Model;
@@ -86,8 +87,6 @@ pub struct Memo<'a> {
 }
 
 impl<'a> Model for Memo<'a> {
-    ghost use Rattle.iam_classes.specs.Memo.{IsRight, MemoValue};
-
     ghost Value = { MemoValue };
 
     ghost view = { λ memo. record {
@@ -103,12 +102,9 @@ impl<'a> Model for Memo<'a> {
 }
 
 impl<'a> Memo<'a> {
-    ghost use Rattle.std.specs.Prelude.{◌≡◌, ◌<◌, ◌≤◌, ◌+◌, ◌*◌, ℕ, [], IfOk, IfSome, OnOk, Some, false, length, true};
     ghost use Rattle.std.specs.List.{slice_get};
     ghost use Rattle.iam_layers.specs.Cell.{IsAction, IsSharedAt, IsVerdictAt};
-    ghost use Rattle.iam_classes.specs.Memo.{ArePairs, FindsAlike, HasClass, HasMore, HasNumber, HasRuling, HasShared, HasVerdict};
     ghost use Rattle.iam_classes.specs.Batches.{IsBatch};
-    ghost use Rattle.iam_classes.specs.Memo.{HasSigned, IsFreeFor, IsSameMemo, IsSign};
     ghost use Rattle.iam_classes.specs.declared.memo.Class.{Class};
 
     /// A memo of the world of an index, one of so many that share the bounds, which keeps nothing yet.

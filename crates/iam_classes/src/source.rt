@@ -1,5 +1,6 @@
 // Where an engine has it from what the requests of pairs share.
-ghost use Rattle.std.specs.Prelude.{◌≡◌};
+ghost use Rattle.std.specs.Prelude.{◌≡◌, ◌<◌, IfOk, IfSome, is_some, length};
+ghost use Rattle.iam_classes.specs.Engine.{SourceValue};
 
 use crate::held::Held;
 use iam_index::Index;
@@ -28,10 +29,6 @@ pub struct Source<'a> {
 }
 
 impl<'a> Model for Source<'a> {
-    ghost use Rattle.std.specs.Prelude.{◌≡◌, All, IfSome, is_some};
-    ghost use Rattle.iam_classes.specs.Engine.{SourceValue};
-    ghost use Rattle.iam_living.specs.Keys.{AreKeys};
-
     ghost Value = { SourceValue };
 
     ghost view = { λ source. record { world = source.index.now; surveyed = is_some source.survey } };
@@ -40,7 +37,6 @@ impl<'a> Model for Source<'a> {
 }
 
 impl<'a> Source<'a> {
-    ghost use Rattle.std.specs.Prelude.{◌≡◌, ◌<◌, IfOk, IfSome, is_some, length};
     ghost use Rattle.iam_decision.specs.Applicable.{ApplicableValue, frame_of};
     ghost use Rattle.iam_layers.specs.Cell.{IsApplicableAt, IsSharedAt};
     ghost use Rattle.iam_living.specs.Asker.{IsAsker};

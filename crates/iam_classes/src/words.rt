@@ -1,5 +1,5 @@
 // The classes of the principal that asked last, by which statements live in its requests, and for alike resources.
-ghost use Rattle.std.specs.Prelude.{◌≡◌, IfSome, IsTrue, Some};
+ghost use Rattle.std.specs.Prelude.{◌≡◌, ◌<◌, IfSome, IsTrue, Some, ℕ, IfOk, List, None, false, length, true};
 
 use crate::held::Held;
 use crate::memo::{Found, Memo};
@@ -35,7 +35,6 @@ pub struct Words<'a> {
 }
 
 impl<'a> Words<'a> {
-    ghost use Rattle.std.specs.Prelude.{◌≡◌, ◌<◌, ℕ, IfOk, IfSome, IsTrue, List, None, Some, false, length, true};
     ghost use Rattle.iam_layers.specs.Cell.{IsSharedAt};
     ghost use Rattle.iam_world.specs.World.{WorldValue};
     ghost use Rattle.iam_slots.specs.Slots.{AreEmpty, GainsOnly, Keeps};

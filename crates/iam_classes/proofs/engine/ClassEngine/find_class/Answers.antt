@@ -1,10 +1,16 @@
-use Rattle.std.proofs.Common.{ap, sym, ◌∙◌}
+use Rattle.std.proofs.Common.{◌≡◌, ap, sym, ◌∙◌, subst}
 use Rattle.iam_slots.proofs.SlotLemmas.{all_empty}
+use Rattle.iam_world.specs.World.{WorldValue}
+use Rattle.iam_span.specs.Span.{IsSpan}
+use Rattle.iam_span.specs.declared.span.Span.{Span}
 use Rattle.iam_classes.specs.Batches.{IsBatch}
 use Rattle.iam_classes.specs.Engine.{SourceValue}
 use Rattle.iam_classes.specs.declared.batches.Batch.{Batch}
-use Rattle.iam_classes.proofs.BatchLemmas.{batches_kept, span_kept}
+use Rattle.iam_classes.proofs.BatchLemmas.{batches_kept}
 use Rattle.iam_classes.proofs.engine.ClassEngine.find_class.Goals as goal
+
+span_kept : (old new : WorldValue) (span : Span) → new ≡ old → IsSpan old span → IsSpan new span
+span_kept old new span same is = let W : WorldValue → Type 0 = λ w. IsSpan w span in subst W (sym same) is
 
 pub invariant_of-self : goal.invariant_of-self
 invariant_of-self c =

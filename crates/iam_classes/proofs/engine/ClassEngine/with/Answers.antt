@@ -3,7 +3,6 @@ use Rattle.iam_slots.proofs.SlotLemmas.{all_empty}
 use Rattle.iam_classes.specs.Batches.{IsBatch}
 use Rattle.iam_classes.specs.Engine.{SourceValue}
 use Rattle.iam_classes.specs.declared.batches.Batch.{Batch}
-use Rattle.iam_classes.proofs.BatchLemmas.{no_span}
 use Rattle.iam_classes.proofs.WordsLemmas.{no_words}
 use Rattle.iam_classes.proofs.engine.ClassEngine.with.Goals as goal
 
@@ -13,5 +12,5 @@ invariant_of-result c =
       ap (λ (s : SourceValue). s.world) c.new-2.ensures ∙ sym c.in_ok-memo.ensures.world,
       no_words memo.world memo.classes c.in_ok-new.field-0 c.in_ok-new.ensures,
       all_empty (λ (b : Batch). IsBatch memo.world memo.classes b.class b.number b.decided) c.new-4.result.slots.items c.new-4.ensures,
-      no_span memo.world c.new-5.result c.new-5.ensures,
+      c.new-5.ensures memo.world,
     )

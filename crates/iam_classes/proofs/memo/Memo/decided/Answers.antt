@@ -3,7 +3,8 @@ use Rattle.std.proofs.lemmas.Option.{slice_get-get_or}
 use Rattle.std.specs.List.{slice_get}
 use Rattle.iam_decision.specs.Living.{LivingValue, SharedValue}
 use Rattle.iam_decision.specs.declared.living.Matched.{Matched}
-use Rattle.iam_classes.specs.Batches.{IsBatch, count_of}
+use Rattle.iam_span.specs.Span.{count_of}
+use Rattle.iam_classes.specs.Batches.{IsBatch}
 use Rattle.iam_classes.specs.Memo.{MemoValue}
 use Rattle.iam_classes.proofs.BatchLemmas.{batch_of, matched_values}
 use Rattle.iam_classes.proofs.memo.Memo.decided.Goals as goal

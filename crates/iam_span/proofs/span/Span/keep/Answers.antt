@@ -1,5 +1,5 @@
-use Rattle.iam_classes.proofs.BatchLemmas.{decided_next}
-use Rattle.iam_classes.proofs.span.Span.keep.Goals as goal
+use Rattle.iam_span.proofs.SpanLemmas.{decided_next}
+use Rattle.iam_span.proofs.span.Span.keep.Goals as goal
 
 pub returns-in-Ok : goal.returns-in-Ok
 returns-in-Ok c = λ world right is.

@@ -1,11 +1,17 @@
 // What is decided on requests of a principal for resources that follow one another.
-use crate::batches::TOGETHER;
+ghost use Rattle.std.specs.Prelude.{◌≡◌, ◌+◌, [], ◌<◌, IsTrue, length, ℕ, IfSome};
+ghost use Rattle.iam_world.specs.World.{WorldValue};
+ghost use Rattle.iam_span.specs.Span.{AreKnownFrom, IsDecidedAt, IsSpan};
+
 use iam_batch::{Decided, rows_find};
 use iam_decision::{acting_are_found, found_decide};
 use iam_layers::Decision;
 use std::alloc::Global;
 
-/// So many decisions on resources are kept at most by all engines.
+/// So many actions are decided on at once.
+pub const TOGETHER: u64 = 64;
+
+/// So many resources all engines together keep at most what is decided of.
 const MOST: usize = 262_144;
 
 /// What is decided on the requests of a principal for the actions from 64 times this number on, 64 at most, and the resources from
@@ -20,13 +26,9 @@ pub struct Span {
 }
 
 impl Span {
-    ghost use Rattle.std.specs.Prelude.{◌≡◌, ◌+◌, [], IsTrue, length};
-    ghost use Rattle.iam_world.specs.World.{WorldValue};
-    ghost use Rattle.iam_classes.specs.Batches.{AreKnownFrom, IsDecidedAt, IsSpan};
-
     /// Nothing yet, in one of so many engines that share the bound.
     pub fn new(alloc: Global, engines: u32) -> Span
-        ensures { result.decided.items ≡ [] }
+        ensures { (world : WorldValue) → IsSpan world result }
     {
         Span {
             principal: 0,
@@ -59,9 +61,14 @@ impl Span {
         }
     }
 
-    /// Whether there is room for what is decided on the requests for resource r.
+    /// Whether what is decided on the requests for resource r is to be kept: not where it would take the place of the same for
+    /// resources before it.
     pub fn has_room(&self, p: u64, number: u64, r: u64) -> bool {
-        self.decided.len() < self.most || !self.is_next(p, number, r)
+        if self.is_next(p, number, r) {
+            self.decided.len() < self.most
+        } else {
+            self.principal != p || self.number != number || r < self.from
+        }
     }
 
     /// Whether resource r is the next.
@@ -111,10 +118,7 @@ pub struct Known<'a> {
 }
 
 impl<'a> Known<'a> {
-    ghost use Rattle.std.specs.Prelude.{◌<◌, ◌+◌, ℕ, IfSome, length};
     ghost use Rattle.iam_layers.specs.Cell.{IsDecisionAt};
-    ghost use Rattle.iam_world.specs.World.{WorldValue};
-    ghost use Rattle.iam_classes.specs.Batches.{AreKnownFrom};
 
     /// The decision on the request for resource i of these.
     #[inline(always)]

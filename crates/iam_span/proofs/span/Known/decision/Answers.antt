@@ -1,8 +1,8 @@
 use Rattle.std.proofs.Common.{◌≡◌, ◌*◌, ◌+◌, ◌<◌, ◌/◌, ℕ, Some, length, ap, sym, ◌∙◌, subst, arith}
 use Rattle.std.proofs.lemmas.Option.{slice_get-get_or}
 use Rattle.iam_layers.specs.Cell.{IsDecisionAt}
-use Rattle.iam_classes.proofs.BatchLemmas.{decided_is}
-use Rattle.iam_classes.proofs.span.Known.decision.Goals as goal
+use Rattle.iam_span.proofs.SpanLemmas.{decided_is}
+use Rattle.iam_span.proofs.span.Known.decision.Goals as goal
 
 pub returns : goal.returns
 returns c = λ world p a r below (action, all).
