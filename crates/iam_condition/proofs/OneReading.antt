@@ -6,10 +6,8 @@ use Rattle.iam_text.specs.declared.draft.Piece.{Piece}
 use Rattle.iam_text.specs.declared.version.Version.{Version}
 use Rattle.iam_text.specs.Draft.{IsDraftIn}
 use Rattle.iam_value.specs.Address.{Block, IsRange}
-use Rattle.iam_value.specs.Bytes.{IsBase64}
 use Rattle.iam_value.specs.Moment.{IsMoment}
-use Rattle.iam_value.specs.Truth.{IsTruth}
-use Rattle.iam_value.specs.Whole.{IsWhole}
+use Rattle.iam_value.specs.Values.{IsBase64, IsTruth, IsWhole}
 use Rattle.iam_condition.specs.declared.operand.Operand.{Operand}
 use Rattle.iam_condition.specs.declared.operand.Operand.TheVariants as operand
 use Rattle.iam_condition.specs.declared.operator.Base.{Base}

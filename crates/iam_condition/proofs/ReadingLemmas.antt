@@ -13,7 +13,7 @@ use Rattle.iam_value.specs.Reading.{IsReading}
 use Rattle.iam_condition.specs.declared.operand.Operand.{Operand}
 use Rattle.iam_condition.specs.declared.operator.Base.{Base}
 use Rattle.iam_condition.specs.Code.Reading.{IsFine, IsFineGiven, IsFineText}
-use Rattle.iam_condition.specs.Code.Values.{AnyOf}
+use Rattle.iam_condition.specs.Code.Walks.{AnyOf}
 use Rattle.iam_condition.specs.Condition.{Given, HasBadValue, IsBadValue, given_in, has_bad_text, is_bad_text, values_under}
 use Rattle.iam_condition.specs.Operand.{IsValueOperand, has_texts, text_form}
 use Rattle.iam_condition.proofs.ValueLemmas.{IsBadGiven, given_bad}

@@ -6,7 +6,7 @@ use Rattle.serde_json.specs.Data.{Data, null, boolean, number, string, array, ob
 use Rattle.serde_json.specs.Find.{as_str}
 use Rattle.iam_json.specs.Scalar.{scalar_text}
 use Rattle.iam_condition.specs.declared.operator.Operator.{Operator}
-use Rattle.iam_condition.specs.Code.Values.{AnyOf, IsBadMember}
+use Rattle.iam_condition.specs.Code.Walks.{AnyOf, IsBadMember}
 use Rattle.iam_condition.specs.Code.Walks.{given}
 use Rattle.iam_condition.specs.Condition.{Given, HasBadValue, IsBadValue, given_in, given_under, members_of, values_under}
 use Rattle.iam_condition.specs.Operator.{operator_of}

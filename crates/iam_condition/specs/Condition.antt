@@ -4,7 +4,7 @@
 use Rattle.std.specs.Prelude.{◌≡◌, ℕ, List, [], ◌∷◌, Bool, true, false, not, ◌&&◌, ◌||◌, ◌==◌, Some, is_some, is_none, length, nat_lt, map, unwrap_or, ⊤, Any, MatchOption}
 use Rattle.std.specs.List.{AllZip, flat_map, list_any}
 use Rattle.std.specs.Option.{option_map_or}
-use Rattle.serde_json.specs.Data.{Data, null, boolean, number, string, array, object, Members, no_members, member}
+use Rattle.serde_json.specs.Data.{Data, null, object, Members, no_members, member}
 use Rattle.serde_json.specs.Find.{as_object, as_str}
 use Rattle.iam_json.specs.Look.{values}
 use Rattle.iam_json.specs.Scalar.{scalar_text}
@@ -62,11 +62,8 @@ has_unknown_operator condition = list_any (λ m. is_none (operator_of m.0)) (mem
 -- null, or an object
 abbrev pub is_no_value : Data → Bool
 is_no_value null = true
-is_no_value (boolean b) = false
-is_no_value (number n) = false
-is_no_value (string text) = false
-is_no_value (array ds) = false
 is_no_value (object ms) = true
+is_no_value _ = false
 
 -- no object, or an empty key, or a key with no value
 abbrev pub is_bad_keys : Data → Bool

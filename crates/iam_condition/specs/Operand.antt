@@ -4,34 +4,26 @@ use Rattle.iam_text.specs.declared.draft.Piece.{Piece}
 use Rattle.iam_text.specs.declared.version.Version.{Version}
 use Rattle.iam_text.specs.Draft.{IsDraftIn}
 use Rattle.iam_value.specs.Address.{Block, IsRange}
-use Rattle.iam_value.specs.Bytes.{IsBase64}
 use Rattle.iam_value.specs.Moment.{IsMoment}
-use Rattle.iam_value.specs.Truth.{IsTruth}
-use Rattle.iam_value.specs.Whole.{IsWhole}
+use Rattle.iam_value.specs.Values.{IsBase64, IsTruth, IsWhole}
 use Rattle.iam_condition.specs.declared.operator.Base.{Base}
 use Rattle.iam_condition.specs.declared.operator.Base.TheVariants.{Text, Arn, Number, Date, Truth, Binary, Address, Null}
 use Rattle.iam_condition.specs.declared.operator.TextTest.{TextTest}
-use Rattle.iam_condition.specs.declared.operator.TextTest.TheVariants.{Equals, EqualsIgnoreCase, Like}
+use Rattle.iam_condition.specs.declared.operator.TextTest.TheVariants.{Like}
 use Rattle.iam_condition.specs.declared.operand.Operand.{Operand}
 use Rattle.iam_condition.specs.declared.operand.Operand.TheVariants as operand
 
 -- whether `*` and `?` are wildcards in the values of a string operator
 abbrev pub is_wild : TextTest → Bool
-is_wild Equals = false
-is_wild EqualsIgnoreCase = false
 is_wild Like = true
+is_wild _ = false
 
 -- for the string and the ARN operators, whose values are texts that may hold variables: whether `*` and `?` are
 -- wildcards there
 abbrev pub text_form : Base → Option Bool
 text_form (Text test) = Some (is_wild test)
 text_form Arn = Some true
-text_form (Number order) = None
-text_form (Date order) = None
-text_form Truth = None
-text_form Binary = None
-text_form Address = None
-text_form Null = None
+text_form _ = None
 
 -- the values are such texts
 abbrev pub has_texts : Base → Bool

@@ -1,9 +1,9 @@
 //! Tests on a `Condition`; none takes memory.
 ghost use Rattle.std.specs.Prelude.{◌≡◌, is_none, map};
 ghost use Rattle.std.specs.List.{list_any};
-ghost use Rattle.serde_json.specs.View.{members_view, view};
+ghost use Rattle.serde_json.specs.View.{view};
 ghost use Rattle.iam_condition.specs.Code.Walks.{given_has, is_bad_key, is_bad_member, key_has, member_has};
-ghost use Rattle.iam_condition.specs.Condition.{given_in, has_bad_text, has_many_values, has_unknown_operator, is_bad_form, is_bad_keys, is_bad_text, is_no_value, member_list, members_of, values_under};
+ghost use Rattle.iam_condition.specs.Condition.{given_in, has_bad_text, has_many_values, has_unknown_operator, is_bad_form, is_bad_keys, is_bad_text, is_no_value, members_of, values_under};
 ghost use Rattle.iam_condition.specs.Operator.{operator_of};
 
 use crate::names::operator_of;
@@ -33,25 +33,19 @@ pub fn values_under(value: &Value) -> &[Value]
     }
 }
 
-fn is_some_unknown(members: &Map<String, Value>) -> bool
-    ensures { result ≡ list_any (λ m. is_none (operator_of m.0)) (member_list (members_view members.now.entries)) }
+/// Whether a member of the `Condition` is no operator.
+pub fn has_unknown_operator(condition: &Value) -> bool
+    ensures { result ≡ has_unknown_operator (view condition.now) }
 {
+    let Some(members) = condition.as_object() else {
+        return false;
+    };
     for (name, _) in members.iter() {
         if operator_of(name.as_str()).is_none() {
             return true;
         }
     }
     false
-}
-
-/// Whether a member of the `Condition` is no operator.
-pub fn has_unknown_operator(condition: &Value) -> bool
-    ensures { result ≡ has_unknown_operator (view condition.now) }
-{
-    match condition.as_object() {
-        Some(members) => is_some_unknown(members),
-        None => false,
-    }
 }
 
 /// Whether it is null or an object.
@@ -67,9 +61,13 @@ fn is_bad_key(key: &str, value: &Value) -> bool
     key.is_empty() || is_no_value(value)
 }
 
-fn is_some_key_bad(members: &Map<String, Value>) -> bool
-    ensures { result ≡ list_any is_bad_key (member_list (members_view members.now.entries)) }
+/// Whether the keys of an operator are no object, or one of them is empty or has no value.
+fn is_bad_keys(keys: &Value) -> bool
+    ensures { result ≡ is_bad_keys (view keys.now) }
 {
+    let Some(members) = keys.as_object() else {
+        return true;
+    };
     for (key, value) in members.iter() {
         if is_bad_key(key.as_str(), value) {
             return true;
@@ -78,31 +76,10 @@ fn is_some_key_bad(members: &Map<String, Value>) -> bool
     false
 }
 
-/// Whether the keys of an operator are no object, or one of them is empty or has no value.
-fn is_bad_keys(keys: &Value) -> bool
-    ensures { result ≡ is_bad_keys (view keys.now) }
-{
-    match keys.as_object() {
-        Some(members) => is_some_key_bad(members),
-        None => true,
-    }
-}
-
 fn is_bad_member(name: &str, keys: &Value) -> bool
     ensures { result ≡ is_bad_member (name.now, view keys.now) }
 {
     operator_of(name).is_some() && is_bad_keys(keys)
-}
-
-fn is_some_bad(members: &Map<String, Value>) -> bool
-    ensures { result ≡ list_any is_bad_member (member_list (members_view members.now.entries)) }
-{
-    for (name, keys) in members.iter() {
-        if is_bad_member(name.as_str(), keys) {
-            return true;
-        }
-    }
-    false
 }
 
 /// Whether the `Condition` is no object, or has an operator that is none, or an empty key, or a key whose value is null
@@ -110,10 +87,15 @@ fn is_some_bad(members: &Map<String, Value>) -> bool
 pub fn is_bad_form(condition: &Value) -> bool
     ensures { result ≡ is_bad_form (view condition.now) }
 {
-    match condition.as_object() {
-        Some(members) => is_some_bad(members),
-        None => true,
+    let Some(members) = condition.as_object() else {
+        return true;
+    };
+    for (name, keys) in members.iter() {
+        if is_bad_member(name.as_str(), keys) {
+            return true;
+        }
     }
+    false
 }
 
 /// Whether it is a text off the variable grammar of the version.
@@ -143,24 +125,18 @@ fn key_has(fault: KeyFault, base: Base, value: &Value) -> bool
     }
 }
 
-fn some_key_has(fault: KeyFault, base: Base, members: &Map<String, Value>) -> bool
-    ensures { result ≡ list_any (λ k. key_has fault base k.1) (member_list (members_view members.now.entries)) }
+fn keys_have(fault: KeyFault, base: Base, keys: &Value) -> bool
+    ensures { result ≡ list_any (λ k. key_has fault base k.1) (members_of (view keys.now)) }
 {
+    let Some(members) = keys.as_object() else {
+        return false;
+    };
     for (_, value) in members.iter() {
         if key_has(fault, base, value) {
             return true;
         }
     }
     false
-}
-
-fn keys_have(fault: KeyFault, base: Base, keys: &Value) -> bool
-    ensures { result ≡ list_any (λ k. key_has fault base k.1) (members_of (view keys.now)) }
-{
-    match keys.as_object() {
-        Some(members) => some_key_has(fault, base, members),
-        None => false,
-    }
 }
 
 /// Whether a key under the name has the fault, where the name is that of an operator.
@@ -173,25 +149,19 @@ fn member_has(fault: KeyFault, name: &str, keys: &Value) -> bool
     }
 }
 
-fn some_member_has(fault: KeyFault, members: &Map<String, Value>) -> bool
-    ensures { result ≡ list_any (member_has fault) (member_list (members_view members.now.entries)) }
+/// Whether a key of the `Condition` has the fault.
+fn has(fault: KeyFault, condition: &Value) -> bool
+    ensures { result ≡ list_any (given_has fault) (given_in (view condition.now)) }
 {
+    let Some(members) = condition.as_object() else {
+        return false;
+    };
     for (name, keys) in members.iter() {
         if member_has(fault, name.as_str(), keys) {
             return true;
         }
     }
     false
-}
-
-/// Whether a key of the `Condition` has the fault.
-fn has(fault: KeyFault, condition: &Value) -> bool
-    ensures { result ≡ list_any (given_has fault) (given_in (view condition.now)) }
-{
-    match condition.as_object() {
-        Some(members) => some_member_has(fault, members),
-        None => false,
-    }
 }
 
 /// Whether a value of a string or an ARN operator is a text off the variable grammar of the version.

@@ -1,7 +1,9 @@
 // The values of a condition, as its operator reads them.
 ghost use Rattle.std.specs.Prelude.{◌≡◌, IfOk};
 ghost use Rattle.iam_value.specs.Reading.{IsReading};
-ghost use Rattle.iam_condition.specs.Code.Operands.{IsAddressOperand, IsBytesOperand, IsDateOperand, IsNumberOperand, IsTruthOperand};
+ghost use Rattle.iam_condition.specs.declared.operator.Base.TheVariants.{Number, Date, Truth, Binary, Address};
+ghost use Rattle.iam_condition.specs.declared.operator.Order.{Order};
+ghost use Rattle.iam_condition.specs.Operand.{IsValueOperand, has_texts, text_form, is_wild};
 
 use crate::apart::Apart;
 use crate::operator::{Base, TextTest};
@@ -27,10 +29,6 @@ pub enum Operand {
 }
 
 impl Operand {
-    ghost use Rattle.std.specs.Prelude.{IfOk};
-    ghost use Rattle.iam_value.specs.Reading.{IsReading};
-    ghost use Rattle.iam_condition.specs.Operand.{IsValueOperand};
-
     /// The value of a text under an operator whose values are no texts; `None` where the text has none.
     pub(crate) fn read_value(
         alloc: Global,
@@ -51,9 +49,6 @@ impl Operand {
 }
 
 impl Base {
-    ghost use Rattle.std.specs.Prelude.{◌≡◌};
-    ghost use Rattle.iam_condition.specs.Operand.{has_texts, text_form};
-
     /// Where the values are texts that may hold variables: whether `*` and `?` are wildcards there.
     pub(crate) fn text_form(self) -> Option<bool>
         ensures { result ≡ text_form self }
@@ -61,12 +56,7 @@ impl Base {
         match self {
             Base::Text(test) => Some(test.is_wild()),
             Base::Arn => Some(true),
-            Base::Number(_)
-            | Base::Date(_)
-            | Base::Truth
-            | Base::Binary
-            | Base::Address
-            | Base::Null => None,
+            _ => None,
         }
     }
 
@@ -79,9 +69,6 @@ impl Base {
 }
 
 impl TextTest {
-    ghost use Rattle.std.specs.Prelude.{◌≡◌};
-    ghost use Rattle.iam_condition.specs.Operand.{is_wild};
-
     /// Whether `*` and `?` are wildcards.
     fn is_wild(self) -> bool
         ensures { result ≡ is_wild self }
@@ -91,7 +78,7 @@ impl TextTest {
 }
 
 fn read_number(text: &str) -> Option<Operand>
-    ensures { IsReading result (IsNumberOperand text.now) }
+    ensures { (order : Order) → IsReading result (IsValueOperand (Number order) text.now) }
 {
     match whole(text) {
         Some(number) => Some(Operand::Number(number)),
@@ -100,7 +87,7 @@ fn read_number(text: &str) -> Option<Operand>
 }
 
 fn read_date(alloc: Global, text: &str) -> Result<Option<Operand>, OutOfMemory>
-    ensures { IfOk result (λ found. IsReading found (IsDateOperand text.now)) }
+    ensures { (order : Order) → IfOk result (λ found. IsReading found (IsValueOperand (Date order) text.now)) }
 {
     match moment(text) {
         Some(instant) => Ok(Some(Operand::Instant(Apart::new(alloc, instant)?))),
@@ -109,7 +96,7 @@ fn read_date(alloc: Global, text: &str) -> Result<Option<Operand>, OutOfMemory>
 }
 
 fn read_truth(text: &str) -> Option<Operand>
-    ensures { IsReading result (IsTruthOperand text.now) }
+    ensures { IsReading result (IsValueOperand Truth text.now) }
 {
     match truth(text) {
         Some(value) => Some(Operand::Truth(value)),
@@ -118,7 +105,7 @@ fn read_truth(text: &str) -> Option<Operand>
 }
 
 fn read_bytes(alloc: Global, text: &str) -> Result<Option<Operand>, OutOfMemory>
-    ensures { IfOk result (λ found. IsReading found (IsBytesOperand text.now)) }
+    ensures { IfOk result (λ found. IsReading found (IsValueOperand Binary text.now)) }
 {
     match bytes(alloc, text)? {
         Some(value) => Ok(Some(Operand::Bytes(Items::from_vec(value)))),
@@ -127,7 +114,7 @@ fn read_bytes(alloc: Global, text: &str) -> Result<Option<Operand>, OutOfMemory>
 }
 
 fn read_range(alloc: Global, text: &str) -> Result<Option<Operand>, OutOfMemory>
-    ensures { IfOk result (λ found. IsReading found (IsAddressOperand text.now)) }
+    ensures { IfOk result (λ found. IsReading found (IsValueOperand Address text.now)) }
 {
     match Range::read(text) {
         Some(range) => Ok(Some(Operand::Range(Apart::new(alloc, range)?))),

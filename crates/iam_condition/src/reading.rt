@@ -1,10 +1,10 @@
 //! Reading the entries of a `Condition`.
 ghost use Rattle.std.specs.Prelude.{◌≡◌, ◌++◌, false, map, IfOk, OnOk};
-ghost use Rattle.std.specs.List.{AllByRecursion, AllZip, flat_map};
-ghost use Rattle.serde_json.specs.View.{members_view, view};
+ghost use Rattle.std.specs.List.{AllByRecursion, AllZip};
+ghost use Rattle.serde_json.specs.View.{view};
 ghost use Rattle.iam_condition.specs.Code.Reading.{IsFine, IsFineGiven, IsFineText, given_of};
 ghost use Rattle.iam_condition.specs.Code.Walks.{given};
-ghost use Rattle.iam_condition.specs.Condition.{HasBadValue, ReadsCondition, ReadsEntry, ReadsValue, given_in, given_under, has_bad_text, member_list, members_of, values_under};
+ghost use Rattle.iam_condition.specs.Condition.{HasBadValue, ReadsCondition, ReadsEntry, ReadsValue, given_in, given_under, has_bad_text, members_of, values_under};
 ghost use Rattle.iam_condition.specs.Operand.{IsOperand};
 
 use crate::entry::Entry;
@@ -26,24 +26,6 @@ struct Key<'v> {
 }
 
 /// Adds the keys under an operator.
-fn add_keys<'v>(
-    keys: &mut Vec<Key<'v>>,
-    operator: Operator,
-    members: &'v Map<String, Value>,
-) -> Result<(), OutOfMemory>
-    ensures { OnOk result (map given_of keys.new.items
-        ≡ map given_of keys.old.items ++ map (given operator) (member_list (members_view members.now.entries))) }
-{
-    for (name, value) in members.iter() {
-        keys.push(Key {
-            operator,
-            name: name.as_str(),
-            value,
-        })?;
-    }
-    Ok(())
-}
-
 fn add_under<'v>(
     keys: &mut Vec<Key<'v>>,
     operator: Operator,
@@ -52,10 +34,17 @@ fn add_under<'v>(
     ensures { OnOk result (map given_of keys.new.items
         ≡ map given_of keys.old.items ++ map (given operator) (members_of (view under.now))) }
 {
-    match under.as_object() {
-        Some(members) => add_keys(keys, operator, members),
-        None => Ok(()),
+    let Some(members) = under.as_object() else {
+        return Ok(());
+    };
+    for (name, value) in members.iter() {
+        keys.push(Key {
+            operator,
+            name: name.as_str(),
+            value,
+        })?;
     }
+    Ok(())
 }
 
 /// Adds the keys under a name, where it is that of an operator.
@@ -69,25 +58,18 @@ fn add_member<'v>(keys: &mut Vec<Key<'v>>, name: &str, under: &'v Value) -> Resu
     }
 }
 
-fn keys_among(alloc: Global, members: &Map<String, Value>) -> Result<Vec<Key<'_>>, OutOfMemory>
-    ensures { IfOk result (λ keys. map given_of keys.items
-        ≡ flat_map given_under (member_list (members_view members.now.entries))) }
-{
-    let mut keys = Vec::new(alloc);
-    for (name, under) in members.iter() {
-        add_member(&mut keys, name.as_str(), under)?;
-    }
-    Ok(keys)
-}
-
 /// The keys of a `Condition`, under the operators in the order of their names.
 fn keys_in(alloc: Global, condition: &Value) -> Result<Vec<Key<'_>>, OutOfMemory>
     ensures { IfOk result (λ keys. map given_of keys.items ≡ given_in (view condition.now)) }
 {
-    match condition.as_object() {
-        Some(members) => keys_among(alloc, members),
-        None => Ok(Vec::new(alloc)),
+    let mut keys = Vec::new(alloc);
+    let Some(members) = condition.as_object() else {
+        return Ok(keys);
+    };
+    for (name, under) in members.iter() {
+        add_member(&mut keys, name.as_str(), under)?;
     }
+    Ok(keys)
 }
 
 /// The value of a text that has one.

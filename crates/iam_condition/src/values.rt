@@ -1,8 +1,8 @@
 //! Whether the values of a `Condition` are on the grammars of their operators.
 ghost use Rattle.std.specs.Prelude.{◌↔◌, IfOk, IsTrue, map};
-ghost use Rattle.serde_json.specs.View.{members_view, view};
-ghost use Rattle.iam_condition.specs.Code.Values.{AnyOf, IsBadMember, IsBadUnder};
-ghost use Rattle.iam_condition.specs.Condition.{HasBadValue, IsBadValue, member_list, members_of};
+ghost use Rattle.serde_json.specs.View.{view};
+ghost use Rattle.iam_condition.specs.Code.Walks.{AnyOf, IsBadMember, IsBadUnder};
+ghost use Rattle.iam_condition.specs.Condition.{HasBadValue, IsBadValue, members_of};
 ghost use Rattle.iam_condition.specs.Operand.{IsOffGrammar};
 
 use crate::form::values_under;
@@ -49,28 +49,18 @@ fn is_some_value_bad(alloc: Global, base: Base, values: &[Value]) -> Result<bool
 }
 
 /// Whether some key of an operator has a bad value.
-fn is_some_key_bad(
-    alloc: Global,
-    base: Base,
-    members: &Map<String, Value>,
-) -> Result<bool, OutOfMemory>
-    ensures { IfOk result (λ bad. IsTrue bad ↔ AnyOf (IsBadUnder base) (member_list (members_view members.now.entries))) }
+fn are_keys_bad(alloc: Global, base: Base, keys: &Value) -> Result<bool, OutOfMemory>
+    ensures { IfOk result (λ bad. IsTrue bad ↔ AnyOf (IsBadUnder base) (members_of (view keys.now))) }
 {
+    let Some(members) = keys.as_object() else {
+        return Ok(false);
+    };
     for (_, value) in members.iter() {
         if is_some_value_bad(alloc, base, values_under(value))? {
             return Ok(true);
         }
     }
     Ok(false)
-}
-
-fn are_keys_bad(alloc: Global, base: Base, keys: &Value) -> Result<bool, OutOfMemory>
-    ensures { IfOk result (λ bad. IsTrue bad ↔ AnyOf (IsBadUnder base) (members_of (view keys.now))) }
-{
-    match keys.as_object() {
-        Some(members) => is_some_key_bad(alloc, base, members),
-        None => Ok(false),
-    }
 }
 
 /// Whether a name is that of an operator, of whose keys some has a bad value.
@@ -83,24 +73,18 @@ fn is_bad_member(alloc: Global, name: &str, keys: &Value) -> Result<bool, OutOfM
     }
 }
 
-fn is_some_member_bad(alloc: Global, members: &Map<String, Value>) -> Result<bool, OutOfMemory>
-    ensures { IfOk result (λ bad. IsTrue bad ↔ AnyOf IsBadMember (member_list (members_view members.now.entries))) }
+/// Whether a value of the `Condition` is not a text, a Boolean or a whole number, or its text is off the grammar of its
+/// operator. Memory is asked for base64 and for the texts of numbers and Booleans alone.
+pub fn has_bad_value(alloc: Global, condition: &Value) -> Result<bool, OutOfMemory>
+    ensures { IfOk result (λ bad. IsTrue bad ↔ HasBadValue (view condition.now)) }
 {
+    let Some(members) = condition.as_object() else {
+        return Ok(false);
+    };
     for (name, keys) in members.iter() {
         if is_bad_member(alloc, name.as_str(), keys)? {
             return Ok(true);
         }
     }
     Ok(false)
-}
-
-/// Whether a value of the `Condition` is not a text, a Boolean or a whole number, or its text is off the grammar of its
-/// operator. Memory is asked for base64 and for the texts of numbers and Booleans alone.
-pub fn has_bad_value(alloc: Global, condition: &Value) -> Result<bool, OutOfMemory>
-    ensures { IfOk result (λ bad. IsTrue bad ↔ HasBadValue (view condition.now)) }
-{
-    match condition.as_object() {
-        Some(members) => is_some_member_bad(alloc, members),
-        None => Ok(false),
-    }
 }

@@ -1,15 +1,17 @@
 -- The order of keys, and a set and a map with one key more.
-use Rattle.std.proofs.Common.{◌≡◌, ℕ, suc, ◌+◌, ◌<◌, List, [], ◌∷◌, ◌++◌, Bool, true, false, ◌||◌, cond, length, get_or, take, drop, map, refl, sym, ap, ◌∙◌, subst, add-one, drop-cons}
-use Rattle.std.proofs.lemmas.List.{map-append, take_more}
+use Rattle.std.proofs.Common.{◌≡◌, ℕ, suc, ◌+◌, ◌<◌, List, [], ◌∷◌, ◌++◌, Bool, true, false, ◌||◌, cond, length, get_or, take, drop, map, reverse, refl, sym, ap, ◌∙◌, subst, add-one, drop-cons}
+use Rattle.std.proofs.lemmas.List.{map-append, reverse-reverse, take_more}
 use Rattle.std.proofs.lemmas.List.Folds.{list_any-append}
 use Rattle.std.proofs.lemmas.Map.Text.{is_eq-slice_cmp}
+use Rattle.std.proofs.lemmas.Slice.Eq.{bytes_eq-Decides}
+use Rattle.std.specs.Bool.{one_answer}
 use Rattle.std.specs.BTreeSet as sorted
 use Rattle.std.specs.Char.{to_ascii_lowercase}
 use Rattle.std.specs.Ordering.{is_eq}
+use Rattle.std.specs.Str.{bytes_eq}
 use Rattle.std.specs.declared.cmp.Ordering.{Ordering}
 use Rattle.iam_context.specs.Keys.{HasKeys, contains_key, key_cmp}
 use Rattle.iam_context.specs.Order.{backwards}
-use Rattle.iam_context.specs.Code.Ties.{same_backwards}
 use Rattle.iam_context.specs.Context.{ContextValue, has_key, is_same_key, keys_of}
 use Rattle.iam_context.specs.declared.key.Key.{Key}
 use Rattle.iam_context.specs.declared.keys.Keys.{Keys}
@@ -17,6 +19,13 @@ use Rattle.iam_context.specs.declared.keys.Keys.{Keys}
 -- the folded bytes of a key
 abbrev folded : List ℕ → List ℕ
 folded key = map to_ascii_lowercase key
+
+-- texts are the same from their ends
+same_backwards : (a b : List ℕ) → bytes_eq a b ≡ bytes_eq (reverse a) (reverse b)
+same_backwards a b =
+    let (back, go) = bytes_eq-Decides (reverse a) (reverse b) in
+    one_answer (bytes_eq a b) (bytes_eq (reverse a) (reverse b)) (bytes_eq-Decides a b)
+    (λ e. sym (reverse-reverse a) ∙ ap reverse (back e) ∙ reverse-reverse b, λ e. go (ap reverse e))
 
 -- keys that are equal by their order are the same
 told_same : (key other : List ℕ) → is_eq (key_cmp key other) ≡ is_same_key key other

@@ -7,7 +7,10 @@ use Rattle.std.specs.Str.{IsUtf8, chars}
 use Rattle.iam_glob.specs.declared.sign.Sign.{Sign}
 use Rattle.iam_glob.specs.declared.sign.Sign.TheVariants.{Any, One, Given}
 use Rattle.iam_glob.specs.Glob.{plain_sign, sign_of}
-use Rattle.iam_context.specs.Code.Wildcards.{is_no_wildcard}
+
+-- neither `*` nor `?`
+abbrev is_no_wildcard : ℕ → Bool
+is_no_wildcard c = not (c == 42 || c == 63)
 
 one_sign : (star mark : Bool) (c : ℕ) → not (star || mark) ≡ true → Given c ≡ (if star then Any else (if mark then One else Given c))
 one_sign true mark c is = cc

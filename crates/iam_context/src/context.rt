@@ -1,6 +1,7 @@
 // The context of a request: the values of each key, sought in the parts that it is made of.
 ghost use Rattle.std.specs.Prelude.{◌≡◌, ◌≢◌, [], ◌∷◌, map, IfOk, IfErr};
-ghost use Rattle.iam_context.specs.Context.{all_of, has_derived, joined, keys_of, values_of};
+ghost use Rattle.iam_context.specs.Context.{all_of, has_derived, joined, keys_of, values_of, ContextValue};
+ghost use Rattle.iam_context.specs.Code.Parts.{parts_of};
 
 use crate::OutOfMemory;
 use crate::fault::ContextFault;
@@ -18,9 +19,6 @@ pub struct Context<'a> {
 }
 
 impl<'a> Model for Context<'a> {
-    ghost use Rattle.iam_context.specs.Context.{ContextValue, all_of};
-    ghost use Rattle.iam_context.specs.Code.Parts.{parts_of};
-
     ghost Value = { ContextValue };
 
     ghost view = { λ c. all_of (parts_of c.parts) };

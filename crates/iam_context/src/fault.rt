@@ -1,4 +1,8 @@
 // Why parts of a context can't be joined.
+ghost use Rattle.std.specs.Prelude.{◌≡◌, Some};
+ghost use Rattle.iam_context.specs.ContextFault.{context_number_of, context_name_of, context_text};
+ghost use Rattle.iam_context.specs.declared.fault.ContextFault.TheVariants as f;
+
 use iam_text::OutOfMemory;
 use std::alloc::AllocFailed;
 use std::fmt::{self, Display, Formatter, Write};
@@ -16,9 +20,6 @@ pub enum ContextFault {
 }
 
 impl ContextFault {
-    ghost use Rattle.std.specs.Prelude.{◌≡◌};
-    ghost use Rattle.iam_context.specs.ContextFault.{context_number_of, context_name_of};
-
     /// The number of the fault.
     pub fn number(&self) -> u32
         ensures { result ≡ context_number_of self.now }
@@ -43,9 +44,6 @@ impl ContextFault {
 }
 
 impl Display for ContextFault {
-    ghost use Rattle.std.specs.Prelude.{Some};
-    ghost use Rattle.iam_context.specs.ContextFault.{context_text};
-
     ghost output = { λ fault. Some (context_text fault) };
 
     fn fmt<W: Write>(&self, f: &mut Formatter<W>) -> Result<(), fmt::Error> {
@@ -56,9 +54,6 @@ impl Display for ContextFault {
 }
 
 impl From<OutOfMemory> for ContextFault {
-    ghost use Rattle.std.specs.Prelude.{◌≡◌};
-    ghost use Rattle.iam_context.specs.declared.fault.ContextFault.TheVariants as f;
-
     ghost from_gives = { λ _ fault. fault ≡ f.OutOfMemory };
 
     fn from(_: OutOfMemory) -> ContextFault {
@@ -67,9 +62,6 @@ impl From<OutOfMemory> for ContextFault {
 }
 
 impl<T: Drop> From<AllocFailed<T>> for ContextFault {
-    ghost use Rattle.std.specs.Prelude.{◌≡◌};
-    ghost use Rattle.iam_context.specs.declared.fault.ContextFault.TheVariants as f;
-
     ghost from_gives = { λ _ fault. fault ≡ f.OutOfMemory };
 
     fn from(_: AllocFailed<T>) -> ContextFault {

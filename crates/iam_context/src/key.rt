@@ -1,15 +1,10 @@
 // Keys without regard to the case of ASCII letters.
-ghost use Rattle.std.specs.Prelude.{◌≡◌, ◌↔◌, IsTrue, map, refl};
-ghost use Rattle.std.specs.Char.{to_ascii_lowercase};
+ghost use Rattle.std.specs.Prelude.{◌≡◌, refl};
 ghost use Rattle.std.specs.Cmp;
-ghost use Rattle.std.specs.Cmp.Lexicographic.{slice_cmp, on_texts, on_texts_equal};
-ghost use Rattle.std.specs.Cmp.{partial_order_from_own_ties};
-ghost use Rattle.std.specs.Ordering.{nat_cmp, on, as_partial_cmp};
-ghost use Rattle.std.specs.Str.{bytes_eq};
-ghost use Rattle.std.specs.Cmp.Rules.{comparing};
-ghost use Rattle.std.proofs.Common.{rules};
+ghost use Rattle.std.specs.Cmp.{eq_by_cmp_equiv, partial_order_from_total};
+ghost use Rattle.std.specs.Cmp.Lexicographic.{slice_cmp, on_texts};
+ghost use Rattle.std.specs.Ordering.{nat_cmp, on, as_partial_cmp, eq_by_cmp};
 ghost use Rattle.iam_context.specs.Order.{backwards};
-ghost use Rattle.iam_context.specs.Code.Ties.{backwards_ties};
 
 use std::cmp::Ordering;
 
@@ -42,23 +37,23 @@ fn folded_cmp(left: &[u8], right: &[u8]) -> Ordering
 }
 
 impl PartialEq for Key<'_> {
-    ghost eq = { on (λ k. map to_ascii_lowercase k.0.now) bytes_eq };
+    ghost eq = { eq_by_cmp (on (λ k. backwards k.0.now) (slice_cmp nat_cmp)) };
 
-    ghost laws = { Cmp.partial_equiv_from_equiv (on_texts_equal (λ k. map to_ascii_lowercase k.0.now)) };
+    ghost laws = { Cmp.partial_equiv_from_equiv (eq_by_cmp_equiv (on_texts (λ k. backwards k.0.now))) };
 
     fn eq(&self, other: &Self) -> bool {
-        self.0.eq_ignore_ascii_case(other.0)
+        self.cmp(other) == Ordering::Equal
     }
 }
 
 impl Eq for Key<'_> {
-    ghost laws = { on_texts_equal (λ k. map to_ascii_lowercase k.0.now) };
+    ghost laws = { eq_by_cmp_equiv (on_texts (λ k. backwards k.0.now)) };
 }
 
 impl PartialOrd for Key<'_> {
     ghost partial_cmp = { as_partial_cmp (on (λ k. backwards k.0.now) (slice_cmp nat_cmp)) };
 
-    ghost laws = { partial_order_from_own_ties (Prim.search (comparing, rules)) (λ x y. backwards_ties x.0.now y.0.now) };
+    ghost laws = { partial_order_from_total (on_texts (λ k. backwards k.0.now)) };
 
     fn partial_cmp(&self, other: &Self) -> Option<Ordering> {
         Some(self.cmp(other))
@@ -72,7 +67,7 @@ impl Ord for Key<'_> {
 
     ghost matches_partial_cmp = { λ x y. refl };
 
-    ghost matches_eq = { λ x y. backwards_ties x.0.now y.0.now };
+    ghost matches_eq = { λ x y. refl };
 
     fn cmp(&self, other: &Self) -> Ordering {
         folded_cmp(self.0.as_bytes(), other.0.as_bytes())

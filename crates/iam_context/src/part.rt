@@ -3,7 +3,7 @@ ghost use Rattle.std.specs.Prelude.{◌≡◌, ◌≢◌, ◌||◌, ℕ, List, M
 ghost use Rattle.std.specs.Char.{to_ascii_lowercase};
 ghost use Rattle.std.specs.List.{list_any};
 ghost use Rattle.iam_context.specs.Context.{all_of, derived_names, has_derived, has_key, has_twice, is_same_key, keys_of};
-ghost use Rattle.iam_context.specs.Keys.{HasKeys, shares};
+ghost use Rattle.iam_context.specs.Keys.{HasKeys};
 ghost use Rattle.iam_context.specs.ContextFault.{IsClean, IsPartFault};
 ghost use Rattle.iam_context.specs.Code.Entries.{derived_name};
 

@@ -1,5 +1,5 @@
 // The lent parts of a context: four without taking memory, three of them by the places of their keys, or any number.
-ghost use Rattle.std.specs.Prelude.{◌≡◌, option_map};
+ghost use Rattle.std.specs.Prelude.{◌≡◌, [], ◌∷◌, option_map};
 ghost use Rattle.iam_context.specs.Context.{all_of};
 ghost use Rattle.iam_context.specs.Code.Values.{first_values};
 
@@ -47,8 +47,6 @@ impl<'a> Parts<'a> {
 }
 
 impl<'a> Three<'a> {
-    ghost use Rattle.std.specs.Prelude.{[], ◌∷◌};
-
     /// The values of the first entry with the key.
     fn find(&self, key: &str) -> Option<&'a [Text]>
         ensures { option_map (λ values. values.now) result ≡ first_values

@@ -1,5 +1,5 @@
 // What a text with variables becomes in a context.
-ghost use Rattle.std.specs.Prelude.{◌≡◌, ◌++◌, ◌∷◌, [], Bool, Some, None, map, option_map, IfOk, IfSome, IsTrue, if◌then◌else◌};
+ghost use Rattle.std.specs.Prelude.{◌≡◌, ◌++◌, ◌∷◌, [], ◌==◌, ◌||◌, Bool, not, Some, None, map, option_map, IfOk, IfSome, IsTrue, if◌then◌else◌};
 ghost use Rattle.std.specs.List.{list_all};
 ghost use Rattle.std.specs.Str.{chars};
 ghost use Rattle.std.specs.String.{string_bytes};
@@ -7,7 +7,6 @@ ghost use Rattle.iam_glob.specs.Glob.{plain_sign, sign_of};
 ghost use Rattle.iam_text.specs.declared.draft.Piece.TheVariants as piece;
 ghost use Rattle.iam_text.specs.Stretches.{piece_of};
 ghost use Rattle.iam_context.specs.Resolve.{one_or, piece_signs, resolved};
-ghost use Rattle.iam_context.specs.Code.Wildcards.{is_no_wildcard};
 
 use crate::OutOfMemory;
 use crate::context::Context;
@@ -116,15 +115,9 @@ fn plain_value<'a: 'c, 'c>(form: Form<'a>, context: &'c Context<'a>) -> Option<&
 
 /// Whether neither `*` nor `?` stands in a text.
 fn has_no_wildcard(text: &str) -> bool
-    ensures { result ≡ list_all is_no_wildcard (chars text.now) }
+    ensures { result ≡ list_all (λ c. not (c == 42 || c == 63)) (chars text.now) }
 {
-    text.chars().all(|character| is_no_wildcard(character))
-}
-
-fn is_no_wildcard(character: char) -> bool
-    ensures { result ≡ is_no_wildcard character }
-{
-    character != '*' && character != '?'
+    text.chars().all(|c| !(c == '*' || c == '?'))
 }
 
 /// The same pattern, made sign by sign.

@@ -40,13 +40,6 @@ impl<'a> Sought<'a> {
         Ok(Sought { part, places })
     }
 
-    /// The part, whose keys are sought one by one. It takes no memory.
-    pub fn plain(part: &'a Part) -> Sought<'a>
-        ensures { result ≡ part.entry.now.items }
-    {
-        Sought { part, places: None }
-    }
-
     /// The same, lent.
     pub(crate) fn lend<'c>(&'c self) -> Lent<'c>
         ensures { result ≡ self.entry.now }

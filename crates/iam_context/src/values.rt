@@ -1,4 +1,7 @@
 // The entries of a part: the names of keys, and their values.
+ghost use Rattle.std.specs.Prelude.{◌≡◌, ◌∷◌, [], List, ℕ};
+ghost use Rattle.iam_context.specs.Code.Entries.{derived_name, written_name, held_values};
+
 use iam_text::Text;
 use std::marker::Model;
 use std::slice;
@@ -42,18 +45,12 @@ enum HeldValues {
 }
 
 impl Model for KeyName {
-    ghost use Rattle.std.specs.Prelude.{List, ℕ};
-    ghost use Rattle.iam_context.specs.Code.Entries.{written_name};
-
     ghost Value = { List ℕ };
 
     ghost view = { λ name. written_name name.written };
 }
 
 impl DerivedKey {
-    ghost use Rattle.std.specs.Prelude.{◌≡◌};
-    ghost use Rattle.iam_context.specs.Code.Entries.{derived_name};
-
     /// Its name.
     pub fn name(self) -> &'static str
         ensures { result.now ≡ derived_name self }
@@ -71,9 +68,6 @@ impl DerivedKey {
 }
 
 impl KeyName {
-    ghost use Rattle.std.specs.Prelude.{◌≡◌};
-    ghost use Rattle.iam_context.specs.Code.Entries.{derived_name};
-
     /// The name of a derived key. It takes no memory.
     pub fn derived(key: DerivedKey) -> KeyName
         ensures { result ≡ derived_name key }
@@ -105,17 +99,12 @@ impl KeyName {
 }
 
 impl Model for Values {
-    ghost use Rattle.std.specs.Prelude.{List, ℕ};
-    ghost use Rattle.iam_context.specs.Code.Entries.{held_values};
-
     ghost Value = { List (List ℕ) };
 
     ghost view = { λ values. held_values values.held };
 }
 
 impl Values {
-    ghost use Rattle.std.specs.Prelude.{◌≡◌, ◌∷◌, []};
-
     /// One value.
     pub fn one(value: Text) -> Values
         ensures { result ≡ value ∷ [] }

@@ -5,9 +5,14 @@ use Rattle.std.specs.List.{starts_with, list_any}
 use Rattle.std.specs.Option.{option_map_or}
 use Rattle.std.specs.Str.{bytes_eq}
 use Rattle.std.specs.Char.{is_ascii_alphanumeric}
+use Rattle.serde_json.specs.Data.{Data}
+use Rattle.serde_json.specs.Find.{get}
 use Rattle.iam_text.specs.declared.version.Version.{Version}
 use Rattle.iam_text.specs.declared.version.Version.TheVariants.{V2012, V2008}
-use Rattle.iam_element.specs.ActionPattern.{is_wildcard}
+use Rattle.iam_element.specs.declared.grammar.TextForm.{TextForm}
+use Rattle.iam_element.specs.declared.grammar.TextForm.TheVariants.{Action, Resource, BadVariable, AwsName, AnyName}
+use Rattle.iam_element.specs.ActionPattern.{is_action_pattern, is_wildcard}
+use Rattle.iam_element.specs.Element.{has_text}
 use Rattle.iam_text.specs.Arn.{colons}
 use Rattle.iam_text.specs.Characters.{is_run, is_account}
 use Rattle.iam_text.specs.Variables.{is_draft}
@@ -52,3 +57,17 @@ is_aws_name text = bytes_eq text (codes "*") || is_account text || is_whole_arn 
 -- any text
 abbrev pub is_any_name : List ℕ → Bool
 is_any_name text = true
+
+-- the tests, by the name that the code gives them
+abbrev pub form_of : TextForm → List ℕ → Bool
+form_of Action = is_action_pattern
+form_of Resource = is_resource_pattern
+form_of (BadVariable version) = is_bad_variable version
+form_of AwsName = is_aws_name
+form_of AnyName = is_any_name
+
+-- a text of `Resource` or `NotResource` is off the variable grammar of the version, or has a variable too early
+abbrev pub has_bad_variable : Version → Data → Bool
+has_bad_variable version s =
+    has_text (is_bad_variable version) (get (codes "Resource") s)
+    || has_text (is_bad_variable version) (get (codes "NotResource") s)

@@ -1,8 +1,6 @@
 pub mod ActionPattern
 pub mod Code
 pub mod Element
-pub mod Form
 pub mod Grammar
 pub mod Principal
 pub mod Reading
-pub mod Resource

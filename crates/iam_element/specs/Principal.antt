@@ -24,9 +24,7 @@ kind_word CanonicalUser = codes "CanonicalUser"
 -- the grammar of the texts under a type
 abbrev pub name_test : PrincipalKind → List ℕ → Bool
 name_test Aws = is_aws_name
-name_test Service = is_any_name
-name_test Federated = is_any_name
-name_test CanonicalUser = is_any_name
+name_test _ = is_any_name
 
 -- what stands under the type is no text and no list of at least one text, or a text of it is off the grammar
 abbrev pub is_bad_kind : Data → PrincipalKind → Bool

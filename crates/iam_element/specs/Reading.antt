@@ -3,7 +3,7 @@
 use Rattle.std.specs.Prelude.{◌≡◌, ℕ, List, [], ◌∷◌, Bool, true, false, Option, Some, None, IsSome, map, codes, option_map, if◌then◌else◌}
 use Rattle.std.specs.List.{AllZip, flat_map}
 use Rattle.std.specs.Str.{chars}
-use Rattle.serde_json.specs.Data.{Data, null, boolean, number, string, array, object}
+use Rattle.serde_json.specs.Data.{Data, string, object}
 use Rattle.serde_json.specs.Find.{get}
 use Rattle.iam_glob.specs.declared.sign.Sign.{Sign}
 use Rattle.iam_glob.specs.Glob.{wild_sign}
@@ -75,12 +75,9 @@ names_under element kind = typed kind (texts_of (get (kind_word kind) element))
 
 -- the names of a principal element; a text alone stands under `AWS`
 abbrev pub names_of : Data → List PrincipalText
-names_of null = []
-names_of (boolean b) = []
-names_of (number n) = []
 names_of (string text) = record { kind = Aws; text = text } ∷ []
-names_of (array ds) = []
 names_of (object ms) = flat_map (names_under (object ms)) principal_kinds
+names_of _ = []
 
 -- neither element stands there, or the one does with these names
 abbrev pub ReadsPrincipalElement : Data → Option PrincipalElement → Type 0

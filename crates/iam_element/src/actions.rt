@@ -4,10 +4,10 @@ ghost use Rattle.std.specs.List.{filter_map};
 ghost use Rattle.serde_json.specs.Find.{as_str, get};
 ghost use Rattle.serde_json.specs.View.{view};
 ghost use Rattle.iam_element.specs.Element.{neither};
-ghost use Rattle.iam_element.specs.Reading.{ReadsAction, pattern_of};
+ghost use Rattle.iam_element.specs.Reading.{ReadsAction, pattern_of, ActionElement};
 
 use crate::OutOfMemory;
-use crate::element::{Element, either, values_in};
+use crate::element::{either, values_in};
 use crate::members::Members;
 use iam_text::Glob;
 use serde_json::Value;
@@ -24,19 +24,12 @@ pub struct Actions {
 }
 
 impl Model for Actions {
-    ghost use Rattle.iam_element.specs.Reading.{ActionElement};
-
     ghost Value = { ActionElement };
 
     ghost view = { λ a. record { negated = a.is_negated; patterns = a.patterns.items } };
 }
 
 impl Actions {
-    ghost use Rattle.std.specs.Prelude.{◌≡◌, IfOk, IsTrue, Some, map};
-    ghost use Rattle.serde_json.specs.View.{view};
-    ghost use Rattle.iam_element.specs.Element.{texts_of};
-    ghost use Rattle.iam_element.specs.Reading.{pattern_of};
-
     /// Whether the element is `NotAction`.
     pub fn is_negated(&self) -> bool
         ensures { result ≡ self.now.negated }
@@ -57,19 +50,6 @@ impl Actions {
     {
         self.is_negated == other.is_negated && are_same(self.patterns(), other.patterns())
     }
-
-    /// Reads the element.
-    fn read(alloc: Global, element: Element<'_>) -> Result<Actions, OutOfMemory>
-        ensures { IfOk result (λ r. r ≡ record {
-          negated = element.entry.is_negated;
-          patterns = map pattern_of (texts_of (Some (view element.entry.value.now)));
-        }) }
-    {
-        Ok(Actions {
-            is_negated: element.is_negated,
-            patterns: patterns(alloc, values_in(element.value))?,
-        })
-    }
 }
 
 /// Reads the `Action` or the `NotAction` that stands in a statement.
@@ -77,10 +57,11 @@ pub fn read_action(alloc: Global, statement: &Members<'_>) -> Result<Actions, Ou
     requires { neither (get (codes "Action") (view statement.now)) (get (codes "NotAction") (view statement.now)) ≡ false }
     ensures { IfOk result (λ r. ReadsAction (view statement.now) r) }
 {
-    Actions::read(
-        alloc,
-        either(statement.action, statement.not_action).unwrap(),
-    )
+    let element = either(statement.action, statement.not_action).unwrap();
+    Ok(Actions {
+        is_negated: element.is_negated,
+        patterns: patterns(alloc, values_in(element.value))?,
+    })
 }
 
 /// The patterns of the texts among the values, in which `*` and `?` are wildcards.

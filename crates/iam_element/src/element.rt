@@ -2,7 +2,7 @@
 ghost use Rattle.std.specs.Prelude.{◌≡◌, map, Some, MatchOption, true, if◌then◌else◌};
 ghost use Rattle.std.specs.List.{list_all, list_any};
 ghost use Rattle.serde_json.specs.View.{view};
-ghost use Rattle.iam_element.specs.Form.{form_of};
+ghost use Rattle.iam_element.specs.Grammar.{form_of};
 ghost use Rattle.iam_element.specs.Element.{both, neither, listed, is_text, is_no_text, are_texts, is_bad_list, has_text, is_this, is_too_long};
 ghost use Rattle.iam_element.specs.Code.Members.{data_of};
 
@@ -40,13 +40,8 @@ pub fn values_in(value: &Value) -> &[Value]
 {
     match iam_json::values(value) {
         Some(values) => values,
-        None => {
-            if value.is_string() {
-                slice::from_ref(value)
-            } else {
-                &[]
-            }
-        }
+        None if value.is_string() => slice::from_ref(value),
+        None => &[],
     }
 }
 

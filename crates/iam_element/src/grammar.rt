@@ -2,9 +2,9 @@
 ghost use Rattle.std.specs.Prelude.{◌≡◌, ◌||◌, not};
 ghost use Rattle.std.specs.List.{list_all, list_any};
 ghost use Rattle.std.specs.Char.{is_ascii_alphanumeric};
-ghost use Rattle.iam_element.specs.ActionPattern.{is_wildcard};
 ghost use Rattle.iam_text.specs.Variables.{is_draft};
-ghost use Rattle.iam_element.specs.Grammar.{begins_as_arn, is_resource_pattern, has_early_variable, is_bad_variable, is_whole_arn, is_unique_id, is_aws_name};
+ghost use Rattle.iam_element.specs.ActionPattern.{is_wildcard};
+ghost use Rattle.iam_element.specs.Grammar.{begins_as_arn, is_resource_pattern, has_early_variable, is_bad_variable, is_whole_arn, is_unique_id, is_aws_name, form_of};
 
 use crate::action_pattern::{is_action_pattern, is_wildcard};
 use iam_text::{Version, cut_form, has_dollar, has_forms_behind, has_six_parts, is_account};
@@ -25,9 +25,6 @@ pub enum TextForm {
 }
 
 impl TextForm {
-    ghost use Rattle.std.specs.Prelude.{◌≡◌};
-    ghost use Rattle.iam_element.specs.Form.{form_of};
-
     pub fn fits(self, text: &str) -> bool
         ensures { result ≡ form_of self text.now }
     {

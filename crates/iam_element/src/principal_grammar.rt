@@ -4,7 +4,7 @@ ghost use Rattle.std.specs.List.{list_any};
 ghost use Rattle.serde_json.specs.Find.{get};
 ghost use Rattle.serde_json.specs.View.{view};
 ghost use Rattle.iam_json.specs.Look.{has_unknown};
-ghost use Rattle.iam_element.specs.Form.{form_of};
+ghost use Rattle.iam_element.specs.Grammar.{form_of};
 ghost use Rattle.iam_element.specs.Element.{stands_as, is_too_long};
 ghost use Rattle.iam_element.specs.Code.Members.{data_of};
 ghost use Rattle.iam_element.specs.Principal.{principal_kinds, kind_word, name_test, is_bad_kind, has_principals, is_everyone, is_principal, is_single_star, is_star, has_long_kind};
@@ -57,9 +57,7 @@ fn form_of(kind: PrincipalKind) -> TextForm
 {
     match kind {
         PrincipalKind::Aws => TextForm::AwsName,
-        PrincipalKind::Service | PrincipalKind::Federated | PrincipalKind::CanonicalUser => {
-            TextForm::AnyName
-        }
+        _ => TextForm::AnyName,
     }
 }
 

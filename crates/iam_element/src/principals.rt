@@ -1,12 +1,12 @@
 // The principal element of a statement.
-ghost use Rattle.std.specs.Prelude.{◌≡◌, ◌++◌, IfOk, OnOk, map};
+ghost use Rattle.std.specs.Prelude.{◌≡◌, ◌++◌, IfOk, OnOk, map, string_bytes};
 ghost use Rattle.std.specs.List.{filter_map};
 ghost use Rattle.serde_json.specs.Find.{as_str};
 ghost use Rattle.serde_json.specs.View.{view};
-ghost use Rattle.iam_element.specs.Reading.{ReadsPrincipalElement, names_of, typed};
+ghost use Rattle.iam_element.specs.Reading.{ReadsPrincipalElement, names_of, typed, PrincipalText, PrincipalElement};
 
 use crate::OutOfMemory;
-use crate::element::{Element, either, listed, values_in};
+use crate::element::{either, listed, values_in};
 use crate::members::Members;
 use serde_json::Value;
 use std::alloc::Global;
@@ -23,7 +23,6 @@ pub enum PrincipalKind {
 }
 
 impl PrincipalKind {
-    ghost use Rattle.std.specs.Prelude.{◌≡◌};
     ghost use Rattle.iam_element.specs.Principal.{kind_word};
 
     /// The name of the type in a document.
@@ -55,17 +54,12 @@ pub struct PrincipalName {
 }
 
 impl Model for PrincipalName {
-    ghost use Rattle.std.specs.Prelude.{string_bytes};
-    ghost use Rattle.iam_element.specs.Reading.{PrincipalText};
-
     ghost Value = { PrincipalText };
 
     ghost view = { λ n. record { kind = n.kind; text = string_bytes n.text } };
 }
 
 impl PrincipalName {
-    ghost use Rattle.std.specs.Prelude.{◌≡◌};
-
     /// The type that the text stands under.
     pub fn kind(&self) -> PrincipalKind
         ensures { result ≡ self.now.kind }
@@ -91,18 +85,12 @@ pub struct Principals {
 }
 
 impl Model for Principals {
-    ghost use Rattle.iam_element.specs.Reading.{PrincipalElement};
-
     ghost Value = { PrincipalElement };
 
     ghost view = { λ p. record { negated = p.is_negated; names = p.names.items } };
 }
 
 impl Principals {
-    ghost use Rattle.std.specs.Prelude.{◌≡◌, IfOk};
-    ghost use Rattle.serde_json.specs.View.{view};
-    ghost use Rattle.iam_element.specs.Reading.{names_of};
-
     /// Whether the element is `NotPrincipal`.
     pub fn is_negated(&self) -> bool
         ensures { result ≡ self.now.negated }
@@ -116,16 +104,6 @@ impl Principals {
     {
         self.names.as_slice()
     }
-
-    /// Reads the element.
-    fn read(alloc: Global, element: Element<'_>) -> Result<Principals, OutOfMemory>
-        ensures { IfOk result (λ r. r ≡ record { negated = element.entry.is_negated; names = names_of (view element.entry.value.now) }) }
-    {
-        Ok(Principals {
-            is_negated: element.is_negated,
-            names: names_of(alloc, element.value)?,
-        })
-    }
 }
 
 /// Reads the `Principal` or the `NotPrincipal` of a statement; `None` where neither stands there.
@@ -136,7 +114,10 @@ pub fn read_principal(
     ensures { IfOk result (λ r. ReadsPrincipalElement (view statement.now) r) }
 {
     match either(statement.principal, statement.not_principal) {
-        Some(element) => Ok(Some(Principals::read(alloc, element)?)),
+        Some(element) => Ok(Some(Principals {
+            is_negated: element.is_negated,
+            names: names_of(alloc, element.value)?,
+        })),
         None => Ok(None),
     }
 }

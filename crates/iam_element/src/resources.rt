@@ -5,12 +5,11 @@ ghost use Rattle.serde_json.specs.Find.{as_str};
 ghost use Rattle.serde_json.specs.View.{view};
 ghost use Rattle.iam_text.specs.Draft.{IsDraftIn};
 ghost use Rattle.iam_element.specs.Element.{is_text};
-ghost use Rattle.iam_element.specs.Grammar.{is_bad_variable};
-ghost use Rattle.iam_element.specs.Reading.{ReadsResourceElement};
-ghost use Rattle.iam_element.specs.Resource.{has_bad_variable};
+ghost use Rattle.iam_element.specs.Grammar.{is_bad_variable, has_bad_variable};
+ghost use Rattle.iam_element.specs.Reading.{ReadsResourceElement, ResourceElement};
 
 use crate::OutOfMemory;
-use crate::element::{Element, either, has_text, values_in};
+use crate::element::{either, has_text, values_in};
 use crate::grammar::TextForm;
 use crate::members::Members;
 use iam_text::{Template, TemplateForm, Version};
@@ -28,21 +27,12 @@ pub struct Resources {
 }
 
 impl Model for Resources {
-    ghost use Rattle.iam_element.specs.Reading.{ResourceElement};
-
     ghost Value = { ResourceElement };
 
     ghost view = { λ r. record { negated = r.is_negated; texts = r.texts.items } };
 }
 
 impl Resources {
-    ghost use Rattle.std.specs.Prelude.{◌≡◌, IfOk, IsTrue, Some, false, true};
-    ghost use Rattle.std.specs.List.{AllZip};
-    ghost use Rattle.serde_json.specs.View.{view};
-    ghost use Rattle.iam_text.specs.Draft.{IsDraftIn};
-    ghost use Rattle.iam_element.specs.Element.{has_text, texts_of};
-    ghost use Rattle.iam_element.specs.Grammar.{is_bad_variable};
-
     /// Whether the element is `NotResource`.
     pub fn is_negated(&self) -> bool
         ensures { result ≡ self.now.negated }
@@ -74,18 +64,6 @@ impl Resources {
         }
         print
     }
-
-    /// Reads the element, in a document of the version.
-    fn read(alloc: Global, element: Element<'_>, version: Version) -> Result<Resources, OutOfMemory>
-        requires { has_text (is_bad_variable version) (Some (view element.value.now)) ≡ false }
-        ensures negated { IfOk result (λ r. r.negated ≡ element.entry.is_negated) }
-        ensures texts { IfOk result (λ r. AllZip (IsDraftIn version true) (texts_of (Some (view element.entry.value.now))) r.texts) }
-    {
-        Ok(Resources {
-            is_negated: element.is_negated,
-            texts: templates(alloc, values_in(element.value), version)?,
-        })
-    }
 }
 
 /// Reads the `Resource` or the `NotResource` of a statement without a bad variable, in a document of the version; `None`
@@ -99,7 +77,10 @@ pub fn read_resource(
     ensures { IfOk result (λ r. ReadsResourceElement version (view statement.now) r) }
 {
     match either(statement.resource, statement.not_resource) {
-        Some(element) => Ok(Some(Resources::read(alloc, element, version)?)),
+        Some(element) => Ok(Some(Resources {
+            is_negated: element.is_negated,
+            texts: templates(alloc, values_in(element.value), version)?,
+        })),
         None => Ok(None),
     }
 }

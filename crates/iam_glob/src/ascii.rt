@@ -1,5 +1,5 @@
 // Patterns against ASCII text, byte by byte.
-ghost use Rattle.std.specs.Prelude.{◌≡◌, ◌↔◌, ◌≤◌, ◌<◌, IfSome, IsTrue, length, slice_index};
+ghost use Rattle.std.specs.Prelude.{◌↔◌, ◌≤◌, ◌<◌, IfSome, IsTrue, length, slice_index};
 ghost use Rattle.iam_glob.specs.Signs.{signs_in};
 ghost use Rattle.iam_glob.specs.Code.Walk.{Covers, char_in, IsInFront, Walks, found_at, IsFront, Settles, Later, signs_left};
 

@@ -36,10 +36,6 @@ enum Way<'a> {
 }
 
 impl<'a> Model for Compiled<'a> {
-    ghost use Rattle.std.specs.Prelude.{List};
-    ghost use Rattle.iam_glob.specs.declared.sign.Sign.{Sign};
-    ghost use Rattle.iam_glob.specs.Code.Compiled.{IsWay};
-
     ghost Value = { List Sign };
 
     ghost view = { λ c. c.glob.now };

@@ -1,9 +1,10 @@
 // A pattern, and whether it matches a text.
-ghost use Rattle.std.specs.Prelude.{◌≡◌, ◌↔◌, IsTrue, IfOk, map};
+ghost use Rattle.std.specs.Prelude.{◌≡◌, ◌↔◌, IsTrue, IfOk, map, List};
 ghost use Rattle.std.specs.Str.{chars};
 ghost use Rattle.iam_glob.specs.Glob.{wild_sign, plain_sign, Equals, EqualsFold, Matches, MatchesFold, sign_of};
 ghost use Rattle.iam_glob.specs.Code.Globs.{kept_signs};
 ghost use Rattle.iam_glob.specs.Signs.{signs_in};
+ghost use Rattle.iam_glob.specs.declared.sign.Sign.{Sign};
 
 use crate::OutOfMemory;
 use crate::case::Case;
@@ -34,10 +35,6 @@ enum Kind {
 }
 
 impl Model for Glob {
-    ghost use Rattle.std.specs.Prelude.{List};
-    ghost use Rattle.iam_glob.specs.declared.sign.Sign.{Sign};
-    ghost use Rattle.iam_glob.specs.Code.Globs.{kept_signs};
-
     ghost Value = { List Sign };
 
     ghost view = { λ g. kept_signs g.kind };

@@ -1,5 +1,5 @@
 // A short text, in place.
-ghost use Rattle.std.specs.Prelude.{◌≡◌, IfSome};
+ghost use Rattle.std.specs.Prelude.{◌≡◌, ◌≤◌, IfSome, ℕ, List, take};
 
 use std::marker::Model;
 
@@ -14,8 +14,6 @@ pub struct Short {
 }
 
 impl Model for Short {
-    ghost use Rattle.std.specs.Prelude.{ℕ, ◌≤◌, List, take};
-
     ghost Value = { List ℕ };
 
     ghost view = { λ short. take short.len short.bytes };

@@ -1,7 +1,7 @@
 // What a pattern is made of.
 ghost use Rattle.std.specs.Prelude.{◌≡◌, ◌++◌, OnOk, map};
 ghost use Rattle.std.specs.Str.{chars};
-ghost use Rattle.iam_glob.specs.Glob.{sign_of};
+ghost use Rattle.iam_glob.specs.Glob.{sign_of, wild_sign};
 
 use crate::OutOfMemory;
 
@@ -17,8 +17,6 @@ pub enum Sign {
 }
 
 impl Sign {
-    ghost use Rattle.iam_glob.specs.Glob.{wild_sign};
-
     /// The sign of a character where wildcards stand.
     #[inline(always)]
     pub fn wild(character: char) -> Sign

@@ -1,5 +1,5 @@
 // The matcher.
-ghost use Rattle.std.specs.Prelude.{◌≡◌, ◌↔◌, ◌≤◌, IsTrue, IfSome, IfNone, length, map};
+ghost use Rattle.std.specs.Prelude.{◌↔◌, ◌≤◌, IsTrue, IfSome, IfNone, length, map};
 ghost use Rattle.std.specs.Str.{chars};
 ghost use Rattle.iam_glob.specs.Glob.{Equals, sign_by};
 ghost use Rattle.iam_glob.specs.Signs.{signs_in};

@@ -1,6 +1,6 @@
 -- What comparing a text of a request with a value of a policy tells of the definition (`Entry`).
-use Rattle.std.proofs.Common.{◌≡◌, ◌↔◌, ◌≤◌, arith, length, inl, inr, ℕ, ℤ, List, [], ◌∷◌, Bool, true, false, not, Option, Some, None, IsTrue, refl, sym, ap, ◌∙◌, subst}
-use Rattle.iam_text.specs.Parts.{parts_of}
+use Rattle.std.proofs.Common.{◌≡◌, ◌↔◌, ◌≤◌, arith, length, inl, inr, ℕ, ℤ, List, [], ◌∷◌, Bool, true, false, Option, Some, None, IsTrue, refl, sym, ap, ◌∙◌, subst}
+use Rattle.iam_text.specs.Arn.{parts_of}
 use Rattle.iam_text.specs.declared.arn.Arn.{Arn}
 use Rattle.iam_text.specs.declared.draft.Piece.{Piece}
 use Rattle.iam_glob.specs.declared.sign.Sign.{Sign}
@@ -15,9 +15,10 @@ use Rattle.iam_condition.specs.declared.operator.Base.TheVariants as base
 use Rattle.iam_condition.specs.declared.operator.Order.{Order}
 use Rattle.iam_condition.specs.Operand.{has_texts}
 use Rattle.iam_condition.specs.Entry.{EntryValue}
-use Rattle.iam_match.specs.Entry.{ArnMatches, HoldsOn, HoldsWith, Ordered, PartsMatch, ResolvesTo, ValueMatches}
+use Rattle.iam_match.specs.Entry.{ArnMatches, HoldsOn, HoldsWith, Ordered, PartsMatch, Resolves, ResolvesTo, ValueMatches}
 use Rattle.iam_match.specs.Code.Asked.{IsComparison, IsArnOf, IsThe}
 use Rattle.iam_match.specs.Code.Compared.{ArnFits, IsTextAnswer}
+use Rattle.iam_match.proofs.StatementLemmas.{Tells}
 
 -- the pieces of a text
 same_pieces : (p q : List Piece) → operand.Text p ≡ operand.Text q → p ≡ q
@@ -110,13 +111,10 @@ address_comparison context text address value holds the agrees = (
   ),
 )
 
-pub not_true : (b : Bool) → ¬ IsTrue b → IsTrue (not b)
-not_true true h = absurd (h refl)
-not_true false h = refl
-
-pub not_both : (b : Bool) → IsTrue (not b) → IsTrue b → ⊥
-not_both true denied held = let wrong : ⊥ = cc in wrong
-not_both false denied held = let wrong : ⊥ = cc in wrong
+pub compared : (context : ContextValue) (b : Base) (text : List ℕ) (value : Operand) (answer : Option Bool) → IsComparison context b text value answer
+    → Tells (Resolves context b value) (ValueMatches context b text value) answer
+compared context b text value None is = is
+compared context b text value (Some matched) is = is
 
 pub not_false : (b : Bool) → b ≡ false → IsTrue b → ⊥
 not_false b is held = let wrong : true ≡ false = sym held ∙ is in let false_is : ⊥ = cc in false_is

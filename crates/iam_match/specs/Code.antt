@@ -2,4 +2,3 @@ pub mod Asked
 pub mod Compared
 pub mod Parts
 pub mod Session
-pub mod Texts

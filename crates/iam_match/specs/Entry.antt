@@ -9,10 +9,8 @@ use Rattle.iam_text.specs.declared.draft.Piece.{Piece}
 use Rattle.iam_glob.specs.declared.sign.Sign.{Sign}
 use Rattle.iam_glob.specs.declared.sign.Sign.TheVariants as sign
 use Rattle.iam_value.specs.Address.{AddressBits, Block, Holds, IsAddress}
-use Rattle.iam_value.specs.Bytes.{IsBase64}
 use Rattle.iam_value.specs.Moment.{IsMoment}
-use Rattle.iam_value.specs.Truth.{IsTruth}
-use Rattle.iam_value.specs.Whole.{IsWhole}
+use Rattle.iam_value.specs.Values.{IsBase64, IsTruth, IsWhole}
 use Rattle.iam_context.specs.Context.{ContextValue, values_of}
 use Rattle.iam_context.specs.Resolve.{resolved}
 use Rattle.iam_condition.specs.declared.operand.Operand.{Operand}
@@ -100,14 +98,8 @@ asks_every None negated = negated
 
 -- whether it asks for the presence of a key alone
 abbrev pub is_null : Base → Bool
-is_null (Text test) = false
-is_null Arn = false
-is_null (Number order) = false
-is_null (Date order) = false
-is_null Truth = false
-is_null Binary = false
-is_null Address = false
 is_null Null = true
+is_null _ = false
 
 -- this truth value is one of the values
 abbrev pub HasTruth : Bool → List Operand → Type 0

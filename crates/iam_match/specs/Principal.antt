@@ -5,7 +5,7 @@ use Rattle.std.specs.List.{list_all, list_any}
 use Rattle.std.specs.Option.{option_map_or}
 use Rattle.std.specs.Str.{bytes_eq}
 use Rattle.iam_element.specs.declared.principals.PrincipalKind.{PrincipalKind}
-use Rattle.iam_element.specs.declared.principals.PrincipalKind.TheVariants.{Aws, Service, Federated, CanonicalUser}
+use Rattle.iam_element.specs.declared.principals.PrincipalKind.TheVariants.{Aws}
 use Rattle.iam_element.specs.Reading.{PrincipalElement, PrincipalText}
 use Rattle.iam_match.specs.declared.principal.Grant.{Grant}
 use Rattle.iam_match.specs.declared.principal.Grant.TheVariants.{None, Account, Role, Direct}
@@ -35,9 +35,7 @@ is_text_of (the_session arn) text = bytes_eq text arn
 
 abbrev pub is_aws : PrincipalKind → Bool
 is_aws Aws = true
-is_aws Service = false
-is_aws Federated = false
-is_aws CanonicalUser = false
+is_aws _ = false
 
 -- a text under `AWS` names what it stands for, and `*` names everything; a text under another type names nobody
 abbrev pub is_named : PrincipalText → Name → Bool

@@ -2,7 +2,7 @@
 ghost use Rattle.std.specs.Prelude.{◌≡◌, ◌↔◌, ◌⊎◌, ◌++◌, ◌∷◌, [], All, IsTrue, MatchOption, map};
 ghost use Rattle.iam_text.specs.Arn.{colon};
 ghost use Rattle.iam_glob.specs.declared.sign.Sign.TheVariants as sign;
-ghost use Rattle.iam_text.specs.Parts.{parts_of};
+ghost use Rattle.iam_text.specs.Arn.{parts_of};
 ghost use Rattle.iam_glob.specs.Signs.{signs_in};
 ghost use Rattle.iam_match.specs.Entry.{IsNoColon, PartsMatch};
 
@@ -34,13 +34,6 @@ fn parts_match(signs: Signs<'_>, part: &str, others: &[&str]) -> bool
     }
 }
 
-/// Whether the signs are the one wildcard `*`.
-fn is_star(signs: Signs<'_>) -> bool
-    ensures { IsTrue result ↔ (signs_in signs.entry ≡ sign.Any ∷ []) }
-{
-    signs.len() == 1 && signs.at(0) == Sign::Any
-}
-
 /// Whether the signs are the one wildcard `*`, or have six parts, each of which matches its part of the ARN.
 ///
 /// AWS IAM User Guide, "Amazon Resource Name (ARN) condition operators".
@@ -54,5 +47,6 @@ pub fn arn_matches(signs: Signs<'_>, arn: &Arn<'_>) -> bool
         arn.account,
         arn.resource,
     ];
-    is_star(signs) || parts_match(signs, arn.prefix, others.as_slice())
+    (signs.len() == 1 && signs.at(0) == Sign::Any)
+        || parts_match(signs, arn.prefix, others.as_slice())
 }

@@ -7,8 +7,7 @@ ghost use Rattle.iam_glob.specs.Glob.{plain_sign, Equals, Matches};
 ghost use Rattle.iam_condition.specs.declared.operator.Base.{Base};
 ghost use Rattle.iam_condition.specs.declared.operand.Operand.TheVariants as operand;
 ghost use Rattle.iam_match.specs.Code.Asked.{IsAsked, IsComparison};
-ghost use Rattle.iam_match.specs.Code.Compared.{ArnFits, IsTextAnswer};
-ghost use Rattle.iam_match.specs.Code.Texts.{TellsOfPattern};
+ghost use Rattle.iam_match.specs.Code.Compared.{ArnFits, IsTextAnswer, TellsOfPattern};
 ghost use Rattle.iam_match.specs.Entry.{Ordered, PatternMatches};
 
 use crate::arn::arn_matches;
@@ -72,12 +71,13 @@ fn open_text<'c>(
 {
     match test {
         TextTest::Equals | TextTest::Like => match lone_value(draft, context) {
-            Some(Some(value)) => Ok(Some(is_value(value, text))),
-            Some(None) => Ok(None),
-            None => pattern_text(alloc, draft, text, test, context),
+            Some(Some(value)) => return Ok(Some(is_value(value, text))),
+            Some(None) => return Ok(None),
+            None => {}
         },
-        TextTest::EqualsIgnoreCase => pattern_text(alloc, draft, text, test, context),
+        TextTest::EqualsIgnoreCase => {}
     }
+    Ok(resolve(alloc, draft, context)?.map(|glob| text_matches(&glob, text, test)))
 }
 
 /// Whether the value of a variable, all of whose characters are given, is the text.
@@ -86,22 +86,6 @@ fn is_value(value: &str, text: &str) -> bool
     ensures matches { IsTrue result ↔ Matches (map plain_sign (chars value.now)) (chars text.now) }
 {
     value == text
-}
-
-/// Compares a text with the pattern that a value with variables becomes.
-fn pattern_text<'c>(
-    alloc: Global,
-    draft: &'c Draft,
-    text: &str,
-    test: TextTest,
-    context: &Context<'c>,
-) -> Result<Option<bool>, OutOfMemory>
-    ensures { IfOk result (TellsOfPattern (resolved context.now draft.now) (λ signs. PatternMatches test signs text.now)) }
-{
-    match resolve(alloc, draft, context)? {
-        Some(glob) => Ok(Some(text_matches(&glob, text, test))),
-        None => Ok(None),
-    }
 }
 
 /// Compares the parts of an ARN.
@@ -116,24 +100,12 @@ fn compare_arn<'c>(
     match value {
         Operand::Text(template) => match template.form() {
             TemplateForm::Fixed(glob) => Ok(Some(arn_fits(glob, arn))),
-            TemplateForm::Open(draft) => open_arn(alloc, draft, arn, context),
+            TemplateForm::Open(draft) => match resolve(alloc, draft, context)? {
+                Some(glob) => Ok(Some(arn_fits(&glob, arn))),
+                None => Ok(None),
+            },
         },
         _ => Ok(Some(false)),
-    }
-}
-
-/// Compares the parts of an ARN with a value that has variables.
-fn open_arn<'c>(
-    alloc: Global,
-    draft: &'c Draft,
-    arn: &Option<Arn<'_>>,
-    context: &Context<'c>,
-) -> Result<Option<bool>, OutOfMemory>
-    ensures { IfOk result (TellsOfPattern (resolved context.now draft.now) (ArnFits arn.now)) }
-{
-    match resolve(alloc, draft, context)? {
-        Some(glob) => Ok(Some(arn_fits(&glob, arn))),
-        None => Ok(None),
     }
 }
 

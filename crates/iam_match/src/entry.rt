@@ -73,11 +73,13 @@ fn holds_with<'c>(
     if is_null(operator.base) {
         return Ok(has_truth(values, false));
     }
-    if asks_every(operator) {
-        every_satisfies(alloc, operator, values, texts, context)
-    } else {
-        some_satisfies(alloc, operator, values, texts, context)
+    let every = asks_every(operator);
+    for text in texts {
+        if satisfies(alloc, operator, values, text.as_str(), context)? != every {
+            return Ok(!every);
+        }
     }
+    Ok(every)
 }
 
 /// Whether each value of the request has to satisfy the operator, and not some value.
@@ -89,40 +91,6 @@ fn asks_every(operator: Operator) -> bool
         Some(Quantifier::ForAnyValue) => false, // one is enough
         None => operator.is_negated,
     }
-}
-
-fn every_satisfies<'c>(
-    alloc: Global,
-    operator: Operator,
-    values: &'c [Operand],
-    texts: &[Text],
-    context: &Context<'c>,
-) -> Result<bool, OutOfMemory>
-    ensures { IfOk result (λ every. IsTrue every ↔ All (Satisfies context.now operator values.now) texts.now) }
-{
-    for text in texts {
-        if !satisfies(alloc, operator, values, text.as_str(), context)? {
-            return Ok(false);
-        }
-    }
-    Ok(true)
-}
-
-fn some_satisfies<'c>(
-    alloc: Global,
-    operator: Operator,
-    values: &'c [Operand],
-    texts: &[Text],
-    context: &Context<'c>,
-) -> Result<bool, OutOfMemory>
-    ensures { IfOk result (λ some. IsTrue some ↔ Any (Satisfies context.now operator values.now) texts.now) }
-{
-    for text in texts {
-        if satisfies(alloc, operator, values, text.as_str(), context)? {
-            return Ok(true);
-        }
-    }
-    Ok(false)
 }
 
 /// Whether a text of the request satisfies the operator with these values.
@@ -154,7 +122,7 @@ fn matches_some<'c>(
         → IfOk result (λ some. IsTrue some ↔ Any (ValueMatches context.now base text) values.now) }
 {
     for value in values {
-        if value_matches(alloc, asked, value, context)? {
+        if compare(alloc, asked, value, context)? == Some(true) {
             return Ok(true);
         }
     }
@@ -172,41 +140,9 @@ fn differs_from_all<'c>(
         → IfOk result (λ differ. IsTrue differ ↔ All (ValueDiffers context.now base text) values.now) }
 {
     for value in values {
-        if !value_differs(alloc, asked, value, context)? {
+        if compare(alloc, asked, value, context)? != Some(false) {
             return Ok(false);
         }
     }
     Ok(true)
-}
-
-/// Whether the text matches the value.
-fn value_matches<'c>(
-    alloc: Global,
-    asked: &Asked<'_>,
-    value: &'c Operand,
-    context: &Context<'c>,
-) -> Result<bool, OutOfMemory>
-    ensures { (base : Base) (text : List ℕ) → IsAsked base text asked.now
-        → IfOk result (λ matches. IsTrue matches ↔ ValueMatches context.now base text value.now) }
-{
-    match compare(alloc, asked, value, context)? {
-        Some(matched) => Ok(matched),
-        None => Ok(false),
-    }
-}
-
-/// Whether the value resolves, and the text does not match it.
-fn value_differs<'c>(
-    alloc: Global,
-    asked: &Asked<'_>,
-    value: &'c Operand,
-    context: &Context<'c>,
-) -> Result<bool, OutOfMemory>
-    ensures { (base : Base) (text : List ℕ) → IsAsked base text asked.now
-        → IfOk result (λ differs. IsTrue differs ↔ ValueDiffers context.now base text value.now) }
-{
-    match compare(alloc, asked, value, context)? {
-        Some(matched) => Ok(!matched),
-        None => Ok(false), // it does not resolve
-    }
 }

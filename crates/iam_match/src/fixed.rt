@@ -1,7 +1,9 @@
 // Resource elements without variables.
-ghost use Rattle.std.specs.Prelude.{◌↔◌, Any, IsTrue};
+ghost use Rattle.std.specs.Prelude.{◌↔◌, ◌≡◌, Any, IsTrue, IfOk, IfSome, Some, map};
 ghost use Rattle.std.specs.Str.{chars};
 ghost use Rattle.iam_glob.specs.Glob.{Matches};
+ghost use Rattle.iam_text.specs.Draft.{plain_draft};
+ghost use Rattle.iam_element.specs.Reading.{ResourceElement};
 
 use iam_policy::Resources;
 use iam_text::{Compiled, OutOfMemory, TemplateForm};
@@ -18,17 +20,12 @@ pub struct Fixed<'a> {
 }
 
 impl<'a> Model for Fixed<'a> {
-    ghost use Rattle.std.specs.Prelude.{map};
-    ghost use Rattle.iam_element.specs.Reading.{ResourceElement};
-    ghost use Rattle.iam_text.specs.Draft.{plain_draft};
-
     ghost Value = { ResourceElement };
 
     ghost view = { λ f. record { negated = f.is_negated; texts = map plain_draft f.patterns.items } };
 }
 
 impl<'a> Fixed<'a> {
-    ghost use Rattle.std.specs.Prelude.{◌≡◌, ◌↔◌, IfOk, IfSome, IsTrue, Some};
     ghost use Rattle.iam_context.specs.Context.{ContextValue};
     ghost use Rattle.iam_match.specs.Statement.{ResourceMatches};
 

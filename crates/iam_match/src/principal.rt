@@ -3,7 +3,7 @@ ghost use Rattle.std.specs.Prelude.{◌≡◌, ◌||◌, ◌↔◌, IsTrue, map}
 ghost use Rattle.std.specs.List.{concat, list_all};
 ghost use Rattle.std.specs.Str.{bytes_eq};
 ghost use Rattle.iam_match.specs.Requester.{root_arn};
-ghost use Rattle.iam_match.specs.Principal.{ElementHolds, PrincipalMatches, grant_of, grant_of_element, grant_of_text, greatest, is_listed, is_named, names, the_account, the_user};
+ghost use Rattle.iam_match.specs.Principal.{PrincipalMatches, grant_of, grant_of_element, grant_of_text, greatest, is_listed, is_named, names, the_account, the_user};
 
 use crate::requester::Requester;
 use iam_policy::{PrincipalKind, PrincipalName, Principals, Statement};
@@ -37,15 +37,9 @@ pub fn grant_kind(statement: &Statement, requester: &Requester) -> Grant
 pub fn principal_matches(statement: &Statement, requester: &Requester) -> bool
     ensures { IsTrue result ↔ PrincipalMatches statement.now.principal requester.now }
 {
-    match statement.principal() {
-        Some(element) => element_holds(element, requester),
-        None => true,
-    }
-}
-
-fn element_holds(element: &Principals, requester: &Requester) -> bool
-    ensures { IsTrue result ↔ ElementHolds requester.now element.now }
-{
+    let Some(element) = statement.principal() else {
+        return true;
+    };
     if element.is_negated() {
         !are_listed(element.names(), requester)
     } else {

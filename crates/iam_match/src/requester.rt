@@ -82,7 +82,10 @@ impl Requester {
         }
         match parts_behind(arn, "role/") {
             Some(parts) => {
-                let session = Session::of(alloc, parts, session)?;
+                let session = Session {
+                    name: String::from_str(alloc, session)?,
+                    arn: session_arn(alloc, parts, session)?,
+                };
                 Ok(Some(Requester::of(alloc, arn, parts, Some(session))?))
             }
             None => Ok(None),
@@ -148,22 +151,5 @@ impl Requester {
             Some(_) => None,
             None => Some(last_segment(self.path.as_str())),
         }
-    }
-}
-
-impl Session {
-    ghost use Rattle.std.specs.Prelude.{◌≡◌, IfOk, None, string_bytes};
-    ghost use Rattle.iam_match.specs.Requester.{session_arn};
-    ghost use Rattle.iam_match.specs.Code.Parts.{requester_of};
-
-    /// The session of this name of the role with these parts.
-    fn of(alloc: Global, role: Parts<'_>, name: &str) -> Result<Session, OutOfMemory>
-        ensures name { IfOk result (λ s. string_bytes s.name ≡ name.now) }
-        ensures arn { IfOk result (λ s. string_bytes s.arn ≡ session_arn (requester_of role.entry None) name.now) }
-    {
-        Ok(Session {
-            name: String::from_str(alloc, name)?,
-            arn: session_arn(alloc, role, name)?,
-        })
     }
 }

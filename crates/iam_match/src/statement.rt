@@ -1,7 +1,5 @@
 // Whether a statement matches, with its action and without.
-ghost use Rattle.std.specs.Prelude.{◌↔◌, All, Any, IsTrue, IfOk, IfSome};
-ghost use Rattle.std.specs.Str.{chars};
-ghost use Rattle.iam_glob.specs.Glob.{MatchesFold};
+ghost use Rattle.std.specs.Prelude.{◌↔◌, All, IsTrue, IfOk, IfSome};
 ghost use Rattle.iam_match.specs.Request.{access_of, request_of};
 ghost use Rattle.iam_match.specs.Entry.{EntryHolds};
 ghost use Rattle.iam_match.specs.Statement.{ActionMatches, ResourceMatches, RestMatches, StatementMatches};
@@ -13,7 +11,7 @@ use crate::resource::resource_matches;
 use iam_condition::Entry;
 use iam_context::Context;
 use iam_policy::{Actions, Statement};
-use iam_text::{Glob, OutOfMemory};
+use iam_text::OutOfMemory;
 use std::alloc::Global;
 
 /// Whether the statement matches the request. It takes the allocator for the patterns that texts with variables become,
@@ -104,7 +102,8 @@ fn resource_matches_with<'c>(
 pub fn action_matches(element: &Actions, action: &str) -> bool
     ensures { IsTrue result ↔ ActionMatches element.now action.now }
 {
-    element.is_negated() != any_matches_fold(element.patterns(), action)
+    let patterns = element.patterns();
+    element.is_negated() != patterns.iter().any(|pattern| pattern.matches_fold(action))
 }
 
 /// Whether every entry holds.
@@ -121,10 +120,4 @@ fn conditions_hold<'c>(
         }
     }
     Ok(true)
-}
-
-fn any_matches_fold(patterns: &[Glob], text: &str) -> bool
-    ensures { IsTrue result ↔ Any (λ pattern. MatchesFold pattern (chars text.now)) patterns.now }
-{
-    patterns.iter().any(|pattern| pattern.matches_fold(text))
 }

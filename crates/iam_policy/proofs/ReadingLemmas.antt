@@ -9,7 +9,7 @@ use Rattle.iam_policy.specs.declared.fault.Kind.{Kind}
 use Rattle.iam_condition.specs.Condition.{has_bad_text}
 use Rattle.iam_element.specs.Element.{both, neither, stands_as}
 use Rattle.iam_policy.specs.Statement.{effect_of}
-use Rattle.iam_element.specs.Resource.{has_bad_variable}
+use Rattle.iam_element.specs.Grammar.{has_bad_variable}
 use Rattle.iam_policy.specs.Version.{version_of}
 use Rattle.iam_policy.specs.Code.First.{HasLeast}
 use Rattle.iam_policy.specs.Code.Readable.{IsReadable}

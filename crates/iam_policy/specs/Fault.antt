@@ -17,8 +17,7 @@ use Rattle.iam_policy.specs.declared.fault.PrincipalRule.TheVariants.{Nobody, So
 use Rattle.iam_element.specs.Element.{both, neither, stands_as, is_no_text, is_this, is_bad_list, is_too_long}
 use Rattle.iam_policy.specs.Statement.{sid_of, effect_of}
 use Rattle.iam_element.specs.ActionPattern.{is_action_pattern}
-use Rattle.iam_element.specs.Grammar.{is_resource_pattern}
-use Rattle.iam_element.specs.Resource.{has_bad_variable}
+use Rattle.iam_element.specs.Grammar.{has_bad_variable, is_resource_pattern}
 use Rattle.iam_element.specs.Principal.{is_everyone, is_principal, has_long_kind}
 use Rattle.iam_policy.specs.Table.{number_of, fault_is}
 use Rattle.iam_policy.specs.Version.{version_named, version_of}

@@ -22,13 +22,8 @@ fn objects_in(value: &Value) -> &[Value]
 {
     match values(value) {
         Some(values) => values,
-        None => {
-            if value.is_object() {
-                slice::from_ref(value)
-            } else {
-                &[]
-            }
-        }
+        None if value.is_object() => slice::from_ref(value),
+        None => &[],
     }
 }
 

@@ -1,7 +1,7 @@
 // The effect of a statement.
 ghost use Rattle.std.specs.Prelude.{◌≡◌};
 ghost use Rattle.serde_json.specs.View.{view};
-ghost use Rattle.iam_policy.specs.Statement.{effect_named, effect_of};
+ghost use Rattle.iam_policy.specs.Statement.{effect_of};
 
 use iam_element::Members;
 
@@ -16,13 +16,7 @@ pub enum Effect {
 pub fn effect_of(statement: &Members<'_>) -> Option<Effect>
     ensures { result ≡ effect_of (view statement.now) }
 {
-    effect_named(statement.effect?.as_str()?)
-}
-
-fn effect_named(word: &str) -> Option<Effect>
-    ensures { result ≡ effect_named word.now }
-{
-    match word {
+    match statement.effect?.as_str()? {
         "Allow" => Some(Effect::Allow),
         "Deny" => Some(Effect::Deny),
         _ => None,

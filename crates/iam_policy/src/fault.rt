@@ -1,4 +1,7 @@
 // The faults of a document, and the kinds of documents.
+ghost use Rattle.std.specs.Prelude.{◌≡◌, Some};
+ghost use Rattle.iam_policy.specs.Table.{number_of, name_of, fault_text, refused_text};
+
 use std::fmt::{self, Display, Formatter, Write};
 use thiserror::Error;
 
@@ -53,9 +56,6 @@ pub enum Fault {
 }
 
 impl Fault {
-    ghost use Rattle.std.specs.Prelude.{◌≡◌};
-    ghost use Rattle.iam_policy.specs.Table.{number_of, name_of};
-
     /// The number of the fault, from 1 in the order of declaration.
     pub fn number(self) -> u32
         ensures { result ≡ number_of self }
@@ -95,9 +95,6 @@ impl Fault {
 }
 
 impl Display for Fault {
-    ghost use Rattle.std.specs.Prelude.{Some};
-    ghost use Rattle.iam_policy.specs.Table.{fault_text};
-
     ghost output = { λ fault. Some (fault_text fault) };
 
     fn fmt<W: Write>(&self, f: &mut Formatter<W>) -> Result<(), fmt::Error> {
@@ -132,7 +129,6 @@ pub enum PrincipalRule {
 }
 
 impl Kind {
-    ghost use Rattle.std.specs.Prelude.{◌≡◌};
     ghost use Rattle.iam_policy.specs.Fault.{principal_rule, wants_resource, wants_distinct_sids};
 
     /// Whether each statement must have `Resource` or `NotResource`.
@@ -172,9 +168,6 @@ pub struct Refused {
 }
 
 impl Display for Refused {
-    ghost use Rattle.std.specs.Prelude.{Some};
-    ghost use Rattle.iam_policy.specs.Table.{refused_text};
-
     ghost output = { λ refused. Some (refused_text refused) };
 
     fn fmt<W: Write>(&self, f: &mut Formatter<W>) -> Result<(), fmt::Error> {

@@ -4,8 +4,8 @@ ghost use Rattle.std.specs.List.{AllZip};
 ghost use Rattle.serde_json.specs.View.{view};
 ghost use Rattle.iam_policy.specs.Code.First.{AreFaultless, IsFirstRefused};
 ghost use Rattle.iam_policy.specs.Code.Readable.{IsReadable, AddsStatement};
-ghost use Rattle.iam_policy.specs.Fault.{statements_in};
-ghost use Rattle.iam_policy.specs.Reading.{ReadsStatement};
+ghost use Rattle.iam_policy.specs.Fault.{statements_in, IsLeastFault};
+ghost use Rattle.iam_policy.specs.Reading.{ReadsStatement, Reads, PolicyValue};
 ghost use Rattle.iam_policy.specs.Version.{version_of};
 
 use crate::OutOfMemory;
@@ -31,9 +31,6 @@ pub struct Policy {
 }
 
 impl Model for Policy {
-    ghost use Rattle.std.specs.Prelude.{◌≤◌, vec_len};
-    ghost use Rattle.iam_policy.specs.Reading.{PolicyValue};
-
     ghost Value = { PolicyValue };
 
     ghost view = { λ p. record { version = p.version; statements = p.statements.items } };
@@ -42,11 +39,6 @@ impl Model for Policy {
 }
 
 impl Policy {
-    ghost use Rattle.std.specs.Prelude.{◌≡◌, ◌≢◌, ◌≤◌, IfOk, IfErr, None, length};
-    ghost use Rattle.serde_json.specs.View.{view};
-    ghost use Rattle.iam_policy.specs.Fault.{IsLeastFault};
-    ghost use Rattle.iam_policy.specs.Reading.{Reads};
-
     /// The policy of a document, or the document's least fault: by place, the document first, then by number.
     ///
     /// AWS IAM User Guide, "Grammar of the IAM JSON policy language".
@@ -86,7 +78,6 @@ impl Policy {
 }
 
 impl From<OutOfMemory> for Refused {
-    ghost use Rattle.std.specs.Prelude.{◌≡◌, None};
     ghost use Rattle.iam_policy.specs.declared.fault.Fault.TheVariants.{OutOfMemory};
 
     ghost from_gives = { λ _ refused. (refused.statement ≡ None) × (refused.fault ≡ OutOfMemory) };

@@ -5,7 +5,7 @@ ghost use Rattle.serde_json.specs.View.{view};
 ghost use Rattle.iam_condition.specs.Condition.{has_bad_text};
 ghost use Rattle.iam_element.specs.Element.{stands_as};
 ghost use Rattle.iam_policy.specs.Fault.{HasBadValueIn};
-ghost use Rattle.iam_policy.specs.Reading.{ReadsConditions};
+ghost use Rattle.iam_policy.specs.Reading.{ReadsConditions, ReadsStatement};
 ghost use Rattle.iam_policy.specs.Statement.{sid_of};
 
 use crate::effect::{Effect, effect_of};
@@ -46,11 +46,8 @@ impl Model for Statement {
 }
 
 impl Statement {
-    ghost use Rattle.std.specs.Prelude.{◌≡◌, IfOk};
     ghost use Rattle.std.specs.Option.{option_copied};
-    ghost use Rattle.serde_json.specs.View.{view};
     ghost use Rattle.iam_policy.specs.Code.Readable.{IsReadable};
-    ghost use Rattle.iam_policy.specs.Reading.{ReadsStatement};
 
     /// The `Sid`, which may be empty.
     pub fn sid(&self) -> Option<&str>

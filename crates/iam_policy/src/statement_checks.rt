@@ -4,7 +4,7 @@ ghost use Rattle.serde_json.specs.Find.{get};
 ghost use Rattle.serde_json.specs.View.{view};
 ghost use Rattle.iam_json.specs.Look.{has_unknown};
 ghost use Rattle.iam_policy.specs.Code.First.{condition_line};
-ghost use Rattle.iam_element.specs.Form.{form_of};
+ghost use Rattle.iam_element.specs.Grammar.{form_of};
 ghost use Rattle.iam_element.specs.Element.{both, neither, stands_as, is_bad_list};
 ghost use Rattle.iam_element.specs.Code.Members.{data_of};
 ghost use Rattle.iam_policy.specs.Fault.{HasBadValueIn, statement_names, allows_by_not_principal, has_bad_principal, has_long_list, has_principal, names_everyone};

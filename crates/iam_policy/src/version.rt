@@ -2,7 +2,7 @@
 ghost use Rattle.std.specs.Prelude.{◌≡◌, codes};
 ghost use Rattle.serde_json.specs.Find.{get};
 ghost use Rattle.serde_json.specs.View.{view};
-ghost use Rattle.iam_policy.specs.Version.{version_named, version_of, version_text};
+ghost use Rattle.iam_policy.specs.Version.{version_named, version_of};
 
 use iam_text::Version;
 use serde_json::Value;
@@ -11,16 +11,10 @@ use serde_json::Value;
 pub fn version_named(document: &Value) -> Option<Version>
     ensures { result ≡ version_named (get (codes "Version") (view document.now)) }
 {
-    match document.get("Version") {
-        Some(version) => version_text(version.as_str()?),
-        None => Some(Version::V2008),
-    }
-}
-
-fn version_text(text: &str) -> Option<Version>
-    ensures { result ≡ version_text text.now }
-{
-    match text {
+    let Some(version) = document.get("Version") else {
+        return Some(Version::V2008);
+    };
+    match version.as_str()? {
         "2012-10-17" => Some(Version::V2012),
         "2008-10-17" => Some(Version::V2008),
         _ => None,

@@ -2,7 +2,6 @@ pub mod Arn
 pub mod Characters
 pub mod Code
 pub mod Draft
-pub mod Parts
 pub mod Stretches
 pub mod Template
 pub mod Variables

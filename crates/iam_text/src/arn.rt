@@ -1,6 +1,6 @@
 // An ARN, cut at its first five colons.
-ghost use Rattle.std.specs.Prelude.{◌≡◌, MatchOption, nat_le};
-ghost use Rattle.iam_text.specs.Arn.{colons};
+ghost use Rattle.std.specs.Prelude.{◌≡◌, ◌<◌, ◌↔◌, MatchOption, nat_le, ℕ, List, IfSome, IfNone, IsNone};
+ghost use Rattle.iam_text.specs.Arn.{colons, IsArn, parts_of};
 ghost use Rattle.iam_text.specs.Code.Cut.{IsCutFirst};
 
 /// An ARN, cut into its six parts: `arn:partition:service:region:account:resource`.
@@ -19,10 +19,6 @@ pub struct Arn<'a> {
 }
 
 impl<'a> Arn<'a> {
-    ghost use Rattle.std.specs.Prelude.{◌≡◌, ℕ, List, ◌<◌, ◌↔◌, IfSome, IfNone, IsNone};
-    ghost use Rattle.iam_text.specs.Arn.{IsArn, colons};
-    ghost use Rattle.iam_text.specs.Parts.{parts_of};
-
     /// The six parts of a text, cut at its first five colons, and no others are; `None` where it has fewer colons.
     ///
     /// It does not test that the first part is `arn`.

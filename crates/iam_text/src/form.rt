@@ -3,7 +3,7 @@ ghost use Rattle.std.specs.Prelude.{◌≡◌, ◌≢◌, ◌≤◌, ◌<◌, �
 ghost use Rattle.std.specs.List.{list_all};
 ghost use Rattle.iam_text.specs.declared.draft.Piece.{Piece};
 ghost use Rattle.iam_text.specs.Draft.{is_key_character};
-ghost use Rattle.iam_text.specs.Code.Forms.{BeginsAt, HasForm, HasLiteral, IsCutKey, IsFirstForm, IsLiteral, IsQuoted};
+ghost use Rattle.iam_text.specs.Code.Forms.{BeginsAt, HasForm, HasLiteral, IsCutKey, IsFirstForm, IsQuoted};
 ghost use Rattle.iam_text.specs.Stretches.{IsCutAtForm, NoneBegins, piece_of};
 ghost use Rattle.iam_text.specs.Variables.{is_draft, is_draft_from, opened};
 
@@ -63,22 +63,11 @@ fn literal(text: &str) -> Option<(char, &str)>
     ensures { MatchOption result ((c : ℕ) (rest : List ℕ) → ¬ HasLiteral c text.entry.now rest) (λ p. HasLiteral p.0 text.entry.now p.1.now) }
 {
     let (inside, rest) = text.split_once('}')?;
-    let character = literal_of(inside)?;
-    Some((character, rest))
-}
-
-/// The character that the text is, where it is `*`, `?` or `$`.
-fn literal_of(text: &str) -> Option<char>
-    ensures { MatchOption result ((c : ℕ) → ¬ IsLiteral c text.now) (λ c. IsLiteral c text.now) }
-{
-    if text == "*" {
-        Some('*')
-    } else if text == "?" {
-        Some('?')
-    } else if text == "$" {
-        Some('$')
-    } else {
-        None
+    match inside {
+        "*" => Some(('*', rest)),
+        "?" => Some(('?', rest)),
+        "$" => Some(('$', rest)),
+        _ => None,
     }
 }
 

@@ -1,7 +1,6 @@
 -- What the definitions say of a few texts, computed.
 use Rattle.std.proofs.Common.{[], replicate, true, pos, neg_ℤ, codes, refl, inl, inr, arith}
-use Rattle.iam_value.specs.Truth.{IsTruth}
-use Rattle.iam_value.specs.Whole.{IsWhole}
+use Rattle.iam_value.specs.Values.{IsTruth, IsWhole}
 use Rattle.std.specs.Net.Addr.{ipv6_bits}
 use Rattle.std.specs.declared.net.ip_addr.IpAddr.TheVariants.{V6}
 use Rattle.iam_value.specs.Address.{IsAddress, Holds}

@@ -1,9 +1,8 @@
 -- The texts of instants: how numbers are written in two and four digits, what such texts are read as, and that they alone have twenty
 -- characters.
-use Rattle.std.proofs.Common.{◌≡◌, ℕ, ◌+◌, ◌*◌, ◌/◌, ◌%◌, ◌^◌, ◌-◌, ◌<◌, ◌≤◌, List, [], ◌∷◌, ◌++◌, length, ℤ, pos, ◌+ℤ◌, ◌*ℤ◌, refl, ap, sym, ◌∙◌, inl, inr, ⊎_elim, codes, arith}
+use Rattle.std.proofs.Common.{◌≡◌, ℕ, ◌+◌, ◌*◌, ◌/◌, ◌%◌, ◌^◌, ◌-◌, ◌<◌, ◌≤◌, List, [], ◌∷◌, ◌++◌, length, ℤ, pos, ◌+ℤ◌, ◌*ℤ◌, refl, ap, ◌∙◌, inl, inr, ⊎_elim, codes, arith}
 use Rattle.std.specs.Fmt.{decimal, styled_decimal, format_spec, padded_integral, char_count}
 use Rattle.std.specs.Int.{IsInRange}
-use Rattle.std.specs.Str.Parse.{IsNumeral, digits_value}
 use Rattle.std.proofs.lemmas.Fmt.{decimal_digit, decimal_step}
 use Rattle.std.proofs.lemmas.Bool.{cases_lt}
 use Rattle.std.proofs.lemmas.Int.{ints}
@@ -11,7 +10,7 @@ use Rattle.std.proofs.lemmas.List.{length-append}
 use Rattle.std.proofs.lemmas.Str.{digit_value_digit}
 use Rattle.std.proofs.lemmas.Str.Parse.{digit_at}
 use Rattle.jiff_core.proofs.CalendarLemmas.{days_in_month_bounds}
-use Rattle.iam_value.specs.Moment.{IsDigits, IsDayNumber, IsDay, IsClock, IsDateTime, IsMinutes, IsSeconds, IsShifted, IsStamp}
+use Rattle.iam_value.specs.Moment.{IsDigits, IsDayNumber, IsDay, IsClock, IsSeconds, IsShifted, IsStamp}
 
 -- a number below 100 in two digits
 abbrev pub two_digits : ℕ → List ℕ
@@ -155,19 +154,19 @@ date_is_day number text is = record {
 
 time_is_clock : (seconds : ℕ) (text : List ℕ) → IsTimeText seconds text → IsClock text (seconds * 1_000_000_000)
 time_is_clock seconds text is = record {
-  hours = two_digits is.hour;
-  minutes = two_digits is.minute ++ (codes ":" ++ two_digits is.second);
-  hour = is.hour;
+  front = two_digits is.hour;
+  back = two_digits is.minute ++ (codes ":" ++ two_digits is.second);
+  count = is.hour;
   rest = is.minute * 60_000_000_000 + is.second * 1_000_000_000;
   written = is.written;
-  hour_is = (two_is is.hour (omega (arith, is.in_day)), is.in_day.0);
+  count_is = (two_is is.hour (omega (arith, is.in_day)), is.in_day.0);
   rest_is = inr record {
-    minutes = two_digits is.minute;
-    seconds = two_digits is.second;
-    minute = is.minute;
+    front = two_digits is.minute;
+    back = two_digits is.second;
+    count = is.minute;
     rest = is.second * 1_000_000_000;
     written = refl;
-    minute_is = (two_is is.minute (omega (arith, is.in_day)), is.in_day.1);
+    count_is = (two_is is.minute (omega (arith, is.in_day)), is.in_day.1);
     rest_is = inl (is.second, (two_is is.second (omega (arith, is.in_day)), is.in_day.2), refl);
     sum = refl;
   };
@@ -250,31 +249,31 @@ seconds_back : (text : List ℕ) (nanos : ℕ) → length text ≡ 2 → IsSecon
     → (second : ℕ) × (second ≤ 59) × (text ≡ two_digits second) × (nanos ≡ second * 1_000_000_000)
 seconds_back text nanos short (inl (second, field, is)) = (second, field.1, two_back text second field.0, is)
 seconds_back text nanos short (inr is) =
-    let wrong : ⊥ = omega (arith, short, cut_length text is.seconds is.places 46 is.written, is.second_is.0.0) in absurd wrong
+    let wrong : ⊥ = omega (arith, short, cut_length text is.front is.back 46 is.written, is.count_is.0.0) in absurd wrong
 
 joined : (a b c x y z : List ℕ) → a ≡ x → b ≡ y → c ≡ z → a ++ 58 ∷ (b ++ 58 ∷ c) ≡ x ++ (codes ":" ++ (y ++ (codes ":" ++ z)))
 joined a b c x y z one two three = rw (one, two, three) refl
 
 clock_back : (text : List ℕ) (nanos : ℕ) → length text ≡ 8 → IsClock text nanos → (seconds : ℕ) × IsTimeText seconds text × (nanos ≡ seconds * 1_000_000_000)
 clock_back text nanos long is =
-    let rest : length is.minutes ≡ 5 = omega (arith, long, cut_length text is.hours is.minutes 58 is.written, is.hour_is.0.0) in
+    let rest : length is.back ≡ 5 = omega (arith, long, cut_length text is.front is.back 58 is.written, is.count_is.0.0) in
     elim is.rest_is [
       | inl plain ↦ let wrong : ⊥ = omega (arith, rest, plain.1.0.0) in absurd wrong
       | inr timed ↦
-          let short : length timed.seconds ≡ 2 = omega (arith, rest, cut_length is.minutes timed.minutes timed.seconds 58 timed.written, timed.minute_is.0.0) in
-          let (second, few, shown, sum) = seconds_back timed.seconds timed.rest short timed.rest_is in (
-            is.hour * 3_600 + timed.minute * 60 + second,
+          let short : length timed.back ≡ 2 = omega (arith, rest, cut_length is.back timed.front timed.back 58 timed.written, timed.count_is.0.0) in
+          let (second, few, shown, sum) = seconds_back timed.back timed.rest short timed.rest_is in (
+            is.count * 3_600 + timed.count * 60 + second,
             record {
-              hour = is.hour;
-              minute = timed.minute;
+              hour = is.count;
+              minute = timed.count;
               second = second;
-              in_day = (is.hour_is.1, timed.minute_is.1, few);
+              in_day = (is.count_is.1, timed.count_is.1, few);
               sum = refl;
               written =
                   is.written
-                  ∙ ap (λ m. is.hours ++ 58 ∷ m) timed.written
-                  ∙ joined is.hours timed.minutes timed.seconds (two_digits is.hour) (two_digits timed.minute) (two_digits second)
-                  (two_back is.hours is.hour is.hour_is.0) (two_back timed.minutes timed.minute timed.minute_is.0) shown;
+                  ∙ ap (λ m. is.front ++ 58 ∷ m) timed.written
+                  ∙ joined is.front timed.front timed.back (two_digits is.count) (two_digits timed.count) (two_digits second)
+                  (two_back is.front is.count is.count_is.0) (two_back timed.front timed.count timed.count_is.0) shown;
             },
             omega (arith, is.sum, timed.sum, sum),
           )
@@ -283,17 +282,17 @@ clock_back text nanos long is =
 -- no time of day has three characters
 no_short_clock : (text : List ℕ) (nanos : ℕ) → length text ≡ 3 → ¬ IsClock text nanos
 no_short_clock text nanos short is =
-    let none : length is.minutes ≡ 0 = omega (arith, short, cut_length text is.hours is.minutes 58 is.written, is.hour_is.0.0) in
+    let none : length is.back ≡ 0 = omega (arith, short, cut_length text is.front is.back 58 is.written, is.count_is.0.0) in
     elim is.rest_is [
       | inl plain ↦ omega (arith, none, plain.1.0.0)
-      | inr timed ↦ omega (arith, none, cut_length is.minutes timed.minutes timed.seconds 58 timed.written, timed.minute_is.0.0)
+      | inr timed ↦ omega (arith, none, cut_length is.back timed.front timed.back 58 timed.written, timed.count_is.0.0)
     ]
 
 -- an offset from UTC is too long for such a text
 no_shift : (sign : ℕ) (text : List ℕ) (time span : ℕ) → length text ≡ 9 → ¬ IsShifted sign text time span
 no_shift sign text time span long is =
     let shift : length is.shift ≡ 5 =
-    omega (arith, cut_length is.shift is.span_is.hours is.span_is.minutes 58 is.span_is.written, is.span_is.hour_is.0.0, is.span_is.minute_is.0.0) in
+    omega (arith, cut_length is.shift is.span_is.front is.span_is.back 58 is.span_is.written, is.span_is.count_is.0.0, is.span_is.rest_is.0.0) in
     let short : length is.clock ≡ 3 = omega (arith, long, shift, cut_length text is.clock is.shift sign is.written) in
     no_short_clock is.clock time short is.time_is
 

@@ -66,14 +66,14 @@ pub seconds_cut : (text front back : List ℕ) (nanos : ℕ) → IsCutAt 46 text
 seconds_cut text front back nanos cut is = elim is [
   | inl w ↦ absurd (not_lacking 46 text front back (digits_lack 46 text w.1.0.1.1 (λ r. omega arith)) cut.0)
   | inr w ↦
-      let a = at_cut 46 text front back w.seconds w.places cut w.written (digits_lack 46 w.seconds w.second_is.0.1.1 (λ r. omega arith)) in
-      (w.second, w.part, rw a.0 at w.second_is, rw a.1 at w.part_is, w.sum)
+      let a = at_cut 46 text front back w.front w.back cut w.written (digits_lack 46 w.front w.count_is.0.1.1 (λ r. omega arith)) in
+      (w.count, w.rest, rw a.0 at w.count_is, rw a.1 at w.rest_is, w.sum)
 ]
 
 pub seconds_whole : (text : List ℕ) (nanos : ℕ) → Lacks 46 text → IsSeconds text nanos → (second : ℕ) × IsField 59 text second
 seconds_whole text nanos lacks is = elim is [
   | inl w ↦ (w.0, w.1)
-  | inr w ↦ absurd (not_lacking 46 text w.seconds w.places lacks w.written)
+  | inr w ↦ absurd (not_lacking 46 text w.front w.back lacks w.written)
 ]
 
 -- minutes with seconds, and without
@@ -81,26 +81,26 @@ pub minutes_cut : (text front back : List ℕ) (nanos : ℕ) → IsCutAt 58 text
 minutes_cut text front back nanos cut is = elim is [
   | inl w ↦ absurd (not_lacking 58 text front back (digits_lack 58 text w.1.0.1.1 (λ r. omega arith)) cut.0)
   | inr w ↦
-      let a = at_cut 58 text front back w.minutes w.seconds cut w.written (digits_lack 58 w.minutes w.minute_is.0.1.1 (λ r. omega arith)) in
-      (w.minute, w.rest, rw a.0 at w.minute_is, rw a.1 at w.rest_is, w.sum)
+      let a = at_cut 58 text front back w.front w.back cut w.written (digits_lack 58 w.front w.count_is.0.1.1 (λ r. omega arith)) in
+      (w.count, w.rest, rw a.0 at w.count_is, rw a.1 at w.rest_is, w.sum)
 ]
 
 pub minutes_whole : (text : List ℕ) (nanos : ℕ) → Lacks 58 text → IsMinutes text nanos → (minute : ℕ) × IsField 59 text minute
 minutes_whole text nanos lacks is = elim is [
   | inl w ↦ (w.0, w.1)
-  | inr w ↦ absurd (not_lacking 58 text w.minutes w.seconds lacks w.written)
+  | inr w ↦ absurd (not_lacking 58 text w.front w.back lacks w.written)
 ]
 
 -- hours, and what follows them
 pub clock_cut : (text front back : List ℕ) (nanos : ℕ) → IsCutAt 58 text front back → IsClock text nanos → (hour : ℕ) × (rest : ℕ) × IsField 23 front hour × IsMinutes back rest × (nanos ≡ hour * 3_600_000_000_000 + rest)
 clock_cut text front back nanos cut is =
-    let a = at_cut 58 text front back is.hours is.minutes cut is.written (digits_lack 58 is.hours is.hour_is.0.1.1 (λ r. omega arith)) in
-    (is.hour, is.rest, rw a.0 at is.hour_is, rw a.1 at is.rest_is, is.sum)
+    let a = at_cut 58 text front back is.front is.back cut is.written (digits_lack 58 is.front is.count_is.0.1.1 (λ r. omega arith)) in
+    (is.count, is.rest, rw a.0 at is.count_is, rw a.1 at is.rest_is, is.sum)
 
 pub span_cut : (text front back : List ℕ) (minutes : ℕ) → IsCutAt 58 text front back → IsSpan text minutes → (hour : ℕ) × (minute : ℕ) × IsField 23 front hour × IsField 59 back minute × (minutes ≡ hour * 60 + minute)
 span_cut text front back minutes cut is =
-    let a = at_cut 58 text front back is.hours is.minutes cut is.written (digits_lack 58 is.hours is.hour_is.0.1.1 (λ r. omega arith)) in
-    (is.hour, is.minute, rw a.0 at is.hour_is, rw a.1 at is.minute_is, is.sum)
+    let a = at_cut 58 text front back is.front is.back cut is.written (digits_lack 58 is.front is.count_is.0.1.1 (λ r. omega arith)) in
+    (is.count, is.rest, rw a.0 at is.count_is, rw a.1 at is.rest_is, is.sum)
 
 -- digits, of a count
 field_lacks : (d most n : ℕ) (text : List ℕ) → ¬ (IsInRange 46 58 d) → IsField most text n → Lacks d text
@@ -110,17 +110,17 @@ field_lacks d most n text outside is = digits_lack d text is.0.1.1 (λ r. outsid
 seconds_lack : (d n : ℕ) (text : List ℕ) → ¬ (IsInRange 46 58 d) → IsSeconds text n → Lacks d text
 seconds_lack d n text outside is = elim is [
   | inl w ↦ field_lacks d 59 w.0 text outside w.1
-  | inr w ↦ rw w.written (lacks_both d 46 w.seconds w.places (field_lacks d 59 w.second w.seconds outside w.second_is) (λ e. outside (omega arith, omega arith)) (digits_lack d w.places w.part_is.0.1 (λ r. outside (omega arith, omega arith))))
+  | inr w ↦ rw w.written (lacks_both d 46 w.front w.back (field_lacks d 59 w.count w.front outside w.count_is) (λ e. outside (omega arith, omega arith)) (digits_lack d w.back w.rest_is.0.1 (λ r. outside (omega arith, omega arith))))
 ]
 
 minutes_lack : (d n : ℕ) (text : List ℕ) → ¬ (IsInRange 46 58 d) → IsMinutes text n → Lacks d text
 minutes_lack d n text outside is = elim is [
   | inl w ↦ field_lacks d 59 w.0 text outside w.1
-  | inr w ↦ rw w.written (lacks_both d 58 w.minutes w.seconds (field_lacks d 59 w.minute w.minutes outside w.minute_is) (λ e. outside (omega arith, omega arith)) (seconds_lack d w.rest w.seconds outside w.rest_is))
+  | inr w ↦ rw w.written (lacks_both d 58 w.front w.back (field_lacks d 59 w.count w.front outside w.count_is) (λ e. outside (omega arith, omega arith)) (seconds_lack d w.rest w.back outside w.rest_is))
 ]
 
 pub clock_lacks : (d n : ℕ) (text : List ℕ) → ¬ (IsInRange 46 58 d) → IsClock text n → Lacks d text
-clock_lacks d n text outside is = rw is.written (lacks_both d 58 is.hours is.minutes (field_lacks d 23 is.hour is.hours outside is.hour_is) (λ e. outside (omega arith, omega arith)) (minutes_lack d is.rest is.minutes outside is.rest_is))
+clock_lacks d n text outside is = rw is.written (lacks_both d 58 is.front is.back (field_lacks d 23 is.count is.front outside is.count_is) (λ e. outside (omega arith, omega arith)) (minutes_lack d is.rest is.back outside is.rest_is))
 
 -- those of a date are digits and hyphens
 pub day_lacks : (d : ℕ) (number : ℤ) (text : List ℕ) → ¬ (IsInRange 45 58 d) → IsDay text number → Lacks d text

@@ -3,7 +3,7 @@ use Rattle.std.proofs.Common.{◌≡◌, ◌≢◌, ℕ, ◌<◌, List, [], ◌�
 use Rattle.std.specs.Int.{IsInRange}
 use Rattle.std.specs.Str.Parse.{IsNumeral, digits_value}
 use Rattle.iam_value.specs.Pieces.{Lacks, IsCutAt}
-use Rattle.iam_value.specs.Whole.{IsWhole}
+use Rattle.iam_value.specs.Values.{IsWhole}
 use Rattle.iam_value.specs.Moment.{IsField, IsFraction, IsDay, IsSeconds, IsMinutes, IsClock, IsSpan, IsUtc, IsShifted, IsLocal, IsDateTime, IsMoment}
 use Rattle.iam_value.proofs.Cuts.{same_cut, not_lacking, digits_lack, lacks_both}
 use Rattle.iam_value.proofs.Times.{day_parts, seconds_cut, minutes_cut, clock_cut, span_cut, clock_lacks, day_lacks, utc_cut, shifted_cut, date_time_cut}
@@ -57,33 +57,33 @@ same_seconds : (text : List ℕ) (m n : ℕ) → IsSeconds text m → IsSeconds 
 same_seconds text m n a b = elim a [
   | inl p ↦ elim b [
     | inl q ↦ omega (arith, p.2, q.2, same_field 59 text p.0 q.0 p.1 q.1)
-    | inr q ↦ absurd (not_lacking 46 text q.seconds q.places (digits_lack 46 text p.1.0.1.1 (λ r. omega arith)) q.written)
+    | inr q ↦ absurd (not_lacking 46 text q.front q.back (digits_lack 46 text p.1.0.1.1 (λ r. omega arith)) q.written)
   ]
   | inr p ↦
-      let q = seconds_cut text p.seconds p.places n (field_cut 46 59 p.second text p.seconds p.places (λ r. omega arith) p.written p.second_is) b in
-      omega (arith, p.sum, q.4, same_field 59 p.seconds p.second q.0 p.second_is q.2, same_fraction p.places p.part q.1 p.part_is q.3)
+      let q = seconds_cut text p.front p.back n (field_cut 46 59 p.count text p.front p.back (λ r. omega arith) p.written p.count_is) b in
+      omega (arith, p.sum, q.4, same_field 59 p.front p.count q.0 p.count_is q.2, same_fraction p.back p.rest q.1 p.rest_is q.3)
 ]
 
 same_minutes : (text : List ℕ) (m n : ℕ) → IsMinutes text m → IsMinutes text n → m ≡ n
 same_minutes text m n a b = elim a [
   | inl p ↦ elim b [
     | inl q ↦ omega (arith, p.2, q.2, same_field 59 text p.0 q.0 p.1 q.1)
-    | inr q ↦ absurd (not_lacking 58 text q.minutes q.seconds (digits_lack 58 text p.1.0.1.1 (λ r. omega arith)) q.written)
+    | inr q ↦ absurd (not_lacking 58 text q.front q.back (digits_lack 58 text p.1.0.1.1 (λ r. omega arith)) q.written)
   ]
   | inr p ↦
-      let q = minutes_cut text p.minutes p.seconds n (field_cut 58 59 p.minute text p.minutes p.seconds (λ r. omega arith) p.written p.minute_is) b in
-      omega (arith, p.sum, q.4, same_field 59 p.minutes p.minute q.0 p.minute_is q.2, same_seconds p.seconds p.rest q.1 p.rest_is q.3)
+      let q = minutes_cut text p.front p.back n (field_cut 58 59 p.count text p.front p.back (λ r. omega arith) p.written p.count_is) b in
+      omega (arith, p.sum, q.4, same_field 59 p.front p.count q.0 p.count_is q.2, same_seconds p.back p.rest q.1 p.rest_is q.3)
 ]
 
 same_clock : (text : List ℕ) (m n : ℕ) → IsClock text m → IsClock text n → m ≡ n
 same_clock text m n a b =
-    let q = clock_cut text a.hours a.minutes n (field_cut 58 23 a.hour text a.hours a.minutes (λ r. omega arith) a.written a.hour_is) b in
-    omega (arith, a.sum, q.4, same_field 23 a.hours a.hour q.0 a.hour_is q.2, same_minutes a.minutes a.rest q.1 a.rest_is q.3)
+    let q = clock_cut text a.front a.back n (field_cut 58 23 a.count text a.front a.back (λ r. omega arith) a.written a.count_is) b in
+    omega (arith, a.sum, q.4, same_field 23 a.front a.count q.0 a.count_is q.2, same_minutes a.back a.rest q.1 a.rest_is q.3)
 
 same_span : (text : List ℕ) (m n : ℕ) → IsSpan text m → IsSpan text n → m ≡ n
 same_span text m n a b =
-    let q = span_cut text a.hours a.minutes n (field_cut 58 23 a.hour text a.hours a.minutes (λ r. omega arith) a.written a.hour_is) b in
-    omega (arith, a.sum, q.4, same_field 23 a.hours a.hour q.0 a.hour_is q.2, same_field 59 a.minutes a.minute q.1 a.minute_is q.3)
+    let q = span_cut text a.front a.back n (field_cut 58 23 a.count text a.front a.back (λ r. omega arith) a.written a.count_is) b in
+    omega (arith, a.sum, q.4, same_field 23 a.front a.count q.0 a.count_is q.2, same_field 59 a.back a.rest q.1 a.rest_is q.3)
 
 same_utc : (text : List ℕ) (m n : ℕ) → IsUtc text m → IsUtc text n → m ≡ n
 same_utc text m n a b =
@@ -98,7 +98,7 @@ same_shifted sign text m n j k low a b =
 -- a span is written in digits and a colon
 span_lacks : (d n : ℕ) (text : List ℕ) → ¬ (IsInRange 48 58 d) → IsSpan text n → Lacks d text
 span_lacks d n text outside is =
-    rw is.written (lacks_both d 58 is.hours is.minutes (digits_lack d is.hours is.hour_is.0.1.1 (λ r. outside (omega arith, omega arith))) (λ e. outside (omega arith, omega arith)) (digits_lack d is.minutes is.minute_is.0.1.1 (λ r. outside (omega arith, omega arith))))
+    rw is.written (lacks_both d 58 is.front is.back (digits_lack d is.front is.count_is.0.1.1 (λ r. outside (omega arith, omega arith))) (λ e. outside (omega arith, omega arith)) (digits_lack d is.back is.rest_is.0.1.1 (λ r. outside (omega arith, omega arith))))
 
 -- a text with one sign lacks another
 shifted_lacks : (d sign m k : ℕ) (text : List ℕ) → ¬ (IsInRange 46 58 d) → sign ≢ d → IsShifted sign text m k → Lacks d text

@@ -1,8 +1,5 @@
 pub mod Reading
 pub mod Pieces
-pub mod Truth
-pub mod Whole
-pub mod Bytes
+pub mod Values
 pub mod Moment
 pub mod Address
-pub mod Family

@@ -1,10 +1,10 @@
 -- Instants: whole seconds, a date, or a date with a time and its offset from UTC (AWS IAM User Guide, 'Date condition
 -- operators': seconds from 1970 on, or ISO 8601, of which the forms below are our choice). Their values are nanoseconds
 -- from 1970-01-01T00:00:00Z. The signs by their codes: 43 is `+`, 45 `-`, 46 `.`, 58 `:`, 84 `T`. LOGIC 8.3.
-use Rattle.std.specs.Prelude.{◌≡◌, ◌⊎◌, ℕ, ◌+◌, ◌-◌, ◌*◌, ◌/◌, ◌%◌, ◌^◌, ◌≤◌, List, [], ◌∷◌, ◌++◌, length, codes, ℤ, pos, neg_ℤ, ◌+ℤ◌, ◌-ℤ◌, ◌*ℤ◌}
+use Rattle.std.specs.Prelude.{◌≡◌, ◌⊎◌, ℕ, ◌+◌, ◌-◌, ◌*◌, ◌^◌, ◌≤◌, List, ◌∷◌, ◌++◌, length, codes, ℤ, pos, neg_ℤ, ◌+ℤ◌, ◌-ℤ◌, ◌*ℤ◌}
 use Rattle.std.specs.Str.Parse.{IsNumeral, digits_value}
 use Rattle.jiff_core.specs.Calendar.{IsCivilDate, days_from_civil}
-use Rattle.iam_value.specs.Whole.{IsWhole}
+use Rattle.iam_value.specs.Values.{IsWhole}
 
 -- as many decimal digits as said, and the number that they write
 abbrev pub IsDigits : ℕ → List ℕ → ℕ → Type 0
@@ -38,60 +38,36 @@ abbrev pub IsFraction : List ℕ → ℕ → Type 0
 IsFraction text nanos =
     IsNumeral 10 text × (length text ≤ 9) × (nanos ≡ digits_value 10 text * 10 ^ (9 - length text))
 
--- seconds with a fraction, `ss.f`, in nanoseconds
-pub record IsFractional (text : List ℕ) (nanos : ℕ) : Type 0 where
-  pub seconds : List ℕ
-  pub places : List ℕ
-  pub second : ℕ
-  pub part : ℕ
-  pub written : text ≡ seconds ++ 46 ∷ places
-  pub second_is : IsField 59 seconds second
-  pub part_is : IsFraction places part
-  pub sum : nanos ≡ second * 1_000_000_000 + part
+-- a count of two digits, a sign and a rest: as many units, and the value of the rest
+pub record IsJoined (sign most unit : ℕ) (IsRest : List ℕ → ℕ → Type 0) (text : List ℕ) (value : ℕ) : Type 0 where
+  pub front : List ℕ
+  pub back : List ℕ
+  pub count : ℕ
+  pub rest : ℕ
+  pub written : text ≡ front ++ sign ∷ back
+  pub count_is : IsField most front count
+  pub rest_is : IsRest back rest
+  pub sum : value ≡ count * unit + rest
 
 -- seconds, `ss` or `ss.f`, in nanoseconds
 abbrev pub IsSeconds : List ℕ → ℕ → Type 0
 IsSeconds text nanos =
     ((second : ℕ) × IsField 59 text second × (nanos ≡ second * 1_000_000_000))
-    ⊎ IsFractional text nanos
+    ⊎ IsJoined 46 59 1_000_000_000 IsFraction text nanos
 
--- minutes with seconds, `mm:ss` or `mm:ss.f`, in nanoseconds
-pub record IsTimed (text : List ℕ) (nanos : ℕ) : Type 0 where
-  pub minutes : List ℕ
-  pub seconds : List ℕ
-  pub minute : ℕ
-  pub rest : ℕ
-  pub written : text ≡ minutes ++ 58 ∷ seconds
-  pub minute_is : IsField 59 minutes minute
-  pub rest_is : IsSeconds seconds rest
-  pub sum : nanos ≡ minute * 60_000_000_000 + rest
-
--- minutes, with or without seconds, in nanoseconds
+-- minutes, `mm`, `mm:ss` or `mm:ss.f`, in nanoseconds
 abbrev pub IsMinutes : List ℕ → ℕ → Type 0
 IsMinutes text nanos =
-    ((minute : ℕ) × IsField 59 text minute × (nanos ≡ minute * 60_000_000_000)) ⊎ IsTimed text nanos
+    ((minute : ℕ) × IsField 59 text minute × (nanos ≡ minute * 60_000_000_000))
+    ⊎ IsJoined 58 59 60_000_000_000 IsSeconds text nanos
 
 -- the time of day, `hh:mm`, `hh:mm:ss` or `hh:mm:ss.f`, in nanoseconds from midnight
-pub record IsClock (text : List ℕ) (nanos : ℕ) : Type 0 where
-  pub hours : List ℕ
-  pub minutes : List ℕ
-  pub hour : ℕ
-  pub rest : ℕ
-  pub written : text ≡ hours ++ 58 ∷ minutes
-  pub hour_is : IsField 23 hours hour
-  pub rest_is : IsMinutes minutes rest
-  pub sum : nanos ≡ hour * 3_600_000_000_000 + rest
+abbrev pub IsClock : List ℕ → ℕ → Type 0
+IsClock text nanos = IsJoined 58 23 3_600_000_000_000 IsMinutes text nanos
 
 -- `hh:mm`, in minutes
-pub record IsSpan (text : List ℕ) (span : ℕ) : Type 0 where
-  pub hours : List ℕ
-  pub minutes : List ℕ
-  pub hour : ℕ
-  pub minute : ℕ
-  pub written : text ≡ hours ++ 58 ∷ minutes
-  pub hour_is : IsField 23 hours hour
-  pub minute_is : IsField 59 minutes minute
-  pub sum : span ≡ hour * 60 + minute
+abbrev pub IsSpan : List ℕ → ℕ → Type 0
+IsSpan text span = IsJoined 58 23 60 (IsField 59) text span
 
 -- a time of day in UTC
 abbrev pub IsUtc : List ℕ → ℕ → Type 0

@@ -4,9 +4,8 @@ ghost use Rattle.jiff_core.specs.Calendar.{IsBetween};
 ghost use Rattle.iam_value.specs.Reading.{IsReading, IsOnly};
 ghost use Rattle.iam_value.specs.Moment.{IsMoment, IsDayNumber, IsStamp, IsDigits, IsField, IsFraction, IsDay, IsSeconds, IsMinutes, IsClock, IsSpan, IsUtc, IsShifted, IsLocal, IsDateTime};
 
-use crate::OutOfMemory;
-use crate::numbers::whole;
 use crate::pieces::{cut, number};
+use crate::{OutOfMemory, whole};
 use jiff_core::civil::Date;
 use std::alloc::Global;
 
@@ -49,11 +48,7 @@ fn digits(bytes: &[u8], count: usize) -> Option<u32>
 fn field(bytes: &[u8], most: u32) -> Option<u32>
     ensures { IsReading result (IsField most bytes.now) }
 {
-    let value = digits(bytes, 2)?;
-    if value > most {
-        return None;
-    }
-    Some(value)
+    digits(bytes, 2).filter(|&value| value <= most)
 }
 
 /// The number of the day, if the calendar has it.

@@ -1,10 +1,8 @@
 // Laws of the definitions, for the crates above: a text has at most one value of each kind, and an instant one text.
 ghost use Rattle.std.specs.Prelude.{◌≡◌, ℕ, ℤ, List, Bool};
 ghost use Rattle.iam_value.specs.Address.{Block, IsRange};
-ghost use Rattle.iam_value.specs.Bytes.{IsBase64};
 ghost use Rattle.iam_value.specs.Moment.{IsMoment, IsStamp};
-ghost use Rattle.iam_value.specs.Truth.{IsTruth};
-ghost use Rattle.iam_value.specs.Whole.{IsWhole};
+ghost use Rattle.iam_value.specs.Values.{IsBase64, IsTruth, IsWhole};
 
 /// A text is at most one whole number.
 pub fn one_whole()

@@ -4,12 +4,10 @@
 
 ghost use Rattle.std.specs.Prelude.{IfOk, option_map};
 ghost use Rattle.iam_value.specs.Reading.{IsReading, IsOnly};
-ghost use Rattle.iam_value.specs.Truth.{IsTruth};
-ghost use Rattle.iam_value.specs.Bytes.{IsBase64};
+ghost use Rattle.iam_value.specs.Values.{IsBase64, IsTruth, IsWhole};
 
 mod dates;
 mod laws;
-mod numbers;
 mod pieces;
 mod ranges;
 
@@ -17,10 +15,21 @@ use base64::DecodeAllocError;
 use base64::engine::general_purpose::STANDARD;
 pub use dates::{moment, stamp};
 pub use laws::{one_bytes, one_moment, one_range, one_stamp, one_truth, one_whole};
-pub use numbers::whole;
 pub use ranges::{Address, Range};
 pub use std::alloc::AllocError as OutOfMemory;
 use std::alloc::Global;
+
+/// The whole number that the text writes: an optional `-` and one or more ASCII digits, leading zeros among them.
+/// `None` for any other text, and for a number that an `i64` does not hold.
+pub fn whole(text: &str) -> Option<i64>
+    ensures value { IsReading result (IsWhole text.now) }
+    ensures only { IsOnly result (IsWhole text.now) }
+{
+    if text.starts_with('+') {
+        return None;
+    }
+    text.parse::<i64>().ok()
+}
 
 /// The truth value that the text names: `true` or `false`, in any case of letters. `None` for any other text.
 pub fn truth(text: &str) -> Option<bool>

@@ -1,36 +1,25 @@
 //! Addresses, and ranges of them.
-ghost use Rattle.std.specs.Prelude.{◌≡◌, ◌≤◌, ◌↔◌, IsTrue};
+ghost use Rattle.std.specs.Prelude.{◌≡◌, ◌≤◌, ◌↔◌, ◌<◌, ◌^◌, IsTrue};
 ghost use Rattle.iam_value.specs.Reading.{IsReading, IsOnly};
-ghost use Rattle.iam_value.specs.Address.{bits_of, IsAddress, IsHost, IsNetwork, IsRange, Holds, first_bits};
+ghost use Rattle.iam_value.specs.Address.{bits_of, IsAddress, IsHost, IsNetwork, IsRange, Holds, first_bits, AddressBits, Block};
 
 use crate::pieces::octet;
 use std::marker::Model;
 use std::net::IpAddr;
 
-/// The family of an address.
-#[derive(Clone, Copy, Debug)]
-enum Family {
-    V4,
-    V6,
-}
-
 /// An IPv4 or an IPv6 address. A contract sees how many bits its family has, 32 or 128, and the number that they make.
 #[derive(Debug, Drop)]
 pub struct Address {
-    family: Family,
+    width: u32,
     number: u128,
 }
 
 impl Model for Address {
-    ghost use Rattle.std.specs.Prelude.{◌<◌, ◌^◌};
-    ghost use Rattle.iam_value.specs.Address.{AddressBits};
-    ghost use Rattle.iam_value.specs.Family.{width_of};
-
     ghost Value = { AddressBits };
 
-    ghost view = { λ a. record { width = width_of a.family; number = a.number } };
+    ghost view = { λ a. record { width = a.width; number = a.number } };
 
-    ghost invariant = { λ a. a.number < 2 ^ width_of a.family };
+    ghost invariant = { λ a. (a.width ≤ 128) × (a.number < 2 ^ a.width) };
 }
 
 impl Address {
@@ -40,10 +29,7 @@ impl Address {
         ensures value { IsReading result (IsAddress text.now) }
         ensures only { IsOnly result (IsAddress text.now) }
     {
-        match text.parse::<IpAddr>() {
-            Ok(ip) => Some(Address::of(ip)),
-            Err(_) => None,
-        }
+        text.parse::<IpAddr>().ok().map(Address::of)
     }
 
     fn of(ip: IpAddr) -> Address
@@ -51,23 +37,13 @@ impl Address {
     {
         match ip {
             IpAddr::V4(ip) => Address {
-                family: Family::V4,
+                width: 32,
                 number: u128::from(ip.to_bits()),
             },
             IpAddr::V6(ip) => Address {
-                family: Family::V6,
+                width: 128,
                 number: ip.to_bits(),
             },
-        }
-    }
-
-    /// How many bits the family has.
-    fn width(&self) -> u32
-        ensures { result ≡ self.now.width }
-    {
-        match self.family {
-            Family::V4 => 32,
-            Family::V6 => 128,
         }
     }
 
@@ -80,7 +56,7 @@ impl Address {
         if count == 0 {
             return 0;
         }
-        number >> (self.width() - count)
+        number >> (self.width - count)
     }
 }
 
@@ -92,9 +68,6 @@ pub struct Range {
 }
 
 impl Model for Range {
-    ghost use Rattle.std.specs.Prelude.{◌≤◌};
-    ghost use Rattle.iam_value.specs.Address.{Block};
-
     ghost Value = { Block };
 
     ghost view = { λ r. record { address = r.address; prefix = r.prefix } };
@@ -120,7 +93,7 @@ impl Range {
         ensures { IsReading result (IsHost text.now) }
     {
         let address = Address::read(text)?;
-        let prefix = address.width();
+        let prefix = address.width;
         Some(Range { address, prefix })
     }
 
@@ -129,7 +102,7 @@ impl Range {
         ensures { IsReading result (IsNetwork text.now prefix) }
     {
         let address = Address::read(text)?;
-        if prefix > address.width() {
+        if prefix > address.width {
             return None;
         }
         Some(Range { address, prefix })
@@ -140,7 +113,7 @@ impl Range {
         ensures { IsTrue result ↔ Holds self.now address.now }
     {
         let own = &self.address;
-        if own.width() != address.width() {
+        if own.width != address.width {
             return false;
         }
         own.first_bits(self.prefix) == address.first_bits(self.prefix)

@@ -1,13 +1,10 @@
 -- A text of a request as the code reads it under an operator, beside the definition (`Entry`).
 use Rattle.std.specs.Prelude.{◌≡◌, ◌↔◌, ℕ, List, Bool, false, Option, Some, None, IsTrue, MatchOption}
-use Rattle.iam_text.specs.Arn.{IsArn}
-use Rattle.iam_text.specs.Parts.{parts_of}
+use Rattle.iam_text.specs.Arn.{IsArn, parts_of}
 use Rattle.iam_text.specs.declared.arn.Arn.{Arn}
 use Rattle.iam_value.specs.Address.{IsAddress}
-use Rattle.iam_value.specs.Bytes.{IsBase64}
 use Rattle.iam_value.specs.Moment.{IsMoment}
-use Rattle.iam_value.specs.Truth.{IsTruth}
-use Rattle.iam_value.specs.Whole.{IsWhole}
+use Rattle.iam_value.specs.Values.{IsBase64, IsTruth, IsWhole}
 use Rattle.iam_context.specs.Context.{ContextValue}
 use Rattle.iam_condition.specs.declared.operand.Operand.{Operand}
 use Rattle.iam_condition.specs.declared.operator.Base.{Base}

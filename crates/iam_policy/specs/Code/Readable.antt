@@ -6,7 +6,7 @@ use Rattle.iam_text.specs.declared.version.Version.{Version}
 use Rattle.iam_condition.specs.Condition.{has_bad_text}
 use Rattle.iam_element.specs.Element.{neither, stands_as}
 use Rattle.iam_policy.specs.Statement.{effect_of}
-use Rattle.iam_element.specs.Resource.{has_bad_variable}
+use Rattle.iam_element.specs.Grammar.{has_bad_variable}
 use Rattle.iam_policy.specs.Fault.{HasBadValueIn}
 use Rattle.iam_policy.specs.Reading.{ReadsStatement, StatementValue}
 

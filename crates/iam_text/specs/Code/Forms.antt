@@ -31,11 +31,9 @@ IsQuoted text default rest =
 
 -- the text behind `${` is this piece, which has a default, and the rest
 abbrev pub HasDefault : Piece → List ℕ → List ℕ → Type 0
-HasDefault (Plain sign) text rest = ⊥
-HasDefault (Escaped c) text rest = ⊥
-HasDefault (Variable key None) text rest = ⊥
 HasDefault (Variable key (Some default)) text rest =
     (behind : List ℕ) × IsTrue (is_key key) × (text ≡ key ++ (44 ∷ behind)) × IsQuoted behind default rest
+HasDefault _ text rest = ⊥
 
 -- the text behind `${` is this piece, which has no default, and the rest
 abbrev pub HasClosed : Piece → List ℕ → List ℕ → Type 0
@@ -45,11 +43,7 @@ HasClosed piece text rest = (inside : List ℕ) × IsClosed piece inside × (tex
 abbrev pub HasForm : Piece → List ℕ → List ℕ → Type 0
 HasForm piece text rest = HasClosed piece text rest ⊎ HasDefault piece text rest
 
--- the text is `*`, `?` or `$`
-abbrev pub IsLiteral : ℕ → List ℕ → Type 0
-IsLiteral c text = IsTrue (c == 42 || c == 63 || c == 36) × (text ≡ c ∷ [])
-
--- the text behind `${` is this character, a `}` and the rest
+-- the text behind `${` is `*`, `?` or `$`, a `}` and the rest
 abbrev pub HasLiteral : ℕ → List ℕ → List ℕ → Type 0
 HasLiteral c text rest = IsTrue (c == 42 || c == 63 || c == 36) × (text ≡ c ∷ (125 ∷ rest))
 

@@ -1,4 +1,4 @@
-use Rattle.std.proofs.Common.{◌≡◌, ◌∙◌}
+use Rattle.std.proofs.Common.{◌≡◌, ◌∙◌, rules, true, false}
 use Rattle.std.specs.List.{list_any}
 use Rattle.serde_json.specs.View.{view}
 use Rattle.iam_condition.specs.Code.Walks.{member_has}
@@ -6,7 +6,12 @@ use Rattle.iam_condition.specs.Condition.{members_of}
 use Rattle.iam_condition.proofs.WalkLemmas.{under_all}
 use Rattle.iam_condition.proofs.form.has.Goals as goal
 
-pub returns-in-Some : goal.returns-in-Some
-returns-in-Some c =
-    let members : c.some_member_has.result ≡ list_any (member_has c.args.fault) (members_of (view c.args.condition.now)) = rw (← c.in-Some.ensures) c.some_member_has.ensures in
-    members ∙ under_all c.args.fault (view c.args.condition.now)
+pub returns-then-member_has : goal.returns-then-member_has
+returns-then-member_has c =
+    let one : true ≡ list_any (member_has c.args.fault) (members_of (view c.args.condition.now)) = search rules in
+    one ∙ under_all c.args.fault (view c.args.condition.now)
+
+pub returns : goal.returns
+returns c =
+    let none : false ≡ list_any (member_has c.args.fault) (members_of (view c.args.condition.now)) = search rules in
+    none ∙ under_all c.args.fault (view c.args.condition.now)

@@ -1,6 +1,6 @@
 use Rattle.std.proofs.Common.{◌↔◌, drop, map}
 use Rattle.serde_json.specs.View.{view}
-use Rattle.iam_condition.specs.Code.Values.{AnyOf}
+use Rattle.iam_condition.specs.Code.Walks.{AnyOf}
 use Rattle.iam_condition.specs.Condition.{IsBadValue}
 use Rattle.iam_condition.proofs.values.is_some_value_bad.Given as goal
 

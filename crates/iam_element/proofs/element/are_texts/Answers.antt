@@ -1,6 +1,6 @@
 use Rattle.std.proofs.Common.{sym, ◌∙◌}
 use Rattle.serde_json.specs.View.{view}
-use Rattle.iam_element.specs.Form.{form_of}
+use Rattle.iam_element.specs.Grammar.{form_of}
 use Rattle.iam_element.proofs.ElementLemmas.{are_texts_map}
 use Rattle.iam_element.proofs.element.are_texts.Goals as goal
 

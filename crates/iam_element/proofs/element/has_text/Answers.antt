@@ -3,7 +3,7 @@ use Rattle.std.specs.List.{list_any}
 use Rattle.iam_element.proofs.ElementLemmas.{list_any_map}
 use Rattle.serde_json.specs.View.{view}
 use Rattle.iam_element.specs.Element.{is_text}
-use Rattle.iam_element.specs.Form.{form_of}
+use Rattle.iam_element.specs.Grammar.{form_of}
 use Rattle.iam_element.proofs.element.has_text.Goals as goal
 
 pub returns : goal.returns

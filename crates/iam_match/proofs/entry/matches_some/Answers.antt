@@ -1,13 +1,24 @@
-use Rattle.std.proofs.Common.{arith}
+use Rattle.std.proofs.Common.{arith, refl, sym, ◌∙◌}
 use Rattle.iam_match.specs.Entry.{ValueMatches}
-use Rattle.iam_match.proofs.StatementLemmas.{one_more, all_taken, none_any}
+use Rattle.iam_match.proofs.CompareLemmas.{compared}
+use Rattle.iam_match.proofs.StatementLemmas.{one_more, all_taken, none_any, some_is, tells_match, tells_none}
 use Rattle.iam_match.proofs.entry.matches_some.Goals as goal
+
+pub returns-then-eq : goal.returns-then-eq
+returns-then-eq c = λ base text is.
+    let answer = c.in_ok-compare.field-0 in
+    let told = compared c.args.context.now base text c.value-item.result answer (c.in_ok-compare.ensures base text is) in (
+      λ t. some_is (ValueMatches c.args.context.now base text) c.args.values.now c.loop-value.value-index c.value-item.result
+          c.loop-value-test.true c.value-item.is (tells_match _ _ answer told (sym c.eq.ensures ∙ c.if-eq.true)),
+      λ some. refl,
+    )
 
 pub loop-value-preserved : goal.loop-value-preserved
 loop-value-preserved c = λ base text is.
+    let answer = c.in_ok-compare.field-0 in
+    let told = compared c.args.context.now base text c.value-item.result answer (c.in_ok-compare.ensures base text is) in
     one_more (λ value. ¬ ValueMatches c.args.context.now base text value) c.args.values.now c.loop-value.value-index c.value-item.result
-    c.loop-value-test.true c.value-item.is (c.loop-value.invariant base text is)
-    (λ m. let holds = (c.in_ok-value_matches.ensures base text is).1 m in let wrong : ⊥ = cc in wrong)
+    c.loop-value-test.true c.value-item.is (c.loop-value.invariant base text is) (tells_none _ _ answer told (sym c.eq.ensures ∙ c.if-eq.false))
 
 pub returns : goal.returns
 returns c = λ base text is.

@@ -1,5 +1,5 @@
 use Rattle.std.proofs.Common.{All, take}
-use Rattle.iam_match.specs.Code.Texts.{TextDiffers}
+use Rattle.iam_match.specs.Code.Compared.{TextDiffers}
 use Rattle.iam_match.proofs.resource.all_differ.Given as goal
 
 -- the texts so far

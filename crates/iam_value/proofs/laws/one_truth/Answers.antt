@@ -1,5 +1,5 @@
 use Rattle.std.proofs.Common.{◌≡◌, ◌∙◌, Bool, true, false, refl, sym}
-use Rattle.iam_value.specs.Truth.{truth_name}
+use Rattle.iam_value.specs.Values.{truth_name}
 use Rattle.iam_value.proofs.laws.one_truth.Goals as goal
 
 same_name : (a b : Bool) → truth_name a ≡ truth_name b → a ≡ b

@@ -1,24 +1,34 @@
-use Rattle.std.proofs.Common.{IfOk, sym, subst}
+use Rattle.std.proofs.Common.{◌≡◌, FitsSigned, refl, sym, ◌∙◌, subst}
+use Rattle.std.specs.Int.{w128}
+use Rattle.std.proofs.lemmas.Int.{to_z-of_z}
 use Rattle.iam_condition.specs.declared.operator.Base.{Base}
+use Rattle.iam_value.specs.Moment.{IsMoment}
 use Rattle.iam_match.specs.Code.Asked.{IsAsked}
+use Rattle.iam_match.specs.declared.asked.Asked.TheVariants as asked
 use Rattle.iam_match.proofs.asked.Asked.read.Goals as goal
 
-pub returns-in-Number : goal.returns-in-Number
-returns-in-Number c =
-    let P : Base → Type 0 = λ b. IsAsked b c.args.text.now c.asked_number.result in subst P (sym c.in-Number.is) c.asked_number.ensures
+pub returns-in-Some-moment : goal.returns-in-Some-moment
+returns-in-Some-moment c =
+    let nanos = c.in-Some-moment.nanos in
+    let fits : FitsSigned w128 nanos = search in
+    let same = to_z-of_z w128 nanos fits in (
+      c.in-Date.is,
+      (
+        subst (IsMoment c.args.text.now) (sym same) c.in-Some-moment.ensures.value,
+        λ other is. let found = c.in-Some-moment.ensures.only other is in let here : other ≡ nanos = cc in here ∙ sym same,
+      ),
+    )
 
-pub returns-in-Date : goal.returns-in-Date
-returns-in-Date c =
-    let P : Base → Type 0 = λ b. IsAsked b c.args.text.now c.asked_instant.result in subst P (sym c.in-Date.is) c.asked_instant.ensures
+pub returns-in-None-moment : goal.returns-in-None-moment
+returns-in-None-moment c =
+    let P : Base → Type 0 = λ b. IsAsked b c.args.text.now asked.Nothing in
+    subst P (sym c.in-Date.is) (refl, λ context value matched. c.in-None-moment.ensures.value matched.0 matched.3)
 
-pub returns-in-Truth : goal.returns-in-Truth
-returns-in-Truth c =
-    let P : Base → Type 0 = λ b. IsAsked b c.args.text.now c.asked_truth.result in subst P (sym c.in-Truth.is) c.asked_truth.ensures
+pub returns-in-Some-read : goal.returns-in-Some-read
+returns-in-Some-read c =
+    (c.in-Address.is, (c.in-Some-read.ensures.value, λ other is. let same = c.in-Some-read.ensures.only other is in cc))
 
-pub returns-in-Binary : goal.returns-in-Binary
-returns-in-Binary c =
-    let P : Base → Type 0 = λ b. IfOk c.asked_bytes.result (IsAsked b c.args.text.now) in subst P (sym c.in-Binary.is) c.asked_bytes.ensures
-
-pub returns-in-Address : goal.returns-in-Address
-returns-in-Address c =
-    let P : Base → Type 0 = λ b. IsAsked b c.args.text.now c.asked_address.result in subst P (sym c.in-Address.is) c.asked_address.ensures
+pub returns-in-None-read : goal.returns-in-None-read
+returns-in-None-read c =
+    let P : Base → Type 0 = λ b. IsAsked b c.args.text.now asked.Nothing in
+    subst P (sym c.in-Address.is) (refl, λ context value matched. c.in-None-read.ensures.value matched.0 matched.3)
