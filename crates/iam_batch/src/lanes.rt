@@ -1,5 +1,5 @@
 // What is decided of up to 64 actions.
-ghost use Rattle.std.specs.Prelude.{◌≡◌, ◌↔◌, ◌<◌, IsTrue};
+ghost use Rattle.std.specs.Prelude.{◌≡◌, ◌↔◌, ◌<◌, ◌+◌, IsTrue, ℕ, Bool, List};
 ghost use Rattle.std.specs.Int.{bit_at};
 
 use iam_decision::Decision;
@@ -14,7 +14,6 @@ pub struct Decided {
 }
 
 impl Decided {
-    ghost use Rattle.std.specs.Prelude.{◌+◌, ◌<◌, ℕ, Bool, List};
     ghost use Rattle.std.specs.Borrow.{Bor};
     ghost use Rattle.iam_decision.specs.Code.Found.{AllowsIn, DeniesIn, GrantsIn};
     ghost use Rattle.iam_decision.specs.Decision.{IsDecided};

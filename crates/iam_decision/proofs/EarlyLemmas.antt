@@ -10,8 +10,8 @@ use Rattle.iam_match.specs.Statement.{ActionMatches, RequestValue}
 use Rattle.iam_match.specs.declared.principal.Grant.{Grant}
 use Rattle.iam_decision.specs.Applicable.{ApplicableValue}
 use Rattle.iam_decision.specs.Code.Found.{AllowsIn, ArePlaces, DeniesIn, GrantsIn}
-use Rattle.iam_decision.specs.Decision.{Allows, AreDeciding, AreLacking, Denies, Grants, IsDecided, Says, deciding_effect, layers_in_order}
-use Rattle.iam_decision.specs.Early.{AllowsAt, CandidatesSuffice, CandidatesTell, DenyDecides, GrantsAtLeast, HasAll, Suffices, SufficesOneByOne, Tells, TellsOneByOne}
+use Rattle.iam_decision.specs.Decision.{Allows, AllowsAt, AreDeciding, AreLacking, Denies, Grants, GrantsAtLeast, IsDecided, Says, deciding_effect, layers_in_order}
+use Rattle.iam_decision.specs.Early.{CandidatesSuffice, CandidatesTell, DenyDecides, HasAll, Suffices, SufficesOneByOne, Tells, TellsOneByOne}
 use Rattle.iam_decision.specs.Living.{AreCandidates, AreFound, IsIdle, item_of}
 use Rattle.iam_decision.specs.Matched.{IsMatched, Placed, Selects, placed}
 use Rattle.iam_decision.specs.declared.frame.Frame.{Frame}

@@ -1,24 +1,19 @@
 -- What holds of the statements that were found holds of the matched statements of the applicable policies.
-use Rattle.std.proofs.Common.{◌≡◌, inl, inr, ◌↔◌, ℕ, ◌≤◌, List, [], ◌∷◌, map, refl, sym, ap, ◌∙◌, subst}
+use Rattle.std.proofs.Common.{◌≡◌, inl, inr, ◌↔◌, ℕ, List, [], ◌∷◌, map, refl, sym, ap, ◌∙◌, subst}
 use Rattle.std.specs.List.{Any}
-use Rattle.iam_policy.specs.declared.effect.Effect.TheVariants.{Allow, Deny}
-use Rattle.iam_match.specs.Principal.{grant_of, rank}
 use Rattle.iam_match.specs.declared.principal.Grant.{Grant}
 use Rattle.iam_match.specs.declared.principal.Grant.TheVariants.{Account, Role, Direct}
 use Rattle.iam_match.specs.Requester.{RequesterValue}
 use Rattle.iam_match.specs.Statement.{AccessValue, RequestValue, request_for}
 use Rattle.iam_decision.specs.Applicable.{ApplicableValue}
-use Rattle.iam_decision.specs.Matched.{Placed, IsMatched, Selects, placed}
+use Rattle.iam_decision.specs.Matched.{Placed, IsMatched, Selects}
 use Rattle.iam_decision.specs.Living.{Acts, AreActing, AreCandidates, AreFound, AreLiving, Lives, LivingValue, item_of, living_of}
-use Rattle.iam_decision.specs.Code.Found.{DeniesIn, AllowsIn, GrantsIn, ArePlaces}
-use Rattle.iam_decision.specs.Decision.{Says, Denies, Allows, Grants, LevelsHold, BoundaryHolds, SessionHolds, AllHold, GrantSuffices, IsAllowed, IsDecided, Fails, AreLacking, AreDeciding, deciding_effect, layers_in_order}
+use Rattle.iam_decision.specs.Code.Found.{AllowsIn, GrantsIn}
+use Rattle.iam_decision.specs.Decision.{Allows, Grants, LevelsHold, BoundaryHolds, SessionHolds, AllHold, GrantSuffices, IsAllowed, Fails}
 use Rattle.iam_decision.specs.declared.frame.Frame.{Frame}
 use Rattle.iam_decision.specs.declared.place.Layer.{Layer}
 use Rattle.iam_decision.specs.declared.place.Layer.TheVariants.{Org, Control, Resource, Identity, Boundary, Session}
-use Rattle.iam_decision.specs.declared.place.Place.{Place}
 use Rattle.iam_decision.specs.declared.living.Matched.{Matched}
-use Rattle.iam_decision.specs.declared.verdict.Decision.{Decision}
-use Rattle.iam_decision.specs.declared.verdict.Decision.TheVariants.{Allowed, ExplicitDeny, ImplicitDeny}
 use Rattle.iam_decision.proofs.SomeLemmas.{SomeOf, any_from_some, some_from_any}
 
 -- chosen elements, seen through f, have what the elements of the list have that pass

@@ -26,15 +26,22 @@ Says q effect s = IsMatched q s × (s.statement.effect ≡ effect)
 abbrev pub Denies : ApplicableValue → RequestValue → Type 0
 Denies a q = Any (Says q Deny) (placed a)
 
+-- the statement matches, allows, and stands at this level of the layer
+abbrev pub AllowsAt : RequestValue → Layer → ℕ → Placed → Type 0
+AllowsAt q layer level s = Says q Allow s × (s.place.layer ≡ layer) × (s.place.level ≡ level)
+
 -- some matched statement of this level of the layer allows
 abbrev pub Allows : ApplicableValue → RequestValue → Layer → ℕ → Type 0
-Allows a q layer level = Any (λ s. Says q Allow s × (s.place.layer ≡ layer) × (s.place.level ≡ level)) (placed a)
+Allows a q layer level = Any (AllowsAt q layer level) (placed a)
+
+-- the statement of the resource's policy matches, allows, and grants at least this
+abbrev pub GrantsAtLeast : RequestValue → Grant → Placed → Type 0
+GrantsAtLeast q least s =
+    Says q Allow s × (s.place.layer ≡ Resource) × (rank least ≤ rank (grant_of s.statement.principal q.requester))
 
 -- some matched allow of the resource's policy grants at least this
 abbrev pub Grants : ApplicableValue → RequestValue → Grant → Type 0
-Grants a q least =
-    Any (λ s. Says q Allow s × (s.place.layer ≡ Resource) × (rank least ≤ rank (grant_of s.statement.principal q.requester)))
-    (placed a)
+Grants a q least = Any (GrantsAtLeast q least) (placed a)
 
 -- whether a layer allows at a level
 abbrev pub Allowing : Type 1

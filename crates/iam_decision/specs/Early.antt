@@ -1,16 +1,16 @@
 -- What a walk over the statements has to find where it leaves some of them untested: for a verdict all matched denies, and all
 -- matched allows where nothing denies; for a decision where nothing denies, allows for whatever some matched allow speaks for.
 -- LOGIC 11.2 and 11.3.
-use Rattle.std.specs.Prelude.{◌≡◌, ◌↔◌, ◌+◌, ◌<◌, ◌≤◌, ℕ, List, [], ◌∷◌, ◌++◌, Contains, get_or, length, map, take}
+use Rattle.std.specs.Prelude.{◌≡◌, ◌↔◌, ◌+◌, ◌<◌, ℕ, List, [], ◌∷◌, ◌++◌, Contains, get_or, length, map, take}
 use Rattle.std.specs.List.{Any}
 use Rattle.iam_policy.specs.declared.effect.Effect.{Effect}
 use Rattle.iam_policy.specs.declared.effect.Effect.TheVariants.{Allow, Deny}
-use Rattle.iam_match.specs.Principal.{grant_of, rank}
+use Rattle.iam_match.specs.Principal.{grant_of}
 use Rattle.iam_match.specs.Statement.{RequestValue}
 use Rattle.iam_match.specs.declared.principal.Grant.{Grant}
 use Rattle.iam_decision.specs.Applicable.{ApplicableValue}
 use Rattle.iam_decision.specs.Code.Found.{AllowsIn, DeniesIn, GrantsIn}
-use Rattle.iam_decision.specs.Decision.{IsDecision, Says}
+use Rattle.iam_decision.specs.Decision.{AllowsAt, GrantsAtLeast, IsDecision, Says}
 use Rattle.iam_decision.specs.Living.{AreCandidates, item_of}
 use Rattle.iam_decision.specs.Matched.{IsMatched, Placed, Selects, placed}
 use Rattle.iam_decision.specs.declared.living.Matched.{Matched}
@@ -29,15 +29,6 @@ HasAll q statements found effect =
 pub record Suffices (q : RequestValue) (statements : List Placed) (found : List Matched) : Type 0 where
   pub denies : HasAll q statements found Deny
   pub allows : ¬ DeniesIn found → HasAll q statements found Allow
-
--- the statement matches, allows, and stands at this level of the layer
-abbrev pub AllowsAt : RequestValue → Layer → ℕ → Placed → Type 0
-AllowsAt q layer level s = Says q Allow s × (s.place.layer ≡ layer) × (s.place.level ≡ level)
-
--- the statement of the resource's policy matches, allows, and grants at least this
-abbrev pub GrantsAtLeast : RequestValue → Grant → Placed → Type 0
-GrantsAtLeast q least s =
-    Says q Allow s × (s.place.layer ≡ Resource) × (rank least ≤ rank (grant_of s.statement.principal q.requester))
 
 -- enough for the decision: nothing denies, and the found ones allow and grant just what the matched statements do
 pub record Tells (q : RequestValue) (statements : List Placed) (found : List Matched) : Type 0 where

@@ -1,10 +1,8 @@
 // The decision and the lacking layers that follow from the matched statements.
-ghost use Rattle.std.specs.Prelude.{◌≡◌, ◌↔◌, ◌≤◌, IsTrue, IfOk};
-ghost use Rattle.iam_match.specs.Principal.{rank};
+ghost use Rattle.std.specs.Prelude.{◌≡◌, ◌↔◌, IsTrue, IfOk};
 ghost use Rattle.iam_match.specs.Statement.{RequestValue};
 ghost use Rattle.iam_decision.specs.Applicable.{ApplicableValue, frame_of};
 ghost use Rattle.iam_decision.specs.Early.{Suffices, Tells};
-ghost use Rattle.iam_decision.specs.Living.{AreFound};
 ghost use Rattle.iam_decision.specs.Matched.{Selects, placed};
 ghost use Rattle.iam_decision.specs.Code.Found.{AllowsIn, ArePlaces, DeniesIn, GrantsIn};
 ghost use Rattle.iam_decision.specs.Decision.{AllHold, AreLacking, deciding_effect, BoundaryHolds, Fails, GrantSuffices, IsAllowed, IsDecided, IsDecision, IsVerdict, LevelsHold, MustGrant, SessionHolds};
@@ -67,19 +65,13 @@ fn session_holds(found: &[Matched], frame: Frame) -> bool
     !frame.session || allows(found, Layer::Session, 0)
 }
 
-fn is_at_least(grant: Grant, least: Grant) -> bool
-    ensures { IsTrue result ↔ (rank least ≤ rank grant) }
-{
-    grant >= least
-}
-
 /// Whether an allow of the resource's policy grants at least this.
 pub(crate) fn grants(found: &[Matched], least: Grant) -> bool
     ensures { IsTrue result ↔ GrantsIn found.now least }
 {
     found.iter().any(|m| m.effect == Effect::Allow
         && m.place.layer == Layer::Resource
-        && is_at_least(m.grant, least))
+        && m.grant >= least)
 }
 
 fn must_grant(frame: Frame) -> bool
@@ -140,13 +132,6 @@ fn decision_of(found: &[Matched], frame: Frame) -> Decision
     } else {
         Decision::ImplicitDeny
     }
-}
-
-/// The verdict on a request, where these are the statements of the applicable policies that match it.
-pub fn verdict_of(alloc: Global, found: &[Matched], frame: Frame) -> Result<Verdict, OutOfMemory>
-    ensures { (a : ApplicableValue) (q : RequestValue) → frame ≡ frame_of a → AreFound q (placed a) found.now → IfOk result (IsVerdict a q) }
-{
-    early_verdict(alloc, frame, found)
 }
 
 /// The verdict on a request, where these are all statements of the applicable policies that match it and deny and, unless one of

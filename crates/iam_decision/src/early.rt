@@ -1,10 +1,10 @@
 // Walks over the statements that leave some of them untested: what has to be found for a verdict, and for a decision alone.
-ghost use Rattle.std.specs.Prelude.{◌≡◌, ◌↔◌, ◌++◌, ◌∷◌, [], IsTrue, OnErr, OnOk, false};
-ghost use Rattle.std.specs.List.{Any};
-ghost use Rattle.iam_match.specs.Statement.{RequestValue};
+ghost use Rattle.std.specs.Prelude.{◌≡◌, ◌↔◌, ◌++◌, ◌∷◌, [], IsTrue, OnErr, OnOk, false, List};
 ghost use Rattle.iam_policy.specs.declared.effect.Effect.TheVariants.{Allow};
+ghost use Rattle.iam_match.specs.Statement.{RequestValue};
 ghost use Rattle.iam_decision.specs.Code.Found.{DeniesIn};
 ghost use Rattle.iam_decision.specs.Early.{CandidatesSuffice, CandidatesTell, DenyDecides, IsSettled, Suffices, SufficesOneByOne, Tells, TellsOneByOne};
+ghost use Rattle.iam_decision.specs.declared.living.Matched.{Matched};
 
 use crate::decide::{allows, grants};
 use crate::living::Matched;
@@ -22,10 +22,6 @@ pub struct Findings {
 }
 
 impl Model for Findings {
-    ghost use Rattle.std.specs.Prelude.{◌↔◌, IsTrue, List};
-    ghost use Rattle.iam_decision.specs.Code.Found.{DeniesIn};
-    ghost use Rattle.iam_decision.specs.declared.living.Matched.{Matched};
-
     ghost Value = { List Matched };
 
     ghost view = { λ f. f.found.items };

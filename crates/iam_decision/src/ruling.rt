@@ -1,7 +1,7 @@
 // A verdict with what it follows from, so that it can be told whether it is that of another request too.
 ghost use Rattle.std.specs.Prelude.{◌≡◌, IfOk, IsTrue};
 
-use crate::decide::verdict_of;
+use crate::decide::early_verdict;
 use crate::frame::Frame;
 use crate::living::Matched;
 use crate::verdict::Verdict;
@@ -36,7 +36,7 @@ impl Ruling {
     pub fn of(alloc: Global, frame: Frame, found: &[Matched]) -> Result<Ruling, OutOfMemory>
         ensures { IfOk result (IsRuling frame found.now) }
     {
-        let verdict = verdict_of(alloc, found, frame)?;
+        let verdict = early_verdict(alloc, frame, found)?;
         let found = Vec::from_slice(alloc, found)?;
         Ok(Ruling {
             frame,

@@ -1,5 +1,5 @@
 // What the requests of one requester for one resource share.
-use crate::decide::verdict_of;
+use crate::decide::early_verdict;
 use crate::frame::Frame;
 use crate::living::{Living, acting, are_same};
 use crate::verdict::Verdict;
@@ -76,6 +76,6 @@ impl<'a> Shared<'a> {
             → IsShared actions a access self.now → IfOk result (IsVerdict a (request_for access action.now)) }
     {
         let found = acting(alloc, self.living.as_slice(), action)?;
-        verdict_of(alloc, found.as_slice(), self.frame)
+        early_verdict(alloc, self.frame, found.as_slice())
     }
 }

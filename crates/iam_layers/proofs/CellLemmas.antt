@@ -1,6 +1,6 @@
 -- The numbers of cells.
-use Rattle.std.proofs.Common.{◌≡◌, List, ℕ, suc, zero, ◌+◌, ◌*◌, ◌/◌, ◌%◌, ◌<◌, ◌≤◌, length, sym, ap, ◌∙◌, subst, arith}
-use Rattle.std.proofs.Math.Nat.{div-lt_iff_lt-mul, mul-add-div_right, div-eq_of_lt, div-add-mod, mod-lt, mul_comm, mul-le-mul_left, mul-one, mul-zero}
+use Rattle.std.proofs.Common.{◌≡◌, List, ℕ, suc, zero, ◌+◌, ◌*◌, ◌/◌, ◌%◌, ◌<◌, length, sym, ap, ◌∙◌, subst, arith}
+use Rattle.std.proofs.Math.Nat.{div-lt_iff_lt-mul, mul-add-div_right, div-eq_of_lt, div-add-mod, mod-lt, mul_comm, mul-zero}
 use Rattle.std.proofs.lemmas.Option.{get_or_from_slice_get, slice_get_within}
 use Rattle.std.specs.List.{Contains}
 use Rattle.iam_world.specs.World.{WorldValue}
@@ -41,10 +41,6 @@ cell_parts P A R cell below =
       mod-lt cell resources,
       sym (ap (λ k. k * R + cell % R) rows ∙ whole),
     )
-
--- a row has no more rows before it than cells
-pub rows_le : (row R : ℕ) → 0 < R → row ≤ row * R
-rows_le row R some = let more : row * 1 ≤ row * R = mul-le-mul_left row some in let one : row * 1 ≡ row = mul-one row in omega arith
 
 -- a place in rows of n places has one row and one number there
 same_place : (n i j k l : ℕ) → j < n → l < n → i * n + j ≡ k * n + l → (i ≡ k) × (j ≡ l)

@@ -1,9 +1,8 @@
 // The derived keys of a request.
 ghost use Rattle.std.specs.Prelude.{◌≡◌, ◌≤◌, ◌++◌, pos, string_bytes, option_map, IfOk, OnOk};
 ghost use Rattle.iam_value.specs.Moment.{IsStamp};
-ghost use Rattle.iam_layers.specs.Code.Keys.{moment_keys, requester_keys, username_key, word_of};
 ghost use Rattle.iam_context.specs.Code.Entries.{derived_name};
-ghost use Rattle.iam_layers.specs.Derived.{derived_of, key};
+ghost use Rattle.iam_layers.specs.Derived.{derived_of, key, moment_keys, requester_keys, username_key, word_of};
 
 use iam_context::{Derived, DerivedKey, KeyName, Values};
 use iam_match::{OutOfMemory, Requester};

@@ -1,6 +1,9 @@
 // A world: what it has, which policies apply to a request, and the verdict on it.
-ghost use Rattle.std.specs.Prelude.{◌≡◌, ◌+◌, ◌*◌, ◌≤◌, ◌<◌, IsTrue};
-ghost use Rattle.iam_layers.specs.Code.Statements.{IsBare};
+ghost use Rattle.std.specs.Prelude.{◌≡◌, ◌≢◌, ◌<◌, ◌≤◌, IsTrue, ℕ, IfOk, IfErr, Some, length, pos, string_bytes};
+ghost use Rattle.iam_value.specs.Moment.{IsStamp};
+ghost use Rattle.iam_decision.specs.Applicable.{IsNumbered, value_of, ApplicableValue, frame_of};
+ghost use Rattle.iam_world.specs.World.{WorldValue};
+ghost use Rattle.iam_layers.specs.Code.Statements.{IsBare, AreSameButPolicy, HasLevels, HaveSameOrg};
 
 use crate::applicable::{control_of, org_of};
 use crate::derived::{keys_with, stamp_of};
@@ -20,24 +23,11 @@ pub struct World {
 }
 
 impl Model for World {
-    ghost use Rattle.std.specs.Prelude.{pos, string_bytes};
-    ghost use Rattle.iam_value.specs.Moment.{IsStamp};
-    ghost use Rattle.iam_world.specs.World.{WorldValue};
-
     ghost Value = { WorldValue };
 
     ghost view = { λ w. w.parts };
 
     ghost invariant = { λ w. IsStamp (pos w.parts.moment) (string_bytes w.stamp) };
-}
-
-/// The number of a cell of a matrix of so many actions and resources.
-fn cell_number(p: u64, a: u64, r: u64, actions: u64, resources: u64) -> u64
-    requires some { 0 < resources }
-    requires fits { (p * actions + a) * resources + r ≤ 16777216 }
-    ensures { result ≡ (p * actions + a) * resources + r }
-{
-    (p * actions + a) * resources + r
 }
 
 /// Whether no level of control policies and no key stands with the resource.
@@ -48,9 +38,7 @@ fn is_bare(resource: &Resource) -> bool
 }
 
 impl World {
-    ghost use Rattle.std.specs.Prelude.{◌≡◌, ◌≢◌, ℕ, ◌<◌, ◌≤◌, IfOk, IfErr, IsTrue, Some, length};
     ghost use Rattle.std.specs.List.{slice_get};
-    ghost use Rattle.iam_decision.specs.Applicable.{IsNumbered, value_of};
     ghost use Rattle.iam_shape.specs.Few.{HasFewLevels};
     ghost use Rattle.iam_world.specs.Reads.{IsWorld};
     ghost use Rattle.iam_world.specs.WorldFault.{IsFirstWorldFault};
@@ -59,9 +47,7 @@ impl World {
     ghost use Rattle.iam_world.specs.Invariants.{HasFewPolicies};
     ghost use Rattle.iam_world.specs.declared.fault.WorldFault.TheVariants as w;
     ghost use Rattle.iam_match.specs.Request.{access_of};
-    ghost use Rattle.iam_decision.specs.Applicable.{ApplicableValue, frame_of};
     ghost use Rattle.iam_layers.specs.Cell.{IsAccessAt, IsAction, IsApplicableAt, IsCell, IsContextAt, IsDerivedAt, IsPrincipal, IsRequestContext, IsResource, IsSharedAt, IsVerdictAt, principal_text};
-    ghost use Rattle.iam_layers.specs.Code.Statements.{AreSameButPolicy, HasLevels, HaveSameOrg};
 
     /// The world of a JSON document, or the first fault of its bytes: `TooLarge` for over 8,388,608 of them, then 1
     /// to 8 by number, each at its first place, then `TooLarge` for over 16,777,216 cells or 4,096 statements.
@@ -78,10 +64,8 @@ impl World {
         ensures ok { IfOk result (IsWorld bytes.items) }
         ensures fault { IfErr result (λ fault. fault ≢ w.OutOfMemory → IsFirstWorldFault bytes.items fault) }
     {
-        match WorldParts::read(alloc, bytes) {
-            Ok(parts) => Ok(World::of(alloc, parts)?),
-            Err(fault) => Err(fault),
-        }
+        let parts = WorldParts::read(alloc, bytes)?;
+        Ok(World::of(alloc, parts)?)
     }
 
     /// As [`World::from_vec`], for a run that soon ends: the memory of what was parsed is not given back, also after a fault.
@@ -89,10 +73,8 @@ impl World {
         ensures ok { IfOk result (IsWorld bytes.items) }
         ensures fault { IfErr result (λ fault. fault ≢ w.OutOfMemory → IsFirstWorldFault bytes.items fault) }
     {
-        match WorldParts::read_leaking(alloc, bytes) {
-            Ok(parts) => Ok(World::of(alloc, parts)?),
-            Err(fault) => Err(fault),
-        }
+        let parts = WorldParts::read_leaking(alloc, bytes)?;
+        Ok(World::of(alloc, parts)?)
     }
 
     fn of(alloc: Global, parts: WorldParts) -> Result<World, OutOfMemory>
@@ -149,7 +131,7 @@ impl World {
     {
         // A world has at most 16,777,216 cells, so the number fits.
         let _cells = self.cells();
-        cell_number(p, a, r, self.actions(), self.resources())
+        (p * self.actions() + a) * self.resources() + r
     }
 
     /// The principal, the action and the resource of a cell, which has to be below `cells()`.
@@ -411,12 +393,8 @@ impl World {
         let shared = self.shared(alloc, p, r)?;
         shared.verdict(alloc, self.action_text(a))
     }
-}
 
-/// The keys of requests, in parts that are made once and lent to the contexts of many.
-impl World {
-    ghost use Rattle.std.specs.Prelude.{◌≡◌, ◌<◌, IfOk, length};
-    ghost use Rattle.iam_layers.specs.Cell.{IsContextAt, IsPrincipal, IsResource};
+    // The keys of requests, in parts that are made once and lent to the contexts of many.
 
     /// The keys that the world gives to each request, to be lent to contexts.
     pub fn world_keys(&self, alloc: Global) -> Result<Sought<'_>, OutOfMemory>

@@ -1,4 +1,7 @@
 // Why a world has not the shape.
+ghost use Rattle.std.specs.Prelude.{◌≡◌};
+ghost use Rattle.iam_shape.specs.declared.fault.ShapeFault.TheVariants as s;
+
 use crate::path::Path;
 use iam_text::OutOfMemory;
 use std::alloc::AllocFailed;
@@ -17,9 +20,6 @@ pub enum ShapeFault {
 }
 
 impl From<OutOfMemory> for ShapeFault {
-    ghost use Rattle.std.specs.Prelude.{◌≡◌};
-    ghost use Rattle.iam_shape.specs.declared.fault.ShapeFault.TheVariants as s;
-
     ghost from_gives = { λ _ fault. fault ≡ s.OutOfMemory };
 
     fn from(_: OutOfMemory) -> ShapeFault {
@@ -28,9 +28,6 @@ impl From<OutOfMemory> for ShapeFault {
 }
 
 impl<T: Drop> From<AllocFailed<T>> for ShapeFault {
-    ghost use Rattle.std.specs.Prelude.{◌≡◌};
-    ghost use Rattle.iam_shape.specs.declared.fault.ShapeFault.TheVariants as s;
-
     ghost from_gives = { λ _ fault. fault ≡ s.OutOfMemory };
 
     fn from(_: AllocFailed<T>) -> ShapeFault {
@@ -39,9 +36,6 @@ impl<T: Drop> From<AllocFailed<T>> for ShapeFault {
 }
 
 impl From<Path> for ShapeFault {
-    ghost use Rattle.std.specs.Prelude.{◌≡◌};
-    ghost use Rattle.iam_shape.specs.declared.fault.ShapeFault.TheVariants as s;
-
     ghost from_gives = { λ path fault. fault ≡ s.At path };
 
     fn from(path: Path) -> ShapeFault {

@@ -1,4 +1,7 @@
 // Places in a world, and their texts.
+ghost use Rattle.std.specs.Prelude.{◌≡◌, Some};
+ghost use Rattle.iam_shape.specs.Path.{name_text, path_text};
+
 use std::fmt::{self, Display, Formatter, Write};
 
 /// The name of a member of a world document, or of an account, a principal or a resource in it.
@@ -27,9 +30,6 @@ pub enum Name {
 }
 
 impl Name {
-    ghost use Rattle.std.specs.Prelude.{◌≡◌};
-    ghost use Rattle.iam_shape.specs.Path.{name_text};
-
     /// The name as the document writes it.
     pub fn as_str(self) -> &'static str
         ensures { result.now ≡ name_text self }
@@ -78,9 +78,6 @@ pub enum Path {
 }
 
 impl Display for Path {
-    ghost use Rattle.std.specs.Prelude.{Some};
-    ghost use Rattle.iam_shape.specs.Path.{path_text};
-
     ghost output = { λ path. Some (path_text path) };
 
     fn fmt<W: Write>(&self, f: &mut Formatter<W>) -> Result<(), fmt::Error> {

@@ -1,13 +1,13 @@
 // The walk over a world.
-ghost use Rattle.std.specs.Prelude.{◌≡◌, ◌≢◌, ◌≤◌, ℕ, List, [], ◌∷◌, None, Some, map, option_map, IfOk, IfErr};
+ghost use Rattle.std.specs.Prelude.{◌≡◌, ◌≢◌, ◌≤◌, [], ◌∷◌, ℕ, List, None, Some, map, option_map, IfOk, IfErr};
 ghost use Rattle.std.specs.List.{AllZip};
 ghost use Rattle.serde_json.specs.Data.{Data};
 ghost use Rattle.serde_json.specs.View.{view};
-ghost use Rattle.iam_shape.specs.Code.Walk.{Walks, head_checks, tail_checks};
-ghost use Rattle.iam_shape.specs.Lent.{account_of};
+ghost use Rattle.iam_shape.specs.Code.Walk.{Walks, head_checks, tail_checks, action_checks};
+ghost use Rattle.iam_shape.specs.Lent.{account_of, principal_of, resource_of};
 ghost use Rattle.iam_shape.specs.LentWorld.{world_of};
-ghost use Rattle.iam_shape.specs.Shape.{Check, IsShapeFault, account_checks, each, first_bad, has_only, list_at, list_checks, member, number_at, shape_checks};
-ghost use Rattle.iam_shape.specs.View.{HasListOf, IsAccountView, IsView};
+ghost use Rattle.iam_shape.specs.Shape.{Check, IsShapeFault, account_checks, each, first_bad, has_only, list_at, list_checks, member, number_at, shape_checks, principal_checks, resource_checks};
+ghost use Rattle.iam_shape.specs.View.{HasListOf, IsAccountView, IsView, IsPrincipalView, IsResourceView};
 ghost use Rattle.iam_shape.specs.declared.fault.ShapeFault.TheVariants as s;
 
 use crate::accounts::walk_accounts;
@@ -37,10 +37,6 @@ trait Part<'v>: Sized + Drop {
 }
 
 impl<'v> Part<'v> for PrincipalView<'v> {
-    ghost use Rattle.iam_shape.specs.Lent.{principal_of};
-    ghost use Rattle.iam_shape.specs.Shape.{principal_checks};
-    ghost use Rattle.iam_shape.specs.View.{IsPrincipalView};
-
     ghost checks = { principal_checks };
 
     ghost says = { λ d principal. IsPrincipalView d (principal_of principal) };
@@ -51,9 +47,7 @@ impl<'v> Part<'v> for PrincipalView<'v> {
 }
 
 impl<'v> Part<'v> for &'v str {
-    ghost use Rattle.std.specs.Prelude.{◌≡◌, Some};
     ghost use Rattle.serde_json.specs.Find.{as_str};
-    ghost use Rattle.iam_shape.specs.Code.Walk.{action_checks};
 
     ghost checks = { action_checks };
 
@@ -68,10 +62,6 @@ impl<'v> Part<'v> for &'v str {
 }
 
 impl<'v> Part<'v> for ResourceView<'v> {
-    ghost use Rattle.iam_shape.specs.Lent.{resource_of};
-    ghost use Rattle.iam_shape.specs.Shape.{resource_checks};
-    ghost use Rattle.iam_shape.specs.View.{IsResourceView};
-
     ghost checks = { resource_checks };
 
     ghost says = { λ d resource. IsResourceView d (resource_of resource) };

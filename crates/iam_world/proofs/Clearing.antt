@@ -1,19 +1,27 @@
 -- The faults of a view, stage by stage: where no fault has the next number, none has a lesser one than that behind it.
-use Rattle.std.proofs.Common.{List, sym, subst, arith}
+use Rattle.std.proofs.Common.{ℕ, List, sym, subst, arith, IsTrue}
 use Rattle.std.specs.List.{AllByRecursion, AllZip}
 use Rattle.iam_match.specs.Requester.{RequesterValue}
-use Rattle.iam_world.specs.Code.ViewFault.{HasNoResourceArn, IsClearBelow, IsFirstViewFault, IsNoAction}
+use Rattle.iam_world.specs.Code.ViewFault.{IsClearBelow, IsFirstViewFault}
 use Rattle.iam_world.specs.Code.Documents.{IsNotAccepted, IsRefusedAmong}
-use Rattle.iam_shape.specs.View.{WorldViewValue}
+use Rattle.iam_shape.specs.View.{ResourceViewValue, WorldViewValue}
 use Rattle.iam_shape.specs.First.{with_paths}
 use Rattle.iam_world_context.specs.Contexts.{Beside, IsFaulty, parts}
-use Rattle.iam_world.specs.WorldFault.{IsNoRequester, IsRequesterAt, IsOfUnknownAccount, IsOverLimits, ViewHasFault, documents, owners}
+use Rattle.iam_world.specs.WorldFault.{IsNoRequester, IsRequesterAt, IsOfUnknownAccount, IsOverLimits, ViewHasFault, documents, is_action, is_resource, owners}
 use Rattle.iam_shape.specs.declared.path.Name.TheVariants.{Principals, Actions, Resources}
 use Rattle.iam_shape.specs.declared.path.Path.{Path}
 use Rattle.iam_shape.specs.declared.path.Path.TheVariants.{Item}
 use Rattle.iam_world.specs.declared.fault.WorldFault.{WorldFault}
 use Rattle.iam_world.specs.declared.fault.WorldFault.TheVariants.{NotJson, BadShape, BadRequester, BadAction, BadResourceArn, UnknownAccount, Context, Policy, TooLarge, OutOfMemory}
 use Rattle.iam_world.proofs.Firsts.{none_at, none_first, none_with_paths}
+
+-- the text is no action
+abbrev IsNoAction : List ℕ → Type 0
+IsNoAction text = ¬ IsTrue (is_action text)
+
+-- the resource is neither `*` nor an ARN
+abbrev HasNoResourceArn : ResourceViewValue → Type 0
+HasNoResourceArn resource = ¬ IsTrue (is_resource resource.arn)
 
 pub clear_3 : (world : WorldViewValue) → IsClearBelow 3 world
 clear_3 world NotJson has = absurd has

@@ -1,5 +1,5 @@
 -- The statements of the documents are those of the policies.
-use Rattle.std.proofs.Common.{◌≡◌, ℕ, ◌+◌, List, [], ◌∷◌, ◌++◌, length, Option, Some, None, refl, sym, ap, ◌∙◌}
+use Rattle.std.proofs.Common.{◌≡◌, ℕ, ◌+◌, List, [], ◌∷◌, ◌++◌, length, Option, refl, sym, ap, ◌∙◌}
 use Rattle.std.specs.List.{AllZip, flat_map, sum_by}
 use Rattle.std.specs.Option.{option_to_list}
 use Rattle.std.proofs.lemmas.List.Sums.{sum_by-append, sum_by-cons}
@@ -15,10 +15,9 @@ use Rattle.iam_shape.specs.declared.path.Name.TheVariants.{Accounts, Principals,
 use Rattle.iam_shape.specs.declared.path.Name.TheVariants as name
 use Rattle.iam_shape.specs.declared.path.Path.{Path}
 use Rattle.iam_shape.specs.declared.path.Path.TheVariants.{Field, Entry, Leaf}
-use Rattle.iam_world.specs.Code.Documents.{boundary_documents, control_documents, identity_documents, level_documents, org_documents, resource_documents, session_documents, statement_total}
 use Rattle.iam_world.specs.Reads.{ReadsAccount, ReadsOptional, ReadsPrincipal, ReadsResource, ReadsWorld}
 use Rattle.iam_world.specs.World.{AccountValue, PrincipalValue, ResourceValue, WorldValue, world_statements}
-use Rattle.iam_world.specs.WorldFault.{Document, documents, numbered}
+use Rattle.iam_world.specs.WorldFault.{Document, documents, numbered, boundary_documents, control_documents, identity_documents, level_documents, org_documents, resource_documents, session_documents, statement_total}
 use Rattle.iam_world.proofs.Walks.{zip_length}
 
 abbrev document_statements : Document → ℕ

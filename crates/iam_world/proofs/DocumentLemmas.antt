@@ -6,9 +6,8 @@ use Rattle.std.proofs.lemmas.List.Sums.{sum_by-append}
 use Rattle.serde_json.specs.Data.{Data}
 use Rattle.iam_policy.specs.Fault.{statements_in}
 use Rattle.iam_shape.specs.Shape.{each}
-use Rattle.iam_world.specs.Code.Budget.{Leaves}
-use Rattle.iam_world.specs.Code.Documents.{IsCleared, IsNotAccepted, IsRefusedAmong, document_at, path_at, statement_total}
-use Rattle.iam_world.specs.WorldFault.{Document, numbered}
+use Rattle.iam_world.specs.Code.Documents.{IsCleared, IsNotAccepted, IsRefusedAmong, Leaves, document_at, path_at}
+use Rattle.iam_world.specs.WorldFault.{Document, numbered, statement_total}
 use Rattle.iam_world.specs.declared.documents.Documents.{Documents}
 use Rattle.iam_world.specs.declared.fault.WorldFault.{WorldFault}
 use Rattle.iam_world.specs.declared.limits.Budget.{Budget}

@@ -14,14 +14,12 @@ use Rattle.iam_shape.specs.Few.{HasFewDocuments, HasFewLevels, HasFewLists}
 use Rattle.iam_shape.specs.View.{AccountViewValue, PrincipalViewValue, ResourceViewValue, WorldViewValue}
 use Rattle.iam_world_context.specs.Clean.{AllClean, AreClean}
 use Rattle.iam_world.specs.Invariants.{CanJoin, HasFewPolicies, IsSized}
-use Rattle.iam_world.specs.Code.Budget.{cell_count}
-use Rattle.iam_world.specs.Code.Documents.{statement_total}
 use Rattle.iam_world.specs.Code.Made.{made_account, made_principal, made_resource}
 use Rattle.iam_world_context.specs.Part.{part_of}
 use Rattle.iam_world.specs.Reads.{ReadsAccount, ReadsOptional, ReadsPrincipal, ReadsResource, ReadsWorld}
 use Rattle.iam_world.specs.World.{AccountValue, PrincipalValue, ResourceValue, WorldValue, world_cells}
 use Rattle.iam_world_context.specs.Contexts.{principal_parts, resource_parts}
-use Rattle.iam_world.specs.WorldFault.{IsOverLimits, IsRequesterAt, documents}
+use Rattle.iam_world.specs.WorldFault.{IsOverLimits, IsRequesterAt, cell_count, documents, statement_total}
 use Rattle.iam_world.proofs.Counts.{statements_same}
 use Rattle.iam_world.proofs.Walks.{zip_length}
 

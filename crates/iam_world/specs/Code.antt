@@ -1,4 +1,3 @@
-pub mod Budget
 pub mod Documents
 pub mod Made
 pub mod ViewFault

@@ -1,6 +1,6 @@
 -- Why bytes are no world: the set of their faults, one case a number, and the first of them.
 -- LOGIC 1.3, 12.2, 12.4, 12.5 and 15.
-use Rattle.std.specs.Prelude.{◌≡◌, ◌⊎◌, ℕ, ◌+◌, ◌*◌, ◌<◌, ◌≤◌, List, [], ◌∷◌, ◌++◌, Bool, not, ◌&&◌, ◌||◌, ◌==◌, nat_eq, nat_le, length, codes, decimal, Some, IsTrue, map}
+use Rattle.std.specs.Prelude.{◌≡◌, ◌⊎◌, ℕ, ◌+◌, ◌*◌, ◌<◌, ◌≤◌, List, [], ◌∷◌, ◌++◌, Bool, ◌&&◌, ◌||◌, ◌==◌, nat_eq, nat_le, length, codes, decimal, Some, IsTrue, map}
 use Rattle.std.specs.List.{before_first, after_first, starts_with, sum_by}
 use Rattle.std.specs.Option.{option_to_list}
 use Rattle.std.specs.Str.{bytes_eq, IsUtf8}
@@ -17,6 +17,7 @@ use Rattle.iam_policy.specs.declared.fault.Kind.TheVariants as kind
 use Rattle.iam_policy.specs.Table.{refused_text}
 use Rattle.iam_policy.specs.declared.fault.Refused.{Refused}
 use Rattle.iam_match.specs.Requester.{RequesterValue, IsRequesterOf}
+use Rattle.iam_shape.specs.declared.path.Name.{Name}
 use Rattle.iam_shape.specs.declared.path.Name.TheVariants.{Accounts, Principals, Actions, Resources, Org, Identity, Boundary, SessionPolicies, Control}
 use Rattle.iam_shape.specs.declared.path.Name.TheVariants as name
 use Rattle.iam_shape.specs.declared.path.Path.{Path}
@@ -26,7 +27,7 @@ use Rattle.iam_world.specs.declared.fault.WorldFault.{WorldFault}
 use Rattle.iam_world.specs.declared.fault.WorldFault.TheVariants.{NotJson, BadShape, BadRequester, BadAction, BadResourceArn, UnknownAccount, Context, Policy, TooLarge, OutOfMemory}
 use Rattle.iam_shape.specs.First.{IsFirst, IsFirstAt, with_paths}
 use Rattle.iam_shape.specs.Shape.{each, first_bad, shape_checks}
-use Rattle.iam_shape.specs.View.{PrincipalViewValue, ResourceViewValue, WorldViewValue, IsView}
+use Rattle.iam_shape.specs.View.{AccountViewValue, PrincipalViewValue, ResourceViewValue, WorldViewValue, IsView}
 use Rattle.iam_world_context.specs.Contexts.{IsFirstFaulty, parts}
 
 -- the number of a fault
@@ -131,19 +132,44 @@ abbrev pub numbered : Kind → (ℕ → Path) → ℕ → List Data → List Doc
 numbered kind at i [] = []
 numbered kind at i (d ∷ ds) = record { path = at i; kind = kind; value = d } ∷ numbered kind at (i + 1) ds
 
+-- the documents of levels that stand under a name of member i of a list, level by level
+abbrev pub level_documents : Kind → Name → ℕ → Name → List (List Data) → List Document
+level_documents kind list i name levels = each (λ j level. numbered kind (Leaf list i name j) 0 level) 0 levels
+
+-- the organisation policies of account i
+abbrev pub org_documents : ℕ → AccountViewValue → List Document
+org_documents i account = level_documents kind.Org Accounts i Org account.org
+
+-- the resource control policies of resource i, and its policy
+abbrev pub control_documents : ℕ → ResourceViewValue → List Document
+control_documents i resource = level_documents kind.Control Resources i Control resource.control
+
+abbrev pub resource_documents : ℕ → ResourceViewValue → List Document
+resource_documents i resource =
+    numbered kind.Resource (λ j. Field Resources i name.Policy) 0 (option_to_list resource.policy)
+
+-- the identity policies of principal i, its boundary, and its session policies
+abbrev pub identity_documents : ℕ → PrincipalViewValue → List Document
+identity_documents i principal = numbered kind.Identity (Entry Principals i Identity) 0 principal.identity
+
+abbrev pub boundary_documents : ℕ → PrincipalViewValue → List Document
+boundary_documents i principal =
+    numbered kind.Identity (λ j. Field Principals i Boundary) 0 (option_to_list principal.boundary)
+
+abbrev pub session_documents : ℕ → PrincipalViewValue → List Document
+session_documents i principal =
+    numbered kind.Identity (Entry Principals i SessionPolicies) 0 principal.session_policies
+
 -- the policy documents of a world, layer by layer, each of all its owners before the next: organisation policies, control
 -- policies, policies of resources, identity policies, boundaries, session policies
 abbrev pub documents : WorldViewValue → List Document
 documents world =
-    each (λ i a. each (λ j. numbered kind.Org (Leaf Accounts i Org j) 0) 0 a.org) 0 world.accounts
-    ++ (each (λ i r. each (λ j. numbered kind.Control (Leaf Resources i Control j) 0) 0 r.control) 0 world.resources
-    ++ (each (λ i r. numbered kind.Resource (λ j. Field Resources i name.Policy) 0 (option_to_list r.policy))
-    0 world.resources
-    ++ (each (λ i p. numbered kind.Identity (Entry Principals i Identity) 0 p.identity) 0 world.principals
-    ++ (each (λ i p. numbered kind.Identity (λ j. Field Principals i Boundary) 0 (option_to_list p.boundary))
-    0 world.principals
-    ++ each (λ i p. numbered kind.Identity (Entry Principals i SessionPolicies) 0 p.session_policies)
-    0 world.principals))))
+    each org_documents 0 world.accounts
+    ++ (each control_documents 0 world.resources
+    ++ (each resource_documents 0 world.resources
+    ++ (each identity_documents 0 world.principals
+    ++ (each boundary_documents 0 world.principals
+    ++ each session_documents 0 world.principals))))
 
 -- the first document that is not accepted stands at this path, and this is its least fault
 abbrev pub IsFirstRefused : List Document → Path → Refused → Type 0
@@ -153,11 +179,17 @@ IsFirstRefused ds path refused =
 
 -- ---- limits
 
+-- how many cells the matrix has
+abbrev pub cell_count : WorldViewValue → ℕ
+cell_count world = length world.principals * length world.actions * length world.resources
+
+-- how many statements documents have
+abbrev pub statement_total : List Document → ℕ
+statement_total ds = sum_by (λ document. length (statements_in document.value)) ds
+
 -- the matrix has too many cells, or the documents too many statements
 abbrev pub IsOverLimits : WorldViewValue → Type 0
-IsOverLimits world =
-    (16777216 < length world.principals * length world.actions * length world.resources)
-    ⊎ (4096 < sum_by (λ document. length (statements_in document.value)) (documents world))
+IsOverLimits world = (16777216 < cell_count world) ⊎ (4096 < statement_total (documents world))
 
 -- ---- the faults
 

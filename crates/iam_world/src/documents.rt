@@ -1,22 +1,22 @@
 // The policies of a world, read layer by layer.
-ghost use Rattle.std.specs.Prelude.{◌≡◌, ◌≢◌, ℕ, List, [], ◌∷◌, map, option_map, IfOk, IfErr, OnOk};
+ghost use Rattle.std.specs.Prelude.{◌≡◌, ◌≢◌, [], ◌∷◌, ℕ, List, map, option_map, IfOk, IfErr, OnOk};
 ghost use Rattle.std.specs.List.{AllZip};
 ghost use Rattle.std.specs.Option.{option_to_list};
 ghost use Rattle.serde_json.specs.View.{view};
 ghost use Rattle.iam_policy.specs.Reading.{Reads};
 ghost use Rattle.iam_policy.specs.declared.fault.Kind.TheVariants as kind;
-ghost use Rattle.iam_world.specs.declared.documents.Location.TheVariants as place;
 ghost use Rattle.iam_shape.specs.Lent.{account_of, policies_by_level, policies_in, principal_of, resource_of};
 ghost use Rattle.iam_shape.specs.LentWorld.{world_of};
 ghost use Rattle.iam_shape.specs.Shape.{each};
-ghost use Rattle.iam_world.specs.Code.Documents.{HasPolicies, IsCleared, IsRefusedAmong, boundary_documents, control_documents, document_at, identity_documents, level_documents, org_documents, path_at, resource_documents, session_documents};
+ghost use Rattle.iam_world.specs.declared.documents.Location.TheVariants as place;
+ghost use Rattle.iam_world.specs.Code.Documents.{HasPolicies, IsCleared, IsRefusedAmong, document_at, path_at};
 ghost use Rattle.iam_world.specs.Reads.{ReadsOptional};
-ghost use Rattle.iam_world.specs.WorldFault.{Document, documents, numbered};
+ghost use Rattle.iam_world.specs.WorldFault.{Document, boundary_documents, control_documents, documents, identity_documents, level_documents, numbered, org_documents, resource_documents, session_documents};
 ghost use Rattle.iam_world.specs.declared.fault.WorldFault.TheVariants as w;
 
 use crate::fault::WorldFault;
 use crate::limits::Budget;
-use iam_policy::{Fault, Kind, Policy, Refused};
+use iam_policy::{Fault, Kind, Policy};
 use iam_shape::{
     AccountView, Levels, Name, Path, PrincipalView, ResourceView, WorldView, policies_in,
 };
@@ -77,9 +77,6 @@ enum Location {
 }
 
 impl Location {
-    ghost use Rattle.std.specs.Prelude.{◌≡◌};
-    ghost use Rattle.iam_world.specs.Code.Documents.{path_at};
-
     /// The path of the document with this number.
     fn path(self, i: usize) -> Path
         ensures { result ≡ path_at self i }
@@ -97,18 +94,6 @@ impl Location {
 struct Documents {
     kind: Kind,
     place: Location,
-}
-
-/// The fault of the world whose document at this path is refused.
-fn fault_at(path: Path, refused: Refused) -> WorldFault
-    ensures memory { refused.fault ≡ Fault.OutOfMemory → result ≡ w.OutOfMemory }
-    ensures fault { refused.fault ≢ Fault.OutOfMemory → result ≡ w.Policy path refused }
-{
-    if refused.fault == Fault::OutOfMemory {
-        WorldFault::OutOfMemory
-    } else {
-        WorldFault::Policy(path, refused)
-    }
 }
 
 impl Reader<Value> for Documents {
@@ -130,7 +115,8 @@ impl Reader<Value> for Documents {
                 budget.count(policy.statements().len());
                 Ok(policy)
             }
-            Err(refused) => Err(fault_at(self.place.path(i), refused)),
+            Err(refused) if refused.fault == Fault::OutOfMemory => Err(WorldFault::OutOfMemory),
+            Err(refused) => Err(WorldFault::Policy(self.place.path(i), refused)),
         }
     }
 }

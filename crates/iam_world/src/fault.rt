@@ -1,4 +1,9 @@
 // Why bytes are no world.
+ghost use Rattle.std.specs.Prelude.{◌≡◌, Some};
+ghost use Rattle.iam_world.specs.WorldFault.{world_number_of, world_name_of, world_text};
+ghost use Rattle.iam_world.specs.declared.fault.WorldFault.TheVariants as w;
+ghost use Rattle.iam_world.specs.Code.ViewFault.{shape_fault, part_fault};
+
 use iam_context::ContextFault;
 use iam_policy::Refused;
 use iam_shape::{Path, ShapeFault};
@@ -35,9 +40,6 @@ pub enum WorldFault {
 }
 
 impl WorldFault {
-    ghost use Rattle.std.specs.Prelude.{◌≡◌};
-    ghost use Rattle.iam_world.specs.WorldFault.{world_number_of, world_name_of};
-
     /// The number of the fault.
     pub fn number(&self) -> u32
         ensures { result ≡ world_number_of self.now }
@@ -76,46 +78,27 @@ impl WorldFault {
 }
 
 impl Display for WorldFault {
-    ghost use Rattle.std.specs.Prelude.{Some};
-    ghost use Rattle.iam_world.specs.WorldFault.{world_text};
-
     ghost output = { λ fault. Some (world_text fault) };
 
     fn fmt<W: Write>(&self, f: &mut Formatter<W>) -> Result<(), fmt::Error> {
         let number = self.number();
         let name = self.name();
-        write!(f, "{number} {name}{}", PathText(*self))
-    }
-}
-
-/// Where the fault of a world stands, where it has a place, and the fault there.
-#[derive(Clone, Copy)]
-struct PathText(WorldFault);
-
-impl Display for PathText {
-    ghost use Rattle.std.specs.Prelude.{Some};
-    ghost use Rattle.iam_world.specs.WorldFault.{fault_path_text};
-
-    ghost output = { λ text. Some (fault_path_text text.0) };
-
-    fn fmt<W: Write>(&self, f: &mut Formatter<W>) -> Result<(), fmt::Error> {
-        match self.0 {
+        match self {
             WorldFault::BadShape(path)
             | WorldFault::BadRequester(path)
             | WorldFault::BadAction(path)
             | WorldFault::BadResourceArn(path)
-            | WorldFault::UnknownAccount(path) => write!(f, " at {path}"),
-            WorldFault::Context(path, fault) => write!(f, " at {path}: {fault}"),
-            WorldFault::Policy(path, refused) => write!(f, " at {path}: {refused}"),
-            WorldFault::NotJson | WorldFault::TooLarge | WorldFault::OutOfMemory => Ok(()),
+            | WorldFault::UnknownAccount(path) => write!(f, "{number} {name} at {path}"),
+            WorldFault::Context(path, fault) => write!(f, "{number} {name} at {path}: {fault}"),
+            WorldFault::Policy(path, refused) => write!(f, "{number} {name} at {path}: {refused}"),
+            WorldFault::NotJson | WorldFault::TooLarge | WorldFault::OutOfMemory => {
+                write!(f, "{number} {name}")
+            }
         }
     }
 }
 
 impl From<OutOfMemory> for WorldFault {
-    ghost use Rattle.std.specs.Prelude.{◌≡◌};
-    ghost use Rattle.iam_world.specs.declared.fault.WorldFault.TheVariants as w;
-
     ghost from_gives = { λ _ fault. fault ≡ w.OutOfMemory };
 
     fn from(_: OutOfMemory) -> WorldFault {
@@ -124,9 +107,6 @@ impl From<OutOfMemory> for WorldFault {
 }
 
 impl<T: Drop> From<AllocFailed<T>> for WorldFault {
-    ghost use Rattle.std.specs.Prelude.{◌≡◌};
-    ghost use Rattle.iam_world.specs.declared.fault.WorldFault.TheVariants as w;
-
     ghost from_gives = { λ _ fault. fault ≡ w.OutOfMemory };
 
     fn from(_: AllocFailed<T>) -> WorldFault {
@@ -135,9 +115,6 @@ impl<T: Drop> From<AllocFailed<T>> for WorldFault {
 }
 
 impl From<ShapeFault> for WorldFault {
-    ghost use Rattle.std.specs.Prelude.{◌≡◌};
-    ghost use Rattle.iam_world.specs.Code.ViewFault.{shape_fault};
-
     ghost from_gives = { λ fault world. world ≡ shape_fault fault };
 
     fn from(fault: ShapeFault) -> WorldFault {
@@ -149,9 +126,6 @@ impl From<ShapeFault> for WorldFault {
 }
 
 impl From<PartFault> for WorldFault {
-    ghost use Rattle.std.specs.Prelude.{◌≡◌};
-    ghost use Rattle.iam_world.specs.Code.ViewFault.{part_fault};
-
     ghost from_gives = { λ fault world. world ≡ part_fault fault };
 
     fn from(fault: PartFault) -> WorldFault {

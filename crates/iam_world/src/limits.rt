@@ -1,9 +1,8 @@
 // How many cells and statements a world has, and may have.
-ghost use Rattle.std.specs.Prelude.{◌≡◌, ◌≤◌, ◌<◌, ◌+◌, ◌*◌, MatchOption};
-ghost use Rattle.iam_world.specs.Code.Budget.{Leaves, cell_count};
-ghost use Rattle.iam_world.specs.Code.Documents.{statement_total};
+ghost use Rattle.std.specs.Prelude.{◌≡◌, ◌≤◌, ◌<◌, ◌+◌, ◌*◌, MatchOption, ℕ};
 ghost use Rattle.iam_shape.specs.LentWorld.{world_of};
-ghost use Rattle.iam_world.specs.WorldFault.{IsOverLimits, documents};
+ghost use Rattle.iam_world.specs.Code.Documents.{Leaves};
+ghost use Rattle.iam_world.specs.WorldFault.{IsOverLimits, cell_count, documents, statement_total};
 
 use iam_shape::WorldView;
 
@@ -36,9 +35,6 @@ pub struct Budget {
 }
 
 impl Budget {
-    ghost use Rattle.std.specs.Prelude.{◌≡◌, ℕ, ◌+◌, ◌<◌, ◌≤◌, MatchOption};
-    ghost use Rattle.iam_world.specs.Code.Budget.{Leaves};
-
     /// Nothing was counted.
     pub fn new() -> Budget
         ensures { Leaves result 0 }

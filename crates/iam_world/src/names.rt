@@ -1,8 +1,8 @@
 // The requesters, actions, resources and accounts of a world.
-ghost use Rattle.std.specs.Prelude.{◌≡◌, ◌≢◌, ◌||◌, ◌==◌, map, not, IfOk, IfErr, OnOk, MatchOption, option_map};
+ghost use Rattle.std.specs.Prelude.{◌≡◌, ◌≢◌, ◌||◌, ◌==◌, map, not, IfOk, IfErr, IsTrue, OnOk, MatchOption, option_map};
 ghost use Rattle.std.specs.Char.{is_ascii_alphanumeric};
 ghost use Rattle.std.specs.List.{AllZip, list_all, position_from};
-ghost use Rattle.iam_world.specs.Code.ViewFault.{FindsFirst, HasNoResourceArn, IsClearBelow, IsFaultAt, IsFirstViewFault, IsNoAction};
+ghost use Rattle.iam_world.specs.Code.ViewFault.{FindsFirst, IsClearBelow, IsFaultAt, IsFirstViewFault};
 ghost use Rattle.iam_shape.specs.Texts.{has_text};
 ghost use Rattle.iam_shape.specs.Lent.{principal_of};
 ghost use Rattle.iam_shape.specs.LentWorld.{world_of};
@@ -117,14 +117,15 @@ fn at(list: Name, number: Option<usize>) -> Option<Path>
 
 /// The first text that is no action.
 fn bad_action(world: &WorldView<'_>) -> Option<Path>
-    ensures { FindsFirst IsNoAction (with_paths (Path.Item Name.Actions) 0 (world_of world.now).actions) result }
+    ensures { FindsFirst (λ text. ¬ IsTrue (is_action text)) (with_paths (Path.Item Name.Actions) 0 (world_of world.now).actions) result }
 {
     at(Name::Actions, first_no_action(world.actions.as_slice()))
 }
 
 /// The first resource that is neither `*` nor an ARN.
 fn bad_resource(world: &WorldView<'_>) -> Option<Path>
-    ensures { FindsFirst HasNoResourceArn (with_paths (Path.Item Name.Resources) 0 (world_of world.now).resources) result }
+    ensures { FindsFirst (λ resource. ¬ IsTrue (is_resource resource.arn))
+        (with_paths (Path.Item Name.Resources) 0 (world_of world.now).resources) result }
 {
     at(
         Name::Resources,

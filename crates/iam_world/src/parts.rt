@@ -1,8 +1,9 @@
 // Accounts, principals and resources, as a world has them.
-ghost use Rattle.std.specs.Prelude.{◌≡◌, map, string_bytes, IfOk};
+ghost use Rattle.std.specs.Prelude.{◌≡◌, map, string_bytes, IfOk, option_map};
 ghost use Rattle.std.specs.List.{zip};
 ghost use Rattle.iam_shape.specs.Lent.{account_of, resource_of};
 ghost use Rattle.iam_world.specs.Code.Made.{made_account, made_principal, made_resource};
+ghost use Rattle.iam_world.specs.World.{AccountValue, PrincipalValue, ResourceValue};
 
 use iam_context::Part;
 use iam_match::Requester;
@@ -21,9 +22,6 @@ pub struct Account {
 }
 
 impl Model for Account {
-    ghost use Rattle.std.specs.Prelude.{string_bytes, map};
-    ghost use Rattle.iam_world.specs.World.{AccountValue};
-
     ghost Value = { AccountValue };
 
     ghost view = { λ a. record {
@@ -34,25 +32,6 @@ impl Model for Account {
 }
 
 impl Account {
-    ghost use Rattle.std.specs.Prelude.{◌≡◌, map, IfOk};
-    ghost use Rattle.iam_shape.specs.Lent.{account_of};
-    ghost use Rattle.iam_world.specs.Code.Made.{made_account};
-
-    /// The account that a document gives, with these organisation policies.
-    fn read(
-        alloc: Global,
-        account: &AccountView<'_>,
-        org: Vec<Vec<Policy>>,
-    ) -> Result<Account, OutOfMemory>
-        ensures { IfOk result (λ a. a ≡ made_account (account_of account.now, map (λ level. level.items) org.items)) }
-    {
-        Ok(Account {
-            id: String::from_str(alloc, account.id)?,
-            management: account.management,
-            org,
-        })
-    }
-
     /// Whether it manages its organisation.
     pub fn manages(&self) -> bool
         ensures { result ≡ self.now.management }
@@ -79,8 +58,6 @@ pub struct Principal {
 }
 
 impl Model for Principal {
-    ghost use Rattle.iam_world.specs.World.{PrincipalValue};
-
     ghost Value = { PrincipalValue };
 
     ghost view = { λ p. record {
@@ -93,8 +70,6 @@ impl Model for Principal {
 }
 
 impl Principal {
-    ghost use Rattle.std.specs.Prelude.{◌≡◌, option_map};
-
     /// Who asks.
     pub fn requester(&self) -> &Requester
         ensures { result.now ≡ self.now.requester }
@@ -143,9 +118,6 @@ pub struct Resource {
 }
 
 impl Model for Resource {
-    ghost use Rattle.std.specs.Prelude.{map, string_bytes};
-    ghost use Rattle.iam_world.specs.World.{ResourceValue};
-
     ghost Value = { ResourceValue };
 
     ghost view = { λ r. record {
@@ -159,30 +131,6 @@ impl Model for Resource {
 }
 
 impl Resource {
-    ghost use Rattle.std.specs.Prelude.{◌≡◌, map, option_map, IfOk};
-    ghost use Rattle.iam_shape.specs.Lent.{resource_of};
-    ghost use Rattle.iam_world.specs.Code.Made.{made_resource};
-
-    /// The resource that a document gives, with this policy, these resource control policies and this context.
-    fn read(
-        alloc: Global,
-        resource: &ResourceView<'_>,
-        policy: Option<Policy>,
-        control: Vec<Vec<Policy>>,
-        context: Part,
-    ) -> Result<Resource, OutOfMemory>
-        ensures { IfOk result (λ r. r ≡ made_resource (((resource_of resource.now, policy), map (λ level. level.items) control.items), context.items)) }
-    {
-        Ok(Resource {
-            arn: String::from_str(alloc, resource.arn)?,
-            account: String::from_str(alloc, resource.account)?,
-            policy,
-            sealed: resource.sealed,
-            context,
-            control,
-        })
-    }
-
     /// The ARN, or `*`.
     pub fn arn(&self) -> &str
         ensures { result.now ≡ self.now.arn }
@@ -237,7 +185,11 @@ pub fn accounts(
 {
     let mut read = Vec::with_capacity(alloc, accounts.len())?;
     for (account, org) in accounts.iter().zip(org) {
-        read.push(Account::read(alloc, account, org)?)?;
+        read.push(Account {
+            id: String::from_str(alloc, account.id)?,
+            management: account.management,
+            org,
+        })?;
     }
     Ok(read)
 }
@@ -300,7 +252,14 @@ pub fn resources(
         .zip(control)
         .zip(contexts)
     {
-        read.push(Resource::read(alloc, resource, policy, control, context)?)?;
+        read.push(Resource {
+            arn: String::from_str(alloc, resource.arn)?,
+            account: String::from_str(alloc, resource.account)?,
+            policy,
+            sealed: resource.sealed,
+            context,
+            control,
+        })?;
     }
     Ok(read)
 }

@@ -1,20 +1,20 @@
 // Reading a world, from its bytes.
-ghost use Rattle.std.specs.Prelude.{◌≡◌, ◌≢◌, ◌≤◌, ℕ, List, length, map, option_map, IfOk, IfErr};
-ghost use Rattle.std.specs.List.{AllZip, find};
-ghost use Rattle.std.specs.Str.{bytes_eq};
+ghost use Rattle.std.specs.Prelude.{◌≡◌, ◌≢◌, ◌≤◌, ℕ, List, length, map, IfOk, IfErr, IfSome, option_map, string_bytes};
+ghost use Rattle.std.specs.List.{AllZip, AllByRecursion};
 ghost use Rattle.serde_json.specs.View.{view};
-ghost use Rattle.iam_world.specs.Code.ViewFault.{IsFirstViewFault};
-ghost use Rattle.iam_world_context.specs.Clean.{HasContexts};
-ghost use Rattle.iam_world.specs.Code.Budget.{cell_count};
-ghost use Rattle.iam_world.specs.Code.Documents.{HasPolicies, statement_total};
 ghost use Rattle.iam_shape.specs.Texts.{AreFirstPlaces};
-ghost use Rattle.iam_shape.specs.Few.{HasFewLists};
+ghost use Rattle.iam_shape.specs.Few.{HasFewLists, HasFewLevels};
 ghost use Rattle.iam_shape.specs.Lent.{principal_of};
 ghost use Rattle.iam_shape.specs.LentWorld.{world_of};
+ghost use Rattle.iam_world_context.specs.Clean.{HasContexts};
+ghost use Rattle.iam_world.specs.Code.ViewFault.{IsFirstViewFault};
+ghost use Rattle.iam_world.specs.Code.Documents.{HasPolicies};
 ghost use Rattle.iam_world.specs.Reads.{IsWorld, ReadsWorld};
-ghost use Rattle.iam_world.specs.WorldFault.{IsFirstWorldFault, IsJson, IsOverLimits, IsRequesterAt, ViewHasFault, documents};
+ghost use Rattle.iam_world.specs.WorldFault.{IsFirstWorldFault, IsJson, IsOverLimits, IsRequesterAt, ViewHasFault, cell_count, documents, statement_total};
 ghost use Rattle.iam_world.specs.declared.fault.WorldFault.{WorldFault};
 ghost use Rattle.iam_world.specs.declared.fault.WorldFault.TheVariants as w;
+ghost use Rattle.iam_world.specs.World.{WorldValue};
+ghost use Rattle.iam_world.specs.Invariants.{IsSized};
 
 use crate::documents::{Policies, read_documents};
 use crate::fault::WorldFault;
@@ -51,10 +51,6 @@ pub struct WorldParts {
 }
 
 impl Model for WorldParts {
-    ghost use Rattle.std.specs.Prelude.{map, string_bytes};
-    ghost use Rattle.iam_world.specs.World.{WorldValue};
-    ghost use Rattle.iam_world.specs.Invariants.{IsSized};
-
     ghost Value = { WorldValue };
 
     ghost view = { λ w. record {
@@ -76,27 +72,19 @@ impl Model for WorldParts {
     }) w.cells w.statements w.numbers };
 }
 
-/// The JSON value of bytes of which there are not too many.
-fn parse(alloc: Global, bytes: &[u8]) -> Result<Value, WorldFault>
-    ensures ok { IfOk result (λ value. (length bytes.now ≤ 8388608) × IsJson bytes.now (view value)) }
-    ensures fault { IfErr result (λ fault. fault ≢ w.OutOfMemory → IsFirstWorldFault bytes.now fault) }
+/// The JSON value of bytes of which there are not too many; they are let go once it is made.
+fn parse(alloc: Global, bytes: Vec<u8>) -> Result<Value, WorldFault>
+    ensures ok { IfOk result (λ value. (length bytes.items ≤ 8388608) × IsJson bytes.items (view value)) }
+    ensures fault { IfErr result (λ fault. fault ≢ w.OutOfMemory → IsFirstWorldFault bytes.items fault) }
 {
     if bytes.len() > MOST_BYTES {
         return Err(WorldFault::TooLarge);
     }
-    match Value::from_slice(alloc, bytes) {
+    match Value::from_slice(alloc, bytes.as_slice()) {
         Ok(value) => Ok(value),
         Err(error) if error.is_memory() => Err(WorldFault::OutOfMemory),
         Err(_) => Err(WorldFault::NotJson),
     }
-}
-
-/// The same of bytes that are let go once their value is made.
-fn parse_vec(alloc: Global, bytes: Vec<u8>) -> Result<Value, WorldFault>
-    ensures ok { IfOk result (λ value. (length bytes.items ≤ 8388608) × IsJson bytes.items (view value)) }
-    ensures fault { IfErr result (λ fault. fault ≢ w.OutOfMemory → IsFirstWorldFault bytes.items fault) }
-{
-    parse(alloc, bytes.as_slice())
 }
 
 /// The number of each account by its id.
@@ -189,31 +177,9 @@ fn read_value(alloc: Global, value: &Value) -> Result<WorldParts, WorldFault>
     read_view(alloc, world)
 }
 
-/// The account with this id, where these are the numbers of the accounts.
-fn find_account<'a>(
-    accounts: &'a [Account],
-    numbers: &HashMap<String, usize>,
-    id: &str,
-) -> Option<&'a Account>
-    requires { AreFirstPlaces numbers.now (map (λ account. account.id) accounts.now) }
-    ensures { option_map (λ account. account.now) result
-        ≡ find (λ account. bytes_eq account.id id.now) accounts.entry.now }
-{
-    match numbers.get(id) {
-        Some(number) => accounts.get(*number),
-        None => None,
-    }
-}
-
 impl WorldParts {
-    ghost use Rattle.std.specs.Prelude.{◌≡◌, ◌≢◌, ◌≤◌, IfOk, IfErr, IfSome, map, option_map, string_bytes};
-    ghost use Rattle.std.specs.List.{AllByRecursion};
-    ghost use Rattle.iam_shape.specs.Few.{HasFewLevels};
     ghost use Rattle.iam_world.specs.Invariants.{CanJoin, HasFewPolicies};
-    ghost use Rattle.iam_world.specs.Reads.{IsWorld};
     ghost use Rattle.iam_world.specs.World.{account_with, world_cells, world_statements};
-    ghost use Rattle.iam_world.specs.WorldFault.{IsFirstWorldFault};
-    ghost use Rattle.iam_world.specs.declared.fault.WorldFault.TheVariants as w;
 
     /// The world of a JSON document, or the first fault of its bytes: `TooLarge` for over 8,388,608 of them, then 1
     /// to 8 by number, each at its first place, then `TooLarge` for over 16,777,216 cells or 4,096 statements.
@@ -222,7 +188,7 @@ impl WorldParts {
         ensures ok { IfOk result (IsWorld bytes.items) }
         ensures fault { IfErr result (λ fault. fault ≢ w.OutOfMemory → IsFirstWorldFault bytes.items fault) }
     {
-        let value = parse_vec(alloc, bytes)?;
+        let value = parse(alloc, bytes)?;
         read_value(alloc, &value)
     }
 
@@ -231,7 +197,7 @@ impl WorldParts {
         ensures ok { IfOk result (IsWorld bytes.items) }
         ensures fault { IfErr result (λ fault. fault ≢ w.OutOfMemory → IsFirstWorldFault bytes.items fault) }
     {
-        let value = parse_vec(alloc, bytes)?;
+        let value = parse(alloc, bytes)?;
         let parts = read_value(alloc, &value);
         mem::forget(value);
         parts
@@ -300,6 +266,9 @@ impl WorldParts {
         ensures value { option_map (λ account. account.now) result ≡ account_with id.now self.now }
         ensures few { IfSome result (λ account. HasFewLevels account.now.org) }
     {
-        find_account(self.accounts.as_slice(), &self.numbers, id)
+        match self.numbers.get(id) {
+            Some(number) => self.accounts.as_slice().get(*number),
+            None => None,
+        }
     }
 }

@@ -10,10 +10,14 @@ use Rattle.iam_shape.specs.declared.path.Name.TheVariants.{Context, Principals, 
 use Rattle.iam_shape.specs.declared.path.Path.{Path}
 use Rattle.iam_shape.specs.declared.path.Path.TheVariants.{Field, Member}
 use Rattle.iam_world_context.specs.Clean.{AllClean, AreClean}
-use Rattle.iam_world_context.specs.Code.Contexts.{IsFaultyPart}
 use Rattle.iam_world_context.specs.Contexts.{Beside, IsFaulty, IsFaultyAmong, all_parts, parts_of}
 use Rattle.iam_world_context.specs.declared.fault.PartFault.{PartFault}
+use Rattle.iam_world_context.specs.declared.fault.PartFault.TheVariants.{At}
 use Rattle.iam_world_context.proofs.Lists.{drop_at, first_here, first_later, none_append}
+
+-- this is the fault of the part at this path
+abbrev pub IsFaultyPart : Path → List (List ℕ) → ContextValue → PartFault → Type 0
+IsFaultyPart path keys part fault = (found : ContextFault) × (fault ≡ At path found) × IsPartFault keys part found
 
 -- a part with a fault is not clean
 pub not_clean : (others : List (List ℕ)) (part : ContextValue) (fault : ContextFault) → IsPartFault others part fault → ¬ IsClean others part

@@ -1,4 +1,3 @@
 pub mod Clean
-pub mod Code
 pub mod Contexts
 pub mod Part

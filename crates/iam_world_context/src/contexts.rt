@@ -1,14 +1,14 @@
 // The contexts of a world, in their order.
-ghost use Rattle.std.specs.Prelude.{◌≡◌, ◌≢◌, ℕ, List, [], ◌++◌, map, option_map, IfOk, IfErr, OnOk};
+ghost use Rattle.std.specs.Prelude.{◌≡◌, ◌≢◌, ℕ, List, ◌++◌, map, option_map, IfOk, IfErr, OnOk};
 ghost use Rattle.std.specs.List.{AllByRecursion, filter_map, flat_map};
 ghost use Rattle.serde_json.specs.View.{members_view, view};
 ghost use Rattle.iam_context.specs.Keys.{HasKeys};
 ghost use Rattle.iam_context.specs.Context.{keys_of};
-ghost use Rattle.iam_context.specs.ContextFault.{IsClean};
+ghost use Rattle.iam_context.specs.ContextFault.{IsClean, IsPartFault};
+ghost use Rattle.iam_context.specs.declared.fault.ContextFault.{ContextFault};
 ghost use Rattle.iam_json.specs.Scalar.{scalar_text};
 ghost use Rattle.iam_shape.specs.LentWorld.{world_of};
 ghost use Rattle.iam_world_context.specs.Clean.{AllClean, AreClean, HasContexts};
-ghost use Rattle.iam_world_context.specs.Code.Contexts.{IsFaultyPart};
 ghost use Rattle.iam_world_context.specs.Contexts.{IsFaulty, IsFaultyAmong, all_parts, parts, parts_of};
 ghost use Rattle.iam_world_context.specs.Part.{members_part, part_of, value_texts};
 ghost use Rattle.iam_world_context.specs.declared.fault.PartFault.TheVariants as p;
@@ -101,7 +101,8 @@ fn check_part<'a>(
 ) -> Result<(), PartFault>
     ensures clean { OnOk result ((keys : List (List ℕ)) → HasKeys others.now keys → IsClean keys part.now.items) }
     ensures fault { IfErr result (λ fault. fault ≢ p.OutOfMemory
-        → (keys : List (List ℕ)) → HasKeys others.now keys → IsFaultyPart path keys part.now.items fault) }
+        → (keys : List (List ℕ)) → HasKeys others.now keys
+        → (found : ContextFault) × (fault ≡ p.At path found) × IsPartFault keys part.now.items found) }
 {
     match part_fault(alloc, part, others)? {
         Some(fault) => Err(PartFault::At(path, fault)),
@@ -126,15 +127,6 @@ fn check_parts<'a>(
         check_part(alloc, Path::Field(list, i, Name::Context), part, others)?;
     }
     Ok(())
-}
-
-/// Tests the part that the document itself gives.
-fn check_own(alloc: Global, world: &Part) -> Result<(), PartFault>
-    ensures clean { OnOk result (IsClean [] world.now.items) }
-    ensures fault { IfErr result (λ fault. fault ≢ p.OutOfMemory
-        → IsFaultyPart (Path.Member Name.Context) [] world.now.items fault) }
-{
-    check_part(alloc, Path::Member(Name::Context), world, &Keys::new(alloc))
 }
 
 /// Tests the parts of the principals, beside that of the world.
@@ -179,7 +171,7 @@ fn check_contexts(alloc: Global, contexts: &Contexts) -> Result<(), PartFault>
 {
     let world = &contexts.world;
     let principals = contexts.principals.as_slice();
-    check_own(alloc, world)?;
+    check_part(alloc, Path::Member(Name::Context), world, &Keys::new(alloc))?;
     check_principals(alloc, world, principals)?;
     check_resources(alloc, world, principals, contexts.resources.as_slice())
 }

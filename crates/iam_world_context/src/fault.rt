@@ -1,4 +1,7 @@
 // Which part of a context has a fault.
+ghost use Rattle.std.specs.Prelude.{◌≡◌};
+ghost use Rattle.iam_world_context.specs.declared.fault.PartFault.TheVariants as p;
+
 use iam_context::ContextFault;
 use iam_shape::Path;
 use iam_text::OutOfMemory;
@@ -18,9 +21,6 @@ pub enum PartFault {
 }
 
 impl From<OutOfMemory> for PartFault {
-    ghost use Rattle.std.specs.Prelude.{◌≡◌};
-    ghost use Rattle.iam_world_context.specs.declared.fault.PartFault.TheVariants as p;
-
     ghost from_gives = { λ _ fault. fault ≡ p.OutOfMemory };
 
     fn from(_: OutOfMemory) -> PartFault {
@@ -29,9 +29,6 @@ impl From<OutOfMemory> for PartFault {
 }
 
 impl<T: Drop> From<AllocFailed<T>> for PartFault {
-    ghost use Rattle.std.specs.Prelude.{◌≡◌};
-    ghost use Rattle.iam_world_context.specs.declared.fault.PartFault.TheVariants as p;
-
     ghost from_gives = { λ _ fault. fault ≡ p.OutOfMemory };
 
     fn from(_: AllocFailed<T>) -> PartFault {

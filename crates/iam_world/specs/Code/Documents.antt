@@ -1,23 +1,15 @@
 -- How the code reads the documents of a world one after another, beside `WorldFault`.
-use Rattle.std.specs.Prelude.{◌≡◌, ℕ, ◌+◌, List, length, map}
-use Rattle.std.specs.List.{AllByRecursion, AllZip, sum_by}
-use Rattle.std.specs.Option.{option_to_list}
+use Rattle.std.specs.Prelude.{◌≡◌, ℕ, ◌+◌, ◌<◌, List, MatchOption, map}
+use Rattle.std.specs.List.{AllByRecursion, AllZip}
 use Rattle.serde_json.specs.Data.{Data}
-use Rattle.iam_policy.specs.Fault.{IsAccepted, statements_in}
+use Rattle.iam_policy.specs.Fault.{IsAccepted}
 use Rattle.iam_policy.specs.Reading.{Reads}
-use Rattle.iam_policy.specs.declared.fault.Kind.{Kind}
 use Rattle.iam_policy.specs.declared.fault.Kind.TheVariants as kind
 use Rattle.iam_policy.specs.declared.fault.Refused.{Refused}
-use Rattle.iam_world.specs.Code.Budget.{Leaves}
-use Rattle.iam_world.specs.WorldFault.{Document, IsFirstRefused, numbered}
+use Rattle.iam_world.specs.WorldFault.{Document, IsFirstRefused, statement_total}
 use Rattle.iam_world.specs.declared.fault.WorldFault.{WorldFault}
 use Rattle.iam_world.specs.declared.fault.WorldFault.TheVariants.{Policy}
 use Rattle.iam_world.specs.declared.limits.Budget.{Budget}
-use Rattle.iam_shape.specs.Shape.{each}
-use Rattle.iam_shape.specs.View.{AccountViewValue, PrincipalViewValue, ResourceViewValue}
-use Rattle.iam_shape.specs.declared.path.Name.{Name}
-use Rattle.iam_shape.specs.declared.path.Name.TheVariants.{Accounts, Principals, Resources, Org, Identity, Boundary, SessionPolicies, Control}
-use Rattle.iam_shape.specs.declared.path.Name.TheVariants as name
 use Rattle.iam_shape.specs.declared.path.Path.{Path}
 use Rattle.iam_shape.specs.declared.path.Path.TheVariants.{Field, Entry, Leaf}
 use Rattle.iam_shape.specs.declared.view.WorldView as lent
@@ -28,44 +20,16 @@ use Rattle.iam_world.specs.declared.documents.Policies.{Policies}
 use Rattle.iam_world.specs.declared.documents.Location.{Location}
 use Rattle.iam_world.specs.declared.documents.Location.TheVariants.{Entries, Level, Alone}
 
--- the documents of levels that stand under a name of member i of a list, level by level
-abbrev pub level_documents : Kind → Name → ℕ → Name → List (List Data) → List Document
-level_documents kind list i name levels = each (λ j level. numbered kind (Leaf list i name j) 0 level) 0 levels
-
--- the organisation policies of account i
-abbrev pub org_documents : ℕ → AccountViewValue → List Document
-org_documents i account = level_documents kind.Org Accounts i Org account.org
-
--- the resource control policies of resource i, and its policy
-abbrev pub control_documents : ℕ → ResourceViewValue → List Document
-control_documents i resource = level_documents kind.Control Resources i Control resource.control
-
-abbrev pub resource_documents : ℕ → ResourceViewValue → List Document
-resource_documents i resource =
-    numbered kind.Resource (λ j. Field Resources i name.Policy) 0 (option_to_list resource.policy)
-
--- the identity policies of principal i, its boundary, and its session policies
-abbrev pub identity_documents : ℕ → PrincipalViewValue → List Document
-identity_documents i principal = numbered kind.Identity (Entry Principals i Identity) 0 principal.identity
-
-abbrev pub boundary_documents : ℕ → PrincipalViewValue → List Document
-boundary_documents i principal =
-    numbered kind.Identity (λ j. Field Principals i Boundary) 0 (option_to_list principal.boundary)
-
-abbrev pub session_documents : ℕ → PrincipalViewValue → List Document
-session_documents i principal =
-    numbered kind.Identity (Entry Principals i SessionPolicies) 0 principal.session_policies
-
--- how many statements documents have
-abbrev pub statement_total : List Document → ℕ
-statement_total ds = sum_by (λ document. length (statements_in document.value)) ds
-
 abbrev pub IsNotAccepted : Document → Type 0
 IsNotAccepted document = ¬ IsAccepted document.kind document.value
 
 -- the first of the documents that is not accepted is refused by its least fault
 abbrev pub IsRefusedAmong : List Document → WorldFault → Type 0
 IsRefusedAmong ds fault = (path : Path) × (refused : Refused) × (fault ≡ Policy path refused) × IsFirstRefused ds path refused
+
+-- so many statements were counted: what is left of 4,096 is known, or they are too many
+abbrev pub Leaves : Budget → ℕ → Type 0
+Leaves budget total = MatchOption budget.left (4096 < total) (λ left. left + total ≡ 4096)
 
 -- the documents are accepted, and their statements are counted
 pub record IsCleared (ds : List Document) (before after : Budget) : Type 0 where

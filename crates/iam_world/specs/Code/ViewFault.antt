@@ -1,9 +1,9 @@
 -- How the code seeks the first fault of what a document says, beside `WorldFault`.
-use Rattle.std.specs.Prelude.{◌≡◌, ℕ, ◌≤◌, List, Option, IsTrue, MatchOption}
+use Rattle.std.specs.Prelude.{◌≡◌, ℕ, ◌≤◌, List, Option, MatchOption}
 use Rattle.std.specs.List.{AllByRecursion}
-use Rattle.iam_shape.specs.View.{ResourceViewValue, WorldViewValue}
+use Rattle.iam_shape.specs.View.{WorldViewValue}
 use Rattle.iam_shape.specs.First.{IsFirstAt}
-use Rattle.iam_world.specs.WorldFault.{ViewHasFault, is_action, is_resource, world_number_of}
+use Rattle.iam_world.specs.WorldFault.{ViewHasFault, world_number_of}
 use Rattle.iam_shape.specs.declared.path.Path.{Path}
 use Rattle.iam_shape.specs.declared.fault.ShapeFault.{ShapeFault}
 use Rattle.iam_shape.specs.declared.fault.ShapeFault.TheVariants as shape
@@ -11,14 +11,6 @@ use Rattle.iam_world_context.specs.declared.fault.PartFault.{PartFault}
 use Rattle.iam_world_context.specs.declared.fault.PartFault.TheVariants as part
 use Rattle.iam_world.specs.declared.fault.WorldFault.{WorldFault}
 use Rattle.iam_world.specs.declared.fault.WorldFault.TheVariants.{BadShape, Context, OutOfMemory}
-
--- the text is no action
-abbrev pub IsNoAction : List ℕ → Type 0
-IsNoAction text = ¬ IsTrue (is_action text)
-
--- the resource is neither `*` nor an ARN
-abbrev pub HasNoResourceArn : ResourceViewValue → Type 0
-HasNoResourceArn resource = ¬ IsTrue (is_resource resource.arn)
 
 -- no fault has a lesser number
 abbrev pub IsClearBelow : ℕ → WorldViewValue → Type 0

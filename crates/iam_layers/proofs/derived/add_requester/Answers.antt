@@ -1,8 +1,7 @@
 use Rattle.std.proofs.Common.{codes}
 use Rattle.std.proofs.lemmas.Result.{on_ok_weaker}
 use Rattle.iam_match.specs.Requester.{requester_arn, username_of}
-use Rattle.iam_layers.specs.Code.Keys.{username_key, word_of}
-use Rattle.iam_layers.specs.Derived.{key}
+use Rattle.iam_layers.specs.Derived.{key, username_key, word_of}
 use Rattle.iam_layers.proofs.DerivedLemmas.{four_appended}
 use Rattle.iam_layers.proofs.derived.add_requester.Goals as goal
 

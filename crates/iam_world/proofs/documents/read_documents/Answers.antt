@@ -8,8 +8,7 @@ use Rattle.iam_shape.specs.LentWorld.{world_of}
 use Rattle.iam_shape.specs.Shape.{each}
 use Rattle.iam_shape.specs.View.{WorldViewValue}
 use Rattle.iam_world.specs.Reads.{ReadsOptional}
-use Rattle.iam_world.specs.Code.Documents.{boundary_documents, control_documents, identity_documents, org_documents, resource_documents, session_documents}
-use Rattle.iam_world.specs.WorldFault.{Document}
+use Rattle.iam_world.specs.WorldFault.{Document, boundary_documents, control_documents, identity_documents, org_documents, resource_documents, session_documents}
 use Rattle.iam_world.proofs.DocumentLemmas.{cleared_append, cleared_lent, refused_lent, refused_here, refused_later}
 use Rattle.iam_world.proofs.Walks.{zip_map}
 use Rattle.iam_world.proofs.documents.read_documents.Goals as goal

@@ -4,7 +4,7 @@ use Rattle.iam_decision.specs.Living.{AreActing, AreFound, LivingValue, SharedVa
 use Rattle.iam_decision.specs.Matched.{placed}
 use Rattle.iam_decision.specs.declared.living.Living.{Living}
 use Rattle.iam_decision.specs.declared.living.Matched.{Matched}
-use Rattle.iam_decision.proofs.EarlyLemmas.{candidates_found}
+use Rattle.iam_decision.proofs.EarlyLemmas.{candidates_found, found_suffices}
 use Rattle.iam_decision.proofs.VerdictLemmas.{acting_found}
 use Rattle.iam_decision.proofs.shared.Shared.verdict.Goals as goal
 
@@ -19,4 +19,5 @@ returns c = λ actions a access asked shared.
     let acting = subst M (ap (λ (s : SharedValue). s.living) c.self.view_is) (subst L c.as_slice.ensures.value c.in_ok-found.ensures) in
     let among = acting_found access action shared.candidates c.args.self.now.living found shared.living acting in
     let are = candidates_found actions q (placed a) shared.candidates found asked shared.are among in
-    c.verdict_of.ensures a q (ap (λ (s : SharedValue). s.frame) c.self.view_is ∙ shared.frame) (subst G (sym c.as_slice-2.ensures.value) are)
+    let found_all = subst G (sym c.as_slice-2.ensures.value) are in
+    c.early_verdict.ensures a q (ap (λ (s : SharedValue). s.frame) c.self.view_is ∙ shared.frame) (found_suffices q (placed a) c.as_slice-2.result.now found_all)

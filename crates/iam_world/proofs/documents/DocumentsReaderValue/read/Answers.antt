@@ -1,8 +1,8 @@
-use Rattle.std.proofs.Common.{◌≡◌, inl, ◌+◌, length, refl, ap, subst, arith}
+use Rattle.std.proofs.Common.{◌≡◌, inl, ◌+◌, length, refl, ap, subst, arith, rules}
 use Rattle.serde_json.specs.View.{view}
 use Rattle.iam_policy.specs.Fault.{statements_in}
-use Rattle.iam_world.specs.Code.Budget.{Leaves}
-use Rattle.iam_world.specs.Code.Documents.{document_at}
+use Rattle.iam_policy.specs.declared.fault.Fault.TheVariants.{OutOfMemory}
+use Rattle.iam_world.specs.Code.Documents.{Leaves, document_at}
 use Rattle.iam_world.proofs.Walks.{zip_length}
 use Rattle.iam_world.proofs.documents.DocumentsReaderValue.read.Goals as goal
 
@@ -19,15 +19,12 @@ returns-in-Ok-clause-cleared c =
           subst (Leaves c.count.new.self) sum (c.count.ensures total leaves);
     }
 
-pub returns-in-Err-clause-fault : goal.returns-in-Err-clause-fault
-returns-in-Err-clause-fault c = λ other. (
-  c.path.result,
-  c.in-Err.refused,
-  c.fault_at.ensures.fault (λ memory. other (c.fault_at.ensures.memory memory)),
-  (
-    document_at c.args.self.now c.args.i (view c.args.document.now),
-    inl ((λ accepted. accepted _ _ (c.in-Err.ensures.least (λ memory. other (c.fault_at.ensures.memory memory))).holds), refl),
-    c.path.ensures,
-    c.in-Err.ensures.least (λ memory. other (c.fault_at.ensures.memory memory)),
-  ),
-)
+pub returns-in-Err-2-clause-fault : goal.returns-in-Err-2-clause-fault
+returns-in-Err-2-clause-fault c = λ other.
+    let kept : ¬ (c.in-Err.refused.fault ≡ OutOfMemory) = search rules in
+    let least = c.in-Err.ensures.least kept in (
+      c.path.result,
+      c.in-Err.refused,
+      refl,
+      (document_at c.args.self.now c.args.i (view c.args.document.now), inl ((λ accepted. accepted _ _ least.holds), refl), c.path.ensures, least),
+    )
