@@ -14,7 +14,8 @@ use Rattle.iam_changes.specs.Change.{AskedValue}
 use Rattle.iam_changes.specs.Laws.{OneChangesReport}
 use Rattle.iam_changes.specs.declared.change.Kinds.{Kinds}
 use Rattle.iam_options.specs.declared.changes.ChangesOptions.{ChangesOptions}
-use Rattle.iam_app.specs.Changes.{EndsChangesBy, HasSide, IsAskedChanges, IsChangesOutput, IsNoWorld, IsSide, IsTwiceIn, WritesChanges, changes_format}
+use Rattle.iam_app.specs.Changes.{EndsChangesBy, HasSide, IsAskedChanges, IsChangesOutput, IsNoWorld, IsSide, IsTwiceIn, WritesChanges}
+use Rattle.iam_app.specs.Output.{format_of}
 use Rattle.iam_app.specs.ChangesLaws
 use Rattle.iam_app.specs.ChangesLaws.{AskTheSameChanges, IsOfWorlds}
 use Rattle.iam_app.specs.declared.changes_fault.ChangesFault.{ChangesFault}
@@ -40,7 +41,7 @@ one_changes_output g options other selection first second text text' kinds kinds
     let was : IsAskedChanges other selection before after text kinds = subst (λ (o : ChangesOptions). IsAskedChanges o selection before after text kinds) (sym same) h.1 in
     let also : IsAskedChanges other selection before after text' kinds' =
     subst (λ w. IsAskedChanges other selection before w text' kinds') two (subst (λ w. IsAskedChanges other selection w after' text' kinds') one k.1) in
-    g.reports (changes_format other) other.brief asked before after text text' kinds kinds' apart apart_after was also
+    g.reports (format_of other.json) other.brief asked before after text text' kinds kinds' apart apart_after was also
 
 -- ---- one of two inputs
 

@@ -38,13 +38,13 @@ one_answer g world p a r text other (cell, is, (verdict, at, row)) (cell', is', 
     g.rows world cell' p a r verdict' text other
     (subst (λ v. IsCsvRow full_layout world cell' p a r v text) same (subst (λ c. IsCsvRow full_layout world c p a r verdict text) number row)) row'
 
-pub one_asked_report : Given → (task : Task) (options other : Options) (world : WorldValue) (text text' : List ℕ) → format_of options ≡ format_of other
+pub one_asked_report : Given → (task : Task) (options other : Options) (world : WorldValue) (text text' : List ℕ) → format_of options.json ≡ format_of other.json
     → options.brief ≡ other.brief → IsReportOf task options world text → IsReportOf task other world text' → text ≡ text'
 one_asked_report g t.Check options other world text text' format brief h k = h ∙ sym k
 one_asked_report g (t.Decide p a r) options other world text text' format brief h k = one_answer g world p a r text text' h k
 one_asked_report g t.Matrix options other world text text' format brief h k =
-    let was = subst (λ b. IsMatrixReport (format_of other) b world text) brief (subst (λ f. IsMatrixReport f options.brief world text) format h.1) in
-    g.reports (format_of other) other.brief world text text' was k.1
+    let was = subst (λ b. IsMatrixReport (format_of other.json) b world text) brief (subst (λ f. IsMatrixReport f options.brief world text) format h.1) in
+    g.reports (format_of other.json) other.brief world text text' was k.1
 one_asked_report g t.First options other world text text' format brief h k = g.firsts world text text' h.1 k.1
 
 other_way : (options other : Options) → AskTheSame options other → AskTheSame other options
@@ -53,7 +53,7 @@ other_way options other same = ap (λ (o : Options). record o { tile = options.t
 pub one_output : Given → Laws.OneOutput
 one_output g options other bytes text text' same (world, is, h) (world', is', k) =
     let task : other.task ≡ options.task = ap (λ (o : Options). o.task) same in
-    let format : format_of options ≡ format_of other = sym (ap format_of same) in
+    let format : format_of options.json ≡ format_of other.json = sym (ap (λ (o : Options). format_of o.json) same) in
     let brief : options.brief ≡ other.brief = sym (ap (λ (o : Options). o.brief) same) in
     let one : world' ≡ world = g.worlds bytes world' world is' is in
     one_asked_report g options.task options other world text text' format brief h

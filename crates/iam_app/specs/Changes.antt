@@ -1,13 +1,11 @@
 -- What a run of two worlds writes, and why it ends without its report. LOGIC 13.7.
-use Rattle.std.specs.Prelude.{◌≡◌, ◌≢◌, ◌⊎◌, ◌≤◌, ℕ, List, Option, ⊤, if◌then◌else◌, length}
+use Rattle.std.specs.Prelude.{◌≡◌, ◌≢◌, ◌⊎◌, ◌≤◌, ℕ, List, Option, ⊤, length}
 use Rattle.std.specs.Io.KnownBytes.{Appends}
 use Rattle.iam_world.specs.Reads.{IsWorld}
 use Rattle.iam_world.specs.World.{WorldValue}
 use Rattle.iam_world.specs.WorldFault.{IsFirstWorldFault}
 use Rattle.iam_world.specs.declared.fault.WorldFault.{WorldFault}
 use Rattle.iam_world.specs.declared.fault.WorldFault.TheVariants as w
-use Rattle.iam_row.specs.declared.quoted.Format.{Format}
-use Rattle.iam_row.specs.declared.quoted.Format.TheVariants.{Csv, Json}
 use Rattle.iam_report.specs.Streams.{AppendsBeginning}
 use Rattle.iam_matrix.specs.Cut.{IsEvenCut, IsEvenFault}
 use Rattle.iam_matrix.specs.Workers.{IsUnlawful}
@@ -21,7 +19,7 @@ use Rattle.iam_requests.specs.Twice.{IsApart, IsFirstTwice}
 use Rattle.iam_changes.specs.declared.change.Kinds.{Kinds}
 use Rattle.iam_requests.specs.declared.twice.Twice.{Twice}
 use Rattle.iam_options.specs.declared.changes.ChangesOptions.{ChangesOptions}
-use Rattle.iam_app.specs.Output.{tile_or_default}
+use Rattle.iam_app.specs.Output.{format_of, tile_or_default}
 use Rattle.iam_app.specs.Streams.{AllRemained, MoreRemained}
 use Rattle.iam_app.specs.declared.changes_fault.ChangesFault.{ChangesFault}
 use Rattle.iam_app.specs.declared.changes_fault.ChangesFault.TheVariants as changes
@@ -48,10 +46,6 @@ abbrev pub IsTwiceIn : Option (List ℕ) → Twice → Type 0
 IsTwiceIn input twice =
     (bytes : List ℕ) × (world : WorldValue) × AllRemained input bytes × IsWorld bytes world × IsFirstTwice world twice
 
--- the format that the options ask for
-abbrev pub changes_format : ChangesOptions → Format
-changes_format options = if options.json then Json else Csv
-
 -- the tiles of the asked length are a cut of the requests of two worlds
 abbrev pub HasCutOf : ChangesOptions → WorldValue → WorldValue → Type 0
 HasCutOf options before after = (count : ℕ) × IsCount before after count × IsEvenCut (tile_or_default options.tile count) count
@@ -69,21 +63,18 @@ pub record CanCompare (options : ChangesOptions) (before after : WorldValue) : T
 -- the report that the options ask for, of two worlds, with the kinds of changes that it has
 abbrev pub IsAskedChanges : ChangesOptions → SelectionValue → WorldValue → WorldValue → List ℕ → Kinds → Type 0
 IsAskedChanges options selection before after text kinds =
-    IsChangesReport (changes_format options) options.brief (record { selection = selection; all = options.all }) before after text kinds
+    IsChangesReport (format_of options.json) options.brief (record { selection = selection; all = options.all }) before after text kinds
 
 abbrev pub IsComparison : ChangesOptions → SelectionValue → WorldValue → WorldValue → List ℕ → Kinds → Type 0
 IsComparison options selection before after text kinds = CanCompare options before after × IsAskedChanges options selection before after text kinds
 
 -- there is none, for this fault
 abbrev pub IsNoComparison : ChangesOptions → WorldValue → WorldValue → RunFault → Type 0
-IsNoComparison options before after f.Read = ⊥
-IsNoComparison options before after (f.World fault) = ⊥
 IsNoComparison options before after (f.Matrix fault) =
     fault ≢ m.OutOfMemory → HasCutOf options before after × ((fault ≡ m.Workers) × IsUnlawful options.workers)
-IsNoComparison options before after f.Write = ⊥
-IsNoComparison options before after f.NoSuchCell = ⊥
 IsNoComparison options before after (f.Cut fault) = fault ≢ c.OutOfMemory → HasNoCutOf options before after fault
 IsNoComparison options before after f.OutOfMemory = ⊤
+IsNoComparison options before after fault = ⊥
 
 -- the bytes are two such worlds, and this is the report of them
 abbrev pub IsChangesOutput : ChangesOptions → SelectionValue → List ℕ → List ℕ → List ℕ → Kinds → Type 0

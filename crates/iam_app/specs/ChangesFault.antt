@@ -1,21 +1,15 @@
--- The numbers of the faults of a run of two worlds, and the line that tells of one. LOGIC 13.4, 14.
+-- The line that tells of a fault of a run of two worlds, with its number: the first seven are those of a run. LOGIC 13.4, 14.
 use Rattle.std.specs.Prelude.{ℕ, List, ◌++◌, Bool, ◌||◌, false, Option, Some, None, codes}
 use Rattle.iam_world.specs.WorldFault.{world_text}
 use Rattle.iam_requests.specs.Twice.{twice_text}
 use Rattle.iam_changes.specs.declared.change.Kinds.{Kinds}
 use Rattle.iam_options.specs.declared.changes.FailOn.{FailOn}
 use Rattle.iam_options.specs.declared.changes.FailOn.TheVariants.{Gained, Lost, Any}
-use Rattle.iam_app.specs.FaultLine.{run_number_of, run_text}
+use Rattle.iam_app.specs.FaultLine.{run_text}
 use Rattle.iam_app.specs.declared.changes_fault.ChangesFault.{ChangesFault}
 use Rattle.iam_app.specs.declared.changes_fault.ChangesFault.TheVariants.{Run, Twice, Before}
 use Rattle.iam_app.specs.declared.changes_fault.Side.{Side}
 use Rattle.iam_app.specs.declared.changes_fault.Side.TheVariants as side
-
--- the number of a fault: the first seven are those of a run
-abbrev pub changes_number_of : ChangesFault → ℕ
-changes_number_of (Run fault) = run_number_of fault
-changes_number_of (Twice world twice) = 8
-changes_number_of (Before fault) = 9
 
 abbrev pub side_word : Side → List ℕ
 side_word side.Before = codes "before"

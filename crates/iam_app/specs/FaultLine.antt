@@ -1,19 +1,9 @@
--- The numbers of the faults of a run, and the line that tells of one. It has no line feed at its end. LOGIC 14.
+-- The line that tells of a fault of a run, with its number. It has no line feed at its end. LOGIC 14.
 use Rattle.std.specs.Prelude.{ℕ, List, ◌++◌, codes}
 use Rattle.iam_matrix.specs.Fault.{cut_text, matrix_text}
 use Rattle.iam_world.specs.WorldFault.{world_text}
 use Rattle.iam_app.specs.declared.fault.RunFault.{RunFault}
 use Rattle.iam_app.specs.declared.fault.RunFault.TheVariants.{Read, World, Matrix, Write, NoSuchCell, Cut, OutOfMemory}
-
--- the number of a fault
-abbrev pub run_number_of : RunFault → ℕ
-run_number_of Read = 1
-run_number_of (World fault) = 2
-run_number_of (Matrix fault) = 3
-run_number_of Write = 4
-run_number_of NoSuchCell = 5
-run_number_of (Cut fault) = 6
-run_number_of OutOfMemory = 7
 
 -- the line of a fault
 abbrev pub run_text : RunFault → List ℕ

@@ -1,5 +1,5 @@
 -- What a run writes, and why it ends without its report. LOGIC 13.3, 13.4 and 13.5.
-use Rattle.std.specs.Prelude.{◌≡◌, ◌≢◌, ◌⊎◌, ℕ, ◌≤◌, List, ◌++◌, Option, Some, None, if◌then◌else◌, length, max, ⊤, codes, decimal}
+use Rattle.std.specs.Prelude.{◌≡◌, ◌≢◌, ◌⊎◌, ℕ, ◌≤◌, Bool, List, ◌++◌, Option, Some, None, if◌then◌else◌, length, max, ⊤, codes, decimal}
 use Rattle.std.specs.Int.{div_ceil}
 use Rattle.iam_layers.specs.Cell.{IsCell, IsVerdictAt}
 use Rattle.iam_world.specs.Reads.{IsWorld}
@@ -42,9 +42,9 @@ counts_text principals actions resources cells statements =
     ++ (codes " statements " ++ (decimal statements
     ++ codes "\n")))))))))
 
--- the format that the options ask for
-abbrev pub format_of : Options → Format
-format_of options = if options.json then Json else Csv
+-- JSON where it is asked for, else CSV
+abbrev pub format_of : Bool → Format
+format_of json = if json then Json else Csv
 
 -- the length of a tile; where the options say nothing, at most 256 tiles of one length have all cells
 abbrev pub tile_or_default : Option ℕ → ℕ → ℕ
@@ -65,7 +65,7 @@ abbrev pub IsReportOf : Task → Options → WorldValue → List ℕ → Type 0
 IsReportOf t.Check options world text =
     text ≡ counts_text (length world.principals) (length world.actions) (length world.resources) (world_cells world) (world_statements world)
 IsReportOf (t.Decide p a r) options world text = IsAnswer world p a r text
-IsReportOf t.Matrix options world text = CanWork options world × IsMatrixReport (format_of options) options.brief world text
+IsReportOf t.Matrix options world text = CanWork options world × IsMatrixReport (format_of options.json) options.brief world text
 IsReportOf t.First options world text = CanWork options world × IsFirstReport world text
 
 -- why there is no report of all cells: they have no such cut, or they have and the number of workers is unlawful; of want of

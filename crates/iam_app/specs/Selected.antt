@@ -40,7 +40,7 @@ abbrev pub IsSelectedOf : Task → Options → SelectionValue → WorldValue →
 IsSelectedOf t.Check options selection world text = IsReportOf t.Check options world text
 IsSelectedOf (t.Decide p a r) options selection world text = IsReportOf (t.Decide p a r) options world text
 IsSelectedOf t.Matrix options selection world text =
-    CanWork options world × IsSelectedReport (format_of options) options.brief selection world text
+    CanWork options world × IsSelectedReport (format_of options.json) options.brief selection world text
 IsSelectedOf t.First options selection world text = CanWork options world × IsFirstSelectedReport selection world text
 
 -- the bytes are a world, and this is what is asked of it

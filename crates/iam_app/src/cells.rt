@@ -39,14 +39,11 @@ pub fn cut_cells(alloc: Global, options: &Options, world: &World) -> Result<Cut,
     Cut::even(alloc, tile_length(options.tile, cells), cells)
 }
 
-pub fn format_in(options: &Options) -> Format
-    ensures { result ≡ format_of options.now }
+/// JSON where it is asked for, else CSV.
+pub fn format_in(json: bool) -> Format
+    ensures { result ≡ format_of json }
 {
-    if options.json {
-        Format::Json
-    } else {
-        Format::Csv
-    }
+    if json { Format::Json } else { Format::Csv }
 }
 
 /// The report of all cells.
@@ -57,11 +54,11 @@ pub fn matrix<T: Threads + Sync>(
     world: &World,
 ) -> Result<Report, RunFault>
     ensures work { OnOk result (CanWork options.now world.now) }
-    ensures ok { IfOk result (λ report. IsMatrixReport (format_of options.now) options.now.brief world.now (report_text report)) }
+    ensures ok { IfOk result (λ report. IsMatrixReport (format_of options.now.json) options.now.brief world.now (report_text report)) }
     ensures fault { IfErr result (λ fault. IsCellsRefusal options.now world.now fault) }
 {
     let cut = cut_cells(alloc, options, world)?;
-    let format = format_in(options);
+    let format = format_in(options.json);
     let report = matrix_report(
         rt,
         alloc,

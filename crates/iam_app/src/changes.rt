@@ -1,15 +1,15 @@
 // A run of two worlds: what has changed from one to the other.
 ghost use Rattle.std.specs.Prelude.{◌≡◌, ◌≢◌, IfErr, IfOk, MatchResult, OnOk, if◌then◌else◌, sum};
 ghost use Rattle.std.specs.Io.KnownBytes.{Appends};
-ghost use Rattle.iam_app.specs.Changes.{CanCompare, EndsChangesBy, HasCutOf, HasNoCutOf, HasSide, IsAskedChanges, IsNoComparison, IsOfBefore, WritesChanges, changes_format};
+ghost use Rattle.iam_matrix.specs.declared.cut.CutFault.TheVariants as c;
+ghost use Rattle.iam_changes.specs.Code.Pieces.{report_text};
+ghost use Rattle.iam_app.specs.Changes.{CanCompare, EndsChangesBy, HasCutOf, HasNoCutOf, HasSide, IsAskedChanges, IsNoComparison, IsOfBefore, WritesChanges};
 ghost use Rattle.iam_app.specs.ChangesFault.{fails_on};
 ghost use Rattle.iam_app.specs.Code.Sides.{IsNoSide, IsNotWritten, fault_after, fault_before};
 ghost use Rattle.iam_app.specs.Streams.{ConsumesAtMost};
-ghost use Rattle.iam_changes.specs.Code.Pieces.{report_text};
-ghost use Rattle.iam_matrix.specs.declared.cut.CutFault.TheVariants as c;
 
 use crate::OutOfMemory;
-use crate::cells::tile_length;
+use crate::cells::{format_in, tile_length};
 use crate::changes_fault::{ChangesFault, Side};
 use crate::fault::RunFault;
 use crate::input::{InputFault, read_input};
@@ -17,7 +17,7 @@ use crate::output::{Report, write_report};
 use iam_changes::{ChangesText, Kinds};
 use iam_compare::changes_report;
 use iam_layers::{World, WorldFault};
-use iam_matrix::{Cut, CutFault, Format, Open};
+use iam_matrix::{Cut, CutFault, Open};
 use iam_options::{ChangesOptions, FailOn};
 use iam_report::buffer;
 use iam_requests::{Requests, Twice, first_twice};
@@ -36,7 +36,6 @@ enum SideFault {
 }
 
 impl From<OutOfMemory> for SideFault {
-    ghost use Rattle.std.specs.Prelude.{◌≡◌};
     ghost use Rattle.iam_app.specs.declared.changes.SideFault.TheVariants as s;
 
     ghost from_gives = { λ _ fault. fault ≡ s.OutOfMemory };
@@ -106,16 +105,6 @@ fn cut_requests(
     Cut::even(alloc, tile_length(options.tile, count), count)
 }
 
-fn changes_format(options: &ChangesOptions) -> Format
-    ensures { result ≡ changes_format options.now }
-{
-    if options.json {
-        Format::Json
-    } else {
-        Format::Csv
-    }
-}
-
 /// The report of what has changed among the requests of two worlds.
 fn report_of<T: Threads + Sync>(
     rt: &T,
@@ -138,7 +127,7 @@ fn report_of<T: Threads + Sync>(
         &cut,
         options.workers,
         &Open,
-        changes_format(options),
+        format_in(options.json),
         options.brief,
     )?;
     Ok(report)

@@ -1,6 +1,7 @@
 // Why a run of two worlds does not end with its report, and the line that tells it.
-ghost use Rattle.std.specs.Prelude.{◌≡◌, IfOk, string_bytes};
+ghost use Rattle.std.specs.Prelude.{◌≡◌, IfOk, string_bytes, Some};
 ghost use Rattle.iam_app.specs.ChangesFault.{changes_text, side_word};
+ghost use Rattle.iam_app.specs.declared.changes_fault.ChangesFault.TheVariants as c;
 
 use crate::OutOfMemory;
 use crate::fault::RunFault;
@@ -42,25 +43,7 @@ pub enum ChangesFault {
     Before(WorldFault),
 }
 
-impl ChangesFault {
-    ghost use Rattle.std.specs.Prelude.{◌≡◌};
-    ghost use Rattle.iam_app.specs.ChangesFault.{changes_number_of};
-
-    /// The number of the fault.
-    pub fn number(&self) -> u32
-        ensures { result ≡ changes_number_of self.now }
-    {
-        match self {
-            ChangesFault::Run(fault) => fault.number(),
-            ChangesFault::Twice(..) => 8,
-            ChangesFault::Before(_) => 9,
-        }
-    }
-}
-
 impl From<OutOfMemory> for ChangesFault {
-    ghost use Rattle.std.specs.Prelude.{◌≡◌};
-    ghost use Rattle.iam_app.specs.declared.changes_fault.ChangesFault.TheVariants as c;
     ghost use Rattle.iam_app.specs.declared.fault.RunFault.TheVariants as f;
 
     ghost from_gives = { λ _ fault. fault ≡ c.Run f.OutOfMemory };
@@ -71,9 +54,6 @@ impl From<OutOfMemory> for ChangesFault {
 }
 
 impl From<RunFault> for ChangesFault {
-    ghost use Rattle.std.specs.Prelude.{◌≡◌};
-    ghost use Rattle.iam_app.specs.declared.changes_fault.ChangesFault.TheVariants as c;
-
     ghost from_gives = { λ run fault. fault ≡ c.Run run };
 
     fn from(fault: RunFault) -> ChangesFault {
@@ -82,9 +62,6 @@ impl From<RunFault> for ChangesFault {
 }
 
 impl Display for ChangesFault {
-    ghost use Rattle.std.specs.Prelude.{Some};
-    ghost use Rattle.iam_app.specs.ChangesFault.{changes_text};
-
     ghost output = { λ fault. Some (changes_text fault) };
 
     fn fmt<W: Write>(&self, f: &mut Formatter<W>) -> Result<(), fmt::Error> {

@@ -1,6 +1,7 @@
 // Why a run does not end with its report, and the line that tells it.
-ghost use Rattle.std.specs.Prelude.{◌≡◌, IfOk, MatchResult, string_bytes};
+ghost use Rattle.std.specs.Prelude.{◌≡◌, IfOk, MatchResult, string_bytes, Some};
 ghost use Rattle.iam_app.specs.FaultLine.{run_text};
+ghost use Rattle.iam_app.specs.declared.fault.RunFault.TheVariants as f;
 
 use crate::OutOfMemory;
 use iam_layers::WorldFault;
@@ -28,30 +29,7 @@ pub enum RunFault {
     OutOfMemory,
 }
 
-impl RunFault {
-    ghost use Rattle.std.specs.Prelude.{◌≡◌};
-    ghost use Rattle.iam_app.specs.FaultLine.{run_number_of};
-
-    /// The number of the fault.
-    pub fn number(&self) -> u32
-        ensures { result ≡ run_number_of self.now }
-    {
-        match self {
-            RunFault::Read => 1,
-            RunFault::World(_) => 2,
-            RunFault::Matrix(_) => 3,
-            RunFault::Write => 4,
-            RunFault::NoSuchCell => 5,
-            RunFault::Cut(_) => 6,
-            RunFault::OutOfMemory => 7,
-        }
-    }
-}
-
 impl From<OutOfMemory> for RunFault {
-    ghost use Rattle.std.specs.Prelude.{◌≡◌};
-    ghost use Rattle.iam_app.specs.declared.fault.RunFault.TheVariants as f;
-
     ghost from_gives = { λ _ fault. fault ≡ f.OutOfMemory };
 
     fn from(_: OutOfMemory) -> RunFault {
@@ -60,9 +38,6 @@ impl From<OutOfMemory> for RunFault {
 }
 
 impl From<MatrixFault> for RunFault {
-    ghost use Rattle.std.specs.Prelude.{◌≡◌};
-    ghost use Rattle.iam_app.specs.declared.fault.RunFault.TheVariants as f;
-
     ghost from_gives = { λ matrix fault. fault ≡ f.Matrix matrix };
 
     fn from(fault: MatrixFault) -> RunFault {
@@ -71,9 +46,6 @@ impl From<MatrixFault> for RunFault {
 }
 
 impl From<CutFault> for RunFault {
-    ghost use Rattle.std.specs.Prelude.{◌≡◌};
-    ghost use Rattle.iam_app.specs.declared.fault.RunFault.TheVariants as f;
-
     ghost from_gives = { λ cut fault. fault ≡ f.Cut cut };
 
     fn from(fault: CutFault) -> RunFault {
@@ -82,9 +54,6 @@ impl From<CutFault> for RunFault {
 }
 
 impl Display for RunFault {
-    ghost use Rattle.std.specs.Prelude.{Some};
-    ghost use Rattle.iam_app.specs.FaultLine.{run_text};
-
     ghost output = { λ fault. Some (run_text fault) };
 
     fn fmt<W: Write>(&self, f: &mut Formatter<W>) -> Result<(), fmt::Error> {

@@ -81,11 +81,11 @@ fn matrix<T: Threads + Sync>(
     world: &World,
 ) -> Result<Report, RunFault>
     ensures work { OnOk result (CanWork options.now world.now) }
-    ensures ok { IfOk result (λ report. IsSelectedReport (format_of options.now) options.now.brief selection.now world.now (report_text report)) }
+    ensures ok { IfOk result (λ report. IsSelectedReport (format_of options.now.json) options.now.brief selection.now world.now (report_text report)) }
     ensures fault { IfErr result (λ fault. IsCellsRefusal options.now world.now fault) }
 {
     let cut = cut_cells(alloc, options, world)?;
-    let format = format_in(options);
+    let format = format_in(options.json);
     let rows = selected_report(
         rt,
         alloc,

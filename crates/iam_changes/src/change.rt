@@ -1,7 +1,7 @@
 // What a change is, by what is said of a request before and after.
 ghost use Rattle.std.specs.Prelude.{◌≡◌, ◌↔◌, IfNone, IfSome, IsTrue, false, option_map};
 ghost use Rattle.iam_changes.specs.Change.{Changes, Differ, allows, is_allowed};
-ghost use Rattle.iam_changes.specs.Code.Kept.{joined_kinds, with_kind};
+ghost use Rattle.iam_changes.specs.Code.Kept.{joined_kinds, with_kind, no_kinds};
 ghost use Rattle.iam_changes.specs.Code.Pieces.{kind_by};
 ghost use Rattle.iam_changes.specs.Report.{change_word};
 
@@ -41,8 +41,6 @@ pub struct Kinds {
 }
 
 impl Kinds {
-    ghost use Rattle.iam_changes.specs.Code.Kept.{no_kinds};
-
     /// None.
     pub fn none() -> Kinds
         ensures { result ≡ no_kinds }

@@ -1,6 +1,6 @@
 // Rows of changes, as they are gathered.
 ghost use Rattle.std.specs.Prelude.{◌≡◌, ◌+◌, ◌≤◌, ◌<◌, ◌^◌, ◌++◌, ◌∷◌, [], IfOk, OnOk, length, map};
-ghost use Rattle.iam_changes.specs.Code.Kept.{no_kinds, part_row, with_kind};
+ghost use Rattle.iam_changes.specs.Code.Kept.{no_kinds, part_row, with_kind, GatheredValue, end_of, placed};
 ghost use Rattle.iam_changes.specs.Code.Pieces.{pair_tail};
 
 use crate::change::{Change, Kinds};
@@ -27,9 +27,6 @@ pub struct Gathered {
 }
 
 impl Model for Gathered {
-    ghost use Rattle.std.specs.Prelude.{◌≡◌, ◌≤◌, ◌^◌, length};
-    ghost use Rattle.iam_changes.specs.Code.Kept.{GatheredValue, end_of, placed};
-
     ghost Value = { GatheredValue };
 
     ghost view = { λ gathered. record { rows = placed gathered.from gathered.gaps gathered.pairs; end = gathered.end; kinds = gathered.kinds } };

@@ -29,8 +29,6 @@ pub struct Verdicts<'a> {
 }
 
 impl Form<Pair> for Verdicts<'_> {
-    ghost use Rattle.std.specs.Prelude.{option_map};
-
     ghost means = { λ said. record { before = option_map (λ verdict. verdict.now) said.before; after = option_map (λ verdict. verdict.now) said.after } };
 
     fn is(&self, item: &Pair) -> bool {
@@ -84,9 +82,6 @@ pub struct Decisions {
 }
 
 impl Form<Pair> for Decisions {
-    ghost use Rattle.std.specs.Prelude.{option_map};
-    ghost use Rattle.iam_row.specs.Piece.{bare};
-
     ghost means = { λ said. record { before = option_map bare said.before; after = option_map bare said.after } };
 
     fn is(&self, item: &Pair) -> bool {

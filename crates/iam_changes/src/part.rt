@@ -1,6 +1,7 @@
 // The rows of a tile.
 ghost use Rattle.std.specs.Prelude.{◌≡◌, ◌<◌, ◌≤◌, ◌^◌, length};
 ghost use Rattle.iam_changes.specs.Code.Kept.{cell_behind, end_of, placed, row_at};
+ghost use Rattle.iam_changes.specs.Code.Pieces.{PartValue};
 
 use crate::change::Kinds;
 use iam_row::Tail;
@@ -19,10 +20,6 @@ pub struct Part {
 }
 
 impl Model for Part {
-    ghost use Rattle.std.specs.Prelude.{◌≡◌, ◌≤◌, ◌^◌, length};
-    ghost use Rattle.iam_changes.specs.Code.Kept.{end_of, placed};
-    ghost use Rattle.iam_changes.specs.Code.Pieces.{PartValue};
-
     ghost Value = { PartValue };
 
     ghost view = { λ part. record { from = part.from; rows = placed part.from part.gaps part.tile; kinds = part.kinds } };

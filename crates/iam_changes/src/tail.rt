@@ -74,32 +74,6 @@ fn lacks(said: &Option<Verdict>) -> &[Layer]
     }
 }
 
-/// The statements of what is said, each between marks, with something between one and the next.
-fn places_of<'a>(said: &'a Option<Verdict>, mark: &'static str, between: &'static str) -> Places<'a>
-    ensures places { result.places.now ≡ statements_of said.entry.now }
-    ensures mark { result.mark.now ≡ mark.entry.now }
-    ensures between { result.between.now ≡ between.entry.now }
-{
-    Places {
-        places: statements(said),
-        mark,
-        between,
-    }
-}
-
-/// The lacks of what is said, so too.
-fn layers_of<'a>(said: &'a Option<Verdict>, mark: &'static str, between: &'static str) -> Layers<'a>
-    ensures layers { result.layers.now ≡ lacks_of said.entry.now }
-    ensures mark { result.mark.now ≡ mark.entry.now }
-    ensures between { result.between.now ≡ between.entry.now }
-{
-    Layers {
-        layers: lacks(said),
-        mark,
-        between,
-    }
-}
-
 /// The decision in JSON.
 fn quoted(alloc: Global, said: &Option<Verdict>) -> Result<String, OutOfMemory>
     ensures { IfOk result (λ text. string_bytes text ≡ quoted_said said.now) }
@@ -125,8 +99,8 @@ fn front(alloc: Global, format: Format, brief: bool, pair: &Pair) -> Result<Stri
             ",\"after\":{after},\"before\":{before},\"change\":\"{change}\",\"principal\":"
         );
     }
-    let lacks_after = layers_of(&pair.after, "\"", ",");
-    let lacks_before = layers_of(&pair.before, "\"", ",");
+    let lacks_after = Layers::of(lacks(&pair.after), "\"", ",");
+    let lacks_before = Layers::of(lacks(&pair.before), "\"", ",");
     format!(in alloc;
         ",\"after\":{after},\"before\":{before},\"change\":\"{change}\",\"lacks_after\":[{lacks_after}],\"lacks_before\":[{lacks_before}],\"principal\":"
     )
@@ -146,8 +120,8 @@ fn back(alloc: Global, format: Format, brief: bool, pair: &Pair) -> Result<Strin
         (Format::Csv, false) => full_line(alloc, pair),
         (Format::Json, true) => String::from_str(alloc, "}"),
         (Format::Json, false) => {
-            let before = places_of(&pair.before, "\"", ",");
-            let after = places_of(&pair.after, "\"", ",");
+            let before = Places::of(statements(&pair.before), "\"", ",");
+            let after = Places::of(statements(&pair.after), "\"", ",");
             format!(in alloc; ",\"statements_after\":[{after}],\"statements_before\":[{before}]}}")
         }
     }
@@ -157,8 +131,8 @@ fn back(alloc: Global, format: Format, brief: bool, pair: &Pair) -> Result<Strin
 fn lists(alloc: Global, said: &Option<Verdict>) -> Result<String, OutOfMemory>
     ensures { IfOk result (λ text. string_bytes text ≡ lists_in said.now) }
 {
-    let statements = places_of(said, "", " ");
-    let lacks = layers_of(said, "", " ");
+    let statements = Places::of(statements(said), "", " ");
+    let lacks = Layers::of(lacks(said), "", " ");
     format!(in alloc; "{statements},{lacks}")
 }
 

@@ -4,7 +4,7 @@ ghost use Rattle.std.specs.Io.KnownBytes.{Appends};
 ghost use Rattle.iam_report.specs.Code.Buffer.{Passes};
 ghost use Rattle.iam_report.specs.Streams.{AppendsBeginning};
 ghost use Rattle.iam_changes.specs.Code.Kept.{kinds_in};
-ghost use Rattle.iam_changes.specs.Code.Pieces.{lead_of, report_text, row_behind, row_text, rows_in, rows_text};
+ghost use Rattle.iam_changes.specs.Code.Pieces.{lead_of, report_text, row_behind, row_text, rows_in, rows_text, ReportValue};
 
 use crate::change::Kinds;
 use crate::part::Part;
@@ -35,10 +35,6 @@ pub struct ChangesText {
 }
 
 impl Model for ChangesText {
-    ghost use Rattle.std.specs.Prelude.{◌≡◌};
-    ghost use Rattle.iam_changes.specs.Code.Kept.{kinds_in};
-    ghost use Rattle.iam_changes.specs.Code.Pieces.{ReportValue, lead_of, rows_in};
-
     ghost Value = { ReportValue };
 
     ghost view = { λ text. record { pieces = text.pieces; brief = text.brief; rows = rows_in text.parts.items; kinds = text.kinds } };

@@ -115,46 +115,10 @@ fn indexed_parts<R: Threads + Sync, G: Gate + Sync>(
     let workers = asked.workers;
     let before = surveyed(rt, alloc, index_before, workers, pick_before.is_broad());
     let after = surveyed(rt, alloc, index_after, workers, pick_after.is_broad());
-    surveyed_parts(
-        rt,
-        alloc,
-        requests,
-        &before,
-        &after,
-        pick_before,
-        pick_after,
-        cut,
-        gate,
-        asked,
-    )
-}
-
-/// The same, where surveys of both worlds have been made.
-fn surveyed_parts<R: Threads + Sync, G: Gate + Sync>(
-    rt: &R,
-    alloc: Global,
-    requests: &Requests<'_>,
-    before: &Survey<'_>,
-    after: &Survey<'_>,
-    pick_before: &Picker<'_>,
-    pick_after: &Picker<'_>,
-    cut: &Cut,
-    gate: &G,
-    asked: Asked,
-) -> Result<Vec<Part>, OutOfMemory>
-    requires some { 1 ≤ asked.workers }
-    requires few { asked.workers ≤ 64 }
-    requires before { before.now ≡ requests.now.before }
-    requires after { after.now ≡ requests.now.after }
-    requires pick_before { pick_before.now ≡ record { world = requests.now.before; selection = pick_after.now.selection } }
-    requires pick_after { pick_after.now.world ≡ requests.now.after }
-    requires cut { sum cut.now ≡ requests.now.count }
-    ensures { IfOk result (λ parts. AreParts (record { selection = pick_after.now.selection; all = asked.all }) requests.now asked.format asked.brief cut.now parts.items) }
-{
     let crew = Workers {
         requests,
-        before,
-        after,
+        before: &before,
+        after: &after,
         pick_before,
         pick_after,
         cut,

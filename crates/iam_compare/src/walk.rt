@@ -1,11 +1,11 @@
 // The rows of changes among the requests of each tile.
-ghost use Rattle.std.specs.Prelude.{◌≡◌, ◌+◌, ◌<◌, ◌≤◌, ◌^◌, ℕ, IfOk, IsTrue, None, OnOk, Some, length, option_map};
+ghost use Rattle.std.specs.Prelude.{◌≡◌, ◌+◌, ◌<◌, ◌≤◌, ◌^◌, ℕ, IfOk, IsTrue, None, OnOk, Some, length, option_map, slice_index};
 ghost use Rattle.iam_decision.specs.declared.verdict.Verdict.{Verdict};
+ghost use Rattle.iam_world.specs.World.{world_cells};
 ghost use Rattle.iam_layers.specs.Cell.{IsCell};
 ghost use Rattle.iam_row.specs.Report.{CellTexts, IsCellTexts};
-ghost use Rattle.iam_world.specs.World.{world_cells};
 ghost use Rattle.iam_requests.specs.Requests.{Has};
-ghost use Rattle.iam_compare.specs.Code.Walk.{AddsChange, AddsSaid, AreEnginesOf, Gathers, IsCrew, IsLeftRow, IsPartOf, all_cells, asked_of, with_row};
+ghost use Rattle.iam_compare.specs.Code.Walk.{AddsChange, AddsSaid, AreEnginesOf, Gathers, IsCrew, IsLeftRow, IsPartOf, all_cells, asked_of, with_row, IsTileOf, reached};
 
 use iam_changes::{Change, Decisions, Gathered, Part, Verdicts, change_of};
 use iam_classes::ClassEngine;
@@ -41,9 +41,7 @@ pub struct Workers<'a> {
 }
 
 impl<'a> Crew for Workers<'a> {
-    ghost use Rattle.std.specs.Prelude.{◌≡◌, ◌+◌, slice_index};
     ghost use Rattle.iam_matrix.specs.Cut.{start_of};
-    ghost use Rattle.iam_compare.specs.Code.Walk.{AreEnginesOf, IsPartOf, IsTileOf, asked_of, reached};
 
     type Output = Part;
 
@@ -52,8 +50,6 @@ impl<'a> Crew for Workers<'a> {
     ghost fits = { λ crew engines. AreEnginesOf crew engines.items };
 
     ghost takes = { λ crew tile. IsTileOf crew tile };
-
-    ghost offers = { λ _ _. ⊥ };
 
     ghost gives = { λ crew tile output _. IsPartOf (asked_of crew) crew.requests.now crew.asked.format crew.asked.brief
         (reached crew.requests.now (start_of crew.cut.now tile)) (reached crew.requests.now (start_of crew.cut.now tile + slice_index crew.cut.now tile)) output };
@@ -67,10 +63,6 @@ impl<'a> Crew for Workers<'a> {
         both.push(before)?;
         both.push(after)?;
         Ok(both)
-    }
-
-    fn skip(&self, _bound: &mut Bound<'_>, _tile: u64) -> Option<Part> {
-        None
     }
 
     fn work(

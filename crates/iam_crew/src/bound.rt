@@ -1,7 +1,7 @@
 // The shared bound, as one worker sees it.
 ghost use Rattle.std.specs.Prelude.{◌≡◌, ◌<◌, ◌≤◌, ◌++◌, ◌∷◌, [], IfSome};
 ghost use Rattle.iam_lanes.specs.Lanes.{no_cell};
-ghost use Rattle.iam_crew.specs.Bound.{bound_of, view_of, Lowers};
+ghost use Rattle.iam_crew.specs.Bound.{bound_of, view_of, Lowers, BoundView};
 
 use iam_lanes::{LaneSeat, Lanes};
 use std::marker::Model;
@@ -17,9 +17,6 @@ pub struct Bound<'a> {
 }
 
 impl<'a> Model for Bound<'a> {
-    ghost use Rattle.std.specs.Prelude.{◌≡◌};
-    ghost use Rattle.iam_crew.specs.Bound.{BoundView, view_of};
-
     ghost Value = { BoundView };
 
     ghost view = { λ b. view_of b.seat };

@@ -50,8 +50,8 @@ pub trait Crew {
     // The tile may be worked.
     ghost takes: { Self → ℕ → Type 0 };
 
-    // The cell may be offered.
-    ghost offers: { Self → ℕ → Type 0 };
+    // The cell may be offered: none, where a crew does not say which.
+    ghost offers: { Self → ℕ → Type 0 } = { λ _ _. ⊥ };
 
     // The tile's output, where the least cell offered is at or below a bound.
     ghost gives: { Self → ℕ → Self.Output → ℕ → Type 0 };
@@ -66,7 +66,10 @@ pub trait Crew {
         requires offered { All (offers self.now) bound.old.offers }
         ensures given { IfSome result (λ output. gives self.now tile output bound.new.floor) }
         ensures offered { All (offers self.now) bound.new.offers }
-        ensures lower { Lowers bound.old bound.new };
+        ensures lower { Lowers bound.old bound.new }
+    {
+        None
+    }
 
     /// Makes the output of a tile. It may look at the bound and offer cells. The only error is want of memory.
     fn work(

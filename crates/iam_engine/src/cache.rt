@@ -1,5 +1,5 @@
 // Which resource texts match which resources, as far as it is remembered.
-ghost use Rattle.std.specs.Prelude.{◌≡◌, ◌⊎◌, ◌↔◌, Contains, IfSome, IsTrue};
+ghost use Rattle.std.specs.Prelude.{◌≡◌, ◌⊎◌, ◌↔◌, ◌≤◌, Contains, IfSome, IsTrue, IfOk};
 ghost use Rattle.std.specs.Str.{chars};
 ghost use Rattle.iam_glob.specs.Glob.{Matches};
 ghost use Rattle.iam_world.specs.World.{WorldValue};
@@ -26,9 +26,6 @@ pub struct MatchCache<'a> {
 }
 
 impl<'a> Model for MatchCache<'a> {
-    ghost use Rattle.iam_world.specs.World.{WorldValue};
-    ghost use Rattle.iam_engine.specs.Cache.{Remembers};
-
     ghost Value = { WorldValue };
 
     ghost view = { λ cache. cache.world.now };
@@ -37,11 +34,6 @@ impl<'a> Model for MatchCache<'a> {
 }
 
 impl<'a> MatchCache<'a> {
-    ghost use Rattle.std.specs.Prelude.{◌≡◌, ◌≤◌, ◌↔◌, IfOk, IsTrue};
-    ghost use Rattle.std.specs.Str.{chars};
-    ghost use Rattle.iam_glob.specs.Glob.{Matches};
-    ghost use Rattle.iam_engine.specs.Cache.{HasArn};
-
     /// Nothing is remembered yet.
     pub fn new(
         alloc: Global,

@@ -1,6 +1,7 @@
 // The engine as its callers see it.
-ghost use Rattle.std.specs.Prelude.{◌≡◌, ◌<◌, IfOk, length};
-ghost use Rattle.iam_layers.specs.Cell.{IsDecisionAt};
+ghost use Rattle.std.specs.Prelude.{◌≡◌, ◌<◌, ◌≤◌, IfOk, length};
+ghost use Rattle.iam_world.specs.World.{WorldValue};
+ghost use Rattle.iam_layers.specs.Cell.{IsDecisionAt, IsDecisionOf, IsVerdictOf};
 ghost use Rattle.iam_engine.specs.Engine.{IsEnoughAt};
 
 use crate::cache::MatchCache;
@@ -23,9 +24,6 @@ pub struct Engine<'a> {
 }
 
 impl<'a> Model for Engine<'a> {
-    ghost use Rattle.std.specs.Prelude.{◌≡◌};
-    ghost use Rattle.iam_world.specs.World.{WorldValue};
-
     ghost Value = { WorldValue };
 
     ghost view = { λ engine. engine.index.now };
@@ -34,9 +32,7 @@ impl<'a> Model for Engine<'a> {
 }
 
 impl<'a> Engine<'a> {
-    ghost use Rattle.std.specs.Prelude.{◌≡◌, ◌<◌, ◌≤◌, IfOk};
     ghost use Rattle.iam_world.specs.World.{world_cells};
-    ghost use Rattle.iam_layers.specs.Cell.{IsDecisionOf, IsVerdictOf};
 
     /// An engine of a world, by an index of it, whose cache holds so many entries: 1 to 65,536.
     pub fn new(

@@ -1,9 +1,10 @@
 // The statements of a world that may match requests for its actions, found once for all engines of a run.
-ghost use Rattle.std.specs.Prelude.{[], ◌∷◌, ◌≡◌, ◌++◌, IfOk, List, OnOk, map};
+ghost use Rattle.std.specs.Prelude.{[], ◌∷◌, ◌≡◌, ◌++◌, ◌<◌, IfOk, List, OnOk, map, ℕ, IsTrue, length};
 ghost use Rattle.iam_decision.specs.Code.Scan.{placed_value};
 ghost use Rattle.iam_decision.specs.Living.{AreCandidates};
-ghost use Rattle.iam_decision.specs.Matched.{Placed};
-ghost use Rattle.iam_index.specs.Index.{AllAct};
+ghost use Rattle.iam_decision.specs.Matched.{Placed, placed};
+ghost use Rattle.iam_world.specs.World.{WorldValue};
+ghost use Rattle.iam_index.specs.Index.{AllAct, AreCandidatesOf, AreResourceLists, IsOrg, ListsOrg, ListsRequester, ListsResource, IsIndex};
 
 use crate::elements::Elements;
 use crate::given::{given_keys, is_free};
@@ -43,9 +44,6 @@ pub struct Index<'a> {
 }
 
 impl<'a> Model for Index<'a> {
-    ghost use Rattle.iam_world.specs.World.{WorldValue};
-    ghost use Rattle.iam_index.specs.Index.{IsIndex};
-
     ghost Value = { WorldValue };
 
     ghost view = { λ index. index.world.now };
@@ -56,16 +54,11 @@ impl<'a> Model for Index<'a> {
 }
 
 impl<'a> Index<'a> {
-    ghost use Rattle.std.specs.Prelude.{[], ◌∷◌, ◌≡◌, ◌<◌, ℕ, IfOk, IsTrue, List, length, map};
     ghost use Rattle.iam_decision.specs.Applicable.{ApplicableValue, frame_of};
-    ghost use Rattle.iam_decision.specs.Code.Scan.{placed_value};
-    ghost use Rattle.iam_decision.specs.Living.{AreCandidates};
-    ghost use Rattle.iam_decision.specs.Matched.{placed};
     ghost use Rattle.iam_world.specs.World.{world_cells};
     ghost use Rattle.iam_layers.specs.Cell.{IsAction, IsApplicableAt};
     ghost use Rattle.iam_index.specs.Elements.{AreElements};
     ghost use Rattle.iam_index.specs.Given.{IsFree};
-    ghost use Rattle.iam_index.specs.Index.{AllAct, AreCandidatesOf, AreResourceLists, IsOrg, ListsOrg, ListsRequester, ListsResource};
     ghost use Rattle.iam_index.specs.Known.{AreAlike};
 
     /// The index of a world.

@@ -1,5 +1,5 @@
 // Which statements of a world an index lists, by whom their policies are had.
-ghost use Rattle.std.specs.Prelude.{◌≡◌, ◌++◌, ◌<◌, IfOk, IfSome, IsTrue, List, length, map};
+ghost use Rattle.std.specs.Prelude.{◌≡◌, ◌++◌, ◌<◌, IfOk, IfSome, IsTrue, List, length, map, Some};
 ghost use Rattle.iam_decision.specs.Code.Scan.{placed_value};
 ghost use Rattle.iam_index.specs.Elements.{AreKept};
 ghost use Rattle.iam_index.specs.Index.{AreListed, AreLists, AreOrgs, AreResourceLists, HasOrg, HaveOrgs, IsListOf, ListsOrg, ListsRequester, ListsResource};
@@ -45,9 +45,7 @@ pub struct ResourceLists<'a> {
 }
 
 impl<'a> ResourceLists<'a> {
-    ghost use Rattle.std.specs.Prelude.{◌≡◌, ◌<◌, Some, length};
     ghost use Rattle.std.specs.List.{slice_get};
-    ghost use Rattle.iam_index.specs.declared.lists.Listed.{Listed};
 
     /// The number of the list of resource r.
     #[inline(always)]

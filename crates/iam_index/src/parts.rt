@@ -1,6 +1,7 @@
 // The keys of a world's requests, part by part.
-ghost use Rattle.std.specs.Prelude.{◌≡◌, IfOk, length};
-ghost use Rattle.iam_index.specs.Parts.{AreAt, GivesPrincipal, GivesResource};
+ghost use Rattle.std.specs.Prelude.{◌≡◌, ◌<◌, IfOk, length};
+ghost use Rattle.iam_world.specs.World.{WorldValue};
+ghost use Rattle.iam_index.specs.Parts.{AreAt, GivesPrincipal, GivesResource, AreParts};
 
 use iam_context::{Context, Derived, Sought};
 use iam_layers::World;
@@ -20,9 +21,6 @@ pub struct Parts<'a> {
 }
 
 impl<'a> Model for Parts<'a> {
-    ghost use Rattle.iam_world.specs.World.{WorldValue};
-    ghost use Rattle.iam_index.specs.Parts.{AreParts};
-
     ghost Value = { WorldValue };
 
     ghost view = { λ parts. parts.world.now };
@@ -31,7 +29,6 @@ impl<'a> Model for Parts<'a> {
 }
 
 impl<'a> Parts<'a> {
-    ghost use Rattle.std.specs.Prelude.{◌≡◌, ◌<◌, IfOk, length};
     ghost use Rattle.iam_layers.specs.Cell.{IsContextAt};
 
     /// The parts of a world.

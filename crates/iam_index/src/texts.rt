@@ -1,6 +1,7 @@
 // The resource texts of a world's statements in which no variable stands, by number.
-ghost use Rattle.std.specs.Prelude.{◌≡◌, IfSome, Some, map};
+ghost use Rattle.std.specs.Prelude.{◌≡◌, IfSome, Some, map, List};
 ghost use Rattle.std.specs.List.{slice_get};
+ghost use Rattle.iam_glob.specs.declared.sign.Sign.{Sign};
 
 use crate::lists::{Listed, Orgs, ResourceLists};
 use iam_layers::Standing;
@@ -24,18 +25,12 @@ pub struct Texts<'a> {
 }
 
 impl<'a> Model for Texts<'a> {
-    ghost use Rattle.std.specs.Prelude.{List, map};
-    ghost use Rattle.iam_glob.specs.declared.sign.Sign.{Sign};
-
     ghost Value = { List (List Sign) };
 
     ghost view = { λ texts. map (λ glob. glob.now) texts.globs.items };
 }
 
 impl<'a> Texts<'a> {
-    ghost use Rattle.std.specs.Prelude.{◌≡◌, IfSome, Some};
-    ghost use Rattle.std.specs.List.{slice_get};
-
     /// Those of all the statements that an index lists.
     pub fn of(
         alloc: Global,

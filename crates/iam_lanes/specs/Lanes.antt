@@ -1,14 +1,11 @@
 -- Lanes and their seats as callers see them, and what a caller knows once the lanes are closed. LOGIC 11.7.
 use Rattle.std.specs.Prelude.{ℕ, zero, suc, ◌+◌, ◌-◌, ◌<◌, ◌⊎◌, ◌==◌, ◌&&◌, nat_lt, max, if◌then◌else◌, List, [], ◌∷◌, ◌++◌, length, slice_index, sum, sum_by, count_by}
 use Rattle.atomic_table.specs.Seated.{TableId}
+pub use Rattle.iam_work.specs.Work.{times}
 
 -- the bound while no cell was offered
 abbrev pub no_cell : ℕ
 no_cell = 18446744073709551615
-
--- how often x stands in a list
-abbrev pub times : ℕ → List ℕ → ℕ
-times x xs = count_by (λ y. x == y) xs
 
 -- how often the number n of a lane stands in a list of numbers with their lanes
 abbrev pub times_taken : ℕ → ℕ → List (ℕ × ℕ) → ℕ

@@ -1,7 +1,6 @@
 // How lanes are closed: the seats joined into one view, and the words read.
-ghost use Rattle.std.specs.Prelude.{◌≡◌, ℕ, ◌+◌, ◌<◌, ◌≤◌, [], length, vec_len, All, IfSome, IfNone, unwrap_or};
+ghost use Rattle.std.specs.Prelude.{◌≡◌, ◌+◌, ◌<◌, ◌≤◌, [], length, vec_len, All};
 ghost use Rattle.std.specs.Mem.Slots.{slots_items, slots_len, IsFull};
-ghost use Rattle.iam_lanes.specs.Lanes.{no_cell};
 ghost use Rattle.iam_lanes.specs.Code.Closing.{Gathers, passed_below};
 
 use crate::rule::{LanePass, LaneTable, Seats};

@@ -1,5 +1,5 @@
 // The lanes: opened, taken from, and closed.
-ghost use Rattle.std.specs.Prelude.{◌≡◌, ℕ, ◌+◌, ◌-◌, ◌<◌, ◌≤◌, ◌↔◌, [], List, length, slice_index, sum, replicate, vec_len, IsTrue, IsNone, unwrap_or, IfSome, IfNone, IfOk, IfErr, OnOk, All};
+ghost use Rattle.std.specs.Prelude.{◌≡◌, ◌+◌, ◌-◌, ◌<◌, ◌≤◌, ◌↔◌, [], ℕ, length, slice_index, sum, replicate, vec_len, IsTrue, IsNone, unwrap_or, IfSome, IfNone, IfOk, IfErr, All};
 ghost use Rattle.iam_lanes.specs.Code.Words.{opened};
 ghost use Rattle.iam_lanes.specs.Lanes.{LanesId, fresh, lanes_id, IsTooMany, gains_number, sees_end, gains_offer, gains_look, left_in, taken_by, ends_by, offers_by, looks_by, ended_below, no_cell, times, times_taken};
 ghost use Rattle.iam_lanes.specs.Code.Fields.{IsLaid};
@@ -40,10 +40,6 @@ pub struct Closed {
 }
 
 impl Model for Lanes {
-    ghost use Rattle.std.specs.Prelude.{◌≡◌};
-    ghost use Rattle.iam_lanes.specs.Lanes.{LanesId, lanes_id};
-    ghost use Rattle.iam_lanes.specs.Code.Fields.{IsLaid};
-
     ghost Value = { LanesId };
 
     ghost view = { λ l. lanes_id l.table.shared.table_id l.plan.lengths.items l.plan.seats };

@@ -3,7 +3,7 @@
 // Word 0 is the bound, and word `lane + 1` is the count of a lane.
 ghost use Rattle.std.specs.Prelude.{◌≡◌};
 ghost use Rattle.iam_lanes.specs.Code.LaneRule.{without_seat, one_seat, unseated, joined_view};
-ghost use Rattle.iam_lanes.specs.Code.Words.{tells_take, tells_offer, tells_look};
+ghost use Rattle.iam_lanes.specs.Code.Words.{tells_take, tells_offer, tells_look, IsRuled, opened};
 
 use crate::view::LaneView;
 use atomic_table::{Join, Play, Seat, Split, Table, TableRule};
@@ -23,8 +23,6 @@ pub struct Plan {
 pub struct Ruled;
 
 impl TableRule<(), LaneView, Plan> for Ruled {
-    ghost use Rattle.iam_lanes.specs.Code.Words.{IsRuled, opened};
-
     ghost holds = { λ plan s. IsRuled plan.lengths.items plan.seats s };
 
     ghost first = { λ plan. opened plan.lengths.items plan.seats };

@@ -1,6 +1,7 @@
 // A seat of the lanes, as a caller holds it.
 ghost use Rattle.std.specs.Prelude.{◌≡◌, []};
-ghost use Rattle.iam_lanes.specs.Code.Fields.{seat_view};
+ghost use Rattle.iam_lanes.specs.Code.Fields.{seat_view, IsSeatOf};
+ghost use Rattle.iam_lanes.specs.Lanes.{SeatView};
 
 use crate::rule::LanePass;
 use crate::view::LaneView;
@@ -18,10 +19,6 @@ pub struct LaneSeat {
 }
 
 impl Model for LaneSeat {
-    ghost use Rattle.std.specs.Prelude.{ℕ};
-    ghost use Rattle.iam_lanes.specs.Lanes.{SeatView};
-    ghost use Rattle.iam_lanes.specs.Code.Fields.{seat_view, IsSeatOf};
-
     ghost Value = { SeatView };
 
     ghost view = { λ s. seat_view s.pass.table_id s.pass.me.0 };

@@ -1,5 +1,5 @@
 // A principal that asks, and the statements that are listed for its requests.
-ghost use Rattle.std.specs.Prelude.{◌≡◌, ◌⊎◌, IfSome, Some};
+ghost use Rattle.std.specs.Prelude.{◌≡◌, ◌⊎◌, [], ◌++◌, ◌<◌, IfSome, Some, ℕ, IfOk, IsTrue, List, length, map};
 
 use crate::keys::Told;
 use crate::listing::Listing;
@@ -30,7 +30,6 @@ pub struct Asker<'a> {
 }
 
 impl<'a> Asker<'a> {
-    ghost use Rattle.std.specs.Prelude.{[], ◌++◌, ◌≡◌, ◌⊎◌, ◌<◌, ℕ, IfOk, IfSome, IsTrue, List, length, map};
     ghost use Rattle.std.specs.List.{slice_get};
     ghost use Rattle.iam_context.specs.Context.{ContextValue};
     ghost use Rattle.iam_match.specs.Request.{access_of};

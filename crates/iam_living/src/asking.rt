@@ -1,7 +1,7 @@
 // A principal that asks, and what is found again in its requests.
-ghost use Rattle.std.specs.Prelude.{◌≡◌, ◌<◌, All, IfOk, length};
+ghost use Rattle.std.specs.Prelude.{◌≡◌, ◌<◌, ◌++◌, All, IfOk, length, ℕ, IfSome, IsTrue, List, map};
 ghost use Rattle.iam_layers.specs.Cell.{IsDerivedAt};
-ghost use Rattle.iam_living.specs.Asker.{IsAsker};
+ghost use Rattle.iam_living.specs.Asker.{IsAsker, AreBitsOf, AreConcerns};
 ghost use Rattle.iam_living.specs.Keys.{AreToldKeys, TellsLives};
 ghost use Rattle.iam_living.specs.declared.asker.Asker.{Asker};
 
@@ -28,11 +28,6 @@ pub struct Asking<'a> {
 }
 
 impl<'a> Model for Asking<'a> {
-    ghost use Rattle.std.specs.Prelude.{All};
-    ghost use Rattle.iam_living.specs.Asker.{AreConcerns};
-    ghost use Rattle.iam_living.specs.Keys.{AreToldKeys};
-    ghost use Rattle.iam_living.specs.declared.asker.Asker.{Asker};
-
     ghost Value = { Asker };
 
     ghost view = { λ asking. asking.asker };
@@ -41,14 +36,11 @@ impl<'a> Model for Asking<'a> {
 }
 
 impl<'a> Asking<'a> {
-    ghost use Rattle.std.specs.Prelude.{◌≡◌, ◌++◌, ◌<◌, ℕ, IfOk, IfSome, IsTrue, List, length, map};
     ghost use Rattle.iam_match.specs.Statement.{AccessValue};
     ghost use Rattle.iam_decision.specs.Living.{AreLiving, living_value};
     ghost use Rattle.iam_decision.specs.Matched.{Placed};
     ghost use Rattle.iam_slots.specs.Slots.{Keeps};
     ghost use Rattle.iam_world.specs.World.{WorldValue};
-    ghost use Rattle.iam_living.specs.Asker.{AreBitsOf, IsAsker};
-    ghost use Rattle.iam_living.specs.Keys.{TellsLives};
     ghost use Rattle.iam_living.specs.Listing.{AreAlikes};
     ghost use Rattle.iam_living.specs.Living.{NoneConcerns};
 

@@ -1,12 +1,14 @@
 // The statements that an index lists for all requests of a principal, and which of them live in those for a resource.
-ghost use Rattle.std.specs.Prelude.{◌++◌, ◌≡◌, ℕ, IfOk, IfSome, OnOk, map};
+ghost use Rattle.std.specs.Prelude.{◌++◌, ◌≡◌, ◌<◌, ℕ, IfOk, IfSome, map, List, length};
+ghost use Rattle.iam_context.specs.Context.{ContextValue};
 ghost use Rattle.iam_match.specs.Request.{access_of};
 ghost use Rattle.iam_decision.specs.Code.Scan.{placed_value};
-ghost use Rattle.iam_decision.specs.Living.{living_value};
-ghost use Rattle.iam_context.specs.Context.{ContextValue};
+ghost use Rattle.iam_decision.specs.Living.{living_value, AreLiving};
 ghost use Rattle.iam_layers.specs.Cell.{IsContextAt, IsResource};
-ghost use Rattle.iam_living.specs.Marks.{AreMarks};
-ghost use Rattle.iam_living.specs.Word.{GoesBefore, TakesBits};
+ghost use Rattle.iam_index.specs.Known.{AreAlike};
+ghost use Rattle.iam_living.specs.Marks.{AreMarks, AreListingMarks};
+ghost use Rattle.iam_living.specs.Word.{GoesBefore, TakesBits, AreBits};
+ghost use Rattle.iam_living.specs.Listing.{ListingValue};
 
 use crate::marks::{ListingMarks, Marks};
 use crate::walk::{add_known, lives};
@@ -31,11 +33,6 @@ pub struct Listing<'a> {
 }
 
 impl<'a> Model for Listing<'a> {
-    ghost use Rattle.std.specs.Prelude.{◌≡◌, ◌++◌, map};
-    ghost use Rattle.iam_decision.specs.Code.Scan.{placed_value};
-    ghost use Rattle.iam_index.specs.Known.{AreAlike};
-    ghost use Rattle.iam_living.specs.Listing.{ListingValue};
-
     ghost Value = { ListingValue };
 
     ghost view = { λ listing. record {
@@ -50,18 +47,10 @@ impl<'a> Model for Listing<'a> {
 }
 
 impl<'a> Listing<'a> {
-    ghost use Rattle.std.specs.Prelude.{◌≡◌, ◌++◌, ◌<◌, ℕ, IfOk, IfSome, List, length, map};
-    ghost use Rattle.iam_match.specs.Request.{access_of};
     ghost use Rattle.iam_match.specs.Statement.{AccessValue};
-    ghost use Rattle.iam_decision.specs.Living.{AreLiving, living_value};
     ghost use Rattle.iam_decision.specs.Matched.{Placed};
-    ghost use Rattle.iam_layers.specs.Cell.{IsResource};
     ghost use Rattle.iam_slots.specs.Slots.{Keeps};
-    ghost use Rattle.iam_context.specs.Context.{ContextValue};
-    ghost use Rattle.iam_layers.specs.Cell.{IsContextAt};
     ghost use Rattle.iam_living.specs.Listing.{AreAlikes, Lists, statements_of};
-    ghost use Rattle.iam_living.specs.Marks.{AreListingMarks};
-    ghost use Rattle.iam_living.specs.Word.{AreBits};
 
     /// Those that an index lists for principal p.
     pub fn of(index: &'a Index<'a>, p: u64) -> Listing<'a>

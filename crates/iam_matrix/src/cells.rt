@@ -1,11 +1,11 @@
 // The verdicts, or the decisions, of all cells by many workers.
-ghost use Rattle.std.specs.Prelude.{◌≡◌, ◌+◌, ◌<◌, ◌≤◌, ◌↔◌, ℕ, IfOk, sum};
+ghost use Rattle.std.specs.Prelude.{◌≡◌, ◌+◌, ◌<◌, ◌≤◌, ◌↔◌, ℕ, IfOk, sum, slice_index, true};
 ghost use Rattle.std.specs.List.{flat_map};
+ghost use Rattle.iam_world.specs.World.{world_cells, WorldValue};
 ghost use Rattle.iam_layers.specs.Cell.{IsDecisionOf, IsVerdictOf};
-ghost use Rattle.iam_world.specs.World.{world_cells};
 ghost use Rattle.iam_classes.specs.Engine.{IsSameEngine};
 ghost use Rattle.iam_matrix.specs.Matrix.{IsMatrix};
-ghost use Rattle.iam_matrix.specs.Code.Tiles.{AreEntries};
+ghost use Rattle.iam_matrix.specs.Code.Tiles.{AreEntries, IsTileOf};
 ghost use Rattle.iam_matrix.specs.Workers.{IsUnlawful};
 
 use crate::cut::{Cells, Cut};
@@ -24,10 +24,6 @@ use std::thread::Threads;
 
 /// What an engine says of a cell.
 trait Entry: Drop {
-    ghost use Rattle.std.specs.Prelude.{◌≡◌, ◌<◌, ℕ, IfOk};
-    ghost use Rattle.iam_world.specs.World.{WorldValue, world_cells};
-    ghost use Rattle.iam_classes.specs.Engine.{IsSameEngine};
-
     // It is what has to be said of this cell.
     ghost is: { WorldValue → ℕ → Self → Type 0 };
 
@@ -38,8 +34,6 @@ trait Entry: Drop {
 }
 
 impl Entry for Verdict {
-    ghost use Rattle.iam_layers.specs.Cell.{IsVerdictOf};
-
     ghost is = { λ world cell verdict. IsVerdictOf world cell verdict };
 
     fn at(alloc: Global, engine: &mut ClassEngine<'_>, cell: u64) -> Result<Verdict, OutOfMemory> {
@@ -48,8 +42,6 @@ impl Entry for Verdict {
 }
 
 impl Entry for Decision {
-    ghost use Rattle.iam_layers.specs.Cell.{IsDecisionOf};
-
     ghost is = { λ world cell decision. IsDecisionOf world cell decision };
 
     fn at(alloc: Global, engine: &mut ClassEngine<'_>, cell: u64) -> Result<Decision, OutOfMemory> {
@@ -67,9 +59,7 @@ struct Entries<'a, E> {
 }
 
 impl<'a, E: Entry + Send + Sync> Crew for Entries<'a, E> {
-    ghost use Rattle.std.specs.Prelude.{◌≡◌, slice_index, true};
     ghost use Rattle.iam_matrix.specs.Cut.{start_of};
-    ghost use Rattle.iam_matrix.specs.Code.Tiles.{AreEntries, IsTileOf};
 
     type Output = Vec<E>;
 
@@ -79,16 +69,10 @@ impl<'a, E: Entry + Send + Sync> Crew for Entries<'a, E> {
 
     ghost takes = { λ crew tile. IsTileOf crew.survey.now crew.cut.now tile };
 
-    ghost offers = { λ _ _. ⊥ };
-
     ghost gives = { λ crew tile output _. AreEntries (E.is crew.survey.now) (start_of crew.cut.now tile) (slice_index crew.cut.now tile) output.items };
 
     fn tools(&self, alloc: Global) -> Result<ClassEngine<'a>, OutOfMemory> {
         ClassEngine::surveyed(alloc, self.survey, self.workers)
-    }
-
-    fn skip(&self, _bound: &mut Bound<'_>, _tile: u64) -> Option<Vec<E>> {
-        None
     }
 
     fn work(
@@ -168,26 +152,9 @@ fn indexed_entries<R: Threads + Sync, G: Gate + Sync, E: Entry + Send + Sync>(
     ensures { IfOk result (λ entries. AreEntries (E.is index.now) 0 (world_cells index.now) entries.items) }
 {
     let survey = survey_of(rt, alloc, index, workers);
-    surveyed_entries(rt, alloc, &survey, cut, workers, gate)
-}
-
-/// The same, where a survey of that world has been made.
-fn surveyed_entries<R: Threads + Sync, G: Gate + Sync, E: Entry + Send + Sync>(
-    rt: &R,
-    alloc: Global,
-    survey: &Survey<'_>,
-    cut: &Cut,
-    workers: u32,
-    gate: &G,
-) -> Result<Vec<E>, OutOfMemory>
-    requires some { 1 ≤ workers }
-    requires few { workers ≤ 64 }
-    requires cut { sum cut.now ≡ world_cells survey.now }
-    ensures { IfOk result (λ entries. AreEntries (E.is survey.now) 0 (world_cells survey.now) entries.items) }
-{
     let tiles = cut.lengths().len() as u64;
     let crew = Entries {
-        survey,
+        survey: &survey,
         cut,
         workers,
         made: PhantomData,

@@ -1,8 +1,8 @@
 // How the cells of a matrix are cut into tiles.
-ghost use Rattle.std.specs.Prelude.{◌≡◌, ◌≢◌, ◌↔◌, ℕ, ◌+◌, ◌/◌, ◌%◌, ◌^◌, ◌<◌, ◌≤◌, List, IsTrue, IfOk, IfErr, length, slice_index, sum, vec_len};
+ghost use Rattle.std.specs.Prelude.{◌≡◌, ◌≢◌, ◌↔◌, ◌+◌, ◌/◌, ◌%◌, ◌^◌, ◌<◌, ◌≤◌, ℕ, List, IsTrue, IfOk, IfErr, length, slice_index, sum, vec_len, Some};
 ghost use Rattle.std.specs.Int.{div_ceil};
 ghost use Rattle.iam_matrix.specs.Code.Starts.{AreStarts};
-ghost use Rattle.iam_matrix.specs.Cut.{even_lengths};
+ghost use Rattle.iam_matrix.specs.Cut.{even_lengths, IsCut, IsEvenCut, IsEvenFault, IsFirstCutFault, start_of};
 
 use iam_text::OutOfMemory;
 use std::alloc::Global;
@@ -28,9 +28,6 @@ pub struct Cells {
 }
 
 impl Model for Cut {
-    ghost use Rattle.std.specs.Prelude.{◌≤◌, List, ℕ, vec_len};
-    ghost use Rattle.iam_matrix.specs.Code.Starts.{AreStarts};
-
     ghost Value = { List ℕ };
 
     ghost view = { λ cut. cut.lengths.items };
@@ -38,63 +35,35 @@ impl Model for Cut {
     ghost invariant = { λ cut. AreStarts cut.lengths.items cut.starts.items × (vec_len cut.lengths ≤ 4096) };
 }
 
-/// Why lengths are no cut; [`CutFault::number`] gives the number.
+/// Why lengths are no cut.
 #[derive(Clone, Copy, Debug, PartialEq, Eq, Error)]
 pub enum CutFault {
-    /// A tile has no cell.
+    /// 1: A tile has no cell.
     ZeroTile,
-    /// The tiles have more or fewer cells than the matrix.
+    /// 2: The tiles have more or fewer cells than the matrix.
     WrongSum,
-    /// Over 4,096 tiles.
+    /// 3: Over 4,096 tiles.
     TooMany,
-    /// The allocator refused a growth.
+    /// 4: The allocator refused a growth.
     OutOfMemory,
 }
 
-impl CutFault {
-    ghost use Rattle.std.specs.Prelude.{◌≡◌};
-    ghost use Rattle.iam_matrix.specs.Fault.{cut_name_of, cut_number_of};
-
-    /// The number of the fault.
-    pub fn number(self) -> u32
-        ensures { result ≡ cut_number_of self }
-    {
-        match self {
-            CutFault::ZeroTile => 1,
-            CutFault::WrongSum => 2,
-            CutFault::TooMany => 3,
-            CutFault::OutOfMemory => 4,
-        }
-    }
-
-    /// The name of the fault, as it is declared.
-    pub fn name(self) -> &'static str
-        ensures { result.now ≡ cut_name_of self }
-    {
-        match self {
-            CutFault::ZeroTile => "ZeroTile",
-            CutFault::WrongSum => "WrongSum",
-            CutFault::TooMany => "TooMany",
-            CutFault::OutOfMemory => "OutOfMemory",
-        }
-    }
-}
-
 impl Display for CutFault {
-    ghost use Rattle.std.specs.Prelude.{Some};
     ghost use Rattle.iam_matrix.specs.Fault.{cut_text};
 
     ghost output = { λ fault. Some (cut_text fault) };
 
     fn fmt<W: Write>(&self, f: &mut Formatter<W>) -> Result<(), fmt::Error> {
-        let number = self.number();
-        let name = self.name();
-        write!(f, "{number} {name}")
+        match self {
+            CutFault::ZeroTile => write!(f, "1 ZeroTile"),
+            CutFault::WrongSum => write!(f, "2 WrongSum"),
+            CutFault::TooMany => write!(f, "3 TooMany"),
+            CutFault::OutOfMemory => write!(f, "4 OutOfMemory"),
+        }
     }
 }
 
 impl From<OutOfMemory> for CutFault {
-    ghost use Rattle.std.specs.Prelude.{◌≡◌};
     ghost use Rattle.iam_matrix.specs.declared.cut.CutFault.TheVariants as c;
 
     ghost from_gives = { λ _ fault. fault ≡ c.OutOfMemory };
@@ -105,9 +74,6 @@ impl From<OutOfMemory> for CutFault {
 }
 
 impl Cut {
-    ghost use Rattle.std.specs.Prelude.{◌≡◌, ◌≢◌, ◌+◌, ◌<◌, ◌≤◌, IfOk, IfErr, length, slice_index, sum};
-    ghost use Rattle.iam_matrix.specs.Cut.{IsCut, IsEvenCut, IsEvenFault, IsFirstCutFault, even_lengths, start_of};
-
     /// The cut of so many cells into tiles of these lengths, or the first fault in the order of their numbers.
     pub fn new(alloc: Global, lengths: &[u64], cells: u64) -> Result<Cut, CutFault>
         ensures ok { IfOk result (λ cut. (cut ≡ lengths.now) × IsCut cells cut) }

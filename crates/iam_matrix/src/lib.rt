@@ -27,6 +27,7 @@ pub use iam_row::{Format, csv_row, csv_row_brief};
 pub use iam_text::OutOfMemory;
 pub use laws::{one_brief_matrix, one_first, one_matrix, one_report};
 pub use report::{first_report, first_text, matrix_report};
+pub use rows::{along, left_in_row};
 pub use search::{first, is_behind};
 pub use survey::survey_of;
 pub use workers::is_unlawful;

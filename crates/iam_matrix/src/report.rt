@@ -17,7 +17,6 @@ use iam_crew::{Gate, gather};
 use iam_layers::{Decision, World, one_triple};
 use iam_report::{MatrixText, Tile};
 use iam_row::{Format, Quoted, brief_texts, csv_row_brief, full_texts, opening};
-use iam_survey::Survey;
 use iam_text::OutOfMemory;
 use std::alloc::Global;
 use std::thread::Threads;
@@ -71,25 +70,12 @@ fn indexed_tiles<R: Threads + Sync, G: Gate + Sync>(
     ensures { IfOk result (λ tiles. Chain (AreTailsOf asked.format asked.brief index.now) 0 cut.now tiles.items) }
 {
     let survey = survey_of(rt, alloc, index, asked.workers);
-    surveyed_tiles(rt, alloc, &survey, cut, gate, asked)
-}
-
-/// The same, where a survey of that world has been made.
-fn surveyed_tiles<R: Threads + Sync, G: Gate + Sync>(
-    rt: &R,
-    alloc: Global,
-    survey: &Survey<'_>,
-    cut: &Cut,
-    gate: &G,
-    asked: Asked,
-) -> Result<Vec<Tile>, OutOfMemory>
-    requires some { 1 ≤ asked.workers }
-    requires few { asked.workers ≤ 64 }
-    requires cut { sum cut.now ≡ world_cells survey.now }
-    ensures { IfOk result (λ tiles. Chain (AreTailsOf asked.format asked.brief survey.now) 0 cut.now tiles.items) }
-{
     let tiles = cut.lengths().len() as u64;
-    let crew = Rows { survey, cut, asked };
+    let crew = Rows {
+        survey: &survey,
+        cut,
+        asked,
+    };
     let gathered = gather(rt, alloc, &crew, tiles, asked.workers, gate)?;
     Ok(gathered.outputs)
 }

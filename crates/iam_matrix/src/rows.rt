@@ -1,9 +1,9 @@
 // The tails of the rows of each tile.
-ghost use Rattle.std.specs.Prelude.{◌≡◌, ◌+◌, ◌<◌, ◌≤◌, ◌⊎◌, ◌^◌, [], IfOk, OnOk, length};
-ghost use Rattle.iam_classes.specs.Engine.{IsSameEngine};
-ghost use Rattle.iam_layers.specs.Cell.{IsCell};
+ghost use Rattle.std.specs.Prelude.{◌≡◌, ◌⊎◌, ◌+◌, ◌<◌, ◌≤◌, ◌^◌, [], IfOk, OnOk, length, slice_index, true};
 ghost use Rattle.iam_world.specs.World.{world_cells};
-ghost use Rattle.iam_matrix.specs.Code.Tiles.{AreEntries, AreTailsOf, IsOf};
+ghost use Rattle.iam_layers.specs.Cell.{IsCell};
+ghost use Rattle.iam_classes.specs.Engine.{IsSameEngine};
+ghost use Rattle.iam_matrix.specs.Code.Tiles.{AreEntries, AreTailsOf, IsOf, IsTileOf};
 
 use crate::cut::{Cells, Cut};
 use crate::each::end_of;
@@ -34,9 +34,7 @@ pub struct Rows<'a> {
 }
 
 impl<'a> Crew for Rows<'a> {
-    ghost use Rattle.std.specs.Prelude.{◌≡◌, slice_index, true};
     ghost use Rattle.iam_matrix.specs.Cut.{start_of};
-    ghost use Rattle.iam_matrix.specs.Code.Tiles.{AreTailsOf, IsTileOf};
 
     type Output = Tile;
 
@@ -46,16 +44,10 @@ impl<'a> Crew for Rows<'a> {
 
     ghost takes = { λ crew tile. IsTileOf crew.survey.now crew.cut.now tile };
 
-    ghost offers = { λ _ _. ⊥ };
-
     ghost gives = { λ crew tile output _. AreTailsOf crew.asked.format crew.asked.brief crew.survey.now (start_of crew.cut.now tile) (slice_index crew.cut.now tile) output };
 
     fn tools(&self, alloc: Global) -> Result<ClassEngine<'a>, OutOfMemory> {
         ClassEngine::surveyed(alloc, self.survey, self.asked.workers)
-    }
-
-    fn skip(&self, _bound: &mut Bound<'_>, _tile: u64) -> Option<Tile> {
-        None
     }
 
     fn work(
@@ -124,7 +116,7 @@ fn say_all<T, S: Said<T>>(
 }
 
 /// How many cells from a position on, up to an end, have the same principal and action.
-fn left_in_row(world: &World, at: Position, end: u64) -> u64
+pub fn left_in_row(world: &World, at: Position, end: u64) -> u64
     requires is { IsCell world.now at.cell at.principal at.action at.resource }
     requires some { at.cell < end }
     ensures some { 1 ≤ result }
@@ -137,7 +129,7 @@ fn left_in_row(world: &World, at: Position, end: u64) -> u64
 }
 
 /// The position behind so many cells of a row.
-fn along(world: &World, at: Position, count: u64) -> Position
+pub fn along(world: &World, at: Position, count: u64) -> Position
     requires is { IsCell world.now at.cell at.principal at.action at.resource }
     requires some { 1 ≤ count }
     requires row { at.resource + count ≤ length world.now.resources }

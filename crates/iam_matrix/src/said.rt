@@ -1,8 +1,8 @@
 // What is said of cells that follow one another: verdicts, or in brief decisions.
-ghost use Rattle.std.specs.Prelude.{◌<◌, ◌≤◌, IfOk, List, OnOk, length};
-ghost use Rattle.iam_classes.specs.Engine.{IsClassAt, IsSameEngine};
+ghost use Rattle.std.specs.Prelude.{◌<◌, ◌≤◌, ◌+◌, ◌^◌, ⊤, ◌≡◌, ◌++◌, ◌∷◌, [], IfOk, List, OnOk, length, ℕ};
 ghost use Rattle.iam_decision.specs.declared.verdict.Verdict.{Verdict};
-ghost use Rattle.iam_layers.specs.Cell.{IsDecisionAt};
+ghost use Rattle.iam_layers.specs.Cell.{IsDecisionAt, IsCell, IsVerdictAt};
+ghost use Rattle.iam_classes.specs.Engine.{IsClassAt, IsSameEngine, EngineValue};
 ghost use Rattle.iam_matrix.specs.Code.Leads.{AreLeads};
 ghost use Rattle.iam_matrix.specs.Code.Tiles.{Adds};
 
@@ -17,11 +17,7 @@ use std::alloc::Global;
 
 /// What is said of cells that follow one another, one behind the other.
 pub trait Said<T> {
-    ghost use Rattle.std.specs.Prelude.{◌+◌, ◌<◌, ◌≤◌, ◌^◌, ℕ, List, IfOk, OnOk, length};
-    ghost use Rattle.iam_classes.specs.Engine.{EngineValue, IsSameEngine};
-    ghost use Rattle.iam_layers.specs.Cell.{IsCell};
     ghost use Rattle.iam_world.specs.World.{WorldValue};
-    ghost use Rattle.iam_matrix.specs.Code.Tiles.{Adds};
 
     // This is said of a principal's request for an action on a resource.
     ghost is: { WorldValue → ℕ → ℕ → ℕ → T → Type 0 };
@@ -54,9 +50,6 @@ pub trait Said<T> {
 }
 
 impl Said<Decision> for Decisions {
-    ghost use Rattle.std.specs.Prelude.{⊤};
-    ghost use Rattle.iam_layers.specs.Cell.{IsDecisionAt};
-
     ghost is = { IsDecisionAt };
 
     ghost list = { λ decisions. decisions };
@@ -110,12 +103,6 @@ pub struct Verdicts {
 }
 
 impl Verdicts {
-    ghost use Rattle.std.specs.Prelude.{◌≡◌, ◌<◌, ◌^◌, ◌++◌, ◌∷◌, [], IfOk, OnOk, length};
-    ghost use Rattle.iam_classes.specs.Engine.{EngineValue, IsSameEngine};
-    ghost use Rattle.iam_decision.specs.declared.verdict.Verdict.{Verdict};
-    ghost use Rattle.iam_layers.specs.Cell.{IsVerdictAt};
-    ghost use Rattle.iam_matrix.specs.Code.Leads.{AreLeads};
-
     /// None yet, with room for so many.
     pub fn new(alloc: Global, count: u64) -> Result<Verdicts, OutOfMemory>
         ensures none { IfOk result (λ verdicts. verdicts.entries ≡ []) }
@@ -179,9 +166,6 @@ fn class_of(
 }
 
 impl Said<Verdict> for Verdicts {
-    ghost use Rattle.iam_layers.specs.Cell.{IsVerdictAt};
-    ghost use Rattle.iam_matrix.specs.Code.Leads.{AreLeads};
-
     ghost is = { IsVerdictAt };
 
     ghost list = { λ verdicts. verdicts.entries };

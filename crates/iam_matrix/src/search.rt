@@ -1,9 +1,9 @@
 // The first allowed cell, sought by many workers.
-ghost use Rattle.std.specs.Prelude.{◌≡◌, ◌+◌, ◌<◌, ◌≤◌, ◌↔◌, IfOk, IsTrue, sum};
-ghost use Rattle.iam_crew.specs.Bound.{bound_of};
+ghost use Rattle.std.specs.Prelude.{◌≡◌, ◌+◌, ◌<◌, ◌≤◌, ◌↔◌, IfOk, IsTrue, sum, slice_index};
 ghost use Rattle.iam_world.specs.World.{world_cells};
+ghost use Rattle.iam_crew.specs.Bound.{bound_of};
 ghost use Rattle.iam_matrix.specs.Matrix.{IsFirstAllowed};
-ghost use Rattle.iam_matrix.specs.Code.Tiles.{IsAllowedCell, IsFirstIn};
+ghost use Rattle.iam_matrix.specs.Code.Tiles.{IsAllowedCell, IsFirstIn, AreNotAllowedBelow, IsTileOf};
 ghost use Rattle.iam_matrix.specs.Workers.{IsUnlawful};
 
 use crate::cut::{Cells, Cut};
@@ -27,10 +27,8 @@ struct Search<'a> {
 }
 
 impl<'a> Crew for Search<'a> {
-    ghost use Rattle.std.specs.Prelude.{◌≡◌, ◌+◌, ◌<◌, ◌≤◌, slice_index};
     ghost use Rattle.std.proofs.Math.Nat.{le_trans};
     ghost use Rattle.iam_matrix.specs.Cut.{start_of};
-    ghost use Rattle.iam_matrix.specs.Code.Tiles.{AreNotAllowedBelow, IsAllowedCell, IsTileOf};
 
     type Output = ();
 

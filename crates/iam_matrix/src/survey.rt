@@ -1,5 +1,5 @@
 // What the requests of a world's pairs share, found by all workers before its tiles.
-ghost use Rattle.std.specs.Prelude.{◌≡◌, ◌*◌, ◌≤◌};
+ghost use Rattle.std.specs.Prelude.{◌≡◌, ◌*◌, ◌≤◌, ⊤};
 
 use iam_classes::Index;
 use iam_crew::{Bound, Crew, Open, gather};
@@ -20,8 +20,6 @@ struct Surveyors<'a> {
 }
 
 impl<'a> Crew for Surveyors<'a> {
-    ghost use Rattle.std.specs.Prelude.{◌≡◌, ⊤};
-
     type Output = Block<'a>;
 
     type Tools = Surveyor<'a>;
@@ -30,16 +28,10 @@ impl<'a> Crew for Surveyors<'a> {
 
     ghost takes = { λ _ _. ⊤ };
 
-    ghost offers = { λ _ _. ⊥ };
-
     ghost gives = { λ crew _ block _. block ≡ crew.index.now };
 
     fn tools(&self, alloc: Global) -> Result<Surveyor<'a>, OutOfMemory> {
         Surveyor::new(alloc, self.index, self.workers)
-    }
-
-    fn skip(&self, _bound: &mut Bound<'_>, _tile: u64) -> Option<Block<'a>> {
-        None
     }
 
     fn work(

@@ -54,7 +54,6 @@ pub enum Usage {
 }
 
 impl From<AllocError> for Usage {
-    ghost use Rattle.std.specs.Prelude.{◌≡◌};
     ghost use Rattle.iam_options.specs.declared.options.Usage.TheVariants as usage;
 
     ghost from_gives = { λ _ answer. answer ≡ usage.OutOfMemory };

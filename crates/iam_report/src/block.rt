@@ -1,5 +1,5 @@
 // Texts one behind the other in a block of bytes. They are copied in chunks, without a call.
-ghost use Rattle.std.specs.Prelude.{◌≡◌, ◌++◌, ◌+◌, ◌-◌, ◌≤◌, length, drop, take};
+ghost use Rattle.std.specs.Prelude.{◌≡◌, ◌++◌, ◌+◌, ◌-◌, ◌≤◌, ◌<◌, [], length, drop, take, IsTrue, false, List, ℕ};
 
 use std::marker::Model;
 
@@ -17,8 +17,6 @@ pub struct Block {
 }
 
 impl Model for Block {
-    ghost use Rattle.std.specs.Prelude.{◌≤◌, List, ℕ, take};
-
     ghost Value = { List ℕ };
 
     ghost view = { λ block. take block.filled block.bytes };
@@ -147,8 +145,6 @@ fn copy_small(place: &mut [u8], text: &[u8])
 }
 
 impl Block {
-    ghost use Rattle.std.specs.Prelude.{◌≡◌, ◌++◌, ◌+◌, ◌<◌, ◌≤◌, [], IsTrue, false, length, take};
-
     /// No bytes.
     pub fn new() -> Block
         ensures { result ≡ [] }

@@ -1,6 +1,6 @@
 // The front of a row: a number between texts, made in bytes that are used again.
-ghost use Rattle.std.specs.Prelude.{◌≡◌, ◌++◌, ◌+◌, ◌≤◌, IfSome, IsTrue, decimal};
-ghost use Rattle.iam_report.specs.Code.Front.{IsPut};
+ghost use Rattle.std.specs.Prelude.{◌≡◌, ◌++◌, ◌+◌, ◌≤◌, ◌<◌, ◌^◌, IfSome, IsTrue, decimal, ℕ, false, length, take};
+ghost use Rattle.iam_report.specs.Code.Front.{IsPut, FrontValue, IsOrdered, front_of_bytes};
 
 use itoa::{Buffer, write_digits};
 use std::marker::Model;
@@ -23,9 +23,6 @@ pub struct Front {
 }
 
 impl Model for Front {
-    ghost use Rattle.std.specs.Prelude.{◌≤◌};
-    ghost use Rattle.iam_report.specs.Code.Front.{FrontValue, IsOrdered, front_of_bytes};
-
     ghost Value = { FrontValue };
 
     ghost view = { λ front. front_of_bytes front.bytes front.start front.stop front.end };
@@ -55,8 +52,6 @@ fn put_two(bytes: &mut [u8; ROOM], at: usize, first: &str, second: &str) -> Opti
 }
 
 impl Front {
-    ghost use Rattle.std.specs.Prelude.{◌≡◌, ◌++◌, ◌+◌, ◌<◌, ◌^◌, ℕ, IsTrue, decimal, false, length, take};
-
     /// A number without digits between empty texts.
     pub fn new() -> Front {
         Front {

@@ -1,10 +1,10 @@
 // Rows that share what stands beside the number of their cells.
 ghost use Rattle.std.specs.Prelude.{◌≡◌, ◌++◌, ◌+◌, ◌-◌, ◌<◌, ◌≤◌, [], All, IsTrue, Some, decimal, false, get_or, length, slice_get, take};
-ghost use Rattle.iam_report.specs.Code.Buffer.{IsWithin};
-ghost use Rattle.iam_report.specs.Code.Line.{HasSides, before_of, behind_of, tail_at};
-ghost use Rattle.iam_report.specs.Code.Run.{AddsRows, IsBefore, behind_in, behind_rows, further};
-ghost use Rattle.iam_tiles.specs.Code.Numbered.{no_tail, picked};
 ghost use Rattle.iam_row.specs.Piece.{row_at};
+ghost use Rattle.iam_tiles.specs.Code.Numbered.{no_tail, picked};
+ghost use Rattle.iam_report.specs.Code.Buffer.{IsWithin};
+ghost use Rattle.iam_report.specs.Code.Line.{HasSides, before_of, behind_of, tail_at, LineValue};
+ghost use Rattle.iam_report.specs.Code.Run.{AddsRows, IsBefore, behind_in, behind_rows, further};
 
 use crate::block::Block;
 use crate::front::Front;
@@ -28,9 +28,6 @@ pub struct Line<'a> {
 }
 
 impl<'a> Model for Line<'a> {
-    ghost use Rattle.std.specs.Prelude.{◌≡◌, IsTrue, decimal};
-    ghost use Rattle.iam_report.specs.Code.Line.{HasSides, LineValue};
-
     ghost Value = { LineValue };
 
     ghost view = { λ line. record { quoted = line.quoted.now; tails = line.tails.now; front = line.front; is_made = line.is_made; cell = line.cell; principal = line.principal; action = line.action; tail = line.tail } };

@@ -2,11 +2,11 @@
 ghost use Rattle.std.specs.Prelude.{◌≡◌, ◌++◌, ◌+◌, ◌≤◌, [], List, OnErr, OnOk, length};
 ghost use Rattle.std.specs.Io.KnownBytes.{Appends};
 ghost use Rattle.std.specs.List.{flat_map};
+ghost use Rattle.iam_row.specs.Piece.{first_position, rows_text, text_of, MatrixValue};
+ghost use Rattle.iam_row.specs.declared.tail.Tail.{Tail};
 ghost use Rattle.iam_report.specs.Code.Buffer.{IsWithin, PutsRows, Passes};
 ghost use Rattle.iam_report.specs.Code.Line.{row_behind};
-ghost use Rattle.iam_row.specs.Piece.{first_position, rows_text, text_of};
 ghost use Rattle.iam_report.specs.Streams.{AppendsBeginning};
-ghost use Rattle.iam_row.specs.declared.tail.Tail.{Tail};
 
 use crate::block::Block;
 use crate::output::{OutputFault, put, put_all, put_bytes, write_kept};
@@ -27,10 +27,6 @@ pub struct MatrixText {
 }
 
 impl Model for MatrixText {
-    ghost use Rattle.std.specs.Prelude.{◌≤◌, length};
-    ghost use Rattle.std.specs.List.{flat_map};
-    ghost use Rattle.iam_row.specs.Piece.{MatrixValue};
-
     ghost Value = { MatrixValue };
 
     ghost view = { λ matrix. record { quoted = matrix.quoted; brief = matrix.brief; tails = flat_map (λ tile. tile) matrix.tiles.items } };

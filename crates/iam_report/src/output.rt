@@ -97,10 +97,7 @@ pub fn put_bytes<W: Write>(
         keep(kept, text);
         return Ok(());
     }
-    if let Err(fault) = put_behind(writer, kept, text) {
-        return Err(fault);
-    }
-    Ok(())
+    put_behind(writer, kept, text)
 }
 
 /// Puts a text behind what is kept, which is written first where there is no room for it. No memory is taken. After a
@@ -109,10 +106,7 @@ pub fn put<W: Write>(writer: &mut W, kept: &mut Vec<u8>, text: &str) -> Result<(
     ensures ok { OnOk result (Passes (W.contents writer.old) (W.contents writer.new) kept.old.items kept.new.items text.now) }
     ensures err { OnErr result (AppendsBeginning (W.contents writer.old) (W.contents writer.new) (kept.old.items ++ text.now)) }
 {
-    if let Err(fault) = put_bytes(writer, kept, text.as_bytes()) {
-        return Err(fault);
-    }
-    Ok(())
+    put_bytes(writer, kept, text.as_bytes())
 }
 
 /// Puts texts behind what is kept, one after the other, as one text.

@@ -59,10 +59,7 @@ fn put_alone<W: Write>(
         return Ok(());
     }
     let comma = comma_before(at.cell);
-    if let Err(fault) = put_pieces(writer, kept, line.quoted(), comma, at, line.tail(n)) {
-        return Err(fault);
-    }
-    Ok(())
+    put_pieces(writer, kept, line.quoted(), comma, at, line.tail(n))
 }
 
 /// Puts the row at a position, with tail n.

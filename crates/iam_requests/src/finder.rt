@@ -1,10 +1,10 @@
 // The requests of a world among those of another.
-ghost use Rattle.std.specs.Prelude.{◌≡◌, ◌↔◌, ℕ, IfOk, IsTrue, MatchOption, None, Some, map};
+ghost use Rattle.std.specs.Prelude.{◌≡◌, ℕ, IfOk, IsTrue, MatchOption, None, Some, map};
 ghost use Rattle.std.specs.List.{AllZip, slice_get};
 ghost use Rattle.iam_layers.specs.Cell.{IsCell};
 ghost use Rattle.iam_row.specs.Report.{CellTexts, HasTexts, IsCellTexts};
 ghost use Rattle.iam_requests.specs.Requests.{Has};
-ghost use Rattle.iam_requests.specs.Code.Found.{IsNumberIn};
+ghost use Rattle.iam_requests.specs.Code.Found.{IsNumberIn, AreFoundIn, FinderValue};
 ghost use Rattle.iam_requests.specs.Twice.{axis_texts};
 
 use crate::twice::{Axis, texts_of};
@@ -30,8 +30,6 @@ pub struct Finder<'a> {
 }
 
 impl<'a> Model for Finder<'a> {
-    ghost use Rattle.iam_requests.specs.Code.Found.{AreFoundIn, FinderValue};
-
     ghost Value = { FinderValue };
 
     ghost view = { λ finder. record { world = finder.world.now; other = finder.other.now } };

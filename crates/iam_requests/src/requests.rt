@@ -1,8 +1,8 @@
 // The requests of two worlds, and how many there are.
-ghost use Rattle.std.specs.Prelude.{◌≡◌, ◌+◌, ◌≤◌, ◌^◌, IfOk};
+ghost use Rattle.std.specs.Prelude.{◌≡◌, ◌+◌, ◌≤◌, IfOk};
 ghost use Rattle.iam_world.specs.World.{world_cells};
 ghost use Rattle.iam_requests.specs.Requests.{IsCount};
-ghost use Rattle.iam_requests.specs.Code.Found.{IsLeftCount, reach};
+ghost use Rattle.iam_requests.specs.Code.Found.{IsLeftCount, reach, AreLinked, RequestsValue};
 
 use crate::finder::Finder;
 use iam_layers::{World, one_triple};
@@ -25,8 +25,6 @@ pub struct Requests<'a> {
 }
 
 impl<'a> Model for Requests<'a> {
-    ghost use Rattle.iam_requests.specs.Code.Found.{AreLinked, RequestsValue};
-
     ghost Value = { RequestsValue };
 
     ghost view = { λ requests. record { before = requests.before.now; after = requests.after.now; count = requests.count } };

@@ -1,6 +1,6 @@
 // Texts that stand twice in a world, and the texts of a world.
-ghost use Rattle.std.specs.Prelude.{◌≡◌, ◌<◌, ℕ, IfOk, MatchOption, map};
-ghost use Rattle.iam_requests.specs.Twice.{IsApart, IsFirstTwice, StandOnce, StandsBefore, axis_texts, axis_word};
+ghost use Rattle.std.specs.Prelude.{◌≡◌, ◌<◌, ℕ, IfOk, MatchOption, map, Some};
+ghost use Rattle.iam_requests.specs.Twice.{IsApart, IsFirstTwice, StandOnce, StandsBefore, axis_texts, axis_word, twice_text};
 
 use iam_layers::World;
 use iam_text::OutOfMemory;
@@ -37,9 +37,6 @@ pub struct Twice {
 }
 
 impl Display for Twice {
-    ghost use Rattle.std.specs.Prelude.{Some};
-    ghost use Rattle.iam_requests.specs.Twice.{twice_text};
-
     ghost output = { λ twice. Some (twice_text twice) };
 
     fn fmt<W: Write>(&self, f: &mut Formatter<W>) -> Result<(), fmt::Error> {

@@ -146,9 +146,3 @@ abbrev pub text_of : MatrixValue → List ℕ
 text_of matrix =
     opening_text matrix.quoted.format matrix.brief
     ++ (rows_text matrix.quoted first_position matrix.tails ++ closing_text matrix.quoted.format)
-
--- the text of a report of a world, with the tails of these verdicts
-abbrev pub IsTextOf : WorldValue → Format → Bool → List Verdict → List ℕ → Type 0
-IsTextOf world format brief verdicts text =
-    (quoted : Quoted) × IsQuotedOf world quoted × (quoted.format ≡ format)
-    × (text ≡ text_of (record { quoted = quoted; brief = brief; tails = map (tail_of format brief) verdicts }))

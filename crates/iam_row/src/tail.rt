@@ -15,32 +15,6 @@ pub struct Tail {
     pub back: Text,
 }
 
-/// Layers between marks.
-fn layers_of<'a>(verdict: &'a Verdict, mark: &'static str, between: &'static str) -> Layers<'a>
-    ensures layers { result.layers.now ≡ verdict.entry.now.lacks }
-    ensures mark { result.mark.now ≡ mark.entry.now }
-    ensures between { result.between.now ≡ between.entry.now }
-{
-    Layers {
-        layers: verdict.lacks.as_slice(),
-        mark,
-        between,
-    }
-}
-
-/// Places between marks.
-fn places_of<'a>(verdict: &'a Verdict, mark: &'static str, between: &'static str) -> Places<'a>
-    ensures places { result.places.now ≡ verdict.entry.now.statements }
-    ensures mark { result.mark.now ≡ mark.entry.now }
-    ensures between { result.between.now ≡ between.entry.now }
-{
-    Places {
-        places: verdict.statements.as_slice(),
-        mark,
-        between,
-    }
-}
-
 /// What stands before the principal: in CSV nothing.
 #[tactic(auto, unfolding(crate::specs::Piece::front_of))]
 fn front(
@@ -56,7 +30,7 @@ fn front(
         (Format::Csv, _) => Ok(String::new(alloc)),
         (Format::Json, true) => { format!(in alloc; ",\"decision\":\"{word}\",\"principal\":") }
         (Format::Json, false) => {
-            let lacks = layers_of(verdict, "\"", ",");
+            let lacks = Layers::of(verdict.lacks.as_slice(), "\"", ",");
             format!(in alloc; ",\"decision\":\"{word}\",\"lacks\":[{lacks}],\"principal\":")
         }
     }
@@ -76,13 +50,13 @@ fn back(
     match (format, brief) {
         (Format::Csv, true) => format!(in alloc; ",{word}\n"),
         (Format::Csv, false) => {
-            let statements = places_of(verdict, "", " ");
-            let lacks = layers_of(verdict, "", " ");
+            let statements = Places::of(verdict.statements.as_slice(), "", " ");
+            let lacks = Layers::of(verdict.lacks.as_slice(), "", " ");
             format!(in alloc; ",{word},{statements},{lacks}\n")
         }
         (Format::Json, true) => String::from_str(alloc, "}"),
         (Format::Json, false) => {
-            let statements = places_of(verdict, "\"", ",");
+            let statements = Places::of(verdict.statements.as_slice(), "\"", ",");
             format!(in alloc; ",\"statements\":[{statements}]}}")
         }
     }

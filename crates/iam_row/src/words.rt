@@ -1,6 +1,7 @@
 // The words of reports.
-ghost use Rattle.std.specs.Prelude.{◌≡◌};
+ghost use Rattle.std.specs.Prelude.{◌≡◌, Some};
 ghost use Rattle.iam_row.specs.Words as words;
+ghost use Rattle.iam_row.specs.Words.{place_text, marked, layer_word};
 
 use iam_layers::{Decision, Layer, Place};
 use std::fmt::{self, Display, Formatter, Write};
@@ -36,9 +37,6 @@ pub fn decision_word(decision: Decision) -> &'static str
 pub struct PlaceText(pub Place);
 
 impl Display for PlaceText {
-    ghost use Rattle.std.specs.Prelude.{Some};
-    ghost use Rattle.iam_row.specs.Words.{place_text};
-
     ghost output = { λ text. Some (place_text text.0) };
 
     fn fmt<W: Write>(&self, f: &mut Formatter<W>) -> Result<(), fmt::Error> {
@@ -65,10 +63,20 @@ pub struct Places<'a> {
     pub between: &'static str,
 }
 
-impl Display for Places<'_> {
-    ghost use Rattle.std.specs.Prelude.{Some};
-    ghost use Rattle.iam_row.specs.Words.{marked, place_text};
+impl<'a> Places<'a> {
+    /// These, between these marks, with this between one and the next.
+    pub fn of(places: &'a [Place], mark: &'static str, between: &'static str) -> Places<'a>
+        ensures { result ≡ record { places = places.entry; mark = mark.entry; between = between.entry } }
+    {
+        Places {
+            places,
+            mark,
+            between,
+        }
+    }
+}
 
+impl Display for Places<'_> {
     ghost output = { λ all. Some (marked place_text all.mark.now all.between.now all.places.now) };
 
     #[tactic(auto, unfolding(crate::specs::Words::marked))]
@@ -99,10 +107,20 @@ pub struct Layers<'a> {
     pub between: &'static str,
 }
 
-impl Display for Layers<'_> {
-    ghost use Rattle.std.specs.Prelude.{Some};
-    ghost use Rattle.iam_row.specs.Words.{layer_word, marked};
+impl<'a> Layers<'a> {
+    /// These, between these marks, with this between one and the next.
+    pub fn of(layers: &'a [Layer], mark: &'static str, between: &'static str) -> Layers<'a>
+        ensures { result ≡ record { layers = layers.entry; mark = mark.entry; between = between.entry } }
+    {
+        Layers {
+            layers,
+            mark,
+            between,
+        }
+    }
+}
 
+impl Display for Layers<'_> {
     ghost output = { λ all. Some (marked layer_word all.mark.now all.between.now all.layers.now) };
 
     #[tactic(auto, unfolding(crate::specs::Words::marked))]

@@ -1,6 +1,6 @@
 // The rows of a tile that are asked for.
-ghost use Rattle.std.specs.Prelude.{◌≡◌, ◌<◌, get_or, length};
-ghost use Rattle.iam_selection.specs.Code.Listing.{no_row, rows_in};
+ghost use Rattle.std.specs.Prelude.{◌≡◌, ◌<◌, get_or, length, List};
+ghost use Rattle.iam_selection.specs.Code.Listing.{no_row, rows_in, RowValue};
 
 use iam_report::Tile;
 use iam_row::Tail;
@@ -14,9 +14,6 @@ pub struct Found {
 }
 
 impl Model for Found {
-    ghost use Rattle.std.specs.Prelude.{◌≡◌, List, length};
-    ghost use Rattle.iam_selection.specs.Code.Listing.{RowValue, rows_in};
-
     ghost Value = { List RowValue };
 
     ghost view = { λ found. rows_in found.cells.items found.tile };

@@ -4,7 +4,7 @@ ghost use Rattle.std.specs.Io.KnownBytes.{Appends};
 ghost use Rattle.std.specs.List.{flat_map};
 ghost use Rattle.iam_report.specs.Code.Buffer.{Passes};
 ghost use Rattle.iam_report.specs.Streams.{AppendsBeginning};
-ghost use Rattle.iam_selection.specs.Code.Listing.{comma_of, lead_of, list_text, position_in, rows_text};
+ghost use Rattle.iam_selection.specs.Code.Listing.{comma_of, lead_of, list_text, position_in, rows_text, ListValue};
 
 use crate::found::Found;
 use iam_report::{OutputFault, put, put_pieces, write_kept};
@@ -23,10 +23,6 @@ pub struct ListText {
 }
 
 impl Model for ListText {
-    ghost use Rattle.std.specs.Prelude.{◌≡◌};
-    ghost use Rattle.std.specs.List.{flat_map};
-    ghost use Rattle.iam_selection.specs.Code.Listing.{ListValue, lead_of};
-
     ghost Value = { ListValue };
 
     ghost view = { λ list. record { quoted = list.quoted; brief = list.brief; rows = flat_map (λ tile. tile) list.tiles.items } };

@@ -1,8 +1,8 @@
 // Which requests of a world are selected.
-ghost use Rattle.std.specs.Prelude.{◌≡◌, ◌↔◌, ℕ, ◌<◌, Any, IfOk, IsTrue, chars, false, length};
+ghost use Rattle.std.specs.Prelude.{◌≡◌, ◌↔◌, ◌<◌, ℕ, IfOk, IsTrue, chars, false, length};
 ghost use Rattle.iam_glob.specs.Glob.{Matches, MatchesFold};
 ghost use Rattle.iam_layers.specs.Cell.{IsCell, principal_text};
-ghost use Rattle.iam_selection.specs.Code.Listing.{AreFlags, IsActionMeant, IsPrincipalMeant, IsResourceMeant};
+ghost use Rattle.iam_selection.specs.Code.Listing.{AreFlags, IsActionMeant, IsPrincipalMeant, IsResourceMeant, PickerValue};
 ghost use Rattle.iam_selection.specs.Selection.{IsMeant, IsSelected};
 
 use crate::selection::Selection;
@@ -24,9 +24,6 @@ pub struct Picker<'a> {
 }
 
 impl<'a> Model for Picker<'a> {
-    ghost use Rattle.iam_selection.specs.Code.Listing.{AreFlags, IsActionMeant, IsPrincipalMeant, IsResourceMeant, PickerValue};
-    ghost use Rattle.std.specs.Prelude.{length};
-
     ghost Value = { PickerValue };
 
     ghost view = { λ picker. record { world = picker.world.now; selection = picker.selection.now } };

@@ -1,8 +1,8 @@
 // The rows that are asked for among the cells of each tile.
-ghost use Rattle.std.specs.Prelude.{◌≡◌, ◌+◌, ◌<◌, ◌≤◌, ◌^◌, ◌-◌, ℕ, IfOk, OnOk, length};
-ghost use Rattle.iam_layers.specs.Cell.{IsCell};
+ghost use Rattle.std.specs.Prelude.{◌≡◌, ◌+◌, ◌<◌, ◌≤◌, ◌^◌, ◌-◌, ℕ, IfOk, OnOk, length, slice_index};
 ghost use Rattle.iam_world.specs.World.{world_cells};
-ghost use Rattle.iam_selection.specs.Code.Listing.{Adds, AreFound};
+ghost use Rattle.iam_layers.specs.Cell.{IsCell};
+ghost use Rattle.iam_selection.specs.Code.Listing.{Adds, AreFound, IsPickerTile};
 
 use crate::found::Found;
 use crate::picker::Picker;
@@ -10,7 +10,7 @@ use crate::selection::Selection;
 use iam_classes::{ClassEngine, Index};
 use iam_crew::{Bound, Crew};
 use iam_layers::{World, one_decision_at};
-use iam_matrix::{Cells, Cut, end_of};
+use iam_matrix::{Cells, Cut, along, end_of, left_in_row};
 use iam_report::Entries;
 use iam_row::{Format, Position};
 use iam_text::OutOfMemory;
@@ -28,9 +28,7 @@ pub struct Rows<'a> {
 }
 
 impl<'a> Crew for Rows<'a> {
-    ghost use Rattle.std.specs.Prelude.{◌≡◌, slice_index};
     ghost use Rattle.iam_matrix.specs.Cut.{start_of};
-    ghost use Rattle.iam_selection.specs.Code.Listing.{AreFound, IsPickerTile};
 
     type Output = Found;
 
@@ -40,16 +38,10 @@ impl<'a> Crew for Rows<'a> {
 
     ghost takes = { λ crew tile. IsPickerTile crew.picker.now crew.index.now crew.cut.now tile };
 
-    ghost offers = { λ _ _. ⊥ };
-
     ghost gives = { λ crew tile output _. AreFound crew.format crew.brief crew.picker.now.selection crew.index.now (start_of crew.cut.now tile) (slice_index crew.cut.now tile) output };
 
     fn tools(&self, alloc: Global) -> Result<ClassEngine<'a>, OutOfMemory> {
         ClassEngine::new(alloc, self.index, self.workers)
-    }
-
-    fn skip(&self, _bound: &mut Bound<'_>, _tile: u64) -> Option<Found> {
-        None
     }
 
     fn work(
@@ -117,24 +109,7 @@ pub fn past_row(world: &World, at: Position, end: u64) -> Position
     ensures is { result.cell < world_cells world.now → IsCell world.now result.cell result.principal result.action result.resource }
     ensures same { (cell : ℕ) → at.cell ≤ cell → cell < result.cell → IsCell world.now cell at.principal at.action (at.resource + (cell - at.cell)) }
 {
-    // A world has at most 16,777,216 cells, so the numbers fit.
-    let _cells = world.cells();
-    let last = world.resources() - 1;
-    let rest = last - at.resource;
-    if end - at.cell <= rest {
-        let more = end - at.cell;
-        return Position {
-            cell: end,
-            resource: at.resource + more,
-            ..at
-        };
-    }
-    let behind = Position {
-        cell: at.cell + rest,
-        resource: last,
-        ..at
-    };
-    behind.next_in(world)
+    along(world, at, left_in_row(world, at, end))
 }
 
 /// Adds the row of a cell, where its decision is asked for.

@@ -1,8 +1,8 @@
 // The first cell that is asked for and allowed, sought by many workers.
-ghost use Rattle.std.specs.Prelude.{◌≡◌, ◌+◌, ◌≤◌, ◌↔◌, IfOk, IsTrue, sum};
+ghost use Rattle.std.specs.Prelude.{◌≡◌, ◌+◌, ◌≤◌, ◌↔◌, ◌<◌, IfOk, IsTrue, sum, slice_index};
 ghost use Rattle.iam_world.specs.World.{world_cells};
 ghost use Rattle.iam_matrix.specs.Workers.{IsUnlawful};
-ghost use Rattle.iam_selection.specs.Code.Listing.{IsFirstPicked};
+ghost use Rattle.iam_selection.specs.Code.Listing.{IsFirstPicked, AreNotPickedBelow, IsPickedCell, IsPickerTile};
 ghost use Rattle.iam_selection.specs.Selection.{IsFirstSelected};
 
 use crate::picker::Picker;
@@ -27,10 +27,8 @@ struct Search<'a> {
 }
 
 impl<'a> Crew for Search<'a> {
-    ghost use Rattle.std.specs.Prelude.{◌≡◌, ◌+◌, ◌<◌, ◌≤◌, slice_index};
     ghost use Rattle.std.proofs.Math.Nat.{le_trans};
     ghost use Rattle.iam_matrix.specs.Cut.{start_of};
-    ghost use Rattle.iam_selection.specs.Code.Listing.{AreNotPickedBelow, IsPickedCell, IsPickerTile};
 
     type Output = ();
 

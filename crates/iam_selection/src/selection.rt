@@ -1,6 +1,6 @@
 // What is asked of a matrix.
 ghost use Rattle.std.specs.Prelude.{◌↔◌, IsTrue};
-ghost use Rattle.iam_selection.specs.Selection.{IsWanted};
+ghost use Rattle.iam_selection.specs.Selection.{IsWanted, SelectionValue};
 
 use iam_layers::Decision;
 use iam_text::{Glob, Items};
@@ -20,8 +20,6 @@ pub struct Selection {
 }
 
 impl Model for Selection {
-    ghost use Rattle.iam_selection.specs.Selection.{SelectionValue};
-
     ghost Value = { SelectionValue };
 
     ghost view = { λ selection. record { principals = selection.principals; actions = selection.actions; resources = selection.resources; decisions = selection.decisions } };

@@ -4,7 +4,7 @@ ghost use Rattle.std.specs.List.{slice_get};
 ghost use Rattle.iam_decision.specs.Living.{SharedValue};
 ghost use Rattle.iam_world.specs.World.{WorldValue};
 ghost use Rattle.iam_living.specs.Keys.{AreKeys};
-ghost use Rattle.iam_survey.specs.Survey.{IsSharedBy};
+ghost use Rattle.iam_survey.specs.Survey.{IsSharedBy, AreOf, AreClassesOf};
 
 use iam_index::Index;
 use iam_layers::{Shared, World};
@@ -38,9 +38,6 @@ pub struct Block<'a> {
 }
 
 impl<'a> Model for Block<'a> {
-    ghost use Rattle.iam_world.specs.World.{WorldValue};
-    ghost use Rattle.iam_survey.specs.Survey.{AreClassesOf};
-
     ghost Value = { WorldValue };
 
     ghost view = { λ block. block.world.now };
@@ -49,9 +46,6 @@ impl<'a> Model for Block<'a> {
 }
 
 impl<'a> Block<'a> {
-    ghost use Rattle.std.specs.Prelude.{IfSome};
-    ghost use Rattle.iam_survey.specs.Survey.{IsSharedBy};
-
     /// What the requests of the pair of this number share, where the block has it.
     fn shared(&self, pair: u64) -> Option<&Shared<'a>>
         ensures { IfSome result (λ shared. IsSharedBy self.now pair shared.now) }
@@ -78,10 +72,6 @@ pub struct Surveyor<'a> {
 }
 
 impl<'a> Model for Surveyor<'a> {
-    ghost use Rattle.std.specs.Prelude.{All};
-    ghost use Rattle.iam_world.specs.World.{WorldValue};
-    ghost use Rattle.iam_living.specs.Keys.{AreKeys};
-
     ghost Value = { WorldValue };
 
     ghost view = { λ surveyor. surveyor.index.now };
@@ -90,8 +80,6 @@ impl<'a> Model for Surveyor<'a> {
 }
 
 impl<'a> Surveyor<'a> {
-    ghost use Rattle.std.specs.Prelude.{◌≡◌, IfOk};
-
     /// A surveyor of the world of an index, one of so many that share the bound on what is kept.
     pub fn new(
         alloc: Global,
@@ -239,22 +227,15 @@ pub struct Survey<'a> {
 }
 
 impl<'a> Model for Survey<'a> {
-    ghost use Rattle.iam_world.specs.World.{WorldValue};
-    ghost use Rattle.iam_survey.specs.Survey.{AreOf};
-
     ghost Value = { WorldValue };
 
     ghost view = { λ survey. survey.world.now };
-
-    ghost use Rattle.std.specs.Prelude.{◌≡◌};
 
     ghost invariant = { λ survey. AreOf survey.world.now survey.blocks.items × (survey.index.now ≡ survey.world.now) };
 }
 
 impl<'a> Survey<'a> {
-    ghost use Rattle.std.specs.Prelude.{◌≡◌, ◌<◌, IfSome, length};
     ghost use Rattle.iam_layers.specs.Cell.{IsSharedAt};
-    ghost use Rattle.iam_survey.specs.Survey.{AreOf};
 
     /// The survey that these blocks of the world of an index make, of so many pairs each, in order; without blocks nothing was
     /// found.

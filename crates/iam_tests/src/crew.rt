@@ -1,5 +1,5 @@
 // Crews of many workers, over tiles that cost nothing.
-ghost use Rattle.std.specs.Prelude.{◌≡◌, ◌≤◌};
+ghost use Rattle.std.specs.Prelude.{◌≡◌, ◌≤◌, ⊤};
 
 use iam_crew::{Bound, Crew, Open, gather};
 use std::alloc::{AllocError, Global};
@@ -15,8 +15,6 @@ struct Counting {
 }
 
 impl Crew for Counting {
-    ghost use Rattle.std.specs.Prelude.{◌≡◌, ⊤};
-
     type Output = u64;
 
     type Tools = ();
@@ -25,17 +23,11 @@ impl Crew for Counting {
 
     ghost takes = { λ _ _. ⊤ };
 
-    ghost offers = { λ _ _. ⊥ };
-
     ghost gives = { λ _ tile output _. output ≡ tile };
 
     fn tools(&self, _alloc: Global) -> Result<(), AllocError> {
         self.equipped.fetch_add(1, Ordering::SeqCst);
         Ok(())
-    }
-
-    fn skip(&self, _bound: &mut Bound<'_>, _tile: u64) -> Option<u64> {
-        None
     }
 
     fn work(

@@ -1,5 +1,5 @@
 // Verdicts one behind the other, of which equal ones are kept once.
-ghost use Rattle.std.specs.Prelude.{◌≡◌, ◌↔◌, ◌<◌, ◌^◌, ◌++◌, ◌∷◌, [], IfOk, IsTrue, OnOk, Some, length, map, slice_get};
+ghost use Rattle.std.specs.Prelude.{◌≡◌, ◌↔◌, ◌<◌, ◌^◌, ◌++◌, ◌∷◌, [], IfOk, IsTrue, OnOk, Some, length, map, slice_get, List};
 ghost use Rattle.iam_decision.specs.declared.verdict.Verdict.{Verdict};
 ghost use Rattle.iam_row.specs.Piece.{bare, tail_of};
 
@@ -20,9 +20,6 @@ pub struct Entries {
 }
 
 impl Model for Entries {
-    ghost use Rattle.std.specs.Prelude.{List};
-    ghost use Rattle.iam_decision.specs.declared.verdict.Verdict.{Verdict};
-
     ghost Value = { List Verdict };
 
     ghost view = { λ entries. entries.kept };
@@ -52,8 +49,6 @@ impl Form<Verdict> for Verdict {
 
 /// A decision stands for the verdict without places and layers.
 impl Form<Verdict> for Decision {
-    ghost use Rattle.iam_row.specs.Piece.{bare};
-
     ghost means = { bare };
 
     #[inline(always)]

@@ -1,6 +1,5 @@
 // Where an item may be found again: tables of numbers by hashes, and by hints of callers. Each is a guess, and nothing is
 // claimed of it.
-use iam_text::OutOfMemory;
 use std::alloc::Global;
 use std::mem;
 
@@ -101,7 +100,7 @@ pub struct Hints {
 impl Hints {
     /// No number yet. Where there is no memory none is ever kept.
     pub fn new(alloc: Global) -> Hints {
-        let slots = match zeros(alloc, HINTS) {
+        let slots = match vec![in alloc; 0u32; HINTS] {
             Ok(slots) => slots,
             Err(_) => Vec::new(alloc),
         };
@@ -121,10 +120,4 @@ impl Hints {
             *place = number.saturating_add(1);
         }
     }
-}
-
-fn zeros(alloc: Global, count: usize) -> Result<Vec<u32>, OutOfMemory> {
-    let mut zeros = Vec::with_capacity(alloc, count)?;
-    zeros.resize(count, 0)?;
-    Ok(zeros)
 }

@@ -1,5 +1,5 @@
 // Items one behind the other, of which equal ones are kept once.
-ghost use Rattle.std.specs.Prelude.{◌≡◌, ◌<◌, ◌^◌, ◌++◌, ◌∷◌, [], All, IfOk, IfSome, IsTrue, OnErr, OnOk, Some, length, slice_get};
+ghost use Rattle.std.specs.Prelude.{◌≡◌, ◌<◌, ◌^◌, ◌++◌, ◌∷◌, [], ◌≤◌, All, IfOk, IfSome, IsTrue, OnErr, OnOk, Some, length, slice_get, List};
 ghost use Rattle.iam_tiles.specs.Code.Numbered.{IsPut, picked};
 
 use crate::guess::{Guesses, Hints, STEPS};
@@ -16,8 +16,6 @@ pub trait Item: Drop {
 
 /// What stands for an item before there is one to keep.
 pub trait Form<T> {
-    ghost use Rattle.std.specs.Prelude.{◌≡◌, IfOk, IsTrue};
-
     // The item that it stands for.
     ghost means: { Self → T };
 
@@ -45,9 +43,6 @@ pub struct Kept<T: Item> {
 }
 
 impl<T: Item> Model for Kept<T> {
-    ghost use Rattle.std.specs.Prelude.{◌<◌, ◌≤◌, All, List, length};
-    ghost use Rattle.iam_tiles.specs.Code.Numbered.{picked};
-
     ghost Value = { List T };
 
     ghost view = { λ kept. picked T.none kept.distinct.items kept.numbers };

@@ -1,5 +1,5 @@
 // Numbers in as few bytes as serve.
-ghost use Rattle.std.specs.Prelude.{◌≡◌, ◌++◌, ◌∷◌, ◌<◌, ℕ, List, [], IfOk, OnErr, OnOk, Some, get_or, length, slice_get};
+ghost use Rattle.std.specs.Prelude.{◌≡◌, ◌++◌, ◌∷◌, ◌<◌, [], ℕ, List, IfOk, OnErr, OnOk, Some, get_or, length, slice_get};
 
 use iam_text::OutOfMemory;
 use std::alloc::Global;
@@ -14,8 +14,6 @@ pub struct Numbers {
 }
 
 impl Model for Numbers {
-    ghost use Rattle.std.specs.Prelude.{◌++◌, List, ℕ};
-
     ghost Value = { List ℕ };
 
     ghost view = { λ numbers. numbers.narrow.items ++ numbers.wide.items };

@@ -1,5 +1,6 @@
 // The tails of a tile's rows.
-ghost use Rattle.std.specs.Prelude.{◌≡◌, ◌<◌, All, get_or, length};
+ghost use Rattle.std.specs.Prelude.{◌≡◌, ◌<◌, All, get_or, length, List};
+ghost use Rattle.iam_row.specs.declared.tail.Tail.{Tail};
 ghost use Rattle.iam_tiles.specs.Code.Numbered.{no_tail, picked};
 
 use crate::numbers::Numbers;
@@ -16,10 +17,6 @@ pub struct Tile {
 }
 
 impl Model for Tile {
-    ghost use Rattle.std.specs.Prelude.{◌<◌, All, List, length};
-    ghost use Rattle.iam_tiles.specs.Code.Numbered.{no_tail, picked};
-    ghost use Rattle.iam_row.specs.declared.tail.Tail.{Tail};
-
     ghost Value = { List Tail };
 
     ghost view = { λ tile. picked no_tail tile.tails.items tile.numbers };

@@ -1,5 +1,5 @@
 // How work is closed: the seats joined into one view, and the bits counted.
-ghost use Rattle.std.specs.Prelude.{◌≡◌, ℕ, ◌+◌, ◌<◌, ◌≤◌, [], vec_len, All};
+ghost use Rattle.std.specs.Prelude.{◌≡◌, ◌+◌, ◌<◌, ◌≤◌, [], vec_len, All};
 ghost use Rattle.std.specs.Mem.Slots.{slots_items, slots_len, IsFull};
 ghost use Rattle.iam_work.specs.Code.Closing.{Gathers, set_below};
 ghost use Rattle.iam_work.specs.Code.Words.{words_for};

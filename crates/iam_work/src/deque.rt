@@ -1,6 +1,6 @@
 // The deques of runs: their rule, and what each call on one tells.
 ghost use Rattle.std.specs.Prelude.{◌≡◌, [], All};
-ghost use Rattle.iam_work.specs.Code.RunRule.{told, cleared, with_pushed, with_taken, accompanied, companion};
+ghost use Rattle.iam_work.specs.Code.RunRule.{told, cleared, with_pushed, with_taken, accompanied, companion, HoldsRuns, founder};
 ghost use Rattle.iam_work.specs.Work.{IsWithin};
 
 use crate::run::Run;
@@ -13,8 +13,6 @@ use std::alloc::Global;
 pub struct Runs;
 
 impl Protocol<Run, DequeView> for Runs {
-    ghost use Rattle.iam_work.specs.Code.RunRule.{HoldsRuns, founder};
-
     ghost holds = { HoldsRuns };
 
     ghost first = { founder };

@@ -1,4 +1,5 @@
 // Why work or lanes were not opened.
+ghost use Rattle.std.specs.Prelude.{◌≡◌};
 
 use std::alloc::{AllocError, AllocFailed};
 use thiserror::Error;
@@ -19,7 +20,6 @@ pub enum LaneFault {
 }
 
 impl From<AllocError> for LaneFault {
-    ghost use Rattle.std.specs.Prelude.{◌≡◌};
     ghost use Rattle.iam_work.specs.declared.fault.LaneFault.TheVariants.{OutOfMemory};
 
     ghost from_gives = { λ _ fault. fault ≡ OutOfMemory };
@@ -30,7 +30,6 @@ impl From<AllocError> for LaneFault {
 }
 
 impl<T: Drop> From<AllocFailed<T>> for LaneFault {
-    ghost use Rattle.std.specs.Prelude.{◌≡◌};
     ghost use Rattle.iam_work.specs.declared.fault.LaneFault.TheVariants.{OutOfMemory};
 
     ghost from_gives = { λ _ fault. fault ≡ OutOfMemory };

@@ -3,7 +3,7 @@
 // The bit of grain g is bit `g % 64` of word `g / 64`.
 ghost use Rattle.std.specs.Prelude.{◌≡◌};
 ghost use Rattle.iam_work.specs.Code.MarkRule.{without_seat, one_seat, unseated, joined_view};
-ghost use Rattle.iam_work.specs.Code.Words.{tells_mark};
+ghost use Rattle.iam_work.specs.Code.Words.{tells_mark, IsRuled, opened};
 
 use crate::view::MarkView;
 use atomic_table::{Join, Play, Seat, Split, Table, TableRule};
@@ -20,8 +20,6 @@ pub struct Plan {
 pub struct Marked;
 
 impl TableRule<(), MarkView, Plan> for Marked {
-    ghost use Rattle.iam_work.specs.Code.Words.{IsRuled, opened};
-
     ghost holds = { λ plan s. IsRuled plan.grains plan.seats s };
 
     ghost first = { λ plan. opened plan.grains plan.seats };

@@ -1,5 +1,5 @@
 // How work is opened: its deques, a pass of each for every seat, and the seats dealt out.
-ghost use Rattle.std.specs.Prelude.{◌≡◌, ℕ, ◌+◌, ◌<◌, ◌≤◌, true, [], List, map, length, vec_len, IfOk, IfErr, All};
+ghost use Rattle.std.specs.Prelude.{◌≡◌, ◌<◌, true, [], map, vec_len, IfOk, IfErr, All};
 ghost use Rattle.std.specs.List.{range_with_len};
 ghost use Rattle.crossbeam_deque.specs.Handles.{worker_deque, stealer_deque, worker_view};
 ghost use Rattle.iam_work.specs.Work.{fresh, work_id};

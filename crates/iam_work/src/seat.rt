@@ -3,8 +3,8 @@ ghost use Rattle.std.specs.Prelude.{◌≡◌, [], All, map, vec_len};
 ghost use mathlib.Core.Option.{some};
 ghost use lib.ListN.{get_elem?};
 ghost use Rattle.crossbeam_deque.specs.Handles.{worker_deque, worker_view};
-ghost use Rattle.iam_work.specs.Work.{fresh, work_id};
-ghost use Rattle.iam_work.specs.Code.Fields.{seat_view, pass_deque, IsUnused, IsNew};
+ghost use Rattle.iam_work.specs.Work.{fresh, work_id, SeatView};
+ghost use Rattle.iam_work.specs.Code.Fields.{seat_view, pass_deque, IsUnused, IsNew, IsSeatOf};
 
 use crate::deque::{Owner, RunPass};
 use crate::marks::MarkPass;
@@ -25,10 +25,6 @@ pub struct WorkSeat {
 }
 
 impl Model for WorkSeat {
-    ghost use Rattle.crossbeam_deque.specs.Handles.{worker_view};
-    ghost use Rattle.iam_work.specs.Work.{SeatView};
-    ghost use Rattle.iam_work.specs.Code.Fields.{seat_view, IsSeatOf};
-
     ghost Value = { SeatView };
 
     ghost view = { λ s. seat_view s.pass.table_id s.pass.me.0 s.number (worker_view s.owner) s.passes.items };

@@ -1,5 +1,5 @@
 // The work: opened, pushed, popped, stolen, marked, and closed.
-ghost use Rattle.std.specs.Prelude.{◌≡◌, ℕ, ◌+◌, ◌<◌, ◌≤◌, ◌↔◌, [], List, map, length, vec_len, IsTrue, IfSome, IfNone, IfOk, IfErr, OnOk, All, if◌then◌else◌};
+ghost use Rattle.std.specs.Prelude.{◌≡◌, ◌+◌, ◌<◌, ◌≤◌, ◌↔◌, ℕ, map, vec_len, IsTrue, IfSome, IfNone, IfOk, IfErr, OnOk, All, if◌then◌else◌};
 ghost use Rattle.std.specs.List.{range_with_len};
 ghost use Rattle.crossbeam_deque.specs.Handles.{stealer_deque};
 ghost use Rattle.iam_work.specs.Work.{WorkId, work_id, fresh, IsTooMany, gains_mark, finds_mark, gains_pushed, gains_popped, gains_stolen, IfTook, IfNothing, marked_by, found_by, marked_below, times, IsWithin};
@@ -39,11 +39,6 @@ pub struct Work {
 }
 
 impl Model for Work {
-    ghost use Rattle.std.specs.Prelude.{◌≡◌, map, vec_len};
-    ghost use Rattle.crossbeam_deque.specs.Handles.{stealer_deque};
-    ghost use Rattle.iam_work.specs.Work.{WorkId, work_id};
-    ghost use Rattle.iam_work.specs.Code.Fields.{IsLaid};
-
     ghost Value = { WorkId };
 
     ghost view = { λ w. work_id w.table.shared.table_id (map stealer_deque w.thieves.items) w.plan.grains w.plan.seats };

@@ -1,6 +1,6 @@
 // Where worlds come from, and what is said of a file that can't be read.
 ghost use Rattle.std.specs.Counts.{IsPrefixLen};
-ghost use Rattle.std.specs.Prelude.{IfOk};
+ghost use Rattle.std.specs.Prelude.{IfOk, None};
 
 use std::alloc::{AllocError, Global};
 use std::fs;
@@ -72,8 +72,6 @@ impl<'a, T: Files> Source<'a, T> {
 }
 
 impl<'a, T: Files> Read for Source<'a, T> {
-    ghost use Rattle.std.specs.Prelude.{None};
-
     ghost remaining = { λ _. None };
 
     fn read(&mut self, buf: &mut [u8]) -> io::Result<usize> {
@@ -111,8 +109,6 @@ impl<'a, R: Read + Drop, T: Files> Input<'a, R, T> {
 }
 
 impl<'a, R: Read, T: Files> Read for Input<'a, R, T> {
-    ghost use Rattle.std.specs.Prelude.{None};
-
     ghost remaining = { λ _. None };
 
     fn read(&mut self, buf: &mut [u8]) -> io::Result<usize> {

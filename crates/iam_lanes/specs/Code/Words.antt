@@ -31,11 +31,7 @@ tells_take word v n w = (lane : ℕ) → word ≡ lane + 1 → FindsCount lane n
 abbrev pub tells_offer : ℕ → LaneView → LaneView → Type 0
 tells_offer cell v w = w ≡ with_offer cell v
 
--- a look that found the bound n: the view gains it, and it is at or below all that the view had offered or seen
-pub record FindsBound (n : ℕ) (v w : LaneView) : Type 0 where
+-- what a look that found the bound n tells its seat: the view gains it, and it is at or below all that the view had offered or seen
+pub record tells_look (v : LaneView) (n : ℕ) (w : LaneView) : Type 0 where
   pub gained : w ≡ with_look n v
   pub least : (cell : ℕ) → 0 < times cell v.offers + times cell v.looks → n ≤ cell
-
--- what a look tells its seat
-abbrev pub tells_look : LaneView → ℕ → LaneView → Type 0
-tells_look v n w = FindsBound n v w

@@ -1,6 +1,5 @@
 -- What the workers make of a tile, and of tiles that follow one another.
 use Rattle.std.specs.Prelude.{◌≡◌, ℕ, ◌+◌, ◌<◌, ◌≤◌, List, [], ◌∷◌, ◌++◌, ⊤, Bool, Option, Some, None, MatchBool, length, map, sum}
-use Rattle.iam_decision.specs.declared.verdict.Decision.{Decision}
 use Rattle.iam_decision.specs.declared.verdict.Decision.TheVariants.{Allowed}
 use Rattle.iam_row.specs.Piece.{brief_tail, full_tail}
 use Rattle.iam_row.specs.declared.quoted.Format.{Format}
@@ -18,10 +17,6 @@ IsTileOf world lengths tile = (sum lengths ≡ world_cells world) × (tile < len
 pub record AreEntries {X : Type 0} (Is : ℕ → X → Type 0) (from count : ℕ) (entries : List X) : Type 0 where
   pub count_is : length entries ≡ count
   pub each : AreEntriesFrom Is from entries
-
--- the decisions of these cells
-abbrev pub AreDecisions : WorldValue → ℕ → ℕ → List Decision → Type 0
-AreDecisions world from count decisions = AreEntries (IsDecisionOf world) from count decisions
 
 -- it is said of a cell what has to be said of its request
 abbrev pub IsOf : {X : Type 0} → (WorldValue → ℕ → ℕ → ℕ → X → Type 0) → WorldValue → ℕ → X → Type 0

@@ -1,8 +1,10 @@
 use Rattle.std.proofs.Common.{◌∙◌}
 use Rattle.iam_compare.proofs.report.indexed_parts.Goals as goal
 
-pub surveyed_parts-requires-clause-before : goal.surveyed_parts-requires-clause-before
-surveyed_parts-requires-clause-before g c κs bounds = c.surveyed-before.ensures ∙ c.requires.before
-
-pub surveyed_parts-requires-clause-after : goal.surveyed_parts-requires-clause-after
-surveyed_parts-requires-clause-after g c κs bounds = c.surveyed-after.ensures ∙ c.requires.after
+pub gathered_parts-requires-clause-crew : goal.gathered_parts-requires-clause-crew
+gathered_parts-requires-clause-crew g c κs bounds = record {
+  survey_before = c.surveyed-before.ensures ∙ c.requires.before;
+  survey_after = c.surveyed-after.ensures ∙ c.requires.after;
+  picker_before = c.requires.pick_before;
+  picker_after = c.requires.pick_after;
+}
