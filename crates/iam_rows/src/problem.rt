@@ -1,6 +1,6 @@
 // Why rows can't be tried.
 use std::alloc::{AllocError, AllocFailed};
-use std::{fmt, io};
+use std::io;
 
 /// Why rows can't be tried.
 #[derive(Clone, Copy, Debug, PartialEq, Eq)]

@@ -3,32 +3,49 @@
 use iam_app::{Options, Task, options_of};
 use iam_context::{Context, Derived, KeyName, Part, Values};
 use iam_services::Services;
-use iam_text::{Draft, Glob, Items, Piece, Sign, Text};
+use iam_text::{Draft, Glob, Piece, Sign, Text};
 use iam_value::bytes;
+use std::alloc::Global;
 use std::test::Fail;
+
+/// Whether a pattern is a given star, any one character, and any characters.
+fn is_star_and_more(glob: &Glob) -> bool {
+    let signs = glob.signs();
+    signs.len() == 3
+        && signs.at(0) == Sign::Given('*')
+        && signs.at(1) == Sign::One
+        && signs.at(2) == Sign::Any
+        && glob.matches("*a")
+        && glob.matches("*abc")
+        && !glob.matches("*")
+}
 
 #[test]
 fn the_signs_of_a_pattern_are_a_pattern(rt: HostRuntime) -> Result<(), Fail> {
     let glob = Glob::of(rt.alloc(), &[Sign::Given('*'), Sign::One, Sign::Any])?;
-    let signs = glob.signs();
-    assert_eq!(rt; signs.len(), 3);
-    assert_eq!(rt; signs.at(0), Sign::Given('*'));
-    assert_eq!(rt; signs.at(1), Sign::One);
-    assert_eq!(rt; signs.at(2), Sign::Any);
-    assert!(rt; glob.matches("*a") && glob.matches("*abc") && !glob.matches("*"));
+    assert!(rt; is_star_and_more(&glob));
     Ok(())
+}
+
+/// Whether the second of four pieces is a variable, and the third a star.
+fn are_four(pieces: &[Piece]) -> bool {
+    pieces.len() == 4
+        && matches!(pieces[1], Piece::Variable(_, None))
+        && matches!(pieces[2], Piece::Escaped('*'))
+}
+
+/// Whether a text is a draft of such pieces.
+fn has_four(alloc: Global, text: &str) -> Result<bool, Fail> {
+    let Some(draft) = Draft::read(alloc, text, true)? else {
+        return Ok(false);
+    };
+    Ok(are_four(draft.pieces(alloc)?.as_slice()))
 }
 
 #[test]
 fn a_draft_has_its_pieces(rt: HostRuntime) -> Result<(), Fail> {
-    let alloc = rt.alloc();
-    let draft = Draft::read(alloc, "a${k}${*}?", true)?.ok_or("no draft")?;
-    let found = draft.pieces(alloc)?;
-    let pieces = found.as_slice();
-    assert_eq!(rt; pieces.len(), 4);
-    assert!(rt; matches!(pieces[1], Piece::Variable(_, None)));
-    assert!(rt; matches!(pieces[2], Piece::Escaped('*')));
-    assert!(rt; Draft::read(alloc, "a${k", true)?.is_none());
+    assert!(rt; has_four(rt.alloc(), "a${k}${*}?")?);
+    assert!(rt; Draft::read(rt.alloc(), "a${k", true)?.is_none());
     Ok(())
 }
 
@@ -81,16 +98,20 @@ fn letters_of_base64(rt: HostRuntime) -> Result<(), Fail> {
     Ok(())
 }
 
-#[test]
-fn a_pattern_is_tried_on_the_actions_of_its_service(rt: HostRuntime) -> Result<(), Fail> {
-    let alloc = rt.alloc();
+/// How many of three actions are tried with a pattern.
+fn tried(alloc: Global, pattern: &str) -> Result<u64, Fail> {
     let mut services = Services::new(alloc)?;
     services.add(alloc, "S3:GetObject", 0)?;
     services.add(alloc, "sqs:Send", 1)?;
     services.add(alloc, "s3:PutObject", 2)?;
-    assert_eq!(rt; services.tried(&Glob::read(alloc, "s3:*")?, 3).len(), 2);
-    assert_eq!(rt; services.tried(&Glob::read(alloc, "ec2:Get")?, 3).len(), 0);
-    assert_eq!(rt; services.tried(&Glob::read(alloc, "s*:Get")?, 3).len(), 3);
+    Ok(services.tried(&Glob::read(alloc, pattern)?, 3).len())
+}
+
+#[test]
+fn a_pattern_is_tried_on_the_actions_of_its_service(rt: HostRuntime) -> Result<(), Fail> {
+    assert_eq!(rt; tried(rt.alloc(), "s3:*")?, 2);
+    assert_eq!(rt; tried(rt.alloc(), "ec2:Get")?, 0);
+    assert_eq!(rt; tried(rt.alloc(), "s*:Get")?, 3);
     Ok(())
 }
 

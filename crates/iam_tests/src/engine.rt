@@ -45,14 +45,38 @@ fn answers(alloc: Global, engine: &mut ClassEngine<'_>, cell: u64) -> Result<boo
     Ok(is_decision(cell as usize, decision) && is_verdict(cell as usize, &verdict))
 }
 
-/// Whether one engine, of so many, answers each of these cells.
-fn answers_all(alloc: Global, engines: u32, cells: &[u64]) -> Result<bool, Fail> {
-    let world = World::read(alloc, HOME.as_bytes())?;
-    let index = Index::build(alloc, &world)?;
-    answers_all_by(alloc, &index, engines, cells)
+/// What is asked of the index of a world.
+#[derive(Clone, Copy)]
+enum Asked<'c> {
+    /// Whether one engine, of so many, answers each of these cells as the policies say.
+    Answers(u32, &'c [u64]),
+    /// Whether one engine, of so many, allows of these cells just those that are to be allowed.
+    AllowsJust(u32, &'c [u64], &'c [u64]),
+    /// Whether a survey finds each of the six pairs and no other, and an engine that begins with it answers all twelve cells.
+    Survey,
+    /// Whether the candidates for the first action are the first four statements of a user's policy.
+    Candidates,
 }
 
-fn answers_all_by(
+/// Whether it is so in the world of a document.
+fn is_so(alloc: Global, document: &str, asked: Asked<'_>) -> Result<bool, Fail> {
+    let world = World::read(alloc, document.as_bytes())?;
+    let index = Index::build(alloc, &world)?;
+    is_so_by(alloc, &index, asked)
+}
+
+fn is_so_by(alloc: Global, index: &Index<'_>, asked: Asked<'_>) -> Result<bool, Fail> {
+    match asked {
+        Asked::Answers(engines, cells) => answers_all(alloc, index, engines, cells),
+        Asked::AllowsJust(engines, cells, allowed) => {
+            allows_just(alloc, index, engines, cells, allowed)
+        }
+        Asked::Survey => is_surveyed(alloc, index),
+        Asked::Candidates => are_candidates(alloc, index),
+    }
+}
+
+fn answers_all(
     alloc: Global,
     index: &Index<'_>,
     engines: u32,
@@ -77,7 +101,7 @@ fn cells_in_any_order_by_one_engine(rt: HostRuntime) -> Result<(), Fail> {
     for cells in orders {
         // Where engines are many, each keeps nothing.
         for engines in [1, 4_000_000] {
-            assert!(rt; answers_all(rt.alloc(), engines, cells)?);
+            assert!(rt; is_so(rt.alloc(), HOME, Asked::Answers(engines, cells))?);
         }
     }
     Ok(())
@@ -96,7 +120,6 @@ const SHARES: &str =
 "Principal":{"AWS":"arn:aws:iam::111122223333:user/ann"},"Action":"s3:GetObject","Resource":"arn:aws:s3:::b/4"}}},
 {"arn":"arn:aws:s3:::c/5","account":"111122223333"}]}"#;
 
-/// Whether one engine, of so many, allows of these cells just those that are to be allowed.
 fn allows_just(
     alloc: Global,
     index: &Index<'_>,
@@ -121,9 +144,6 @@ fn allows_just(
 fn the_same_statements_live_in_requests_that_are_decided_otherwise(
     rt: HostRuntime,
 ) -> Result<(), Fail> {
-    let alloc = rt.alloc();
-    let world = World::read(alloc, SHARES.as_bytes())?;
-    let index = Index::build(alloc, &world)?;
     let orders: [&[u64]; 3] = [
         &[
             0, 1, 2, 3, 4, 5, 6, 7, 8, 9, 10, 11, 12, 13, 14, 15, 16, 17, 18, 19,
@@ -133,7 +153,8 @@ fn the_same_statements_live_in_requests_that_are_decided_otherwise(
     ];
     for cells in orders {
         for engines in [1, 4_000_000] {
-            assert!(rt; allows_just(alloc, &index, engines, cells, &[0, 1, 3])?);
+            let asked = Asked::AllowsJust(engines, cells, &[0, 1, 3]);
+            assert!(rt; is_so(rt.alloc(), SHARES, asked)?);
         }
     }
     Ok(())
@@ -142,7 +163,8 @@ fn the_same_statements_live_in_requests_that_are_decided_otherwise(
 // Of itself this shows nothing that the test above does not: tools/tests/test_refused.py refuses it each call of the allocator.
 #[test]
 fn cells_asked_again(rt: HostRuntime) -> Result<(), Fail> {
-    assert!(rt; answers_all(rt.alloc(), 1, &[0, 1, 2, 3, 4, 5, 6, 7, 8, 9, 10, 11])?);
+    let cells = &[0, 1, 2, 3, 4, 5, 6, 7, 8, 9, 10, 11];
+    assert!(rt; is_so(rt.alloc(), HOME, Asked::Answers(1, cells))?);
     Ok(())
 }
 
@@ -157,7 +179,6 @@ fn survey_of<'a>(alloc: Global, index: &'a Index<'a>) -> Result<Survey<'a>, Fail
     Ok(Survey::of(index, 6, blocks))
 }
 
-/// Whether a survey finds each of the six pairs and no other, and an engine that begins with it answers all twelve cells.
 fn is_surveyed(alloc: Global, index: &Index<'_>) -> Result<bool, Fail> {
     let survey = survey_of(alloc, index)?;
     for pair in 0..8 {
@@ -190,10 +211,7 @@ fn answers_by(alloc: Global, survey: &Survey<'_>) -> Result<bool, Fail> {
 
 #[test]
 fn a_survey_finds_each_pair_and_an_engine_begins_with_it(rt: HostRuntime) -> Result<(), Fail> {
-    let alloc = rt.alloc();
-    let world = World::read(alloc, HOME.as_bytes())?;
-    let index = Index::build(alloc, &world)?;
-    assert!(rt; is_surveyed(alloc, &index)?);
+    assert!(rt; is_so(rt.alloc(), HOME, Asked::Survey)?);
     Ok(())
 }
 
@@ -206,22 +224,26 @@ const FIVE: &str =
 {"Effect":"Allow","Action":"ec2:*","Resource":"*"}]}]}],
 "actions":["S3:getobject"],"resources":[{"arn":"arn:aws:s3:::b/k","account":"111122223333"}]}"#;
 
+fn are_candidates(alloc: Global, index: &Index<'_>) -> Result<bool, Fail> {
+    if index.world().cells() == 0 {
+        return Ok(false);
+    }
+    let candidates = index.candidates(alloc, 0)?;
+    let mut places = candidates.iter().enumerate();
+    let is_each = places.all(|(statement, place)| is_identity(*place, statement));
+    Ok(is_each && candidates.len() == 4)
+}
+
+/// Whether a place is this statement of the first identity policy.
+fn is_identity(place: Place, statement: usize) -> bool {
+    place.layer == Layer::Identity
+        && place.level == 0
+        && place.policy == 0
+        && place.statement as usize == statement
+}
+
 #[test]
 fn candidates_are_the_statements_that_act(rt: HostRuntime) -> Result<(), Fail> {
-    let alloc = rt.alloc();
-    let world = World::read(alloc, FIVE.as_bytes())?;
-    let index = Index::build(alloc, &world)?;
-    assert!(rt; 0 < index.world().cells());
-    let candidates = index.candidates(alloc, 0)?;
-    assert_eq!(rt; candidates.len(), 4);
-    for (statement, candidate) in candidates.iter().enumerate() {
-        let place = Place {
-            layer: Layer::Identity,
-            level: 0,
-            policy: 0,
-            statement: statement as u32,
-        };
-        assert!(rt; *candidate == place);
-    }
+    assert!(rt; is_so(rt.alloc(), FIVE, Asked::Candidates)?);
     Ok(())
 }

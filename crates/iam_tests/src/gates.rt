@@ -1,4 +1,6 @@
 // The gate that is told before each tile: in which order, by which workers, and what they steal from one another.
+ghost use Rattle.std.specs.Prelude.{◌≡◌, sum};
+ghost use Rattle.iam_world.specs.World.{world_cells};
 
 use crate::matrix::{CSV, DENIED, HOME, are_decisions, are_verdicts};
 use iam_layers::World;
@@ -127,6 +129,10 @@ enum Asked {
     Report,
     Verdicts,
     Decisions,
+    /// The first cell that is allowed, which is cell 0.
+    First,
+    /// The same where nobody has a policy.
+    Nothing,
 }
 
 const EACH: [Asked; 3] = [Asked::Report, Asked::Verdicts, Asked::Decisions];
@@ -139,25 +145,53 @@ fn is_brought<R: Threads + Sync, G: Gate + Sync>(
     workers: u32,
     gate: &G,
 ) -> Result<bool, Fail> {
-    let world = World::read(alloc, HOME.as_bytes())?;
+    let document = match asked {
+        Asked::Nothing => DENIED,
+        _ => HOME,
+    };
+    let world = World::read(alloc, document.as_bytes())?;
     let cut = Cut::even(alloc, 1, world.cells())?;
+    is_brought_of(rt, alloc, asked, &world, &cut, workers, gate)
+}
+
+fn is_brought_of<R: Threads + Sync, G: Gate + Sync>(
+    rt: &R,
+    alloc: Global,
+    asked: Asked,
+    world: &World,
+    cut: &Cut,
+    workers: u32,
+    gate: &G,
+) -> Result<bool, Fail>
+    requires { sum cut.now ≡ world_cells world.now }
+{
     match asked {
-        Asked::Report => {
-            let report = matrix_report(rt, alloc, &world, &cut, workers, gate, Format::Csv, false)?;
-            let mut text = Vec::new(alloc);
-            let mut kept = Vec::new(alloc);
-            report.write_to(&mut text, &mut kept)?;
-            Ok(text.as_slice() == CSV.as_bytes())
-        }
-        Asked::Verdicts => {
-            let verdicts = matrix(rt, alloc, &world, &cut, workers, gate)?;
-            Ok(are_verdicts(&verdicts))
-        }
+        Asked::Report => is_report(rt, alloc, world, cut, workers, gate),
+        Asked::Verdicts => Ok(are_verdicts(&matrix(rt, alloc, world, cut, workers, gate)?)),
         Asked::Decisions => {
-            let decisions = matrix_brief(rt, alloc, &world, &cut, workers, gate)?;
+            let decisions = matrix_brief(rt, alloc, world, cut, workers, gate)?;
             Ok(are_decisions(&decisions))
         }
+        Asked::First => Ok(first(rt, alloc, world, cut, workers, gate)? == Some(0)),
+        Asked::Nothing => Ok(first(rt, alloc, world, cut, workers, gate)?.is_none()),
     }
+}
+
+fn is_report<R: Threads + Sync, G: Gate + Sync>(
+    rt: &R,
+    alloc: Global,
+    world: &World,
+    cut: &Cut,
+    workers: u32,
+    gate: &G,
+) -> Result<bool, Fail>
+    requires { sum cut.now ≡ world_cells world.now }
+{
+    let report = matrix_report(rt, alloc, world, cut, workers, gate, Format::Csv, false)?;
+    let mut text = Vec::new(alloc);
+    let mut kept = Vec::new(alloc);
+    report.write_to(&mut text, &mut kept)?;
+    Ok(text.as_slice() == CSV.as_bytes())
 }
 
 #[test]
@@ -237,7 +271,10 @@ fn are_stolen<R: Threads + Sync>(
 ) -> Result<bool, Fail> {
     for _run in 0..3 {
         let gate = Hold::of(held, awaited);
-        if is_brought(rt, alloc, asked, workers, &gate)? && gate.is_met() {
+        if !is_brought(rt, alloc, asked, workers, &gate)? {
+            return Ok(false);
+        }
+        if gate.is_met() {
             return Ok(true);
         }
     }
@@ -255,42 +292,35 @@ fn tiles_of_workers_that_wait_are_stolen_by_another(rt: HostRuntime) -> Result<(
 
 #[test]
 fn tiles_of_a_search_that_waits_are_stolen_by_the_other(rt: HostRuntime) -> Result<(), Fail> {
-    let alloc = rt.alloc();
-    let world = World::read(alloc, DENIED.as_bytes())?;
-    let cut = Cut::even(alloc, 1, world.cells())?;
-    let mut is_met = false;
-    for _run in 0..3 {
-        let gate = Hold::of([0, 1], [0, 1]);
-        assert_eq!(rt; first(&rt, alloc, &world, &cut, 2, &gate)?, None);
-        is_met |= gate.is_met();
-    }
-    assert!(rt; is_met);
+    assert!(rt; are_stolen(&rt, rt.alloc(), Asked::Nothing, 2, [0, 1], [0, 1])?);
     Ok(())
+}
+
+/// Whether a search tells the gate of other tiles while one that has the first cell waits, in one of three runs.
+fn is_told_before<R: Threads + Sync>(rt: &R, alloc: Global) -> Result<bool, Fail> {
+    for _run in 0..3 {
+        let gate = Ahead::new();
+        if !is_brought(rt, alloc, Asked::First, 2, &gate)? {
+            return Ok(false);
+        }
+        if gate.is_met() {
+            return Ok(true);
+        }
+    }
+    Ok(false)
 }
 
 // Were it told once the cell of tile 0 is found, the other worker would pass over all that lies behind.
 #[test]
 fn the_gate_is_told_before_a_tile_is_searched(rt: HostRuntime) -> Result<(), Fail> {
-    let alloc = rt.alloc();
-    let world = World::read(alloc, HOME.as_bytes())?;
-    let cut = Cut::even(alloc, 1, world.cells())?;
-    let mut is_met = false;
-    for _run in 0..3 {
-        let gate = Ahead::new();
-        assert_eq!(rt; first(&rt, alloc, &world, &cut, 2, &gate)?, Some(0));
-        is_met |= gate.is_met();
-    }
-    assert!(rt; is_met);
+    assert!(rt; is_told_before(&rt, rt.alloc())?);
     Ok(())
 }
 
 #[test]
 fn a_search_skips_what_lies_behind_an_allowed_cell(rt: HostRuntime) -> Result<(), Fail> {
-    let alloc = rt.alloc();
-    let world = World::read(alloc, HOME.as_bytes())?;
-    let cut = Cut::even(alloc, 1, world.cells())?;
-    let gate = Record::of(&rt, alloc, 1);
-    assert_eq!(rt; first(&rt, alloc, &world, &cut, 1, &gate)?, Some(0));
+    let gate = Record::of(&rt, rt.alloc(), 1);
+    assert!(rt; is_brought(&rt, rt.alloc(), Asked::First, 1, &gate)?);
     assert_eq!(rt; gate.tiles.lock(&rt).as_slice(), [0].as_slice());
     Ok(())
 }

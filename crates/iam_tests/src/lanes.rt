@@ -7,6 +7,39 @@ use std::sync::{Mutex, Wait};
 use std::test::Fail;
 use std::thread::{Threads, map_vec};
 
+/// Whether two seats take the three numbers of lane 0 and the two of lane 1 in turn, and see that the lanes end.
+fn take_in_turn(lanes: &Lanes, a: &mut LaneSeat, b: &mut LaneSeat) -> bool
+    requires lanes { length lanes.now.lengths ≡ 2 }
+    requires first { a.old.lanes ≡ lanes.now }
+    requires second { b.old.lanes ≡ lanes.now }
+    ensures first { a.new.lanes ≡ lanes.now }
+    ensures second { b.new.lanes ≡ lanes.now }
+{
+    lanes.take(a, 0) == Some(0)
+        && lanes.take(b, 0) == Some(1)
+        && lanes.take(a, 0) == Some(2)
+        && lanes.take(b, 0).is_none()
+        && lanes.take(a, 1) == Some(0)
+        && lanes.take(b, 1) == Some(1)
+        && lanes.take(a, 1).is_none()
+}
+
+/// What two seats see of the bound: before any offer, and after each of three.
+fn look_in_turn(lanes: &Lanes, a: &mut LaneSeat, b: &mut LaneSeat) -> [Option<u64>; 4]
+    requires first { a.old.lanes ≡ lanes.now }
+    requires second { b.old.lanes ≡ lanes.now }
+    ensures first { a.new.lanes ≡ lanes.now }
+    ensures second { b.new.lanes ≡ lanes.now }
+{
+    let before = lanes.low(a);
+    lanes.offer(a, 9);
+    let once = lanes.low(b);
+    lanes.offer(b, 4);
+    let twice = lanes.low(a);
+    lanes.offer(a, 7);
+    [before, once, twice, lanes.low(b)]
+}
+
 #[test]
 fn two_seats_take_offer_and_look_in_turn(rt: HostRuntime) -> Result<(), Fail> {
     let Ok((lanes, mut seats)) = Lanes::open(rt.alloc(), &[3, 2], 2) else {
@@ -14,20 +47,9 @@ fn two_seats_take_offer_and_look_in_turn(rt: HostRuntime) -> Result<(), Fail> {
     };
     let mut b = seats.pop().expect(&rt, "two seats");
     let mut a = seats.pop().expect(&rt, "two seats");
-    assert_eq!(rt; lanes.take(&mut a, 0), Some(0));
-    assert_eq!(rt; lanes.take(&mut b, 0), Some(1));
-    assert_eq!(rt; lanes.take(&mut a, 0), Some(2));
-    assert_eq!(rt; lanes.take(&mut b, 0), None);
-    assert_eq!(rt; lanes.take(&mut a, 1), Some(0));
-    assert_eq!(rt; lanes.take(&mut b, 1), Some(1));
-    assert_eq!(rt; lanes.take(&mut a, 1), None);
-    assert_eq!(rt; lanes.low(&mut a), None);
-    lanes.offer(&mut a, 9);
-    assert_eq!(rt; lanes.low(&mut b), Some(9));
-    lanes.offer(&mut b, 4);
-    assert_eq!(rt; lanes.low(&mut a), Some(4));
-    lanes.offer(&mut a, 7);
-    assert_eq!(rt; lanes.low(&mut b), Some(4));
+    assert!(rt; take_in_turn(&lanes, &mut a, &mut b));
+    let seen = look_in_turn(&lanes, &mut a, &mut b);
+    assert_eq!(rt; seen, [None, Some(9), Some(4), Some(4)]);
     seats.push(a)?;
     seats.push(b)?;
     let closed = lanes.close(seats);

@@ -168,26 +168,70 @@ fn the_matrix_by_each_cut_and_number_of_workers(rt: HostRuntime) -> Result<(), F
     Ok(())
 }
 
-// The program makes its reports of pieces.
-#[test]
-fn the_texts_of_the_twelve_cells(rt: HostRuntime) -> Result<(), Fail> {
-    let alloc = rt.alloc();
-    let world = World::read(alloc, HOME.as_bytes())?;
+/// Whether what two workers bring has this text, in full or in brief.
+fn has_text<R: Threads + Sync>(
+    rt: &R,
+    alloc: Global,
+    document: &str,
+    json: bool,
+    brief: bool,
+    text: &str,
+) -> Result<bool, Fail> {
+    let world = World::read(alloc, document.as_bytes())?;
     let cut = Cut::even(alloc, 5, world.cells())?;
-    let verdicts = matrix(&rt, alloc, &world, &cut, 2, &Open)?;
-    assert!(rt; csv_text(alloc, &world, &verdicts)?.as_slice() == CSV.as_bytes());
-    Ok(())
+    let found = if brief {
+        brief_text(rt, alloc, &world, &cut, json)?
+    } else {
+        full_text(rt, alloc, &world, &cut, json)?
+    };
+    Ok(found.as_slice() == text.as_bytes())
 }
 
+fn full_text<R: Threads + Sync>(
+    rt: &R,
+    alloc: Global,
+    world: &World,
+    cut: &Cut,
+    json: bool,
+) -> Result<Vec<u8>, MatrixFault>
+    requires { sum cut.now ≡ world_cells world.now }
+{
+    let verdicts = matrix(rt, alloc, world, cut, 2, &Open)?;
+    if json {
+        Ok(json_text(alloc, world, &verdicts)?)
+    } else {
+        Ok(csv_text(alloc, world, &verdicts)?)
+    }
+}
+
+fn brief_text<R: Threads + Sync>(
+    rt: &R,
+    alloc: Global,
+    world: &World,
+    cut: &Cut,
+    json: bool,
+) -> Result<Vec<u8>, MatrixFault>
+    requires { sum cut.now ≡ world_cells world.now }
+{
+    let decisions = matrix_brief(rt, alloc, world, cut, 2, &Open)?;
+    if json {
+        Ok(json_brief(alloc, world, &decisions)?)
+    } else {
+        Ok(csv_brief(alloc, world, &decisions)?)
+    }
+}
+
+// The program makes its reports of pieces.
 #[test]
-fn the_other_texts_of_two_cells(rt: HostRuntime) -> Result<(), Fail> {
-    let alloc = rt.alloc();
-    let world = World::read(alloc, PAIR.as_bytes())?;
-    let cut = Cut::even(alloc, 1, world.cells())?;
-    let verdicts = matrix(&rt, alloc, &world, &cut, 2, &Open)?;
-    let decisions = matrix_brief(&rt, alloc, &world, &cut, 2, &Open)?;
-    assert!(rt; json_text(alloc, &world, &verdicts)?.as_slice() == PAIR_JSON.as_bytes());
-    assert!(rt; csv_brief(alloc, &world, &decisions)?.as_slice() == PAIR_CSV_BRIEF.as_bytes());
-    assert!(rt; json_brief(alloc, &world, &decisions)?.as_slice() == PAIR_JSON_BRIEF.as_bytes());
+fn the_texts_of_lists(rt: HostRuntime) -> Result<(), Fail> {
+    let texts = [
+        (HOME, false, false, CSV),
+        (PAIR, true, false, PAIR_JSON),
+        (PAIR, false, true, PAIR_CSV_BRIEF),
+        (PAIR, true, true, PAIR_JSON_BRIEF),
+    ];
+    for (document, json, brief, text) in texts {
+        assert!(rt; has_text(&rt, rt.alloc(), document, json, brief, text)?);
+    }
     Ok(())
 }

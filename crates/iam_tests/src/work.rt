@@ -1,6 +1,42 @@
 // Runs that are pushed, stolen and marked, in one thread.
-use iam_lanes::{Run, Stolen, Work};
+ghost use Rattle.std.specs.Prelude.{◌≡◌};
+
+use iam_lanes::{Run, Stolen, Work, WorkSeat};
 use std::test::Fail;
+
+/// Whether seat a has its runs back from the last on, and seat 1 steals them from the first on.
+fn push_pop_and_steal(work: &Work, a: &mut WorkSeat, b: &mut WorkSeat) -> bool
+    requires grains { work.now.grains ≡ 6 }
+    requires seats { work.now.seats ≡ 2 }
+    requires pushes { a.old.work ≡ work.now }
+    requires steals { b.old.work ≡ work.now }
+    requires other { b.old.number ≡ 1 }
+    ensures pushes { a.new.work ≡ work.now }
+    ensures steals { b.new.work ≡ work.now }
+{
+    let all = Run { first: 0, count: 6 };
+    let half = Run { first: 3, count: 3 };
+    let rest = Run { first: 1, count: 2 };
+    work.push(a, all).is_ok()
+        && work.pop(a) == Some(all)
+        && work.push(a, half).is_ok()
+        && work.push(a, rest).is_ok()
+        && work.steal(b, 0) == Stolen::Took(half)
+        && work.pop(a) == Some(rest)
+        && work.pop(a).is_none()
+        && work.steal(b, 0) == Stolen::Empty
+}
+
+/// Whether a grain is marked by the first that comes.
+fn mark_in_turn(work: &Work, a: &mut WorkSeat, b: &mut WorkSeat) -> bool
+    requires grains { work.now.grains ≡ 6 }
+    requires first { a.old.work ≡ work.now }
+    requires second { b.old.work ≡ work.now }
+    ensures first { a.new.work ≡ work.now }
+    ensures second { b.new.work ≡ work.now }
+{
+    work.mark(a, 0) && !work.mark(b, 0) && work.mark(b, 3) && !work.mark(b, 3)
+}
 
 #[test]
 fn two_seats_push_pop_steal_and_mark_in_turn(rt: HostRuntime) -> Result<(), Fail> {
@@ -9,21 +45,8 @@ fn two_seats_push_pop_steal_and_mark_in_turn(rt: HostRuntime) -> Result<(), Fail
     };
     let mut b = seats.pop().expect(&rt, "two seats");
     let mut a = seats.pop().expect(&rt, "two seats");
-    let all = Run { first: 0, count: 6 };
-    let half = Run { first: 3, count: 3 };
-    let rest = Run { first: 1, count: 2 };
-    assert_eq!(rt; work.push(&mut a, all), Ok(()));
-    assert_eq!(rt; work.pop(&mut a), Some(all));
-    assert_eq!(rt; work.push(&mut a, half), Ok(()));
-    assert_eq!(rt; work.push(&mut a, rest), Ok(()));
-    assert_eq!(rt; work.steal(&mut b, 0), Stolen::Took(half));
-    assert_eq!(rt; work.pop(&mut a), Some(rest));
-    assert_eq!(rt; work.pop(&mut a), None);
-    assert_eq!(rt; work.steal(&mut b, 0), Stolen::Empty);
-    assert!(rt; work.mark(&mut a, 0));
-    assert!(rt; !work.mark(&mut b, 0));
-    assert!(rt; work.mark(&mut b, 3));
-    assert!(rt; !work.mark(&mut b, 3));
+    assert!(rt; push_pop_and_steal(&work, &mut a, &mut b));
+    assert!(rt; mark_in_turn(&work, &mut a, &mut b));
     seats.push(a)?;
     seats.push(b)?;
     assert_eq!(rt; work.close(seats), 2);
