@@ -6,45 +6,37 @@ use Rattle.iam_selection.specs.Selection.{SelectionValue}
 use Rattle.iam_changes.specs.declared.change.Kinds.{Kinds}
 use Rattle.iam_options.specs.declared.changes.ChangesOptions.{ChangesOptions}
 use Rattle.iam_app.specs.Changes.{EndsChangesBy, HasBefore, HasSide, IsComparison, IsNoComparison, IsOfBefore, WritesChanges}
-use Rattle.iam_app.specs.Code.Sides.{IsNoSide, IsNotWritten, fault_after, fault_before}
-use Rattle.iam_app.specs.declared.changes.SideFault.{SideFault}
-use Rattle.iam_app.specs.declared.changes.SideFault.TheVariants as s
+use Rattle.iam_app.specs.Code.Sides.{IsNoSide, IsNotWritten, of_before}
 use Rattle.iam_app.specs.declared.changes_fault.ChangesFault.{ChangesFault}
 use Rattle.iam_app.specs.declared.changes_fault.ChangesFault.TheVariants as c
+use Rattle.iam_app.specs.declared.changes_fault.Side.TheVariants as side
 use Rattle.iam_app.specs.declared.fault.RunFault.{RunFault}
 use Rattle.iam_app.specs.declared.fault.RunFault.TheVariants.{Read, World, Matrix, Write, NoSuchCell, Cut, OutOfMemory}
 
 -- one of the two inputs is not taken
-of_before : (options : ChangesOptions) (selection : SelectionValue) (first second held : Option (List ℕ)) (fault : SideFault) → IsNoSide first fault
-    → EndsChangesBy options selection first second held held (fault_before fault)
-of_before options selection first second held s.Read h = refl
-of_before options selection first second held (s.World fault) h = (refl, h)
-of_before options selection first second held (s.Twice twice) h = (refl, h)
-of_before options selection first second held s.OutOfMemory h = refl
+pub no_before : (options : ChangesOptions) (selection : SelectionValue) (first second held : Option (List ℕ)) (fault : ChangesFault) → IsNoSide side.Before first fault
+    → EndsChangesBy options selection first second held held (of_before fault)
+no_before options selection first second held (c.Run Read) h = refl
+no_before options selection first second held (c.Run (World fault)) h = (refl, h)
+no_before options selection first second held (c.Run OutOfMemory) h = refl
+no_before options selection first second held (c.Twice world twice) (is, h) =
+    subst (λ s. EndsChangesBy options selection first second held held (c.Twice s twice)) (sym is) (refl, h)
+no_before options selection first second held fault h = absurd h
 
-pub no_before : (options : ChangesOptions) (selection : SelectionValue) (first second held : Option (List ℕ)) (fault : SideFault) (told : ChangesFault)
-    → told ≡ fault_before fault → IsNoSide first fault → EndsChangesBy options selection first second held held told
-no_before options selection first second held fault told is h =
-    subst (EndsChangesBy options selection first second held held) (sym is) (of_before options selection first second held fault h)
-
-of_after : (options : ChangesOptions) (selection : SelectionValue) (first second held : Option (List ℕ)) (fault : SideFault) → HasBefore first
-    → IsNoSide second fault → EndsChangesBy options selection first second held held (fault_after fault)
-of_after options selection first second held s.Read has h = refl
-of_after options selection first second held (s.World fault) has h = (refl, has, h)
-of_after options selection first second held (s.Twice twice) has h = (refl, has, h)
-of_after options selection first second held s.OutOfMemory has h = refl
-
-pub no_after : (options : ChangesOptions) (selection : SelectionValue) (first second held : Option (List ℕ)) (fault : SideFault) (told : ChangesFault)
-    → told ≡ fault_after fault → HasBefore first → IsNoSide second fault → EndsChangesBy options selection first second held held told
-no_after options selection first second held fault told is has h =
-    subst (EndsChangesBy options selection first second held held) (sym is) (of_after options selection first second held fault has h)
+pub no_after : (options : ChangesOptions) (selection : SelectionValue) (first second held : Option (List ℕ)) (fault : ChangesFault) → HasBefore first
+    → IsNoSide side.After second fault → EndsChangesBy options selection first second held held fault
+no_after options selection first second held (c.Run Read) has h = refl
+no_after options selection first second held (c.Run (World fault)) has h = (refl, has, h)
+no_after options selection first second held (c.Run OutOfMemory) has h = refl
+no_after options selection first second held (c.Twice world twice) has (is, h) =
+    subst (λ s. EndsChangesBy options selection first second held held (c.Twice s twice)) (sym is) (refl, has, h)
+no_after options selection first second held fault has h = absurd h
 
 -- a fault of the world after, and one of writing, is none of the world before
-pub not_of_before : (fault : SideFault) (told : ChangesFault) → told ≡ fault_after fault → ¬ IsOfBefore told
-not_of_before s.Read told is h = subst IsOfBefore is h
-not_of_before (s.World fault) told is h = subst IsOfBefore is h
-not_of_before (s.Twice twice) told is h = subst IsOfBefore is h
-not_of_before s.OutOfMemory told is h = subst IsOfBefore is h
+pub not_of_before : (input : Option (List ℕ)) (fault : ChangesFault) → IsNoSide side.After input fault → ¬ IsOfBefore fault
+not_of_before input (c.Run fault) h of = of
+not_of_before input (c.Twice world twice) (is, h) of = subst (λ s. IsOfBefore (c.Twice s twice)) is of
+not_of_before input (c.Before fault) h of = h
 
 pub not_of_writing : (old new : Option (List ℕ)) (text : List ℕ) (fault : ChangesFault) → IsNotWritten old new text fault → ¬ IsOfBefore fault
 not_of_writing old new text fault (inl (is, begins)) h = subst IsOfBefore is h

@@ -5,89 +5,55 @@ ghost use Rattle.iam_matrix.specs.declared.cut.CutFault.TheVariants as c;
 ghost use Rattle.iam_changes.specs.Code.Pieces.{report_text};
 ghost use Rattle.iam_app.specs.Changes.{CanCompare, EndsChangesBy, HasCutOf, HasNoCutOf, HasSide, IsAskedChanges, IsNoComparison, IsOfBefore, WritesChanges};
 ghost use Rattle.iam_app.specs.ChangesFault.{fails_on};
-ghost use Rattle.iam_app.specs.Code.Sides.{IsNoSide, IsNotWritten, fault_after, fault_before};
+ghost use Rattle.iam_app.specs.Code.Sides.{IsNoSide, IsNotWritten, of_before};
 ghost use Rattle.iam_app.specs.Streams.{ConsumesAtMost};
 
 use crate::OutOfMemory;
 use crate::cells::{format_in, tile_length};
 use crate::changes_fault::{ChangesFault, Side};
 use crate::fault::RunFault;
-use crate::input::{InputFault, read_input};
+use crate::input::read_input;
 use crate::output::{Report, write_report};
 use iam_changes::{ChangesText, Kinds};
 use iam_compare::changes_report;
-use iam_layers::{World, WorldFault};
+use iam_layers::World;
 use iam_matrix::{Cut, CutFault, Open};
 use iam_options::{ChangesOptions, FailOn};
 use iam_report::buffer;
-use iam_requests::{Requests, Twice, first_twice};
+use iam_requests::{Requests, first_twice};
 use iam_selection::Selection;
 use std::alloc::Global;
 use std::io::{Read, Write};
 use std::mem;
 use std::thread::Threads;
 
-/// Why an input is not taken as one of two worlds.
-enum SideFault {
-    Read,
-    World(WorldFault),
-    Twice(Twice),
-    OutOfMemory,
-}
-
-impl From<OutOfMemory> for SideFault {
-    ghost use Rattle.iam_app.specs.declared.changes.SideFault.TheVariants as s;
-
-    ghost from_gives = { λ _ fault. fault ≡ s.OutOfMemory };
-
-    fn from(_: OutOfMemory) -> SideFault {
-        SideFault::OutOfMemory
-    }
-}
-
 /// Reads one of two worlds, whose requests have to be told apart.
-fn read_side<R: Read>(alloc: Global, reader: &mut R) -> Result<World, SideFault>
+fn read_side<R: Read>(alloc: Global, reader: &mut R, side: Side) -> Result<World, ChangesFault>
     ensures most { ConsumesAtMost (R.remaining reader.old) (R.remaining reader.new) 8388609 }
     ensures ok { IfOk result (λ world. HasSide (R.remaining reader.old) world) }
-    ensures fault { IfErr result (λ fault. IsNoSide (R.remaining reader.old) fault) }
+    ensures fault { IfErr result (IsNoSide side (R.remaining reader.old)) }
 {
     let bytes = match read_input(alloc, reader) {
         Ok(bytes) => bytes,
-        Err(InputFault::Read) => return Err(SideFault::Read),
-        Err(InputFault::TooLarge) => return Err(SideFault::World(WorldFault::TooLarge)),
-        Err(InputFault::OutOfMemory) => return Err(SideFault::OutOfMemory),
+        Err(fault) => return Err(ChangesFault::Run(RunFault::from(fault))),
     };
     let world = match World::from_vec(alloc, bytes) {
         Ok(world) => world,
-        Err(fault) => return Err(SideFault::World(fault)),
+        Err(fault) => return Err(ChangesFault::Run(RunFault::World(fault))),
     };
     match first_twice(alloc, &world)? {
         None => Ok(world),
-        Some(twice) => Err(SideFault::Twice(twice)),
+        Some(twice) => Err(ChangesFault::Twice(side, twice)),
     }
 }
 
-/// The fault of the world before.
-fn fault_before(fault: SideFault) -> ChangesFault
-    ensures { result ≡ fault_before fault }
+/// The same fault, told of the world before: one that is no world ends as `Before`.
+fn of_before(fault: ChangesFault) -> ChangesFault
+    ensures { result ≡ of_before fault }
 {
     match fault {
-        SideFault::Read => ChangesFault::Run(RunFault::Read),
-        SideFault::World(fault) => ChangesFault::Before(fault),
-        SideFault::Twice(twice) => ChangesFault::Twice(Side::Before, twice),
-        SideFault::OutOfMemory => ChangesFault::Run(RunFault::OutOfMemory),
-    }
-}
-
-/// The fault of the world after.
-fn fault_after(fault: SideFault) -> ChangesFault
-    ensures { result ≡ fault_after fault }
-{
-    match fault {
-        SideFault::Read => ChangesFault::Run(RunFault::Read),
-        SideFault::World(fault) => ChangesFault::Run(RunFault::World(fault)),
-        SideFault::Twice(twice) => ChangesFault::Twice(Side::After, twice),
-        SideFault::OutOfMemory => ChangesFault::Run(RunFault::OutOfMemory),
+        ChangesFault::Run(RunFault::World(fault)) => ChangesFault::Before(fault),
+        fault => fault,
     }
 }
 
@@ -171,14 +137,11 @@ pub fn run_changes<T: Threads + Sync, R: Read, S: Read, W: Write>(
     ensures fault { IfErr result (λ fault. EndsChangesBy options.now selection.now (R.remaining before.old) (S.remaining after.old) (W.contents writer.old) (W.contents writer.new) fault) }
     ensures unread { IfErr result (λ fault. IsOfBefore fault → S.remaining after.new ≡ S.remaining after.old) }
 {
-    let before = match read_side(alloc, before) {
+    let before = match read_side(alloc, before, Side::Before) {
         Ok(world) => world,
-        Err(fault) => return Err(fault_before(fault)),
+        Err(fault) => return Err(of_before(fault)),
     };
-    let after = match read_side(alloc, after) {
-        Ok(world) => world,
-        Err(fault) => return Err(fault_after(fault)),
-    };
+    let after = read_side(alloc, after, Side::After)?;
     let report = compare(rt, alloc, options, selection, &before, &after);
     // The run ends soon, as one of a single world.
     mem::forget(before);
@@ -197,10 +160,8 @@ fn write_changes<W: Write>(
 {
     let kinds = report.kinds();
     let mut kept = buffer(alloc)?;
-    match write_report(writer, &mut kept, &Report::Changes(report)) {
-        Ok(()) => Ok(kinds),
-        Err(_) => Err(ChangesFault::Run(RunFault::Write)),
-    }
+    write_report(writer, &mut kept, &Report::Changes(report)).map_err(|_| RunFault::Write)?;
+    Ok(kinds)
 }
 
 /// Whether changes of these kinds end a run with a status of its own.

@@ -4,6 +4,7 @@ ghost use Rattle.iam_app.specs.FaultLine.{run_text};
 ghost use Rattle.iam_app.specs.declared.fault.RunFault.TheVariants as f;
 
 use crate::OutOfMemory;
+use crate::input::InputFault;
 use iam_layers::WorldFault;
 use iam_matrix::{CutFault, MatrixFault};
 use std::alloc::Global;
@@ -34,6 +35,20 @@ impl From<OutOfMemory> for RunFault {
 
     fn from(_: OutOfMemory) -> RunFault {
         RunFault::OutOfMemory
+    }
+}
+
+impl From<InputFault> for RunFault {
+    ghost use Rattle.iam_app.specs.Output.{fault_of_input};
+
+    ghost from_gives = { λ input fault. fault ≡ fault_of_input input };
+
+    fn from(fault: InputFault) -> RunFault {
+        match fault {
+            InputFault::Read => RunFault::Read,
+            InputFault::TooLarge => RunFault::World(WorldFault::TooLarge),
+            InputFault::OutOfMemory => RunFault::OutOfMemory,
+        }
     }
 }
 

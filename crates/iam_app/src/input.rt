@@ -60,10 +60,8 @@ pub fn read_input<R: Read>(alloc: Global, reader: &mut R) -> Result<Vec<u8>, Inp
 {
     let mut bytes = Vec::new(alloc);
     while bytes.len() <= MOST {
-        match turn(reader, &mut bytes) {
-            Ok(true) => (),
-            Ok(false) => return Ok(bytes),
-            Err(fault) => return Err(fault),
+        if !turn(reader, &mut bytes)? {
+            return Ok(bytes);
         }
     }
     Err(InputFault::TooLarge)

@@ -43,10 +43,7 @@ fn write_unflushed<W: Write>(
 fn flush<W: Write>(writer: &mut W) -> Result<(), OutputFault>
     ensures { Keeps (W.contents writer.old) (W.contents writer.new) }
 {
-    match writer.flush() {
-        Ok(()) => Ok(()),
-        Err(_) => Err(OutputFault),
-    }
+    writer.flush().map_err(|_| OutputFault)
 }
 
 /// Writes the whole report by way of an empty buffer, and flushes behind its last byte. No memory is taken. After a fault

@@ -5,16 +5,16 @@ ghost use Rattle.iam_layers.specs.Cell.{IsCell};
 ghost use Rattle.iam_world.specs.World.{world_cells, world_statements};
 ghost use Rattle.iam_app.specs.Code.Pieces.{report_text};
 ghost use Rattle.iam_app.specs.Code.Cells.{HasTriple};
-ghost use Rattle.iam_app.specs.Output.{EndsBy, HasOutput, IsAnswer, IsOutput, IsRefusal, IsReportOf, IsWorldRefusal, counts_text, fault_of_input};
+ghost use Rattle.iam_app.specs.Output.{EndsBy, HasOutput, IsAnswer, IsOutput, IsRefusal, IsReportOf, IsWorldRefusal, counts_text};
 ghost use Rattle.iam_app.specs.Streams.{ConsumesAtMost};
 ghost use Rattle.iam_app.specs.declared.fault.RunFault.TheVariants as f;
 
 use crate::OutOfMemory;
 use crate::cells::{first, matrix};
 use crate::fault::RunFault;
-use crate::input::{InputFault, read_input};
+use crate::input::read_input;
 use crate::output::{Report, write_report};
-use iam_layers::{World, WorldFault};
+use iam_layers::World;
 use iam_matrix::csv_row;
 use iam_options::{Options, Task};
 use iam_report::buffer;
@@ -113,17 +113,6 @@ fn answer<T: Threads + Sync>(
     }
 }
 
-/// The fault of a run whose input is not taken.
-pub fn input_fault(fault: InputFault) -> RunFault
-    ensures { result ≡ fault_of_input fault }
-{
-    match fault {
-        InputFault::Read => RunFault::Read,
-        InputFault::TooLarge => RunFault::World(WorldFault::TooLarge),
-        InputFault::OutOfMemory => RunFault::OutOfMemory,
-    }
-}
-
 /// Reads a world, and writes the report that the options ask for: the whole report is made before its first byte is
 /// written. At most 8,388,609 bytes are read. The first fault in this order ends the run: `Read`, `World`, `NoSuchCell`,
 /// `Cut`, `Matrix`, `Write`; that there is no memory can come at any point before the writing: as `World` while the world is
@@ -142,14 +131,8 @@ pub fn run<T: Threads + Sync, R: Read, W: Write>(
     ensures done { OnOk result (HasOutput options.now (R.remaining reader.old) (Appends (W.contents writer.old) (W.contents writer.new))) }
     ensures fault { IfErr result (λ fault. EndsBy options.now (R.remaining reader.old) (W.contents writer.old) (W.contents writer.new) fault) }
 {
-    let bytes = match read_input(alloc, reader) {
-        Ok(bytes) => bytes,
-        Err(fault) => return Err(input_fault(fault)),
-    };
+    let bytes = read_input(alloc, reader)?;
     let report = answer(rt, alloc, options, bytes)?;
     let mut kept = buffer(alloc)?;
-    match write_report(writer, &mut kept, &report) {
-        Ok(()) => Ok(()),
-        Err(_) => Err(RunFault::Write),
-    }
+    write_report(writer, &mut kept, &report).map_err(|_| RunFault::Write)
 }

@@ -15,7 +15,7 @@ use crate::cells::{cut_cells, format_in};
 use crate::fault::RunFault;
 use crate::input::read_input;
 use crate::output::{Report, write_report};
-use crate::program::{input_fault, report};
+use crate::program::report;
 use iam_layers::{Decision, World};
 use iam_matrix::Open;
 use iam_options::{Asked, Options, Task};
@@ -171,14 +171,8 @@ pub fn run_selected<T: Threads + Sync, R: Read, W: Write>(
     ensures done { OnOk result (HasSelectedOutput options.now selection.now (R.remaining reader.old) (Appends (W.contents writer.old) (W.contents writer.new))) }
     ensures fault { IfErr result (λ fault. EndsSelectedBy options.now selection.now (R.remaining reader.old) (W.contents writer.old) (W.contents writer.new) fault) }
 {
-    let bytes = match read_input(alloc, reader) {
-        Ok(bytes) => bytes,
-        Err(fault) => return Err(input_fault(fault)),
-    };
+    let bytes = read_input(alloc, reader)?;
     let report = answer(rt, alloc, options, selection, bytes)?;
     let mut kept = buffer(alloc)?;
-    match write_report(writer, &mut kept, &report) {
-        Ok(()) => Ok(()),
-        Err(_) => Err(RunFault::Write),
-    }
+    write_report(writer, &mut kept, &report).map_err(|_| RunFault::Write)
 }

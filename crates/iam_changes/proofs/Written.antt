@@ -19,13 +19,11 @@ parts_text pieces (part ∷ parts) =
     flat_map-cons (λ (p : PartValue). rows_text pieces p.rows) part parts ∙ ap (λ t. rows_text pieces part.rows ++ t) (parts_text pieces parts)
     ∙ sym (flat_map-append (row_text pieces) part.rows (rows_in parts)) ∙ ap (rows_text pieces) (sym (flat_map-cons (λ (p : PartValue). p.rows) part parts))
 
-pub text_parts : (report : ReportValue) (rows : List (ℕ × Tail)) (front back : List ℕ) → report.rows ≡ rows
-    → front ≡ opening_text report.pieces.after.format report.brief → back ≡ closing_text report.pieces.after.format
-    → report_text report ≡ front ++ (rows_text report.pieces rows ++ back)
-text_parts report rows front back same opens closes =
-    ap (λ t. t ++ (rows_text report.pieces report.rows ++ closing_text report.pieces.after.format)) (sym opens)
-    ∙ ap (λ t. front ++ (rows_text report.pieces report.rows ++ t)) (sym closes)
-    ∙ ap (λ rs. front ++ (rows_text report.pieces rs ++ back)) same
+pub text_parts : (report whole : ReportValue) (rows : List (ℕ × Tail)) (front : List ℕ) → report ≡ whole → rows ≡ report.rows
+    → front ≡ opening_text report.pieces.after.format report.brief → report_text whole ≡ front ++ (rows_text report.pieces rows ++ closing_text report.pieces.after.format)
+text_parts report whole rows front is e opens =
+    let rest : List (ℕ × Tail) → List ℕ = λ rs. rows_text report.pieces rs ++ closing_text report.pieces.after.format in
+    ap report_text (sym is) ∙ ap (λ t. t ++ rest report.rows) (sym opens) ∙ ap (λ rs. front ++ rest rs) (sym e)
 
 -- the cell of the first row, where the parts before this one have none
 pub lead_at : (parts : List PartValue) (i : ℕ) (part : PartValue) → i < length parts → part ≡ get_or parts i part → rows_in (take i parts) ≡ []

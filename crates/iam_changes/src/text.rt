@@ -9,8 +9,8 @@ ghost use Rattle.iam_changes.specs.Code.Pieces.{lead_of, report_text, row_behind
 use crate::change::Kinds;
 use crate::part::Part;
 use crate::tail::opening;
-use iam_report::{OutputFault, put, put_all, write_kept};
-use iam_row::{Format, Quoted, Tail, closing, text_at};
+use iam_report::{OutputFault, put, put_all, write_end};
+use iam_row::{Format, Quoted, Tail, text_at};
 use iam_selection::{comma_of, position_in};
 use std::io::Write;
 use std::marker::Model;
@@ -126,9 +126,7 @@ fn put_part<W: Write>(
     let mut behind = part.from();
     for i in 0..part.len() {
         let cell = part.cell(i, behind);
-        if let Err(fault) = put_row(writer, kept, pieces, cell, part.tail(i)) {
-            return Err(fault);
-        }
+        put_row(writer, kept, pieces, cell, part.tail(i))?;
         behind = cell + 1;
     }
     Ok(())
@@ -145,9 +143,7 @@ fn put_parts<W: Write>(
     ensures err { OnErr result (AppendsBeginning (W.contents writer.old) (W.contents writer.new) (kept.old.items ++ rows_text pieces.now (rows_in parts.now))) }
 {
     for part in parts {
-        if let Err(fault) = put_part(writer, kept, pieces, part) {
-            return Err(fault);
-        }
+        put_part(writer, kept, pieces, part)?;
     }
     Ok(())
 }
@@ -195,18 +191,8 @@ impl ChangesText {
     {
         let format = self.pieces.after.format;
         let parts = self.parts.as_slice();
-        if let Err(fault) = put(writer, kept, opening(format, self.brief)) {
-            return Err(fault);
-        }
-        if let Err(fault) = put_parts(writer, kept, &self.pieces, parts) {
-            return Err(fault);
-        }
-        if let Err(fault) = put(writer, kept, closing(format)) {
-            return Err(fault);
-        }
-        if let Err(fault) = write_kept(writer, kept) {
-            return Err(fault);
-        }
-        Ok(())
+        put(writer, kept, opening(format, self.brief))?;
+        put_parts(writer, kept, &self.pieces, parts)?;
+        write_end(writer, kept, format)
     }
 }

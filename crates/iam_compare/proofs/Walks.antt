@@ -21,7 +21,7 @@ use Rattle.iam_row.specs.declared.quoted.Format.{Format}
 use Rattle.iam_row.specs.declared.tail.Tail.{Tail}
 use Rattle.iam_changes.specs.Code.Kept.{GatheredValue, no_kinds, part_row, with_kind}
 use Rattle.iam_changes.specs.Code.Pieces.{PartValue}
-use Rattle.iam_compare.specs.Code.Walk.{AddsChange, Gathers, IsLeftRow, IsPartOf, IsRowAt, kept_row, kinds_with, numbered, tail_row, with_row}
+use Rattle.iam_compare.specs.Code.Walk.{AddsSaid, Gathers, IsLeftRow, IsPartOf, IsRowAt, kept_row, kinds_with, numbered, tail_row, with_row}
 use Rattle.iam_changes.specs.declared.change.Kinds.{Kinds}
 use Rattle.iam_changes.specs.declared.pair.Pair.{Pair}
 
@@ -158,10 +158,11 @@ few_rows asked requests brief from to old new gathers few =
 -- ---- the row of a request
 
 -- it is selected, and what is said of it was looked at
-pub gathers_said : (asked : AskedValue) (requests : RequestsValue) (brief : Bool) (cell : ℕ) (texts : CellTexts) (old new : GatheredValue)
+pub gathers_said : (asked : AskedValue) (requests : RequestsValue) (brief : Bool) (cell : ℕ) (texts : CellTexts) (said says : Option Verdict) (old new : GatheredValue)
     → ((row : Option ChangeValue) → IsRow asked requests.before requests.after texts row → IsRowAt asked requests cell row) → Selects asked.selection texts
-    → AddsChange requests asked.all brief cell texts old new → old.end ≤ cell → Gathers asked requests brief cell (cell + 1) old new
-gathers_said asked requests brief cell texts old new place selects (said, says, before, after, added) end = elim added [
+    → Says requests.before texts said → Says requests.after texts says → AddsSaid asked.all brief cell said says old new → old.end ≤ cell
+    → Gathers asked requests brief cell (cell + 1) old new
+gathers_said asked requests brief cell texts said says old new place selects before after added end = elim added [
   | inl (change, changes, e) ↦
       gathers_row asked requests brief cell (record { texts = texts; change = change; before = said; after = says }) old new
       (place (Some (record { texts = texts; change = change; before = said; after = says })) (selects, refl, record { said = before; says = after; is = changes })) e

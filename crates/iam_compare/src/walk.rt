@@ -4,17 +4,16 @@ ghost use Rattle.iam_decision.specs.declared.verdict.Verdict.{Verdict};
 ghost use Rattle.iam_world.specs.World.{world_cells};
 ghost use Rattle.iam_layers.specs.Cell.{IsCell};
 ghost use Rattle.iam_row.specs.Report.{CellTexts, IsCellTexts};
-ghost use Rattle.iam_requests.specs.Requests.{Has};
-ghost use Rattle.iam_compare.specs.Code.Walk.{AddsChange, AddsSaid, AreEnginesOf, Gathers, IsCrew, IsLeftRow, IsPartOf, all_cells, asked_of, with_row, IsTileOf, reached};
+ghost use Rattle.iam_compare.specs.Code.Walk.{AddsSaid, AreEnginesOf, Gathers, IsCrew, IsLeftRow, IsPartOf, all_cells, asked_of, with_row, IsTileOf, reached};
 
 use iam_changes::{Change, Decisions, Gathered, Part, Verdicts, change_of};
 use iam_classes::ClassEngine;
 use iam_crew::{Bound, Crew};
 use iam_layers::{Decision, Verdict, one_triple};
-use iam_matrix::Cut;
+use iam_matrix::{Asks, Cut, past_row};
 use iam_requests::Requests;
 use iam_row::{Format, Position};
-use iam_selection::{Picker, past_row};
+use iam_selection::Picker;
 use iam_survey::Survey;
 use iam_text::OutOfMemory;
 use std::alloc::Global;
@@ -227,7 +226,16 @@ fn visit_after(
     if !crew.pick_after.asks(at) {
         return Ok(());
     }
-    add_after(alloc, crew, engines, at, rows)
+    let number = engines[1].find(alloc, at.principal, at.action, at.resource)?;
+    let Some((p, a, r)) = crew.requests.to_before().find(at) else {
+        let says = Some(engines[1].verdict(number));
+        return add_said(alloc, crew.asked, at.cell, number, None, says, rows);
+    };
+    let other = engines[0].find(alloc, p, a, r)?;
+    let hint = number ^ other.rotate_left(5);
+    let said = Some(engines[0].verdict(other));
+    let says = Some(engines[1].verdict(number));
+    add_said(alloc, crew.asked, at.cell, hint, said, says, rows)
 }
 
 /// Adds the row of a cell of BEFORE whose request AFTER does not have, where it is selected and has changed.
@@ -255,58 +263,6 @@ fn visit_before(
     if crew.requests.to_after().find(at).is_some() {
         return Ok(());
     }
-    add_before(alloc, crew, before, at, rows)
-}
-
-/// Adds the row of a cell of AFTER, where its request has changed.
-#[inline(always)]
-fn add_after(
-    alloc: Global,
-    crew: &Workers<'_>,
-    engines: &mut Vec<ClassEngine<'_>>,
-    at: Position,
-    rows: &mut Gathered,
-) -> Result<(), OutOfMemory>
-    requires crew { IsCrew crew.now }
-    requires tools { AreEnginesOf crew.now engines.old.items }
-    requires cell { IsCell crew.now.requests.now.after at.cell at.principal at.action at.resource }
-    requires small { at.cell < 2 ^ 32 }
-    requires rows { rows.old.end ≤ at.cell }
-    requires few { length rows.old.rows ≤ at.cell }
-    ensures rows { OnOk result ((texts : CellTexts) → IsCellTexts crew.now.requests.now.after at.cell texts
-        → AddsChange crew.now.requests.now crew.now.asked.all crew.now.asked.brief at.cell texts rows.old rows.new) }
-    ensures tools { AreEnginesOf crew.now engines.new.items }
-{
-    let number = engines[1].find(alloc, at.principal, at.action, at.resource)?;
-    let Some((p, a, r)) = crew.requests.to_before().find(at) else {
-        let says = Some(engines[1].verdict(number));
-        return add_said(alloc, crew.asked, at.cell, number, None, says, rows);
-    };
-    let other = engines[0].find(alloc, p, a, r)?;
-    let hint = number ^ other.rotate_left(5);
-    let said = Some(engines[0].verdict(other));
-    let says = Some(engines[1].verdict(number));
-    add_said(alloc, crew.asked, at.cell, hint, said, says, rows)
-}
-
-/// Adds the row of a cell of BEFORE whose request AFTER does not have, where it has changed.
-fn add_before(
-    alloc: Global,
-    crew: &Workers<'_>,
-    before: &mut ClassEngine<'_>,
-    at: Position,
-    rows: &mut Gathered,
-) -> Result<(), OutOfMemory>
-    requires crew { IsCrew crew.now }
-    requires tools { before.old.world ≡ crew.now.before.now }
-    requires cell { IsCell crew.now.requests.now.before at.cell at.principal at.action at.resource }
-    requires small { world_cells crew.now.requests.now.after + at.cell < 2 ^ 32 }
-    requires rows { rows.old.end ≤ world_cells crew.now.requests.now.after + at.cell }
-    requires few { length rows.old.rows ≤ world_cells crew.now.requests.now.after + at.cell }
-    ensures rows { OnOk result ((texts : CellTexts) → IsCellTexts crew.now.requests.now.before at.cell texts → ¬ Has crew.now.requests.now.after texts
-        → AddsChange crew.now.requests.now crew.now.asked.all crew.now.asked.brief (world_cells crew.now.requests.now.after + at.cell) texts rows.old rows.new) }
-    ensures tools { before.new.world ≡ crew.now.before.now }
-{
     let cell = crew.requests.after().cells() + at.cell;
     let number = before.find(alloc, at.principal, at.action, at.resource)?;
     let said = Some(before.verdict(number));

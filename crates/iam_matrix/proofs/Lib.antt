@@ -1,6 +1,6 @@
 pub mod LeadLemmas
 pub mod OneMatrix
 mod RowLemmas
-pub mod Offers
+mod Offers
 pub mod Tails
 pub mod Tiles

@@ -1,5 +1,5 @@
 // Cells that follow one another, and the decision on each.
-ghost use Rattle.std.specs.Prelude.{◌≡◌, ◌+◌, ◌≤◌, IfOk};
+ghost use Rattle.std.specs.Prelude.{◌≡◌, ◌⊎◌, ◌+◌, ◌-◌, ◌<◌, ◌≤◌, ◌^◌, ℕ, IfOk, length};
 ghost use Rattle.iam_layers.specs.Cell.{IsCell, IsDecisionOf};
 ghost use Rattle.iam_world.specs.World.{world_cells};
 
@@ -32,4 +32,47 @@ pub fn decision_at(
 {
     let number = engine.find(alloc, at.principal, at.action, at.resource)?;
     Ok(engine.verdict(number).decision)
+}
+
+/// How many cells from a position on, up to an end, have the same principal and action.
+pub fn left_in_row(world: &World, at: Position, end: u64) -> u64
+    requires is { IsCell world.now at.cell at.principal at.action at.resource }
+    requires some { at.cell < end }
+    ensures some { 1 ≤ result }
+    ensures few { at.resource + result < 2 ^ 64 }
+    ensures cells { at.cell + result ≤ end }
+    ensures resources { at.resource + result ≤ length world.now.resources }
+    ensures all { (at.cell + result ≡ end) ⊎ (at.resource + result ≡ length world.now.resources) }
+{
+    (end - at.cell).min(world.resources() - at.resource)
+}
+
+/// The position behind so many cells of a row.
+pub fn along(world: &World, at: Position, count: u64) -> Position
+    requires is { IsCell world.now at.cell at.principal at.action at.resource }
+    requires some { 1 ≤ count }
+    requires row { at.resource + count ≤ length world.now.resources }
+    ensures cell { result.cell ≡ at.cell + count }
+    ensures is { at.cell + count < world_cells world.now → IsCell world.now result.cell result.principal result.action result.resource }
+{
+    let _cells = world.cells();
+    let last = Position {
+        cell: at.cell + count - 1,
+        resource: at.resource + count - 1,
+        ..at
+    };
+    last.next_in(world)
+}
+
+/// The first cell behind those of this one's principal and action, or the one at the end where that comes first.
+pub fn past_row(world: &World, at: Position, end: u64) -> Position
+    requires is { IsCell world.now at.cell at.principal at.action at.resource }
+    requires before { at.cell < end }
+    requires end { end ≤ world_cells world.now }
+    ensures more { at.cell < result.cell }
+    ensures most { result.cell ≤ end }
+    ensures is { result.cell < world_cells world.now → IsCell world.now result.cell result.principal result.action result.resource }
+    ensures same { (cell : ℕ) → at.cell ≤ cell → cell < result.cell → IsCell world.now cell at.principal at.action (at.resource + (cell - at.cell)) }
+{
+    along(world, at, left_in_row(world, at, end))
 }

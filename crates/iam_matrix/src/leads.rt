@@ -8,7 +8,8 @@ ghost use Rattle.iam_matrix.specs.Code.Leads.{AreKnown, AreLeads, HasVerdict, Is
 ghost use Rattle.iam_matrix.specs.Code.Tiles.{Adds};
 
 use iam_classes::ClassEngine;
-use iam_report::Entries;
+use iam_layers::Verdict;
+use iam_report::Kept;
 use iam_row::Position;
 use iam_slots::{Numbered, empty_slots, keep_number, number_in, slot_of};
 use iam_text::OutOfMemory;
@@ -54,7 +55,7 @@ pub fn put_known(
     leads: &[Option<Numbered>],
     at: Position,
     most: u64,
-    entries: &mut Entries,
+    entries: &mut Kept<Verdict>,
 ) -> Result<u64, OutOfMemory>
     requires few { at.resource + most < 2 ^ 64 }
     requires leads { AreLeads engine.now leads.now entries.old }
@@ -75,7 +76,7 @@ fn put_pairs(
     leads: &[Option<Numbered>],
     at: Position,
     most: u64,
-    entries: &mut Entries,
+    entries: &mut Kept<Verdict>,
 ) -> Result<u64, OutOfMemory>
     requires few { at.resource + most < 2 ^ 64 }
     requires leads { (engine : EngineValue) × AreKnown engine pairs.now × AreLeads engine leads.now entries.old }

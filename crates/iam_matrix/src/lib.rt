@@ -3,6 +3,7 @@
 //! Whatever the cut of the cells into tiles and the number of workers, the answer is that of one thread.
 #![tactic(auto)]
 
+mod asks;
 mod cells;
 mod cut;
 mod each;
@@ -16,9 +17,10 @@ mod search;
 mod survey;
 mod workers;
 
+pub use asks::Asks;
 pub use cells::{matrix, matrix_brief};
 pub use cut::{Cells, Cut, CutFault};
-pub use each::{decision_at, end_of};
+pub use each::{end_of, past_row};
 pub use fault::MatrixFault;
 pub use iam_crew::{Gate, Open};
 pub use iam_layers::{Decision, Verdict, World};
@@ -27,7 +29,6 @@ pub use iam_row::{Format, csv_row, csv_row_brief};
 pub use iam_text::OutOfMemory;
 pub use laws::{one_brief_matrix, one_first, one_matrix, one_report};
 pub use report::{first_report, first_text, matrix_report};
-pub use rows::{along, left_in_row};
-pub use search::{first, is_behind};
+pub use search::{first, first_asked};
 pub use survey::survey_of;
 pub use workers::is_unlawful;

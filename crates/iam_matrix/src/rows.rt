@@ -1,12 +1,11 @@
 // The tails of the rows of each tile.
-ghost use Rattle.std.specs.Prelude.{◌≡◌, ◌⊎◌, ◌+◌, ◌<◌, ◌≤◌, ◌^◌, [], IfOk, OnOk, length, slice_index, true};
+ghost use Rattle.std.specs.Prelude.{◌≡◌, ◌+◌, ◌≤◌, [], IfOk, OnOk, slice_index, true};
 ghost use Rattle.iam_world.specs.World.{world_cells};
-ghost use Rattle.iam_layers.specs.Cell.{IsCell};
 ghost use Rattle.iam_classes.specs.Engine.{IsSameEngine};
 ghost use Rattle.iam_matrix.specs.Code.Tiles.{AreEntries, AreTailsOf, IsOf, IsTileOf};
 
 use crate::cut::{Cells, Cut};
-use crate::each::end_of;
+use crate::each::{along, end_of, left_in_row};
 use crate::said::{Said, Verdicts};
 use iam_classes::ClassEngine;
 use iam_crew::{Bound, Crew};
@@ -113,34 +112,4 @@ fn say_all<T, S: Said<T>>(
         at = along(world, at, count);
     }
     Ok(())
-}
-
-/// How many cells from a position on, up to an end, have the same principal and action.
-pub fn left_in_row(world: &World, at: Position, end: u64) -> u64
-    requires is { IsCell world.now at.cell at.principal at.action at.resource }
-    requires some { at.cell < end }
-    ensures some { 1 ≤ result }
-    ensures few { at.resource + result < 2 ^ 64 }
-    ensures cells { at.cell + result ≤ end }
-    ensures resources { at.resource + result ≤ length world.now.resources }
-    ensures all { (at.cell + result ≡ end) ⊎ (at.resource + result ≡ length world.now.resources) }
-{
-    (end - at.cell).min(world.resources() - at.resource)
-}
-
-/// The position behind so many cells of a row.
-pub fn along(world: &World, at: Position, count: u64) -> Position
-    requires is { IsCell world.now at.cell at.principal at.action at.resource }
-    requires some { 1 ≤ count }
-    requires row { at.resource + count ≤ length world.now.resources }
-    ensures cell { result.cell ≡ at.cell + count }
-    ensures is { at.cell + count < world_cells world.now → IsCell world.now result.cell result.principal result.action result.resource }
-{
-    let _cells = world.cells();
-    let last = Position {
-        cell: at.cell + count - 1,
-        resource: at.resource + count - 1,
-        ..at
-    };
-    last.next_in(world)
 }

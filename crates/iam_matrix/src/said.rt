@@ -9,7 +9,7 @@ ghost use Rattle.iam_matrix.specs.Code.Tiles.{Adds};
 use crate::leads::{keep_lead, no_leads, put_known};
 use iam_classes::ClassEngine;
 use iam_layers::{Decision, Verdict};
-use iam_report::{Decisions, Entries};
+use iam_report::{Decisions, Kept};
 use iam_row::Position;
 use iam_slots::{Numbered, empty};
 use iam_text::OutOfMemory;
@@ -98,7 +98,7 @@ fn put_decided(
 /// Verdicts, and where those on requests of each class stand among them.
 #[derive(Drop)]
 pub struct Verdicts {
-    pub entries: Entries,
+    pub entries: Kept<Verdict>,
     pub leads: Vec<Option<Numbered>>,
 }
 
@@ -109,7 +109,7 @@ impl Verdicts {
         ensures leads { IfOk result (λ verdicts. (engine : EngineValue) → AreLeads engine verdicts.leads.items verdicts.entries) }
     {
         Ok(Verdicts {
-            entries: Entries::new(alloc, count as usize)?,
+            entries: Kept::new(alloc, count as usize)?,
             leads: no_leads(alloc, count),
         })
     }
@@ -137,8 +137,7 @@ impl Verdicts {
         let class = class_of(alloc, engine, p, r, &mut self.leads)?;
         let place = self.entries.len();
         let number = engine.number(alloc, class, a)?;
-        self.entries
-            .push_hinted(alloc, number, engine.verdict(number))?;
+        self.entries.push(alloc, number, engine.verdict(number))?;
         keep_lead(&mut self.leads, class, a, place);
         Ok(())
     }

@@ -73,19 +73,34 @@ passes_written a b c x before y text rest e f none first last = record {
 }
 
 -- what is kept is written in the end
-pub passes_done : (a b c : Option (List ℕ)) (k l x text : List ℕ) → k ≡ [] → x ≡ l → Passes a b k l text → Appends b c x → Appends a c text
-passes_done a b c k l x text none e first last =
-    let parts : first.front ++ x ≡ text = ap (λ y. first.front ++ y) e ∙ sym first.parts ∙ ap (λ y. y ++ text) none in
-    subst (Appends a c) parts (Appends-trans a b c first.front x first.gained last)
+pub passes_done : (a b c : Option (List ℕ)) (k l s text : List ℕ) → s ≡ text → Passes a b k l s → Appends b c l → Appends a c (k ++ text)
+passes_done a b c k l s text e first last =
+    subst (Appends a c) (sym first.parts ∙ ap (λ x. k ++ x) e) (Appends-trans a b c first.front l first.gained last)
 
-pub passes_undone : (a b c : Option (List ℕ)) (k l x text : List ℕ) → k ≡ [] → x ≡ l → Passes a b k l text → AppendsBeginning b c x → AppendsBeginning a c text
-passes_undone a b c k l x text none e first last =
-    let parts : first.front ++ (x ++ []) ≡ text =
-    ap (λ y. first.front ++ y) (append-nil x ∙ e) ∙ sym first.parts ∙ ap (λ y. y ++ text) none in
-    subst (AppendsBeginning a c) parts (beginning_behind a b c first.front x [] first.gained last)
+pub passes_undone : (a b c : Option (List ℕ)) (k l s text : List ℕ) → s ≡ text → Passes a b k l s → AppendsBeginning b c l → AppendsBeginning a c (k ++ text)
+passes_undone a b c k l s text e first last =
+    let parts : first.front ++ (l ++ []) ≡ k ++ text = ap (λ x. first.front ++ x) (append-nil l) ∙ sym first.parts ∙ ap (λ x. k ++ x) e in
+    subst (AppendsBeginning a c) parts (beginning_behind a b c first.front l [] first.gained last)
 
-pub fails_from_nothing : (a b : Option (List ℕ)) (k all : List ℕ) → k ≡ [] → AppendsBeginning a b (k ++ all) → AppendsBeginning a b all
-fails_from_nothing a b k all none h = subst (λ (x : List ℕ). AppendsBeginning a b (x ++ all)) none h
+-- a front, rows and an end, where nothing was kept before: the rows fail, or the end does, or all is written
+pub rows_fail : (a b c : Option (List ℕ)) (k l front rows end all : List ℕ) → k ≡ [] → all ≡ front ++ (rows ++ end) → Passes a b k l front
+    → AppendsBeginning b c (l ++ rows) → AppendsBeginning a c all
+rows_fail a b c k l front rows end all none e first last =
+    subst (λ x. AppendsBeginning a c (x ++ all)) none (passes_fails_more a b c k l front rows end all e first last)
+
+pub end_fails : (a b c d : Option (List ℕ)) (k l m front rows end all : List ℕ) → k ≡ [] → all ≡ front ++ (rows ++ end) → Passes a b k l front → Passes b c l m rows
+    → AppendsBeginning c d (m ++ end) → AppendsBeginning a d all
+end_fails a b c d k l m front rows end all none e first second last =
+    subst (λ x. AppendsBeginning a d (x ++ all)) none
+    (passes_fails a c d k m (front ++ rows) end all (e ∙ sym (append_assoc front rows end)) (passes_both a b c k l m front rows first second) last)
+
+pub end_done : (a b c d : Option (List ℕ)) (k l m front rows end all : List ℕ) → k ≡ [] → all ≡ front ++ (rows ++ end) → Passes a b k l front → Passes b c l m rows
+    → Appends c d (m ++ end) → Appends a d all
+end_done a b c d k l m front rows end all none e first second last =
+    let both = passes_both a b c k l m front rows first second in
+    let parts : both.front ++ (m ++ end) ≡ all =
+    sym (append_assoc both.front m end) ∙ ap (λ x. x ++ end) (sym both.parts) ∙ ap (λ x. (x ++ (front ++ rows)) ++ end) none ∙ append_assoc front rows end ∙ sym e in
+    subst (Appends a d) parts (Appends-trans a c d both.front (m ++ end) both.gained last)
 
 -- the texts before one of them, this one, and those behind it
 pub flat_map_at : {X A : Type 0} (f : X → List A) (xs : List X) (i : ℕ) (d : X) → i < length xs
@@ -232,9 +247,8 @@ tiles_all quoted tiles i at behind a b k l past puts =
     (subst (λ (ts : List (List Tail)). PutsRows quoted (all_tails ts) at behind a b k l) (take_all i tiles past) puts)
 
 -- the parts of a whole text
-pub text_parts : (matrix : MatrixValue) (tails : List Tail) (front back : List ℕ) → front ≡ opening_text matrix.quoted.format matrix.brief → tails ≡ matrix.tails
-    → back ≡ closing_text matrix.quoted.format → text_of matrix ≡ front ++ (rows_text matrix.quoted first_position tails ++ back)
-text_parts matrix tails front back e f h =
-    let opening = opening_text matrix.quoted.format matrix.brief in
-    let rows : List Tail → List ℕ = λ ts. rows_text matrix.quoted first_position ts in
-    sym (ap (λ x. x ++ (rows tails ++ back)) e ∙ ap (λ ts. opening ++ (rows ts ++ back)) f ∙ ap (λ y. opening ++ (rows matrix.tails ++ y)) h)
+pub text_parts : (matrix whole : MatrixValue) (tails : List Tail) (front : List ℕ) → matrix ≡ whole → tails ≡ matrix.tails → front ≡ opening_text matrix.quoted.format matrix.brief
+    → text_of whole ≡ front ++ (rows_text matrix.quoted first_position tails ++ closing_text matrix.quoted.format)
+text_parts matrix whole tails front is e f =
+    let rest : List Tail → List ℕ = λ ts. rows_text matrix.quoted first_position ts ++ closing_text matrix.quoted.format in
+    ap text_of (sym is) ∙ ap (λ x. x ++ rest matrix.tails) (sym f) ∙ ap (λ ts. front ++ rest ts) (sym e)

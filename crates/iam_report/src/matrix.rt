@@ -2,7 +2,7 @@
 ghost use Rattle.std.specs.Prelude.{◌≡◌, ◌++◌, ◌+◌, ◌≤◌, [], List, OnErr, OnOk, length};
 ghost use Rattle.std.specs.Io.KnownBytes.{Appends};
 ghost use Rattle.std.specs.List.{flat_map};
-ghost use Rattle.iam_row.specs.Piece.{first_position, rows_text, text_of, MatrixValue};
+ghost use Rattle.iam_row.specs.Piece.{closing_text, first_position, rows_text, text_of, MatrixValue};
 ghost use Rattle.iam_row.specs.declared.tail.Tail.{Tail};
 ghost use Rattle.iam_report.specs.Code.Buffer.{IsWithin, PutsRows, Passes};
 ghost use Rattle.iam_report.specs.Code.Line.{row_behind};
@@ -100,6 +100,19 @@ fn put_object<'a, W: Write>(
     )
 }
 
+/// Writes what is kept, and what stands behind all rows. No memory is taken. After a fault the writer gained a beginning of both.
+pub fn write_end<W: Write>(
+    writer: &mut W,
+    kept: &mut Vec<u8>,
+    format: Format,
+) -> Result<(), OutputFault>
+    ensures ok { OnOk result (Appends (W.contents writer.old) (W.contents writer.new) (kept.old.items ++ closing_text format)) }
+    ensures err { OnErr result (AppendsBeginning (W.contents writer.old) (W.contents writer.new) (kept.old.items ++ closing_text format)) }
+{
+    put(writer, kept, closing(format))?;
+    write_kept(writer, kept)
+}
+
 /// Puts the rows of a tile from this position on, and moves it behind the last.
 fn put_tile<W: Write>(
     writer: &mut W,
@@ -117,10 +130,7 @@ fn put_tile<W: Write>(
     ensures cell { OnOk result (at.new.cell ≡ at.old.cell + length tile.now) }
 {
     let (tails, numbers) = tile.parts();
-    if let Err(fault) = put_rows(writer, kept, block, quoted, tails, numbers, at) {
-        return Err(fault);
-    }
-    Ok(())
+    put_rows(writer, kept, block, quoted, tails, numbers, at)
 }
 
 /// Puts the rows of all tiles.
@@ -137,14 +147,9 @@ fn put_tiles<W: Write>(
     let mut at = Position::first();
     let mut block = Block::new();
     for tile in tiles {
-        if let Err(fault) = put_tile(writer, kept, &mut block, quoted, tile, &mut at) {
-            return Err(fault);
-        }
+        put_tile(writer, kept, &mut block, quoted, tile, &mut at)?;
     }
-    if let Err(fault) = put_bytes(writer, kept, block.text()) {
-        return Err(fault);
-    }
-    Ok(())
+    put_bytes(writer, kept, block.text())
 }
 
 impl MatrixText {
@@ -168,18 +173,8 @@ impl MatrixText {
         ensures err { OnErr result (AppendsBeginning (W.contents writer.old) (W.contents writer.new) (text_of self.now)) }
     {
         let format = self.quoted.format;
-        if let Err(fault) = put(writer, kept, opening(format, self.brief)) {
-            return Err(fault);
-        }
-        if let Err(fault) = put_tiles(writer, kept, &self.quoted, self.tiles.as_slice()) {
-            return Err(fault);
-        }
-        if let Err(fault) = put(writer, kept, closing(format)) {
-            return Err(fault);
-        }
-        if let Err(fault) = write_kept(writer, kept) {
-            return Err(fault);
-        }
-        Ok(())
+        put(writer, kept, opening(format, self.brief))?;
+        put_tiles(writer, kept, &self.quoted, self.tiles.as_slice())?;
+        write_end(writer, kept, format)
     }
 }

@@ -70,18 +70,13 @@ fn put_behind<W: Write>(writer: &mut W, kept: &mut Vec<u8>, text: &[u8]) -> Resu
     ensures ok { OnOk result (Passes (W.contents writer.old) (W.contents writer.new) kept.old.items kept.new.items text.now) }
     ensures err { OnErr result (AppendsBeginning (W.contents writer.old) (W.contents writer.new) (kept.old.items ++ text.now)) }
 {
-    if let Err(fault) = write_kept(writer, kept) {
-        return Err(fault);
-    }
+    write_kept(writer, kept)?;
     kept.clear();
     if text.len() <= kept.capacity() - kept.len() {
         keep(kept, text);
         return Ok(());
     }
-    if let Err(fault) = write_text(writer, text) {
-        return Err(fault);
-    }
-    Ok(())
+    write_text(writer, text)
 }
 
 /// Puts bytes behind what is kept, as [`put`] does.
@@ -119,9 +114,7 @@ pub fn put_all<W: Write>(
     ensures err { OnErr result (AppendsBeginning (W.contents writer.old) (W.contents writer.new) (kept.old.items ++ flat_map (λ text. text.now) texts.now)) }
 {
     for text in texts {
-        if let Err(fault) = put(writer, kept, text) {
-            return Err(fault);
-        }
+        put(writer, kept, text)?;
     }
     Ok(())
 }

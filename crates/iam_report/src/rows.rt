@@ -28,13 +28,9 @@ fn write_both<W: Write>(
     ensures kept { OnOk result (kept.new.items ≡ []) }
     ensures block { OnOk result (block.new ≡ []) }
 {
-    if let Err(fault) = write_kept(writer, kept) {
-        return Err(fault);
-    }
+    write_kept(writer, kept)?;
     kept.clear();
-    if let Err(fault) = write_text(writer, block.text()) {
-        return Err(fault);
-    }
+    write_text(writer, block.text())?;
     block.clear();
     Ok(())
 }
@@ -80,13 +76,8 @@ fn put_row<W: Write>(
     if line.put(block, at, n) {
         return Ok(());
     }
-    if let Err(fault) = write_both(writer, kept, block) {
-        return Err(fault);
-    }
-    if let Err(fault) = put_alone(writer, kept, block, line, at, n) {
-        return Err(fault);
-    }
-    Ok(())
+    write_both(writer, kept, block)?;
+    put_alone(writer, kept, block, line, at, n)
 }
 
 /// Puts the rows that follow the last one, from number i on, into the block, as long as each is quick, and moves the position
@@ -146,9 +137,7 @@ pub fn put_rows<W: Write>(
     let mut i = 0;
     while i < numbers.len() {
         let n = numbers.at(i) as usize;
-        if let Err(fault) = put_row(writer, kept, block, &mut line, *at, n) {
-            return Err(fault);
-        }
+        put_row(writer, kept, block, &mut line, *at, n)?;
         *at = at.next(actions, resources);
         i = put_quick(block, &mut line, numbers, i + 1, at);
     }

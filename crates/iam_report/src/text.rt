@@ -10,7 +10,7 @@ use crate::output::buffer;
 use iam_layers::{Decision, Verdict, World};
 use iam_row::{Format, Quoted, brief_texts, full_texts};
 use iam_text::OutOfMemory;
-use iam_tiles::{Decisions, Entries, Tile};
+use iam_tiles::{Decisions, Kept, Tile};
 use std::alloc::Global;
 
 /// The text of a report.
@@ -30,11 +30,11 @@ fn full_tile(alloc: Global, format: Format, verdicts: &[Verdict]) -> Result<Tile
     requires { length verdicts.now < 2 ^ 32 }
     ensures { IfOk result (λ tile. tile ≡ map (full_tail format) verdicts.now) }
 {
-    let mut entries = Entries::new(alloc, verdicts.len())?;
+    let mut kept: Kept<Verdict> = Kept::new(alloc, verdicts.len())?;
     for verdict in verdicts {
-        entries.push(alloc, verdict)?;
+        kept.push(alloc, 0, verdict)?;
     }
-    entries.tile(alloc, format, false)
+    kept.tile(alloc, format, false)
 }
 
 /// The tails of the rows of these decisions, in brief.

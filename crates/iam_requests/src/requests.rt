@@ -6,8 +6,8 @@ ghost use Rattle.iam_requests.specs.Code.Found.{IsLeftCount, reach, AreLinked, R
 
 use crate::finder::Finder;
 use iam_layers::{World, one_triple};
+use iam_matrix::past_row;
 use iam_row::Position;
-use iam_selection::past_row;
 use iam_text::OutOfMemory;
 use std::alloc::Global;
 use std::marker::Model;

@@ -2,7 +2,6 @@ mod Flags
 mod Founds
 mod Listings
 mod Nothing
-mod Offers
 mod OneListing
 mod Picks
 mod Walks

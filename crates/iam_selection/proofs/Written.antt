@@ -19,13 +19,12 @@ tiles_text quoted lead (tile ∷ tiles) =
     flat_map-cons (rows_text quoted lead) tile tiles ∙ ap (λ t. rows_text quoted lead tile ++ t) (tiles_text quoted lead tiles)
     ∙ sym (flat_map-append (row_text quoted lead) tile (all_rows tiles)) ∙ ap (rows_text quoted lead) (sym (flat_map-cons (λ (t : List RowValue). t) tile tiles))
 
-pub text_parts : (list : ListValue) (tiles : List (List RowValue)) (lead : ℕ) (front back : List ℕ) → list.rows ≡ all_rows tiles → lead ≡ lead_of list.rows
-    → front ≡ opening_text list.quoted.format list.brief → back ≡ closing_text list.quoted.format
-    → list_text list ≡ front ++ (rows_text list.quoted lead (all_rows tiles) ++ back)
-text_parts list tiles lead front back rows first opens closes =
-    ap (λ t. t ++ (rows_text list.quoted (lead_of list.rows) list.rows ++ closing_text list.quoted.format)) (sym opens)
-    ∙ ap (λ t. front ++ (rows_text list.quoted (lead_of list.rows) list.rows ++ t)) (sym closes)
-    ∙ ap (λ l. front ++ (rows_text list.quoted l list.rows ++ back)) (sym first) ∙ ap (λ rs. front ++ (rows_text list.quoted lead rs ++ back)) rows
+pub text_parts : (list whole : ListValue) (rows : List RowValue) (lead : ℕ) (front : List ℕ) → list ≡ whole → rows ≡ list.rows → lead ≡ lead_of list.rows
+    → front ≡ opening_text list.quoted.format list.brief → list_text whole ≡ front ++ (rows_text list.quoted lead rows ++ closing_text list.quoted.format)
+text_parts list whole rows lead front is e first opens =
+    let rest : ℕ → List RowValue → List ℕ = λ l rs. rows_text list.quoted l rs ++ closing_text list.quoted.format in
+    ap list_text (sym is) ∙ ap (λ t. t ++ rest (lead_of list.rows) list.rows) (sym opens) ∙ ap (λ l. front ++ rest l list.rows) (sym first)
+    ∙ ap (λ rs. front ++ rest lead rs) (sym e)
 
 -- the cell of the first row, where the tiles before this one have none
 pub lead_at : (tiles : List (List RowValue)) (i : ℕ) (tile : List RowValue) → i < length tiles → tile ≡ get_or tiles i tile → all_rows (take i tiles) ≡ []

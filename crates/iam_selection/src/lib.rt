@@ -9,7 +9,6 @@ mod list;
 mod picker;
 mod report;
 mod rows;
-mod search;
 mod selection;
 
 pub use iam_layers::{Decision, World};
@@ -20,5 +19,4 @@ pub use laws::{each_stands_in_all, nothing_selects_all, one_selected_report};
 pub use list::{ListText, comma_of, position_in};
 pub use picker::Picker;
 pub use report::{first_selected_report, index_of, selected_report};
-pub use rows::past_row;
 pub use selection::Selection;

@@ -7,8 +7,8 @@ ghost use Rattle.iam_report.specs.Streams.{AppendsBeginning};
 ghost use Rattle.iam_selection.specs.Code.Listing.{comma_of, lead_of, list_text, position_in, rows_text, ListValue};
 
 use crate::found::Found;
-use iam_report::{OutputFault, put, put_pieces, write_kept};
-use iam_row::{Position, Quoted, closing, opening};
+use iam_report::{OutputFault, put, put_pieces, write_end};
+use iam_row::{Position, Quoted, opening};
 use std::io::Write;
 use std::marker::Model;
 
@@ -79,9 +79,7 @@ fn put_found<W: Write>(
         let cell = found.cell(i);
         let at = position_in(quoted, cell);
         let comma = comma_of(lead, cell);
-        if let Err(fault) = put_pieces(writer, kept, quoted, comma, at, found.tail(i)) {
-            return Err(fault);
-        }
+        put_pieces(writer, kept, quoted, comma, at, found.tail(i))?;
     }
     Ok(())
 }
@@ -98,9 +96,7 @@ fn put_tiles<W: Write>(
     ensures err { OnErr result (AppendsBeginning (W.contents writer.old) (W.contents writer.new) (kept.old.items ++ rows_text quoted.now lead (flat_map (λ tile. tile) tiles.now))) }
 {
     for tile in tiles {
-        if let Err(fault) = put_found(writer, kept, quoted, lead, tile) {
-            return Err(fault);
-        }
+        put_found(writer, kept, quoted, lead, tile)?;
     }
     Ok(())
 }
@@ -128,18 +124,8 @@ impl ListText {
     {
         let format = self.quoted.format;
         let tiles = self.tiles.as_slice();
-        if let Err(fault) = put(writer, kept, opening(format, self.brief)) {
-            return Err(fault);
-        }
-        if let Err(fault) = put_tiles(writer, kept, &self.quoted, self.lead, tiles) {
-            return Err(fault);
-        }
-        if let Err(fault) = put(writer, kept, closing(format)) {
-            return Err(fault);
-        }
-        if let Err(fault) = write_kept(writer, kept) {
-            return Err(fault);
-        }
-        Ok(())
+        put(writer, kept, opening(format, self.brief))?;
+        put_tiles(writer, kept, &self.quoted, self.lead, tiles)?;
+        write_end(writer, kept, format)
     }
 }

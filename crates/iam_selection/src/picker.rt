@@ -1,12 +1,13 @@
 // Which requests of a world are selected.
-ghost use Rattle.std.specs.Prelude.{◌≡◌, ◌↔◌, ◌<◌, ℕ, IfOk, IsTrue, chars, false, length};
+ghost use Rattle.std.specs.Prelude.{◌≡◌, ◌↔◌, IfOk, IsTrue, chars, length};
 ghost use Rattle.iam_glob.specs.Glob.{Matches, MatchesFold};
-ghost use Rattle.iam_layers.specs.Cell.{IsCell, principal_text};
+ghost use Rattle.iam_layers.specs.Cell.{principal_text};
 ghost use Rattle.iam_selection.specs.Code.Listing.{AreFlags, IsActionMeant, IsPrincipalMeant, IsResourceMeant, PickerValue};
 ghost use Rattle.iam_selection.specs.Selection.{IsMeant, IsSelected};
 
 use crate::selection::Selection;
 use iam_layers::{World, one_triple};
+use iam_matrix::Asks;
 use iam_row::Position;
 use iam_text::{Compiled, Glob, OutOfMemory};
 use std::alloc::Global;
@@ -118,13 +119,6 @@ impl<'a> Picker<'a> {
         })
     }
 
-    /// The world.
-    pub fn world(&self) -> &'a World
-        ensures { result.now ≡ self.now.world }
-    {
-        self.world
-    }
-
     /// The selection.
     pub fn selection(&self) -> &'a Selection
         ensures { result.now ≡ self.now.selection }
@@ -143,23 +137,21 @@ impl<'a> Picker<'a> {
         ));
         meant >= pairs / 8
     }
+}
 
-    /// Whether a request of a cell's principal for its action may be selected, whatever the resource.
+impl<'a> Asks for Picker<'a> {
+    ghost world = { λ picker. picker.world };
+
+    ghost asked = { λ picker cell. IsSelected picker.selection picker.world cell };
+
     #[inline]
-    pub fn asks_row(&self, at: Position) -> bool
-        requires { IsCell self.now.world at.cell at.principal at.action at.resource }
-        ensures { result ≡ false → (cell r : ℕ) → IsCell self.now.world cell at.principal at.action r → ¬ IsSelected self.now.selection self.now.world cell }
-    {
+    fn asks_row(&self, at: Position) -> bool {
         one_triple();
         self.principals[at.principal as usize] && self.actions[at.action as usize]
     }
 
-    /// Whether the request of a cell is selected.
     #[inline]
-    pub fn asks(&self, at: Position) -> bool
-        requires { IsCell self.now.world at.cell at.principal at.action at.resource }
-        ensures { IsTrue result ↔ IsSelected self.now.selection self.now.world at.cell }
-    {
+    fn asks(&self, at: Position) -> bool {
         one_triple();
         self.principals[at.principal as usize]
             && self.actions[at.action as usize]

@@ -5,17 +5,17 @@ ghost use Rattle.iam_matrix.specs.Code.Tiles.{Chain};
 ghost use Rattle.iam_matrix.specs.Workers.{IsUnlawful};
 ghost use Rattle.iam_selection.specs.Code.Listing.{AreFound, list_text};
 ghost use Rattle.iam_selection.specs.Report.{IsFirstSelectedReport, IsSelectedReport};
+ghost use Rattle.iam_selection.specs.Selection.{IsFirstSelected};
 
 use crate::found::Found;
 use crate::list::ListText;
 use crate::picker::Picker;
 use crate::rows::Rows;
-use crate::search::first_selected;
 use crate::selection::Selection;
 use iam_classes::Index;
 use iam_crew::{Gate, gather};
 use iam_layers::{World, one_triple};
-use iam_matrix::{Cut, MatrixFault, first_text, is_unlawful};
+use iam_matrix::{Cut, MatrixFault, first_asked, first_text, is_unlawful};
 use iam_row::{Format, Quoted};
 use iam_text::OutOfMemory;
 use std::alloc::Global;
@@ -115,4 +115,27 @@ pub fn first_selected_report<R: Threads + Sync, G: Gate + Sync>(
 {
     let found = first_selected(rt, alloc, world, selection, cut, workers, gate)?;
     Ok(first_text(alloc, world, found)?)
+}
+
+/// The least cell of a world that is selected and allowed, or nothing where none is. The cut, the workers, the gate and the
+/// faults are as in [`iam_matrix::first`].
+pub fn first_selected<R: Threads + Sync, G: Gate + Sync>(
+    rt: &R,
+    alloc: Global,
+    world: &World,
+    selection: &Selection,
+    cut: &Cut,
+    workers: u32,
+    gate: &G,
+) -> Result<Option<u64>, MatrixFault>
+    requires { sum cut.now ≡ world_cells world.now }
+    ensures ok { IfOk result (IsFirstSelected selection.now world.now) }
+    ensures workers { (result ≡ Err MatrixFault.Workers) ↔ IsUnlawful workers }
+{
+    if is_unlawful(workers) {
+        return Err(MatrixFault::Workers);
+    }
+    let picker = Picker::of(alloc, world, selection)?;
+    let index = Index::sparse(alloc, world)?;
+    Ok(first_asked(rt, alloc, &index, &picker, cut, workers, gate)?)
 }

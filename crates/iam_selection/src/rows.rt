@@ -1,5 +1,5 @@
 // The rows that are asked for among the cells of each tile.
-ghost use Rattle.std.specs.Prelude.{◌≡◌, ◌+◌, ◌<◌, ◌≤◌, ◌^◌, ◌-◌, ℕ, IfOk, OnOk, length, slice_index};
+ghost use Rattle.std.specs.Prelude.{◌≡◌, ◌+◌, ◌<◌, ◌≤◌, ◌^◌, IfOk, OnOk, length, slice_index};
 ghost use Rattle.iam_world.specs.World.{world_cells};
 ghost use Rattle.iam_layers.specs.Cell.{IsCell};
 ghost use Rattle.iam_selection.specs.Code.Listing.{Adds, AreFound, IsPickerTile};
@@ -9,9 +9,9 @@ use crate::picker::Picker;
 use crate::selection::Selection;
 use iam_classes::{ClassEngine, Index};
 use iam_crew::{Bound, Crew};
-use iam_layers::{World, one_decision_at};
-use iam_matrix::{Cells, Cut, along, end_of, left_in_row};
-use iam_report::Entries;
+use iam_layers::{Verdict, one_decision_at};
+use iam_matrix::{Asks, Cells, Cut, end_of, past_row};
+use iam_report::Kept;
 use iam_row::{Format, Position};
 use iam_text::OutOfMemory;
 use std::alloc::Global;
@@ -75,7 +75,7 @@ fn found_in(
     let world = engine.world();
     let end = end_of(world, tile.from, tile.count);
     let mut cells = Vec::new(alloc);
-    let mut entries = Entries::new(alloc, 0)?;
+    let mut entries: Kept<Verdict> = Kept::new(alloc, 0)?;
     let mut at = Position::of(world, tile.from);
     while at.cell < end {
         if !picker.asks_row(at) {
@@ -99,19 +99,6 @@ fn found_in(
     Ok(Found::of(cells, entries.tile(alloc, format, brief)?))
 }
 
-/// The first cell behind those of this one's principal and action, or the one at the end where that comes first.
-pub fn past_row(world: &World, at: Position, end: u64) -> Position
-    requires is { IsCell world.now at.cell at.principal at.action at.resource }
-    requires before { at.cell < end }
-    requires end { end ≤ world_cells world.now }
-    ensures more { at.cell < result.cell }
-    ensures most { result.cell ≤ end }
-    ensures is { result.cell < world_cells world.now → IsCell world.now result.cell result.principal result.action result.resource }
-    ensures same { (cell : ℕ) → at.cell ≤ cell → cell < result.cell → IsCell world.now cell at.principal at.action (at.resource + (cell - at.cell)) }
-{
-    along(world, at, left_in_row(world, at, end))
-}
-
 /// Adds the row of a cell, where its decision is asked for.
 fn add(
     alloc: Global,
@@ -120,7 +107,7 @@ fn add(
     brief: bool,
     at: Position,
     cells: &mut Vec<u32>,
-    entries: &mut Entries,
+    entries: &mut Kept<Verdict>,
 ) -> Result<(), OutOfMemory>
     requires cell { IsCell engine.old.world at.cell at.principal at.action at.resource }
     requires few { at.cell < 2 ^ 32 }
@@ -136,8 +123,8 @@ fn add(
     }
     cells.push(at.cell as u32)?;
     if brief {
-        entries.push_decision(alloc, verdict.decision)
+        entries.push(alloc, verdict.decision as usize, &verdict.decision)
     } else {
-        entries.push_hinted(alloc, number, verdict)
+        entries.push(alloc, number, verdict)
     }
 }

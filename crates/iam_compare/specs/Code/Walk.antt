@@ -11,7 +11,7 @@ use Rattle.iam_matrix.specs.Code.Tiles.{Chain}
 use Rattle.iam_requests.specs.Lists.{somes}
 use Rattle.iam_requests.specs.Requests.{Has}
 use Rattle.iam_requests.specs.Code.Found.{RequestsValue, reach}
-use Rattle.iam_changes.specs.Change.{AskedValue, ChangeValue, Changes, IsRow, Says}
+use Rattle.iam_changes.specs.Change.{AskedValue, ChangeValue, Changes, IsRow}
 use Rattle.iam_changes.specs.Code.Kept.{GatheredValue, no_kinds, pair_of, part_row, with_kind}
 use Rattle.iam_changes.specs.Code.Pieces.{PartValue}
 use Rattle.iam_changes.specs.declared.change.Change.{Change}
@@ -97,12 +97,6 @@ abbrev pub AddsSaid : Bool → Bool → ℕ → Option Verdict → Option Verdic
 AddsSaid all brief cell before after old new =
     ((change : Change) × Changes all before after change × (new ≡ with_row brief cell before after change old))
     ⊎ (((change : Change) → ¬ Changes all before after change) × (new ≡ old))
-
--- the row of a request with these texts was put, where it has changed; or none was
-abbrev pub AddsChange : RequestsValue → Bool → Bool → ℕ → CellTexts → GatheredValue → GatheredValue → Type 0
-AddsChange requests all brief cell texts old new =
-    (said : Option Verdict) × (says : Option Verdict) × Says requests.before texts said × Says requests.after texts says
-    × AddsSaid all brief cell said says old new
 
 -- the rows of cells from one up to another were put behind others
 pub record Gathers (asked : AskedValue) (requests : RequestsValue) (brief : Bool) (from to : ℕ) (old new : GatheredValue) : Type 0 where

@@ -35,21 +35,23 @@ AreTailsOf format brief world from count tails =
     MatchBool brief (AreTails (IsDecisionOf world) (brief_tail format) from count tails)
     (AreTails (IsVerdictOf world) (full_tail format) from count tails)
 
--- a cell that is allowed, and below all numbers that are no cells
-pub record IsAllowedCell (world : WorldValue) (cell : ℕ) : Type 0 where
+-- an allowed cell that is asked about, and below all numbers that are no cells
+pub record IsAllowedCell (Asked : ℕ → Type 0) (world : WorldValue) (cell : ℕ) : Type 0 where
   pub below : cell < world_cells world
   pub small : cell < no_cell
+  pub asked : Asked cell
   pub allowed : IsDecisionOf world cell Allowed
 
--- no cell of these that is below a bound is allowed
-abbrev pub AreNotAllowedBelow : WorldValue → ℕ → ℕ → ℕ → Type 0
-AreNotAllowedBelow world from count bound = (cell : ℕ) → from ≤ cell → cell < from + count → cell < bound → IsNotAllowed world cell
+-- no cell of these that is below a bound and asked about is allowed
+abbrev pub AreNotAllowedBelow : (ℕ → Type 0) → WorldValue → ℕ → ℕ → ℕ → Type 0
+AreNotAllowedBelow Asked world from count bound =
+    (cell : ℕ) → from ≤ cell → cell < from + count → cell < bound → Asked cell → IsNotAllowed world cell
 
--- the first allowed cell of these, or nothing where none is allowed
-abbrev pub IsFirstIn : WorldValue → ℕ → ℕ → Option ℕ → Type 0
-IsFirstIn world from count None = (cell : ℕ) → from ≤ cell → cell < from + count → IsNotAllowed world cell
-IsFirstIn world from count (Some found) =
-    IsAllowedCell world found × (found < from + count) × ((cell : ℕ) → from ≤ cell → cell < found → IsNotAllowed world cell)
+-- the first allowed cell of these that are asked about, or nothing where none is allowed
+abbrev pub IsFirstIn : (ℕ → Type 0) → WorldValue → ℕ → ℕ → Option ℕ → Type 0
+IsFirstIn Asked world from count None = (cell : ℕ) → from ≤ cell → cell < from + count → Asked cell → IsNotAllowed world cell
+IsFirstIn Asked world from count (Some found) =
+    IsAllowedCell Asked world found × (found < from + count) × ((cell : ℕ) → from ≤ cell → cell < found → Asked cell → IsNotAllowed world cell)
 
 -- a relation of a first cell, a number of cells and an output, for tiles that follow one another from a cell on
 abbrev pub Chain : {O : Type 0} → (ℕ → ℕ → O → Type 0) → ℕ → List ℕ → List O → Type 0

@@ -1,13 +1,11 @@
 -- Rows of some cells, put together from pieces: what the workers make of a tile, and the text of all.
-use Rattle.std.specs.Prelude.{◌≡◌, ◌⊎◌, ◌↔◌, ℕ, ◌+◌, ◌/◌, ◌%◌, ◌<◌, ◌≤◌, ◌==◌, List, [], ◌∷◌, ◌++◌, Option, Some, None, Bool, IsTrue, MatchBool, chars, codes, if◌then◌else◌, length, map, max}
+use Rattle.std.specs.Prelude.{◌≡◌, ◌⊎◌, ◌↔◌, ℕ, ◌/◌, ◌%◌, ◌==◌, List, [], ◌∷◌, ◌++◌, Some, Bool, IsTrue, MatchBool, chars, codes, if◌then◌else◌, length, map, max}
 use Rattle.std.specs.List.{AllByRecursion, flat_map, slice_get}
 use Rattle.iam_glob.specs.Glob.{Matches, MatchesFold}
 use Rattle.iam_decision.specs.declared.verdict.Decision.{Decision}
-use Rattle.iam_decision.specs.declared.verdict.Decision.TheVariants.{Allowed}
 use Rattle.iam_decision.specs.declared.verdict.Verdict.{Verdict}
-use Rattle.iam_lanes.specs.Lanes.{no_cell}
 use Rattle.iam_layers.specs.Cell.{IsAction, IsDecisionOf, IsPrincipal, IsResource, IsVerdictOf, principal_text}
-use Rattle.iam_world.specs.World.{WorldValue, world_cells}
+use Rattle.iam_world.specs.World.{WorldValue}
 use Rattle.iam_row.specs.Piece.{bare, closing_text, opening_text, tail_of}
 use Rattle.iam_row.specs.declared.position.Position.{Position}
 use Rattle.iam_row.specs.declared.quoted.Format.{Format}
@@ -15,10 +13,9 @@ use Rattle.iam_row.specs.declared.quoted.Quoted.{Quoted}
 use Rattle.iam_row.specs.declared.tail.Tail.{Tail}
 use Rattle.iam_report.specs.Code.Line.{row_behind}
 use Rattle.iam_tiles.specs.Code.Numbered.{no_tail}
-use Rattle.iam_matrix.specs.Matrix.{IsNotAllowed}
 use Rattle.iam_matrix.specs.Code.Tiles.{IsTileOf}
 use Rattle.iam_selection.specs.Report.{AreAsked}
-use Rattle.iam_selection.specs.Selection.{IsMeant, IsSelected, IsWanted, SelectionValue}
+use Rattle.iam_selection.specs.Selection.{IsMeant, IsWanted, SelectionValue}
 
 -- flags of so many, each of which tells whether something holds
 pub record AreFlags (P : ℕ → Type 0) (count : ℕ) (flags : List Bool) : Type 0 where
@@ -83,27 +80,6 @@ Adds brief selection world cell cells more_cells entries more_entries =
     × ((IsWanted selection decision × (more_cells ≡ cells ++ cell ∷ [])
     × ((entry : Verdict) × IsEntryOf brief world cell entry × (more_entries ≡ entries ++ entry ∷ [])))
     ⊎ (¬ IsWanted selection decision × (more_cells ≡ cells) × (more_entries ≡ entries)))
-
--- a cell that is selected and allowed, and below all numbers that are no cells
-pub record IsPickedCell (picker : PickerValue) (cell : ℕ) : Type 0 where
-  pub below : cell < world_cells picker.world
-  pub small : cell < no_cell
-  pub selected : IsSelected picker.selection picker.world cell
-  pub allowed : IsDecisionOf picker.world cell Allowed
-
--- no cell of these that is below a bound is selected and allowed
-abbrev pub AreNotPickedBelow : PickerValue → ℕ → ℕ → ℕ → Type 0
-AreNotPickedBelow picker from count bound =
-    (cell : ℕ) → from ≤ cell → cell < from + count → cell < bound → IsSelected picker.selection picker.world cell
-    → IsNotAllowed picker.world cell
-
--- the first of these cells that is selected and allowed, or nothing where none is
-abbrev pub IsFirstPicked : PickerValue → ℕ → ℕ → Option ℕ → Type 0
-IsFirstPicked picker from count None =
-    (cell : ℕ) → from ≤ cell → cell < from + count → IsSelected picker.selection picker.world cell → IsNotAllowed picker.world cell
-IsFirstPicked picker from count (Some found) =
-    IsPickedCell picker found × (found < from + count)
-    × ((cell : ℕ) → from ≤ cell → cell < found → IsSelected picker.selection picker.world cell → IsNotAllowed picker.world cell)
 
 -- a report of some cells, as it is kept: pieces, and the rows
 pub record ListValue : Type 0 where

@@ -5,43 +5,45 @@ use Rattle.iam_app.proofs.changes.run_changes.Goals as goal
 
 pub returns-in-Err-clause-fault : goal.returns-in-Err-clause-fault
 returns-in-Err-clause-fault g c =
-    no_before c.args.options.now c.args.selection.now _ _ _ c.in-Err.fault c.fault_before.result c.fault_before.ensures c.in-Err.ensures.fault
+    rw c.of_before.ensures (no_before c.args.options.now c.args.selection.now _ _ _ c.in-Err.fault c.in-Err.ensures.fault)
 
-pub returns-in-Err-read_side-clause-fault : goal.returns-in-Err-read_side-clause-fault
-returns-in-Err-read_side-clause-fault g c =
-    no_after c.args.options.now c.args.selection.now _ _ _ c.in-Err-read_side.fault c.fault_after.result c.fault_after.ensures
-    (c.in-Ok.world, c.in-Ok.ensures.ok) c.in-Err-read_side.ensures.fault
+pub returns-in_err-after-clause-fault : goal.returns-in_err-after-clause-fault
+returns-in_err-after-clause-fault g c =
+    let p = err_from_is_err_and c.from_residual.result c.from_residual.ensures.1 in
+    rw (p.1, p.2)
+    (no_after c.args.options.now c.args.selection.now _ _ _ c.in_err-after.field-0.0 (c.in-Ok.world, c.in-Ok.ensures.ok) c.in_err-after.ensures.fault)
 
-pub returns-in-Err-read_side-clause-unread : goal.returns-in-Err-read_side-clause-unread
-returns-in-Err-read_side-clause-unread g c of_before =
-    absurd (not_of_before c.in-Err-read_side.fault c.fault_after.result c.fault_after.ensures of_before)
+pub returns-in_err-after-clause-unread : goal.returns-in_err-after-clause-unread
+returns-in_err-after-clause-unread g c =
+    let p = err_from_is_err_and c.from_residual.result c.from_residual.ensures.1 in
+    rw (p.1, p.2) (λ of_before. absurd (not_of_before _ c.in_err-after.field-0.0 c.in_err-after.ensures.fault of_before))
 
 pub returns-in_err-report-clause-fault : goal.returns-in_err-report-clause-fault
 returns-in_err-report-clause-fault g c =
-    let p = err_from_is_err_and c.from_residual.result c.from_residual.ensures.1 in
+    let p = err_from_is_err_and c.from_residual-in_err-report.result c.from_residual-in_err-report.ensures.1 in
     rw (p.1, p.2)
-    (not_compared c.args.options.now c.args.selection.now _ _ _ c.in-Ok.world c.in-Ok-read_side.world c.in_err-report.field-0.0 c.in-Ok.ensures.ok
-    c.in-Ok-read_side.ensures.ok c.in_err-report.ensures.fault)
+    (not_compared c.args.options.now c.args.selection.now _ _ _ c.in-Ok.world c.in_ok-after.after c.in_err-report.field-0.0 c.in-Ok.ensures.ok
+    c.in_ok-after.ensures.ok c.in_err-report.ensures.fault)
 
 pub returns-in_err-report-clause-unread : goal.returns-in_err-report-clause-unread
 returns-in_err-report-clause-unread g c =
-    let p = err_from_is_err_and c.from_residual.result c.from_residual.ensures.1 in
+    let p = err_from_is_err_and c.from_residual-in_err-report.result c.from_residual-in_err-report.ensures.1 in
     rw (p.1, p.2) (λ of_before. absurd of_before)
 
 pub returns-clause-done : goal.returns-clause-done
 returns-clause-done g c =
     let report = c.in_ok-report.field-0 in
     IfOk-weaker c.write_changes.result _ _ (λ kinds p.
-    compared c.args.options.now c.args.selection.now _ _ _ _ c.in-Ok.world c.in-Ok-read_side.world (report_text report) report.kinds kinds p.0
-    c.in-Ok.ensures.ok c.in-Ok-read_side.ensures.ok (c.in_ok-report.ensures.work, c.in_ok-report.ensures.ok) p.1)
+    compared c.args.options.now c.args.selection.now _ _ _ _ c.in-Ok.world c.in_ok-after.after (report_text report) report.kinds kinds p.0
+    c.in-Ok.ensures.ok c.in_ok-after.ensures.ok (c.in_ok-report.ensures.work, c.in_ok-report.ensures.ok) p.1)
     c.write_changes.ensures.done
 
 pub returns-clause-fault : goal.returns-clause-fault
 returns-clause-fault g c =
     let report = c.in_ok-report.field-0 in
     IfErr-weaker c.write_changes.result _ _ (λ fault p.
-    not_written c.args.options.now c.args.selection.now _ _ _ _ c.in-Ok.world c.in-Ok-read_side.world (report_text report) report.kinds fault
-    c.in-Ok.ensures.ok c.in-Ok-read_side.ensures.ok (c.in_ok-report.ensures.work, c.in_ok-report.ensures.ok) p)
+    not_written c.args.options.now c.args.selection.now _ _ _ _ c.in-Ok.world c.in_ok-after.after (report_text report) report.kinds fault
+    c.in-Ok.ensures.ok c.in_ok-after.ensures.ok (c.in_ok-report.ensures.work, c.in_ok-report.ensures.ok) p)
     c.write_changes.ensures.fault
 
 pub returns-clause-unread : goal.returns-clause-unread

@@ -4,6 +4,6 @@ use Rattle.iam_app.proofs.program.run.Goals as goal
 
 pub returns-in_err-report-clause-fault : goal.returns-in_err-report-clause-fault
 returns-in_err-report-clause-fault g c =
-    let p = err_from_is_err_and c.from_residual.result c.from_residual.ensures.1 in
+    let p = err_from_is_err_and c.from_residual-in_err-report.result c.from_residual-in_err-report.ensures.1 in
     rw (p.1, p.2)
-    (refuses c.args.options.now _ _ c.in-Ok.bytes.items c.in-Ok.ensures.ok c.in-Ok.ensures.fits c.in_err-report.field-0.0 c.in_err-report.ensures.fault)
+    (refuses c.args.options.now _ _ c.in_ok-bytes.bytes.items c.in_ok-bytes.ensures.ok c.in_ok-bytes.ensures.fits c.in_err-report.field-0.0 c.in_err-report.ensures.fault)

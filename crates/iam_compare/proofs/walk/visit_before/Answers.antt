@@ -1,14 +1,14 @@
-use Rattle.std.proofs.Common.{◌≡◌, ◌+◌, true, false, inl, inr, sym, subst}
+use Rattle.std.proofs.Common.{◌≡◌, ◌+◌, Some, None, true, false, inl, inr, ap, sym, subst, ◌∙◌}
 use Rattle.std.specs.Option.{is_some}
 use Rattle.std.proofs.lemmas.Result.{on_ok_weaker}
-use Rattle.iam_layers.specs.Cell.{IsCell}
+use Rattle.iam_layers.specs.Cell.{IsCell, IsVerdictAt}
 use Rattle.iam_world.specs.World.{WorldValue, world_cells}
 use Rattle.iam_row.specs.Report.{CellTexts, IsCellTexts}
 use Rattle.iam_selection.specs.Code.Listing.{PickerValue}
 use Rattle.iam_selection.specs.Selection.{IsSelected}
 use Rattle.iam_requests.specs.Requests.{Has}
-use Rattle.iam_compare.specs.Code.Walk.{asked_of}
-use Rattle.iam_compare.proofs.Walks.{gathers_nothing, gathers_said, has_of_found, none_of_found, off_before, place_before}
+use Rattle.iam_compare.specs.Code.Walk.{AddsSaid, asked_of}
+use Rattle.iam_compare.proofs.Walks.{gathers_nothing, gathers_said, has_of_found, none_of_found, number_within, off_before, place_before, says_at, within_cell}
 use Rattle.iam_compare.proofs.walk.visit_before.Goals as goal
 
 pub asks-requires : goal.asks-requires
@@ -52,20 +52,42 @@ returns-then-is_some-clause-rows c =
     (let on : is_some c.find.result ≡ true = cc in on)))))
     c.requires.rows
 
+pub find-requires-2 : goal.find-requires-2
+find-requires-2 c =
+    let crew = c.args.crew.now in
+    let at = c.args.at in
+    let within = within_cell crew.requests.now.before c.args.before.now.world at.cell at.principal at.action at.resource
+    (c.requires.tools ∙ c.requires.crew.survey_before) c.requires.cell in
+    record { principal = within.principal; action = within.action; resource = within.resource }
+
+pub verdict-requires : goal.verdict-requires
+verdict-requires c =
+    let at = c.args.at in
+    number_within c.find-2.new.self at.principal at.action at.resource c.in_ok-number.number c.in_ok-number.ensures.number
+
 pub returns-clause-rows : goal.returns-clause-rows
 returns-clause-rows c =
     let crew = c.args.crew.now in
     let asked = asked_of crew in
     let requests = crew.requests.now in
     let at = c.args.at in
+    let verdict = c.verdict.result.now in
+    let old = c.args.rows.now in
+    let new = c.add_said.new.rows in
     let S : PickerValue → Type 0 = λ v. IsSelected v.selection v.world at.cell in
-    let T : CellTexts → WorldValue → Type 0 = λ texts w. IsCellTexts w at.cell texts in
-    let H : CellTexts → WorldValue → Type 0 = λ texts w. ¬ Has w texts in
     let (texts, of, selects) = subst S c.requires.crew.picker_before (c.asks.ensures.0 c.if-not-asks.false) in
-    let absent : ¬ Has requests.after texts = subst (H texts) c.to_after.ensures.other
-    (none_of_found c.to_after.result.now.other texts c.find.result (c.find.ensures texts (subst (T texts) (sym c.to_after.ensures.world) of))
+    let T : WorldValue → Type 0 = λ w. IsCellTexts w at.cell texts in
+    let H : WorldValue → Type 0 = λ w. ¬ Has w texts in
+    let absent : ¬ Has requests.after texts = subst H c.to_after.ensures.other
+    (none_of_found c.to_after.result.now.other texts c.find.result (c.find.ensures texts (subst T (sym c.to_after.ensures.world) of))
     (let off : is_some c.find.result ≡ false = cc in off)) in
-    on_ok_weaker c.add_before.result
-    (λ added. gathers_said asked requests crew.asked.brief (world_cells requests.after + at.cell) texts c.args.rows.now c.add_before.new.rows
-    (place_before asked requests at.cell texts of absent) selects (added texts of absent) c.requires.rows)
-    c.add_before.ensures.rows
+    let V : WorldValue → Type 0 = λ w. IsVerdictAt w at.principal at.action at.resource verdict in
+    let told = subst V (c.in_ok-number.ensures.same.0 ∙ c.requires.tools ∙ c.requires.crew.survey_before)
+    (c.verdict.ensures at.principal at.action at.resource c.in_ok-number.ensures.number) in
+    let cell = ap (λ n. n + at.cell) (c.cells.ensures.value ∙ ap (λ (w : WorldValue). world_cells w) c.after.ensures) in
+    on_ok_weaker c.add_said.result
+    (λ added. gathers_said asked requests crew.asked.brief (world_cells requests.after + at.cell) texts (Some verdict) None old new
+    (place_before asked requests at.cell texts of absent) selects
+    (says_at requests.before at.cell at.principal at.action at.resource texts verdict c.requires.cell of told) absent
+    (subst (λ k. AddsSaid asked.all crew.asked.brief k (Some verdict) None old new) cell added) c.requires.rows)
+    c.add_said.ensures

@@ -26,7 +26,7 @@ loop-i-preserved c = λ engine known leads.
     let so_far = c.loop-i.invariant engine known leads in
     let now = leads_behind engine c.args.leads.now Is from i old c.loop-i.entries leads so_far in
     let (verdict, there, is) = c.in-Some.ensures engine c.loop-i.entries known now in
-    adds_one Is from i old c.loop-i.entries c.push_again.new.self verdict so_far is (c.in_ok-push_again.ensures verdict there)
+    adds_one Is from i old c.loop-i.entries c.push_again.new.self verdict so_far is (c.in_ok-push_again.ensures.ok verdict there)
 
 pub returns-clause-entries : goal.returns-clause-entries
 returns-clause-entries c = λ engine known leads.

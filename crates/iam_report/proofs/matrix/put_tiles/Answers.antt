@@ -1,4 +1,5 @@
 use Rattle.std.proofs.Common.{List, [], ℕ, ◌+◌, ◌≤◌, ◌++◌, ◌∙◌, length, ap, append-nil, arith, subst, sym}
+use Rattle.std.proofs.lemmas.Result.{MatchResult-from_err, on_err_weaker, on_ok_weaker}
 use Rattle.iam_report.specs.Code.Buffer.{IsWithin, Passes, PutsRows}
 use Rattle.iam_report.specs.Streams.{AppendsBeginning}
 use Rattle.iam_row.specs.declared.position.Position.{Position}
@@ -28,10 +29,11 @@ put_tile-requires-clause-few g c =
     omega (arith, few_at c.args.tiles.now c.loop-tile.tile-index c.tile-item.result c.loop-tile-test.true c.tile-item.is, c.loop-tile.invariant.cell, c.requires) in
     few
 
-pub returns-in-Err-clause-err : goal.returns-in-Err-clause-err
-returns-in-Err-clause-err g c =
-    tile_fails c.args.quoted.now c.args.tiles.now c.loop-tile.tile-index c.tile-item.result first_position c.loop-tile.at _ _ _ _ _ c.loop-tile-test.true c.tile-item.is
-    c.loop-tile.invariant.puts c.in-Err.ensures.err
+pub returns-in_err-put_tile-clause-err : goal.returns-in_err-put_tile-clause-err
+returns-in_err-put_tile-clause-err g c =
+    MatchResult-from_err _ _ _ c.from_residual.ensures.0
+    (λ _. tile_fails c.args.quoted.now c.args.tiles.now c.loop-tile.tile-index c.tile-item.result first_position c.loop-tile.at _ _ _ _ _ c.loop-tile-test.true c.tile-item.is
+    c.loop-tile.invariant.puts c.in_err-put_tile.ensures.err)
 
 pub loop-tile-preserved : goal.loop-tile-preserved
 loop-tile-preserved g c =
@@ -41,23 +43,25 @@ loop-tile-preserved g c =
     record {
       puts =
           tile_more c.args.quoted.now tiles i tile first_position c.loop-tile.at c.put_tile.new.at _ _ _ _ _ _ c.loop-tile-test.true c.tile-item.is
-          c.loop-tile.invariant.puts c.in_default.ensures.ok;
-      within = c.in_default.ensures.within;
-      cell = omega (arith, c.in_default.ensures.cell, c.loop-tile.invariant.cell, count_next tiles i tile c.loop-tile-test.true c.tile-item.is);
+          c.loop-tile.invariant.puts c.in_ok-put_tile.ensures.ok;
+      within = c.in_ok-put_tile.ensures.within;
+      cell = omega (arith, c.in_ok-put_tile.ensures.cell, c.loop-tile.invariant.cell, count_next tiles i tile c.loop-tile-test.true c.tile-item.is);
     }
 
-pub returns-in-Err-put_bytes-clause-err : goal.returns-in-Err-put_bytes-clause-err
-returns-in-Err-put_bytes-clause-err g c =
+pub returns-clause-err : goal.returns-clause-err
+returns-clause-err g c =
     let loop = c.loop-tile in
-    handed_fails _ _ _ c.args.kept.now.items (loop.kept.items ++ loop.block) _
+    on_err_weaker c.put_bytes.result
+    (λ fails. handed_fails _ _ _ c.args.kept.now.items (loop.kept.items ++ loop.block) _
     (tiles_all c.args.quoted.now c.args.tiles.now loop.tile-index first_position loop.at _ _ _ _ c.loop-tile-test.false loop.invariant.puts)
-    (subst (λ (t : List ℕ). AppendsBeginning (g.W.Write.contents loop.writer) (g.W.Write.contents c.put_bytes.new.writer) (loop.kept.items ++ t)) c.text.ensures
-    c.in-Err-put_bytes.ensures.err)
+    (subst (λ (t : List ℕ). AppendsBeginning (g.W.Write.contents loop.writer) (g.W.Write.contents c.put_bytes.new.writer) (loop.kept.items ++ t)) c.text.ensures fails))
+    c.put_bytes.ensures.err
 
 pub returns-clause-ok : goal.returns-clause-ok
 returns-clause-ok g c =
     let loop = c.loop-tile in
-    passes_handed _ _ _ c.args.kept.now.items loop.kept.items c.put_bytes.new.kept.items _ loop.block
+    on_ok_weaker c.put_bytes.result
+    (λ put. passes_handed _ _ _ c.args.kept.now.items loop.kept.items c.put_bytes.new.kept.items _ loop.block
     (tiles_all c.args.quoted.now c.args.tiles.now loop.tile-index first_position loop.at _ _ _ _ c.loop-tile-test.false loop.invariant.puts)
-    (subst (λ (t : List ℕ). Passes (g.W.Write.contents loop.writer) (g.W.Write.contents c.put_bytes.new.writer) loop.kept.items c.put_bytes.new.kept.items t) c.text.ensures
-    c.in_default-put_bytes.ensures.ok)
+    (subst (λ (t : List ℕ). Passes (g.W.Write.contents loop.writer) (g.W.Write.contents c.put_bytes.new.writer) loop.kept.items c.put_bytes.new.kept.items t) c.text.ensures put))
+    c.put_bytes.ensures.ok

@@ -1,4 +1,5 @@
 use Rattle.std.proofs.Common.{◌≡◌, ◌<◌, List, ℕ, Some, length, ap, slice_get, ◌+◌, ◌-◌, ◌++◌, ◌∙◌, arith, drop, subst, sym, take}
+use Rattle.std.proofs.lemmas.Result.{MatchResult-from_err}
 use Rattle.iam_report.specs.Code.Buffer.{Passes}
 use Rattle.iam_report.specs.Code.Line.{tail_at}
 use Rattle.iam_report.specs.Code.Run.{AddsRows}
@@ -27,8 +28,8 @@ put_row-requires g c =
     subst (λ (tails : List Tail). c.at-n.result < length tails) (sym c.loop-i.invariant.tails)
     (within_at c.args.tails.now c.args.numbers.now c.loop-i.i c.at-n.result c.at-n.ensures c.requires.known)
 
-pub returns-in-Err-clause-err : goal.returns-in-Err-clause-err
-returns-in-Err-clause-err g c more =
+pub returns-in_err-put_row-clause-err : goal.returns-in_err-put_row-clause-err
+returns-in_err-put_row-clause-err g c =
     let quoted = c.args.quoted.now in
     let all = picked no_tail c.args.tails.now c.args.numbers.now in
     let n = c.at-n.result in
@@ -37,8 +38,9 @@ returns-in-Err-clause-err g c more =
     let P : Quoted → List Tail → Type 0 = λ q tails.
     AppendsBeginning (g.W.Write.contents c.loop-i.writer) (g.W.Write.contents c.put_row.new.writer)
     ((c.loop-i.kept.items ++ c.loop-i.block) ++ row_at q c.loop-i.at (tail_at tails n)) in
-    row_fails quoted all more c.loop-i.i tail c.args.at.now c.loop-i.at _ _ _ _ _ there c.loop-i.invariant.puts
-    (subst (λ q. P q c.args.tails.now) c.loop-i.invariant.quoted (subst (P c.loop-i.line.quoted) c.loop-i.invariant.tails c.in-Err.ensures.err))
+    MatchResult-from_err _ _ _ c.from_residual.ensures.0
+    (λ _ more. row_fails quoted all more c.loop-i.i tail c.args.at.now c.loop-i.at _ _ _ _ _ there c.loop-i.invariant.puts
+    (subst (λ q. P q c.args.tails.now) c.loop-i.invariant.quoted (subst (P c.loop-i.line.quoted) c.loop-i.invariant.tails c.in_err-put_row.ensures.err)))
 
 pub loop-i-preserved : goal.loop-i-preserved
 loop-i-preserved g c =
@@ -58,11 +60,11 @@ loop-i-preserved g c =
     let next = c.next.ensures
     ∙ ap (λ (xs : List (List ℕ)). next_of (length xs) (length c.as_slice-2.result.now) here) c.as_slice.ensures
     ∙ ap (λ (xs : List (List ℕ)). next_of (length quoted.actions) (length xs) here) c.as_slice-2.ensures in
-    let same = c.in_default.ensures.quoted ∙ c.loop-i.invariant.quoted in
-    let tails = c.in_default.ensures.tails ∙ c.loop-i.invariant.tails in
+    let same = c.in_ok-put_row.ensures.quoted ∙ c.loop-i.invariant.quoted in
+    let tails = c.in_ok-put_row.ensures.tails ∙ c.loop-i.invariant.tails in
     let first =
     row_more quoted all i tail c.args.at.now here c.next.result _ _ _ _ _ _ there next c.loop-i.invariant.puts
-    (subst (λ q. P q c.args.tails.now) c.loop-i.invariant.quoted (subst (P c.loop-i.line.quoted) c.loop-i.invariant.tails c.in_default.ensures.ok)) in
+    (subst (λ q. P q c.args.tails.now) c.loop-i.invariant.quoted (subst (P c.loop-i.line.quoted) c.loop-i.invariant.tails c.in_ok-put_row.ensures.ok)) in
     let adds = subst (λ q. Q q c.args.tails.now) same (subst (Q c.put_row.new.line.quoted) tails c.put_quick-i.ensures.rows) in
     record {
       puts = rows_added quoted all (i + 1) j c.args.at.now c.next.result c.put_quick-i.new.at _ _ _ _ _ _ c.put_quick-i.ensures.least first adds;

@@ -1,13 +1,10 @@
-use Rattle.std.proofs.Common.{Bool, Result, Ok, Err, OnOk, inl, inr, refl, sym, subst}
+use Rattle.std.proofs.Common.{Bool, inl, inr, refl, sym, subst}
+use Rattle.std.proofs.lemmas.Result.{on_ok_weaker}
 use Rattle.iam_layers.specs.Cell.{IsDecisionOf, IsVerdictAt, IsVerdictOf}
 use Rattle.iam_world.specs.World.{WorldValue}
 use Rattle.iam_row.specs.Piece.{bare}
 use Rattle.iam_selection.specs.Code.Listing.{IsEntryOf}
 use Rattle.iam_selection.proofs.rows.add.Goals as goal
-
-at_ok : {T E P Q : Type 0} (r : Result T E) → (P → Q) → OnOk r P → OnOk r Q
-at_ok (Ok x) f p = f p
-at_ok (Err e) f p = tt
 
 pub returns-then-not-wants-clause-added : goal.returns-then-not-wants-clause-added
 returns-then-not-wants-clause-added c =
@@ -32,13 +29,13 @@ returns-then-brief-clause-added c =
     let (applicable, request, asked, holds) = told in
     let decided : IsDecisionOf world at.cell verdict.decision = (at.principal, at.action, at.resource, c.requires.cell, (applicable, request, asked, holds.decided)) in
     let E : Bool → Type 0 = λ brief. IsEntryOf brief world at.cell (bare verdict.decision) in
-    at_ok c.push_decision.result
+    on_ok_weaker c.push-then-brief.result
     (λ pushed. (
       verdict.decision,
       decided,
       inl (c.wants.ensures.0 c.if-not-wants.false, c.in_ok-push.ensures.items, (bare verdict.decision, subst E (sym c.if-brief.true) (verdict.decision, decided, refl), pushed)),
     ))
-    c.push_decision.ensures
+    c.push-then-brief.ensures.ok
 
 pub returns-else-brief-clause-added : goal.returns-else-brief-clause-added
 returns-else-brief-clause-added c =
@@ -51,10 +48,10 @@ returns-else-brief-clause-added c =
     let decided : IsDecisionOf world at.cell verdict.decision = (at.principal, at.action, at.resource, c.requires.cell, (applicable, request, asked, holds.decided)) in
     let is : IsVerdictOf world at.cell verdict = (at.principal, at.action, at.resource, c.requires.cell, told) in
     let E : Bool → Type 0 = λ brief. IsEntryOf brief world at.cell verdict in
-    at_ok c.push_hinted.result
+    on_ok_weaker c.push-else-brief.result
     (λ pushed. (
       verdict.decision,
       decided,
       inl (c.wants.ensures.0 c.if-not-wants.false, c.in_ok-push.ensures.items, (verdict, subst E (sym c.if-brief.false) is, pushed)),
     ))
-    c.push_hinted.ensures
+    c.push-else-brief.ensures.ok

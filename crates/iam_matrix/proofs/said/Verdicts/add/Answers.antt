@@ -29,7 +29,7 @@ returns-clause-verdict c =
     let is = same_class c.class_of.new.engine engine c.args.p c.args.r c.in_ok-class.class made.same.0 made.classes c.in_ok-class.ensures.class in
     let numbered = of_class engine c.args.p c.args.r c.in_ok-class.class (λ p r. IsNumberAt engine p c.args.a r number) is made.number in
     let W : WorldValue → Type 0 = λ w. IsVerdictAt w c.args.p c.args.a c.args.r verdict in
-    (verdict, subst W (made.same.0 ∙ c.in_ok-class.ensures.same.0) (c.verdict.ensures c.args.p c.args.a c.args.r numbered), c.in_ok-push_hinted.ensures)
+    (verdict, subst W (made.same.0 ∙ c.in_ok-class.ensures.same.0) (c.verdict.ensures c.args.p c.args.a c.args.r numbered), c.in_ok-push.ensures.ok)
 
 pub returns-clause-leads : goal.returns-clause-leads
 returns-clause-leads c =
@@ -39,9 +39,9 @@ returns-clause-leads c =
     let made = c.in_ok-number.ensures in
     let leads = c.class_of.new.leads.items in
     let old = c.args.self.now.entries in
-    let new = c.push_hinted.new.self in
+    let new = c.push.new.self in
     let verdict = c.verdict.result.now in
-    let put = c.in_ok-push_hinted.ensures in
+    let put = c.in_ok-push.ensures.ok in
     let kept = c.in_ok-class.ensures.leads old c.requires.leads in
     let more = leads_classes before engine leads old made.same.0 ([], made.classes ∙ sym (append-nil before.classes)) kept in
     let all = of_class_weaker engine c.in_ok-class.class (λ p r. IsNumberAt engine p c.args.a r number) (λ p r. IsVerdictAt engine.world p c.args.a r verdict)

@@ -1,6 +1,5 @@
-// Verdicts one behind the other, of which equal ones are kept once.
-ghost use Rattle.std.specs.Prelude.{◌≡◌, ◌↔◌, ◌<◌, ◌^◌, ◌++◌, ◌∷◌, [], IfOk, IsTrue, OnOk, Some, length, map, slice_get, List};
-ghost use Rattle.iam_decision.specs.declared.verdict.Verdict.{Verdict};
+// Verdicts as they are kept, and the tails of their rows.
+ghost use Rattle.std.specs.Prelude.{◌≡◌, ◌↔◌, IfOk, IsTrue, map};
 ghost use Rattle.iam_row.specs.Piece.{bare, tail_of};
 
 use crate::guess::mix;
@@ -10,20 +9,6 @@ use iam_layers::{Decision, Layer, Place, Verdict};
 use iam_row::{Format, Tail, bare};
 use iam_text::OutOfMemory;
 use std::alloc::Global;
-use std::marker::Model;
-
-/// Verdicts one behind the other. A contract sees their list; each is kept as a small number, and equal ones mostly
-/// have the same.
-#[derive(Debug, Drop)]
-pub struct Entries {
-    kept: Kept<Verdict>,
-}
-
-impl Model for Entries {
-    ghost Value = { List Verdict };
-
-    ghost view = { λ entries. entries.kept };
-}
 
 impl Item for Verdict {
     ghost use Rattle.iam_tiles.specs.Code.Numbered.{no_verdict};
@@ -65,69 +50,12 @@ impl Form<Verdict> for Decision {
     }
 }
 
-impl Entries {
-    /// None yet, with room for so many.
-    pub fn new(alloc: Global, room: usize) -> Result<Entries, OutOfMemory>
-        ensures { IfOk result (λ entries. entries ≡ []) }
-    {
-        Ok(Entries {
-            kept: Kept::new(alloc, room)?,
-        })
-    }
-
-    /// Puts a verdict behind the others, fewer than 2 ^ 32. It is copied where no equal one is found.
-    pub fn push(&mut self, alloc: Global, verdict: &Verdict) -> Result<(), OutOfMemory>
-        requires { length self.old < 2 ^ 32 }
-        ensures { OnOk result (self.new ≡ self.old ++ verdict.now ∷ []) }
-    {
-        self.kept.push(alloc, 0, verdict)
-    }
-
-    /// As [`Entries::push`], and quick where an equal verdict was the last to come with this hint, a number of which nothing
-    /// is claimed.
-    #[inline]
-    pub fn push_hinted(
-        &mut self,
-        alloc: Global,
-        hint: usize,
-        verdict: &Verdict,
-    ) -> Result<(), OutOfMemory>
-        requires { length self.old < 2 ^ 32 }
-        ensures { OnOk result (self.new ≡ self.old ++ verdict.now ∷ []) }
-    {
-        self.kept.push(alloc, hint, verdict)
-    }
-
-    /// Puts a decision behind the others, fewer than 2 ^ 32, as a verdict without places and layers.
-    #[inline(always)]
-    pub fn push_decision(&mut self, alloc: Global, decision: Decision) -> Result<(), OutOfMemory>
-        requires { length self.old < 2 ^ 32 }
-        ensures { OnOk result (self.new ≡ self.old ++ bare decision ∷ []) }
-    {
-        self.kept.push(alloc, decision as usize, &decision)
-    }
-
-    /// How many.
-    pub fn len(&self) -> usize
-        ensures { result ≡ length self.now }
-    {
-        self.kept.len()
-    }
-
-    /// Puts the verdict of this place, which has to be there, once more behind all.
-    #[inline(always)]
-    pub fn push_again(&mut self, place: usize) -> Result<(), OutOfMemory>
-        requires { place < length self.old }
-        ensures { (verdict : Verdict) → slice_get self.old place ≡ Some verdict → OnOk result (self.new ≡ self.old ++ verdict ∷ []) }
-    {
-        self.kept.push_again(place)
-    }
-
+impl Kept<Verdict> {
     /// The tails of their rows, in full or in brief.
     pub fn tile(self, alloc: Global, format: Format, brief: bool) -> Result<Tile, OutOfMemory>
         ensures { IfOk result (λ tile. tile ≡ map (tail_of format brief) self) }
     {
-        let (distinct, numbers) = self.kept.parts();
+        let (distinct, numbers) = self.parts();
         let tails = tails_of(alloc, format, brief, distinct.as_slice())?;
         Ok(Tile { tails, numbers })
     }

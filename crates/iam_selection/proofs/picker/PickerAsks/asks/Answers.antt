@@ -3,8 +3,8 @@ use Rattle.iam_layers.specs.Cell.{IsCell}
 use Rattle.iam_selection.specs.Code.Listing.{IsActionMeant, IsPrincipalMeant, IsResourceMeant, PickerValue}
 use Rattle.iam_selection.specs.Selection.{IsSelected}
 use Rattle.iam_selection.proofs.Flags.{flag_is, meant_selected, selected_meant}
-use Rattle.iam_selection.proofs.picker.Picker.asks.Goals as goal
-use Rattle.iam_selection.proofs.picker.Picker.asks.Goals.{then-index, else-index}
+use Rattle.iam_selection.proofs.picker.PickerAsks.asks.Goals as goal
+use Rattle.iam_selection.proofs.picker.PickerAsks.asks.Goals.{then-index, else-index}
 
 pub returns-then-index-2 : goal.returns-then-index-2
 returns-then-index-2 c =

@@ -3,7 +3,7 @@ use Rattle.iam_layers.specs.Cell.{IsCell}
 use Rattle.iam_selection.specs.Code.Listing.{IsActionMeant, IsPrincipalMeant, PickerValue}
 use Rattle.iam_selection.specs.Selection.{IsSelected}
 use Rattle.iam_selection.proofs.Flags.{flag_is, selected_meant}
-use Rattle.iam_selection.proofs.picker.Picker.asks_row.Goals as goal
+use Rattle.iam_selection.proofs.picker.PickerAsks.asks_row.Goals as goal
 
 pub returns-then-index : goal.returns-then-index
 returns-then-index c off cell r is selected =
