@@ -269,16 +269,15 @@ fn are_stolen<R: Threads + Sync>(
     held: [u64; 2],
     awaited: [u64; 2],
 ) -> Result<bool, Fail> {
+    let mut is_met = false;
     for _run in 0..3 {
         let gate = Hold::of(held, awaited);
         if !is_brought(rt, alloc, asked, workers, &gate)? {
             return Ok(false);
         }
-        if gate.is_met() {
-            return Ok(true);
-        }
+        is_met |= gate.is_met();
     }
-    Ok(false)
+    Ok(is_met)
 }
 
 #[test]
@@ -298,16 +297,15 @@ fn tiles_of_a_search_that_waits_are_stolen_by_the_other(rt: HostRuntime) -> Resu
 
 /// Whether a search tells the gate of other tiles while one that has the first cell waits, in one of three runs.
 fn is_told_before<R: Threads + Sync>(rt: &R, alloc: Global) -> Result<bool, Fail> {
+    let mut is_met = false;
     for _run in 0..3 {
         let gate = Ahead::new();
         if !is_brought(rt, alloc, Asked::First, 2, &gate)? {
             return Ok(false);
         }
-        if gate.is_met() {
-            return Ok(true);
-        }
+        is_met |= gate.is_met();
     }
-    Ok(false)
+    Ok(is_met)
 }
 
 // Were it told once the cell of tile 0 is found, the other worker would pass over all that lies behind.

@@ -168,17 +168,18 @@ fn the_matrix_by_each_cut_and_number_of_workers(rt: HostRuntime) -> Result<(), F
     Ok(())
 }
 
-/// Whether what two workers bring has this text, in full or in brief.
+/// Whether what two workers bring, in tiles of this length, has this text, in full or in brief.
 fn has_text<R: Threads + Sync>(
     rt: &R,
     alloc: Global,
     document: &str,
+    tile: u64,
     json: bool,
     brief: bool,
     text: &str,
 ) -> Result<bool, Fail> {
     let world = World::read(alloc, document.as_bytes())?;
-    let cut = Cut::even(alloc, 5, world.cells())?;
+    let cut = Cut::even(alloc, tile, world.cells())?;
     let found = if brief {
         brief_text(rt, alloc, &world, &cut, json)?
     } else {
@@ -225,13 +226,13 @@ fn brief_text<R: Threads + Sync>(
 #[test]
 fn the_texts_of_lists(rt: HostRuntime) -> Result<(), Fail> {
     let texts = [
-        (HOME, false, false, CSV),
-        (PAIR, true, false, PAIR_JSON),
-        (PAIR, false, true, PAIR_CSV_BRIEF),
-        (PAIR, true, true, PAIR_JSON_BRIEF),
+        (HOME, 5, false, false, CSV),
+        (PAIR, 1, true, false, PAIR_JSON),
+        (PAIR, 1, false, true, PAIR_CSV_BRIEF),
+        (PAIR, 1, true, true, PAIR_JSON_BRIEF),
     ];
-    for (document, json, brief, text) in texts {
-        assert!(rt; has_text(&rt, rt.alloc(), document, json, brief, text)?);
+    for (document, tile, json, brief, text) in texts {
+        assert!(rt; has_text(&rt, rt.alloc(), document, tile, json, brief, text)?);
     }
     Ok(())
 }
