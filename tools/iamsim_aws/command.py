@@ -10,7 +10,7 @@ from .commands import changes, estates, page, questions, reports, rules, worlds
 from .faults import TOLD, Fault, tell
 
 DESCRIPTION = """Questions to iamsim about what AWS gives: who can, what changes, and the rules that a team keeps.
-It calls no service; iamsim decides. docs/AWS.md explains it."""
+Only 'organization' calls AWS; iamsim decides. docs/AWS.md explains it."""
 
 STATUSES = """statuses: 0 done; 1 a fault, told in one line; 2 the command line is refused; 3 'can': not all is allowed,
 'rules': a rule is broken, 'changes --fail-on': something changes; 4 'rules': a rule meets no request,

@@ -28,7 +28,8 @@ Description: policy simulator and access matrix for AWS
  is put in force. iamsim decides requests of a world, a JSON document with
  accounts, principals, actions, resources and their policies; iamsim-aws makes
  worlds of what AWS exports, and asks who can, what a draft changes, and
- whether the rules that a team keeps are kept. It calls no service.
+ whether the rules that a team keeps are kept. Only its command
+ 'organization' calls AWS.
 """
 
 CHANGELOG = """iamsim ({version}) stable; urgency=medium

@@ -18,6 +18,9 @@ def tests_of(module):
 def main():
     room = tempfile.mkdtemp(prefix="tools-test-")
     os.environ["TOOLS_TEST_ROOM"] = room
+    # The tools start some thousands of times: what Python compiles of them is kept for the run.
+    os.environ["PYTHONPYCACHEPREFIX"] = os.path.join(room, "compiled")
+    os.environ.pop("PYTHONDONTWRITEBYTECODE", None)
     from harness import Skipped
 
     passed = failed = 0
