@@ -240,18 +240,25 @@ def test_what_only_saves_work_refuses_no_answer():
             assert count >= least, f"{words}: {count} blocks of {size} bytes refused"
 
 
-def test_an_engine_that_was_refused():
-    # One engine decides the cells of a world, and is asked once more where it was refused: no refused call spoils a verdict.
+def test_engines_that_were_refused():
+    # An engine of each kind decides the cells of a world, and is asked once more where it was refused: no refused call spoils a
+    # verdict.
     program = os.path.join(os.path.dirname(TOOLS), "crates", "iam_tests", "out", "iam_tests_tests")
     if not os.path.exists(program):
         raise Skipped("the tests of calls are not built")
     program, library = shutil.copy(program, os.environ["TOOLS_TEST_ROOM"]), shim()
     os.chmod(program, 0o755)
+    for name in ("engine::cells_asked_again", "cells::cells_asked_again"):
+        are_right_again(program, library, name)
+
+
+def are_right_again(program, library, name):
+    """The test of an engine passes, whichever call of the allocator is refused to the engine."""
     passed, outcomes = (0, b"\ntest result: ok\n"), []
     for number in itertools.count(1):
         read, write = os.pipe()
         setting = {"LD_PRELOAD": library, "REFUSE_CALL": str(number), "REFUSE_TOLD": str(write)}
-        found = answer(["engine::cells_asked_again"], b"", program=program, env=setting, pass_fds=[write])
+        found = answer([name], b"", program=program, env=setting, pass_fds=[write])
         os.close(write)
         with os.fdopen(read, "rb") as told:
             if not told.read():
@@ -259,7 +266,7 @@ def test_an_engine_that_was_refused():
         outcomes.append(found[:2] == passed)
     # The first calls read the world, and most of them end the test; those of the engine follow.
     asked = outcomes[::-1].index(False)
-    print(f"an engine that was refused: {asked} runs, all right", flush=True)
+    print(f"{name}, refused: {asked} runs, all right", flush=True)
     assert asked > 50, f"only the last {asked} calls leave the verdicts right"
     same(found[:2], passed)
 

@@ -1,7 +1,7 @@
 // The command line of `changes`.
 ghost use Rattle.std.specs.Prelude.{◌≡◌, IfOk, None, Some, codes};
 ghost use Rattle.clap.specs.Matches.{first_value, found_of};
-ghost use Rattle.iam_options.specs.Words.{HasAsked, IsFailOn, IsFileAt, fail_on_word};
+ghost use Rattle.iam_options.specs.Words.{HasAsked, HasRun, IsFailOn, IsFileAt, IsFlag, fail_on_word};
 ghost use Rattle.iam_options.specs.declared.changes.FailOn.{FailOn};
 
 use crate::arguments::{brief, format, run};
@@ -71,6 +71,9 @@ pub fn changes_in(alloc: Global, command: &ArgMatches<'_>) -> Result<ChangesComm
     ensures before { IfOk result (λ read. IsFileAt command.now (codes "BEFORE") read.before) }
     ensures after { IfOk result (λ read. IsFileAt command.now (codes "AFTER") read.after) }
     ensures asked { IfOk result (λ read. HasAsked command.now read.asked) }
+    ensures run { IfOk result (λ read.
+        HasRun command.now read.options.workers read.options.tile read.options.json read.options.brief) }
+    ensures all { IfOk result (λ read. IsFlag command.now (codes "all") read.options.all) }
     ensures fail_on { IfOk result (λ read. IsFailOn command.now read.fail_on) }
 {
     let before = file_at(alloc, command, "BEFORE")?;
@@ -94,7 +97,10 @@ fn refused(alloc: Global, message: &str) -> Result<Usage, AllocError> {
     Ok(usage_of(alloc, &error))
 }
 
-fn options_at(command: &ArgMatches<'_>) -> ChangesOptions {
+fn options_at(command: &ArgMatches<'_>) -> ChangesOptions
+    ensures run { HasRun command.now result.workers result.tile result.json result.brief }
+    ensures all { IsFlag command.now (codes "all") result.all }
+{
     ChangesOptions {
         workers: command.get_one("workers").unwrap_or(WORKERS),
         tile: command.get_one("tile"),

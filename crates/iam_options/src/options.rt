@@ -1,7 +1,7 @@
 // The command line, read by `clap`.
 ghost use Rattle.std.specs.Prelude.{◌≡◌, IfSome, Some};
 ghost use Rattle.clap.specs.Words.{subcommand_name_of};
-ghost use Rattle.iam_options.specs.Words.{IsDecide, IsNumberAt, command_name};
+ghost use Rattle.iam_options.specs.Words.{HasRun, IfDecide, IsDecide, IsNumberAt, OfCommand, command_name};
 
 use crate::arguments::iamsim;
 use clap::error::ErrorKind;
@@ -81,7 +81,10 @@ fn options_or_usage(parser: &mut Parser<'_>, matches: &ArgMatches<'_>) -> Result
 
 /// The command that was read, with its options. `None` does not come.
 pub fn options_in(matches: &ArgMatches<'_>) -> Option<Options>
-    ensures { IfSome result (λ options. subcommand_name_of matches.now ≡ Some (command_name options.task)) }
+    ensures name { IfSome result (λ options. subcommand_name_of matches.now ≡ Some (command_name options.task)) }
+    ensures decide { IfSome result (λ options. IfDecide matches.now options.task) }
+    ensures run { IfSome result (λ options. OfCommand matches.now
+        (λ command. HasRun command options.workers options.tile options.json options.brief)) }
 {
     let task = task_of(matches)?;
     let (_, command) = matches.subcommand()?;
@@ -91,7 +94,8 @@ pub fn options_in(matches: &ArgMatches<'_>) -> Option<Options>
 /// A task with the options that stand behind its command; one that the command does not have is left as it is where
 /// nothing is said.
 fn with_options(task: Task, command: &ArgMatches<'_>) -> Options
-    ensures { result.task ≡ task }
+    ensures task { result.task ≡ task }
+    ensures run { HasRun command.now result.workers result.tile result.json result.brief }
 {
     Options {
         task,
@@ -104,7 +108,8 @@ fn with_options(task: Task, command: &ArgMatches<'_>) -> Options
 
 /// The command that was read. `None`, where a command or a number is absent, does not come: that is refused before.
 fn task_of(matches: &ArgMatches<'_>) -> Option<Task>
-    ensures { IfSome result (λ task. subcommand_name_of matches.now ≡ Some (command_name task)) }
+    ensures name { IfSome result (λ task. subcommand_name_of matches.now ≡ Some (command_name task)) }
+    ensures decide { IfSome result (λ task. IfDecide matches.now task) }
 {
     match matches.subcommand() {
         Some(("check", _)) => Some(Task::Check),
@@ -126,7 +131,7 @@ fn decide_task(decide: &ArgMatches<'_>) -> Option<Task>
 
 /// The number that stands under this name.
 fn number_at(matches: &ArgMatches<'_>, name: &str) -> Option<u64>
-    ensures { IfSome result (λ n. IsNumberAt matches.now name.now n) }
+    ensures { IsNumberAt matches.now name.now 64 result }
 {
     matches.get_one(name)
 }

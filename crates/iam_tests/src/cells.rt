@@ -1,8 +1,10 @@
-// An engine of single cells, asked in any order, in full and in brief, with a small cache and a large one.
+// An engine of single cells, asked in any order, in full and in brief, with a small cache and a large one, and refused memory.
 ghost use Rattle.std.specs.Prelude.{◌≤◌};
 
+use crate::engine::{Decides, EACH, Way, answers_all};
+use crate::matrix::HOME;
 use iam_engine::{Engine, Index};
-use iam_layers::{Verdict, World};
+use iam_layers::{Decision, Verdict, World};
 use std::alloc::Global;
 use std::test::Fail;
 
@@ -13,6 +15,23 @@ const VERSIONS: &str = r#"{"moment":0,"accounts":[{"id":"111122223333"}],"princi
         {"Statement":{"Effect":"Allow","Action":"s3:GetObject","Resource":"arn:aws:s3:::b/${*}"}}]}],
     "actions":["s3:GetObject"],"resources":[
     {"arn":"arn:aws:s3:::b/*","account":"111122223333"},{"arn":"arn:aws:s3:::b/${q}","account":"111122223333"}]}"#;
+
+/// One text with a variable, in a document whose version has variables and in one whose version has none; the resource has it as
+/// the first reads it, and as the second.
+const NAMES: &str = r#"{"moment":0,"accounts":[{"id":"111122223333"}],"principals":[
+    {"user":"arn:aws:iam::111122223333:user/ann","identity":[
+        {"Version":"2012-10-17","Statement":{"Effect":"Allow","Action":"s3:GetObject","Resource":"arn:aws:s3:::home/${aws:username}/*"}},
+        {"Statement":{"Effect":"Allow","Action":"s3:GetObject","Resource":"arn:aws:s3:::home/${aws:username}/*"}}]}],
+    "actions":["s3:GetObject"],"resources":[
+    {"arn":"arn:aws:s3:::home/ann/x","account":"111122223333"},
+    {"arn":"arn:aws:s3:::home/${aws:username}/x","account":"111122223333"}]}"#;
+
+/// An allow, and two denies behind it.
+const DENIES: &str = r#"{"moment":0,"accounts":[{"id":"111122223333"}],"principals":[
+    {"user":"arn:aws:iam::111122223333:user/ann","identity":[{"Version":"2012-10-17","Statement":[
+        {"Effect":"Allow","Action":"s3:*","Resource":"*"},{"Effect":"Deny","Action":"s3:GetObject","Resource":"*"},
+        {"Effect":"Deny","Action":"s3:*","Resource":"arn:aws:s3:::b/*"}]}]}],
+    "actions":["s3:GetObject"],"resources":[{"arn":"arn:aws:s3:::b/k","account":"111122223333"}]}"#;
 
 /// Two accounts, one with levels, the other with control policies; variables, conditions, a boundary, session policies, policies of
 /// resources and a sealed one; elements that are negated, and texts that many statements have.
@@ -67,7 +86,7 @@ fn is_same(one: &Verdict, other: &Verdict) -> bool {
 
 /// Whether a world has so many cells, and one engine answers them all, from this one on and so many apart, one after the other and
 /// round again.
-fn answers_all(
+fn are_plain(
     alloc: Global,
     document: &str,
     cells: u64,
@@ -80,10 +99,10 @@ fn answers_all(
 {
     let world = World::read(alloc, document.as_bytes())?;
     let index = Index::build(alloc, &world)?;
-    answers_all_by(alloc, &index, cells, capacity, from, apart)
+    are_plain_by(alloc, &index, cells, capacity, from, apart)
 }
 
-fn answers_all_by(
+fn are_plain_by(
     alloc: Global,
     index: &Index<'_>,
     cells: u64,
@@ -116,11 +135,64 @@ fn all_cells_in_many_orders(rt: HostRuntime) -> Result<(), Fail> {
         (OFFICE, 36, 0, 7),
         (VERSIONS, 2, 0, 1),
         (VERSIONS, 2, 1, 1),
+        (NAMES, 2, 0, 1),
+        (NAMES, 2, 1, 1),
+        (DENIES, 1, 0, 1),
     ];
     for (document, cells, from, apart) in orders {
         for capacity in [1, 1024] {
-            assert!(rt; answers_all(rt.alloc(), document, cells, capacity, from, apart)?);
+            assert!(rt; are_plain(rt.alloc(), document, cells, capacity, from, apart)?);
         }
     }
+    Ok(())
+}
+
+impl<'a> Decides for Engine<'a> {
+    fn verdict_on(&mut self, alloc: Global, cell: u64) -> Result<Option<Verdict>, Fail> {
+        if cell >= self.world().cells() {
+            return Ok(None);
+        }
+        match self.decide(alloc, cell) {
+            Ok(verdict) => Ok(Some(verdict)),
+            Err(_) => Ok(Some(self.decide(alloc, cell)?)),
+        }
+    }
+
+    fn decision_on(&mut self, alloc: Global, cell: u64) -> Result<Option<Decision>, Fail> {
+        if cell >= self.world().cells() {
+            return Ok(None);
+        }
+        match self.decide_brief(alloc, cell) {
+            Ok(decision) => Ok(Some(decision)),
+            Err(_) => Ok(Some(self.decide_brief(alloc, cell)?)),
+        }
+    }
+}
+
+/// Whether an engine of the twelve cells, which remembers one text on one resource, answers these as the policies say.
+fn answers(alloc: Global, way: Way, cells: &[u64]) -> Result<bool, Fail> {
+    let world = World::read(alloc, HOME.as_bytes())?;
+    let index = Index::build(alloc, &world)?;
+    answers_by(alloc, &index, way, cells)
+}
+
+fn answers_by(alloc: Global, index: &Index<'_>, way: Way, cells: &[u64]) -> Result<bool, Fail> {
+    let mut engine = Engine::new(alloc, index.world(), index, 1)?;
+    answers_all(alloc, &mut engine, way, cells)
+}
+
+#[test]
+fn cells_in_any_order_with_a_cache_of_one(rt: HostRuntime) -> Result<(), Fail> {
+    for way in [Way::Full, Way::Brief, Way::Both] {
+        assert!(rt; answers(rt.alloc(), way, &[11, 8, 0, 5, 11, 9, 8, 0])?);
+        assert!(rt; answers(rt.alloc(), way, &EACH)?);
+    }
+    Ok(())
+}
+
+// tools/tests/test_refused.py refuses this each call of the allocator.
+#[test]
+fn cells_asked_again(rt: HostRuntime) -> Result<(), Fail> {
+    assert!(rt; answers(rt.alloc(), Way::Both, &EACH)?);
     Ok(())
 }

@@ -63,8 +63,8 @@ fn are_worked_once<R: Threads + Sync>(
     let mut outputs = gathered.outputs.iter().enumerate();
     let is_each = outputs.all(|(tile, output)| tile as u64 == *output);
     let is_once = crew.worked.load(Ordering::SeqCst) == tiles;
-    // The collector may want tools of its own.
-    let is_equipped = crew.equipped.load(Ordering::SeqCst) <= u64::from(workers) + 1;
+    // Workers work all tiles, so that the collector wants no tools of its own.
+    let is_equipped = crew.equipped.load(Ordering::SeqCst) == u64::from(workers);
     let is_whole = gathered.outputs.len() as u64 == tiles && gathered.low.is_none();
     Ok(is_each && is_once && is_equipped && is_whole)
 }

@@ -1,6 +1,5 @@
-// An engine of matrices that is asked for the same cells again and again, in any order, and one that was refused memory.
-ghost use Rattle.std.specs.Prelude.{◌≡◌, ◌<◌, IfOk, length};
-ghost use Rattle.iam_world.specs.World.{world_cells};
+// Engines that are asked for the same cells again and again, in any order, and that were refused memory.
+ghost use Rattle.std.specs.Prelude.{◌≡◌, IfOk, length};
 
 use crate::matrix::{HOME, is_decision, is_verdict};
 use iam_classes::{ClassEngine, Index};
@@ -9,41 +8,84 @@ use iam_survey::{Survey, Surveyor};
 use std::alloc::Global;
 use std::test::Fail;
 
-/// The verdict on a cell, asked for once more where memory was refused.
-fn decide_again(alloc: Global, engine: &mut ClassEngine<'_>, cell: u64) -> Result<Verdict, Fail>
-    requires { cell < world_cells engine.old.world }
-    ensures { engine.new.world ≡ engine.old.world }
-{
-    match engine.decide(alloc, cell) {
-        Ok(verdict) => Ok(verdict),
-        Err(_) => Ok(engine.decide(alloc, cell)?),
+/// An engine that decides cells of a world, each asked for once more where memory was refused.
+pub trait Decides {
+    /// The verdict on a cell, where the world has it.
+    fn verdict_on(&mut self, alloc: Global, cell: u64) -> Result<Option<Verdict>, Fail>;
+
+    /// The decision on a cell, where the world has it.
+    fn decision_on(&mut self, alloc: Global, cell: u64) -> Result<Option<Decision>, Fail>;
+}
+
+impl<'a> Decides for ClassEngine<'a> {
+    fn verdict_on(&mut self, alloc: Global, cell: u64) -> Result<Option<Verdict>, Fail> {
+        if cell >= self.world().cells() {
+            return Ok(None);
+        }
+        match self.decide(alloc, cell) {
+            Ok(verdict) => Ok(Some(verdict)),
+            Err(_) => Ok(Some(self.decide(alloc, cell)?)),
+        }
+    }
+
+    fn decision_on(&mut self, alloc: Global, cell: u64) -> Result<Option<Decision>, Fail> {
+        if cell >= self.world().cells() {
+            return Ok(None);
+        }
+        match self.decide_brief(alloc, cell) {
+            Ok(decision) => Ok(Some(decision)),
+            Err(_) => Ok(Some(self.decide_brief(alloc, cell)?)),
+        }
     }
 }
 
-/// The decision on a cell, asked for once more where memory was refused.
-fn decide_brief_again(
+/// How an engine is asked for a cell.
+#[derive(Clone, Copy)]
+pub enum Way {
+    Full,
+    Brief,
+    /// In brief, and then in full.
+    Both,
+}
+
+/// Whether the engine says of a cell what the policies say.
+fn says<E: Decides>(alloc: Global, engine: &mut E, cell: u64) -> Result<bool, Fail> {
+    match engine.verdict_on(alloc, cell)? {
+        Some(verdict) => Ok(is_verdict(cell as usize, &verdict)),
+        None => Ok(false),
+    }
+}
+
+/// Whether the engine says it in brief.
+fn says_briefly<E: Decides>(alloc: Global, engine: &mut E, cell: u64) -> Result<bool, Fail> {
+    match engine.decision_on(alloc, cell)? {
+        Some(decision) => Ok(is_decision(cell as usize, decision)),
+        None => Ok(false),
+    }
+}
+
+/// Whether the engine answers each of these cells, one after the other, as the policies say.
+pub fn answers_all<E: Decides>(
     alloc: Global,
-    engine: &mut ClassEngine<'_>,
-    cell: u64,
-) -> Result<Decision, Fail>
-    requires { cell < world_cells engine.old.world }
-    ensures { engine.new.world ≡ engine.old.world }
-{
-    match engine.decide_brief(alloc, cell) {
-        Ok(decision) => Ok(decision),
-        Err(_) => Ok(engine.decide_brief(alloc, cell)?),
+    engine: &mut E,
+    way: Way,
+    cells: &[u64],
+) -> Result<bool, Fail> {
+    for &cell in cells {
+        let is_right = match way {
+            Way::Full => says(alloc, engine, cell)?,
+            Way::Brief => says_briefly(alloc, engine, cell)?,
+            Way::Both => says_briefly(alloc, engine, cell)? && says(alloc, engine, cell)?,
+        };
+        if !is_right {
+            return Ok(false);
+        }
     }
+    Ok(true)
 }
 
-/// Whether the engine answers a cell as the policies say, in brief and in full.
-fn answers(alloc: Global, engine: &mut ClassEngine<'_>, cell: u64) -> Result<bool, Fail> {
-    if cell >= engine.world().cells() {
-        return Ok(false);
-    }
-    let decision = decide_brief_again(alloc, engine, cell)?;
-    let verdict = decide_again(alloc, engine, cell)?;
-    Ok(is_decision(cell as usize, decision) && is_verdict(cell as usize, &verdict))
-}
+/// All cells of the world of twelve.
+pub const EACH: [u64; 12] = [0, 1, 2, 3, 4, 5, 6, 7, 8, 9, 10, 11];
 
 /// What is asked of the index of a world.
 #[derive(Clone, Copy)]
@@ -67,7 +109,7 @@ fn is_so(alloc: Global, document: &str, asked: Asked<'_>) -> Result<bool, Fail> 
 
 fn is_so_by(alloc: Global, index: &Index<'_>, asked: Asked<'_>) -> Result<bool, Fail> {
     match asked {
-        Asked::Answers(engines, cells) => answers_all(alloc, index, engines, cells),
+        Asked::Answers(engines, cells) => answers_by(alloc, index, engines, cells),
         Asked::AllowsJust(engines, cells, allowed) => {
             allows_just(alloc, index, engines, cells, allowed)
         }
@@ -76,26 +118,16 @@ fn is_so_by(alloc: Global, index: &Index<'_>, asked: Asked<'_>) -> Result<bool, 
     }
 }
 
-fn answers_all(
-    alloc: Global,
-    index: &Index<'_>,
-    engines: u32,
-    cells: &[u64],
-) -> Result<bool, Fail> {
+fn answers_by(alloc: Global, index: &Index<'_>, engines: u32, cells: &[u64]) -> Result<bool, Fail> {
     let mut engine = ClassEngine::new(alloc, index, engines)?;
-    for &cell in cells {
-        if !answers(alloc, &mut engine, cell)? {
-            return Ok(false);
-        }
-    }
-    Ok(true)
+    answers_all(alloc, &mut engine, Way::Both, cells)
 }
 
 #[test]
 fn cells_in_any_order_by_one_engine(rt: HostRuntime) -> Result<(), Fail> {
     let orders: [&[u64]; 3] = [
         &[11, 8, 0, 5, 11, 9, 8, 0],
-        &[0, 1, 2, 3, 4, 5, 6, 7, 8, 9, 10, 11],
+        &EACH,
         &[11, 10, 9, 8, 7, 6, 5, 4, 3, 2, 1, 0, 3, 7, 11, 2, 6, 10],
     ];
     for cells in orders {
@@ -129,10 +161,9 @@ fn allows_just(
 ) -> Result<bool, Fail> {
     let mut engine = ClassEngine::new(alloc, index, engines)?;
     for &cell in cells {
-        if cell >= engine.world().cells() {
+        let Some(decision) = engine.decision_on(alloc, cell)? else {
             return Ok(false);
-        }
-        let decision = decide_brief_again(alloc, &mut engine, cell)?;
+        };
         if (decision == Decision::Allowed) != allowed.contains(&cell) {
             return Ok(false);
         }
@@ -160,11 +191,11 @@ fn the_same_statements_live_in_requests_that_are_decided_otherwise(
     Ok(())
 }
 
-// Of itself this shows nothing that the test above does not: tools/tests/test_refused.py refuses it each call of the allocator.
+// Of itself this shows nothing that the test of cells in any order does not: tools/tests/test_refused.py refuses it each call of
+// the allocator.
 #[test]
 fn cells_asked_again(rt: HostRuntime) -> Result<(), Fail> {
-    let cells = &[0, 1, 2, 3, 4, 5, 6, 7, 8, 9, 10, 11];
-    assert!(rt; is_so(rt.alloc(), HOME, Asked::Answers(1, cells))?);
+    assert!(rt; is_so(rt.alloc(), HOME, Asked::Answers(1, &EACH))?);
     Ok(())
 }
 
@@ -189,24 +220,14 @@ fn is_surveyed(alloc: Global, index: &Index<'_>) -> Result<bool, Fail> {
             return Ok(false);
         }
     }
-    answers_by(alloc, &survey)
+    let mut engine = ClassEngine::surveyed(alloc, &survey, 1)?;
+    answers_all(alloc, &mut engine, Way::Both, &EACH)
 }
 
 fn resources_of(survey: &Survey<'_>) -> u64
     ensures { result ≡ length survey.now.resources }
 {
     survey.index().world().resources()
-}
-
-/// Whether an engine that begins with the survey answers all twelve cells.
-fn answers_by(alloc: Global, survey: &Survey<'_>) -> Result<bool, Fail> {
-    let mut engine = ClassEngine::surveyed(alloc, survey, 1)?;
-    for cell in 0..12 {
-        if !answers(alloc, &mut engine, cell)? {
-            return Ok(false);
-        }
-    }
-    Ok(true)
 }
 
 #[test]

@@ -51,7 +51,7 @@ impl<R: Wait> Gate for Record<'_, R> {
     }
 }
 
-/// A gate that holds two tiles until two others have begun, so that other workers have to begin these.
+/// A gate that holds two tiles until the two that it awaits, which may be the same, have begun, each by another worker.
 #[derive(Drop)]
 struct Hold {
     held: [u64; 2],

@@ -1,7 +1,7 @@
 // Lanes in one thread, and lanes that threads share.
 ghost use Rattle.std.specs.Prelude.{◌≡◌, ◌<◌, All, IfOk, length, vec_len};
 
-use iam_lanes::{Closed, LaneSeat, Lanes};
+use iam_lanes::{Closed, LaneFault, LaneSeat, Lanes};
 use std::alloc::{AllocError, Global};
 use std::sync::{Mutex, Wait};
 use std::test::Fail;
@@ -137,5 +137,29 @@ fn threads_take_each_number_once(rt: HostRuntime) -> Result<(), Fail> {
         panic!(rt; "the lanes are lawful")
     };
     assert!(rt; are_taken_once(&rt, rt.alloc(), lanes, seats, 400)?);
+    Ok(())
+}
+
+#[test]
+fn lanes_are_refused_for_their_seats_and_lengths(rt: HostRuntime) -> Result<(), Fail> {
+    let alloc = rt.alloc();
+    let many = vec![in alloc; 0; 65]?;
+    let opened: [(&[u64], u32, Option<LaneFault>); 8] = [
+        (&[1], 0, Some(LaneFault::NoSeat)),
+        (many.as_slice(), 0, Some(LaneFault::NoSeat)),
+        (&[1], 65, Some(LaneFault::TooMany)),
+        (many.as_slice(), 1, Some(LaneFault::TooMany)),
+        (&[4096, 1], 1, Some(LaneFault::TooMany)),
+        (
+            &[18_446_744_073_709_551_615, 1],
+            1,
+            Some(LaneFault::TooMany),
+        ),
+        (&[], 1, None),
+        (&[4095, 1], 64, None),
+    ];
+    for (lengths, seats, fault) in opened {
+        assert_eq!(rt; Lanes::open(alloc, lengths, seats).err(), fault);
+    }
     Ok(())
 }

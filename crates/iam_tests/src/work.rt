@@ -1,10 +1,10 @@
 // Runs that are pushed, stolen and marked, in one thread.
 ghost use Rattle.std.specs.Prelude.{◌≡◌};
 
-use iam_lanes::{Run, Stolen, Work, WorkSeat};
+use iam_lanes::{LaneFault, Run, Stolen, Work, WorkSeat};
 use std::test::Fail;
 
-/// Whether seat a has its runs back from the last on, and seat 1 steals them from the first on.
+/// Whether seat a has back what nobody took, and seat 1 steals the run that has been there longest.
 fn push_pop_and_steal(work: &Work, a: &mut WorkSeat, b: &mut WorkSeat) -> bool
     requires grains { work.now.grains ≡ 6 }
     requires seats { work.now.seats ≡ 2 }
@@ -68,4 +68,18 @@ fn a_deque_grows_and_gives_its_runs_in_their_order(rt: HostRuntime) {
         assert_eq!(rt; work.pop(&mut seat), Some(run));
     }
     assert_eq!(rt; work.pop(&mut seat), None);
+}
+
+#[test]
+fn work_is_refused_for_its_seats_and_grains(rt: HostRuntime) {
+    for (grains, seats, fault) in [
+        (4096, 0, Some(LaneFault::NoSeat)),
+        (4097, 0, Some(LaneFault::NoSeat)),
+        (4097, 1, Some(LaneFault::TooMany)),
+        (1, 65, Some(LaneFault::TooMany)),
+        (0, 1, None),
+        (4096, 64, None),
+    ] {
+        assert_eq!(rt; Work::open(rt.alloc(), grains, seats).err(), fault);
+    }
 }
