@@ -1,6 +1,5 @@
 -- One report of two worlds, and one end of a run on them.
-use Rattle.std.proofs.Common.{◌≡◌, ◌≢◌, ◌⊎◌, inl, inr, ℕ, List, ◌++◌, Some, take, drop, Ok, Err, refl, sym, ap, ◌∙◌, subst, append_assoc}
-use Rattle.std.proofs.lemmas.List.{take-append-drop}
+use Rattle.std.proofs.Common.{◌≡◌, ◌≢◌, ◌⊎◌, inl, inr, ℕ, List, ◌++◌, Some, Ok, Err, refl, sym, ap, ◌∙◌, subst}
 use Rattle.iam_world.specs.Reads.{IsWorld}
 use Rattle.iam_world.specs.World.{WorldValue}
 use Rattle.iam_world.specs.WorldFault.{IsFirstWorldFault}
@@ -17,11 +16,12 @@ use Rattle.iam_options.specs.declared.changes.ChangesOptions.{ChangesOptions}
 use Rattle.iam_app.specs.Changes.{EndsChangesBy, HasSide, IsAskedChanges, IsChangesOutput, IsNoWorld, IsSide, IsTwiceIn, WritesChanges}
 use Rattle.iam_app.specs.Output.{format_of}
 use Rattle.iam_app.specs.ChangesLaws
-use Rattle.iam_app.specs.ChangesLaws.{AskTheSameChanges, IsOfWorlds}
+use Rattle.iam_app.specs.ChangesLaws.{IsOfWorlds}
 use Rattle.iam_app.specs.declared.changes_fault.ChangesFault.{ChangesFault}
 use Rattle.iam_app.specs.declared.changes_fault.ChangesFault.TheVariants as c
 use Rattle.iam_app.specs.declared.changes_fault.Side.TheVariants as side
 use Rattle.iam_app.specs.declared.fault.RunFault.TheVariants as f
+use Rattle.iam_app.proofs.OneOutput.{goes_on}
 
 -- the laws of the crates below
 pub record Given : Type 0 where
@@ -163,8 +163,5 @@ pub one_changes_beginning : Given → ChangesLaws.OneChangesBeginning
 one_changes_beginning g options other selection first second held new new' kinds same h (bytes, more, all, all_more, (text', kinds', is', (n, few, left'))) =
     let (text, is, left) = written options selection first second held new kinds h in
     let here = subst (λ b. IsChangesOutput other selection b second text' kinds') all (subst (λ b. IsChangesOutput other selection bytes b text' kinds') all_more is') in
-    let (one, alike) = one_changes_output g options other selection first second text text' kinds kinds' same is here in (
-      drop n text',
-      left ∙ ap (λ t. held ++ t) (one ∙ sym (take-append-drop n text')) ∙ sym (append_assoc held (take n text') (drop n text'))
-          ∙ ap (λ t. t ++ drop n text') (sym left'),
-    )
+    let (one, alike) = one_changes_output g options other selection first second text text' kinds kinds' same is here in
+    goes_on held new new' text text' n one left left'

@@ -1,3 +1,4 @@
+mod Asking
 mod Compared
 mod Comparing
 pub mod OneOutput

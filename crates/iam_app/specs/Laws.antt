@@ -8,7 +8,7 @@ use Rattle.iam_world.specs.declared.fault.WorldFault.{WorldFault}
 use Rattle.iam_world.specs.declared.fault.WorldFault.TheVariants as w
 use Rattle.iam_selection.specs.Selection.{SelectionValue}
 use Rattle.iam_app.specs.Output.{EndsBy, HasOutput, IsOutput}
-use Rattle.iam_app.specs.Selected.{IsSelectedOutput}
+use Rattle.iam_app.specs.Selected.{EndsSelectedBy, HasSelectedOutput, IsSelectedOutput}
 use Rattle.iam_app.specs.declared.fault.RunFault.{RunFault}
 use Rattle.iam_app.specs.declared.fault.RunFault.TheVariants.{World, NoSuchCell}
 
@@ -57,4 +57,27 @@ OneBeginning =
     (options other : Options) (input held new new' : List ℕ) → AskTheSame options other
     → HasOutput options (Some input) (Appends (Some held) (Some new))
     → HasOutput other (Some input) (AppendsBeginning (Some held) (Some new'))
+    → (rest : List ℕ) × (new ≡ new' ++ rest)
+
+-- how a run with a selection ends: what its contract says
+abbrev pub EndsSelected : Options → SelectionValue → Option (List ℕ) → Option (List ℕ) → Option (List ℕ)
+    → Result (Unit {0}) RunFault → Type 0
+EndsSelected options selection input old new (Ok done) = HasSelectedOutput options selection input (Appends old new)
+EndsSelected options selection input old new (Err fault) = EndsSelectedBy options selection input old new fault
+
+-- two such runs with one selection end alike, and leave the same bytes
+abbrev pub OneSelectedEnd : Type 0
+OneSelectedEnd =
+    (options other : Options) (selection : SelectionValue) (input held new new' : List ℕ) (result result' : Result (Unit {0}) RunFault)
+    → AskTheSame options other → IsUndisturbed result → IsUndisturbed result'
+    → EndsSelected options selection (Some input) (Some held) (Some new) result
+    → EndsSelected other selection (Some input) (Some held) (Some new') result'
+    → (result ≡ result') × (new ≡ new')
+
+-- and what one of them left when the writer failed is a beginning of what another one wrote
+abbrev pub OneSelectedBeginning : Type 0
+OneSelectedBeginning =
+    (options other : Options) (selection : SelectionValue) (input held new new' : List ℕ) → AskTheSame options other
+    → HasSelectedOutput options selection (Some input) (Appends (Some held) (Some new))
+    → HasSelectedOutput other selection (Some input) (AppendsBeginning (Some held) (Some new'))
     → (rest : List ℕ) × (new ≡ new' ++ rest)

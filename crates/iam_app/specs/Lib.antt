@@ -2,6 +2,7 @@ pub mod Changes
 pub mod ChangesFault
 pub mod ChangesLaws
 pub mod Code
+pub mod Command
 pub mod FaultLine
 pub mod Laws
 pub mod Output

@@ -5,7 +5,6 @@ ghost use Rattle.iam_app.specs.declared.input.InputFault.TheVariants as InputFau
 
 use std::alloc::Global;
 use std::io::Read;
-use thiserror::Error;
 
 /// The longest input that is taken, in bytes.
 const MOST: usize = 8_388_608;
@@ -14,16 +13,13 @@ const MOST: usize = 8_388_608;
 const ROOM: usize = 4096;
 
 /// Why input is not taken.
-#[derive(Clone, Copy, Debug, PartialEq, Eq, Error)]
+#[derive(Clone, Copy, Debug, PartialEq, Eq)]
 pub enum InputFault {
     /// The reader failed.
-    #[error("the input can't be read")]
     Read,
     /// Over 8,388,608 bytes.
-    #[error("over 8,388,608 bytes")]
     TooLarge,
     /// The allocator refused a growth.
-    #[error("out of memory")]
     OutOfMemory,
 }
 

@@ -4,6 +4,7 @@
 mod cells;
 mod changes;
 mod changes_fault;
+mod command;
 mod fault;
 mod input;
 mod laws;
@@ -13,6 +14,7 @@ mod selected;
 
 pub use changes::{changes_status, run_changes};
 pub use changes_fault::{ChangesFault, Side, changes_fault_line};
+pub use command::{run_changes_command, run_command};
 pub use fault::{RunFault, fault_line, status};
 pub use iam_changes::Kinds;
 pub use iam_layers::WorldFault;

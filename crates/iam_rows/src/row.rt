@@ -5,9 +5,8 @@
 use crate::input::{input_of, number_at, text_at};
 use crate::problem::Problem;
 use iam_app::{
-    ChangesCommand, ChangesFault, Command, Kinds, RunFault, Usage, WorldCommand,
-    changes_fault_line, changes_status, command_of, fault_line, run, run_changes, run_selected,
-    selection_of, status,
+    ChangesCommand, Command, Usage, WorldCommand, changes_fault_line, changes_status, command_of,
+    fault_line, run_changes_command, run_command, status,
 };
 use serde_json::Value;
 use std::alloc::Global;
@@ -158,8 +157,9 @@ fn world_answer<R: AllocGlobal + Threads + Sync>(
     input: &[u8],
 ) -> Result<Answer, Problem> {
     let alloc = rt.alloc();
+    let mut reader = input;
     let mut output = Vec::new(alloc);
-    let outcome = outcome_of(rt, command, input, &mut output);
+    let outcome = run_command(rt, alloc, command, &mut reader, &mut output);
     let fault = match &outcome {
         Ok(()) => String::new(alloc),
         Err(fault) => fault_line(alloc, fault)?,
@@ -171,22 +171,6 @@ fn world_answer<R: AllocGlobal + Threads + Sync>(
     })
 }
 
-/// How the run that a command asks for ends.
-fn outcome_of<R: AllocGlobal + Threads + Sync>(
-    rt: &R,
-    command: &WorldCommand,
-    input: &[u8],
-    output: &mut Vec<u8>,
-) -> Result<(), RunFault> {
-    let alloc = rt.alloc();
-    let mut reader = input;
-    if command.asked.is_nothing() {
-        return run(rt, alloc, &command.options, &mut reader, output);
-    }
-    let selection = selection_of(alloc, &command.asked)?;
-    run_selected(rt, alloc, &command.options, &selection, &mut reader, output)
-}
-
 /// What comes of a command about two worlds.
 fn changes_answer<R: AllocGlobal + Threads + Sync>(
     rt: &R,
@@ -194,8 +178,10 @@ fn changes_answer<R: AllocGlobal + Threads + Sync>(
     inputs: &Inputs,
 ) -> Result<Answer, Problem> {
     let alloc = rt.alloc();
+    let mut before = inputs.before.as_slice();
+    let mut after = inputs.world.as_slice();
     let mut output = Vec::new(alloc);
-    let outcome = changes_of(rt, command, inputs, &mut output);
+    let outcome = run_changes_command(rt, alloc, command, &mut before, &mut after, &mut output);
     let fault = match &outcome {
         Ok(_) => String::new(alloc),
         Err(fault) => changes_fault_line(alloc, fault)?,
@@ -205,28 +191,6 @@ fn changes_answer<R: AllocGlobal + Threads + Sync>(
         output,
         fault,
     })
-}
-
-/// How the run of a command about two worlds ends.
-fn changes_of<R: AllocGlobal + Threads + Sync>(
-    rt: &R,
-    command: &ChangesCommand,
-    inputs: &Inputs,
-    output: &mut Vec<u8>,
-) -> Result<Kinds, ChangesFault> {
-    let alloc = rt.alloc();
-    let mut before = inputs.before.as_slice();
-    let mut after = inputs.world.as_slice();
-    let selection = selection_of(alloc, &command.asked)?;
-    run_changes(
-        rt,
-        alloc,
-        &command.options,
-        &selection,
-        &mut before,
-        &mut after,
-        output,
-    )
 }
 
 /// What comes of words that ask for no run. Of a refused command line the first line of its text is the fault.

@@ -1,7 +1,7 @@
 // Readers and writers that fail, at each of their calls, for all commands.
 use iam_app::{
-    Command, changes_fault_line, changes_status, command_of, fault_line, run, run_changes,
-    selection_of, status,
+    Command, changes_fault_line, changes_status, command_of, fault_line, run_changes_command,
+    run_command, status,
 };
 use std::io;
 use std::io::{ErrorKind, Read, Write};
@@ -43,13 +43,14 @@ gained,arn:aws:iam::111122223333:user/ann,S3:getobject,arn:aws:s3:::b/k,,allowed
 const CHANGES: &str = "changes - after.json --workers 1 --brief --fail-on lost";
 
 /// Each command, in each form of its report, and what it writes.
-const RUNS: [(&str, &str); 8] = [
+const RUNS: [(&str, &str); 9] = [
     (
         "check",
         "ok principals 1 actions 1 resources 1 cells 1 statements 1\n",
     ),
     ("decide 0 0 0", REPORT),
     ("matrix --workers 1", REPORT),
+    ("matrix --workers 1 --action s3:*", REPORT),
     ("matrix --workers 1 --brief", BRIEF),
     ("matrix --workers 1 --format json", JSON),
     ("matrix --workers 1 --format json --brief", JSON_BRIEF),
@@ -132,7 +133,7 @@ fn end_of<R: Read, S: Read, W: Write>(
     let alloc = rt.alloc();
     match command {
         Command::World(asked) => {
-            let outcome = run(rt, alloc, &asked.options, after, writer);
+            let outcome = run_command(rt, alloc, asked, after, writer);
             let line = match &outcome {
                 Ok(()) => String::new(alloc),
                 Err(fault) => fault_line(alloc, fault)?,
@@ -140,8 +141,7 @@ fn end_of<R: Read, S: Read, W: Write>(
             Ok((status(&outcome), line))
         }
         Command::Changes(asked) => {
-            let all = selection_of(alloc, &asked.asked)?;
-            let outcome = run_changes(rt, alloc, &asked.options, &all, before, after, writer);
+            let outcome = run_changes_command(rt, alloc, asked, before, after, writer);
             let line = match &outcome {
                 Ok(_) => String::new(alloc),
                 Err(fault) => changes_fault_line(alloc, fault)?,

@@ -4,9 +4,8 @@
 mod source;
 
 use iam_app::{
-    ChangesCommand, ChangesFault, Command, Kinds, OutOfMemory, RunFault, Usage, WorldCommand,
-    changes_fault_line, changes_status, command_of, fault_line, run, run_changes, run_selected,
-    selection_of, status,
+    ChangesCommand, Command, OutOfMemory, Usage, WorldCommand, changes_fault_line, changes_status,
+    command_of, fault_line, run_changes_command, run_command, status,
 };
 use source::{Input, NotRead, Source, line_of_file};
 use std::alloc::Global;
@@ -59,30 +58,15 @@ fn world<'a, T: Threads + Sync + Files + Eprint, R: Read, W: Write>(
     let (outcome, not_read) = match &command.world {
         Some(name) => {
             let mut source = Source::of(rt, name.as_str());
-            let outcome = answer(rt, alloc, command, &mut source, stdout);
+            let outcome = run_command(rt, alloc, command, &mut source, stdout);
             (outcome, source.not_read())
         }
-        None => (answer(rt, alloc, command, stdin, stdout), None),
+        None => (run_command(rt, alloc, command, stdin, stdout), None),
     };
     if let Err(fault) = &outcome {
         tell_fault(rt, alloc, fault_line(alloc, fault), not_read);
     }
     status(&outcome)
-}
-
-/// Reads a world, and writes the report that the command asks for.
-fn answer<T: Threads + Sync, R: Read, W: Write>(
-    rt: &T,
-    alloc: Global,
-    command: &WorldCommand,
-    reader: &mut R,
-    writer: &mut W,
-) -> Result<(), RunFault> {
-    if command.asked.is_nothing() {
-        return run(rt, alloc, &command.options, reader, writer);
-    }
-    let selection = selection_of(alloc, &command.asked)?;
-    run_selected(rt, alloc, &command.options, &selection, reader, writer)
 }
 
 /// Answers what has changed from one world to another; the exit status.
@@ -94,34 +78,13 @@ fn changes<T: Threads + Sync + Files + Eprint, R: Read + Drop, W: Write>(
     after: &mut Input<'_, R, T>,
     stdout: &mut W,
 ) -> u8 {
-    let outcome = compare(rt, alloc, command, before, after, stdout);
+    let outcome = run_changes_command(rt, alloc, command, before, after, stdout);
     if let Err(fault) = &outcome {
         // Where BEFORE can't be read, AFTER was not.
         let not_read = before.not_read().or(after.not_read());
         tell_fault(rt, alloc, changes_fault_line(alloc, fault), not_read);
     }
     changes_status(&outcome, command.fail_on)
-}
-
-/// Reads two worlds, and writes what has changed.
-fn compare<T: Threads + Sync, R: Read, S: Read, W: Write>(
-    rt: &T,
-    alloc: Global,
-    command: &ChangesCommand,
-    before: &mut R,
-    after: &mut S,
-    writer: &mut W,
-) -> Result<Kinds, ChangesFault> {
-    let selection = selection_of(alloc, &command.asked)?;
-    run_changes(
-        rt,
-        alloc,
-        &command.options,
-        &selection,
-        before,
-        after,
-        writer,
-    )
 }
 
 /// Prints what a command line without options is answered, and gives the exit status.
