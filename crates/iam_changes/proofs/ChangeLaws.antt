@@ -15,7 +15,7 @@ use Rattle.iam_requests.specs.Requests.{AreRequests, Has}
 use Rattle.iam_requests.specs.Twice.{IsApart}
 use Rattle.iam_changes.specs.Change.{AskedValue, ChangeValue, Changes, IsChange, IsRow, Says, allows, is_allowed}
 use Rattle.iam_changes.specs.Laws
-use Rattle.iam_changes.specs.Laws.{Allows, turned, turned_kind}
+use Rattle.iam_changes.specs.Laws.{Allows, turned}
 use Rattle.iam_changes.specs.Report.{HasKinds, changes_text}
 use Rattle.iam_changes.specs.declared.change.Change.{Change}
 use Rattle.iam_changes.specs.declared.change.Change.TheVariants.{Gained, Lost}

@@ -1,5 +1,5 @@
 -- What is remembered: where it is asked for, and where one answer more is kept.
-use Rattle.std.proofs.Common.{◌≡◌, ◌⊎◌, ◌↔◌, inl, inr, ◌&&◌, ℕ, Bool, true, false, nat_eq, Contains, IsTrue, IfSome, List, Option, Some, None, refl, sym, ap, subst, ◌∙◌}
+use Rattle.std.proofs.Common.{◌≡◌, ◌⊎◌, ◌↔◌, inl, inr, ◌&&◌, ℕ, Bool, true, nat_eq, Contains, IsTrue, IfSome, List, Option, Some, None, refl, sym, ap, subst, ◌∙◌}
 use Rattle.std.proofs.lemmas.Bool.{and_parts, eqb-true}
 use Rattle.std.specs.List.{slice_get}
 use Rattle.std.specs.Map.{lookup}

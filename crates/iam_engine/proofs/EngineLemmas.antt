@@ -1,5 +1,5 @@
 -- Requests of a world, and their resources.
-use Rattle.std.proofs.Common.{◌≡◌, ◌∷◌, [], ℕ, List, refl, ap}
+use Rattle.std.proofs.Common.{◌∷◌, [], ℕ, List, refl, ap}
 use Rattle.std.specs.List.{Any}
 use Rattle.iam_policy.specs.declared.effect.Effect.TheVariants.{Deny}
 use Rattle.iam_match.specs.Statement.{AccessValue, request_for}

@@ -1,8 +1,8 @@
 -- One candidate more, and what is then found.
-use Rattle.std.proofs.Common.{◌≡◌, ◌⊎◌, ◌↔◌, inl, inr, ℕ, ◌+◌, ◌<◌, ◌≤◌, Bool, true, false, IfSome, IsTrue, List, [], ◌∷◌, Option, None, Some, get_or, length, map, take, refl, sym, ap, subst, ◌∙◌, arith}
+use Rattle.std.proofs.Common.{◌≡◌, ◌↔◌, inl, inr, ℕ, ◌+◌, ◌<◌, ◌≤◌, Bool, true, false, IfSome, IsTrue, List, [], ◌∷◌, Option, None, Some, get_or, length, map, take, refl, sym, ap, subst, ◌∙◌, arith}
 use Rattle.std.proofs.lemmas.List.{get_or-map, length-map, take_all}
-use Rattle.std.specs.List.{Any, Contains}
-use Rattle.iam_policy.specs.declared.effect.Effect.TheVariants.{Allow, Deny}
+use Rattle.std.specs.List.{Contains}
+use Rattle.iam_policy.specs.declared.effect.Effect.TheVariants.{Deny}
 use Rattle.iam_context.specs.Context.{ContextValue}
 use Rattle.iam_element.specs.Reading.{ResourceElement}
 use Rattle.iam_match.specs.Statement.{AccessValue, ActionMatches, ResourceMatches, request_for}
@@ -14,7 +14,7 @@ use Rattle.iam_decision.specs.Matched.{IsMatched, Placed}
 use Rattle.iam_decision.specs.declared.living.Matched.{Matched}
 use Rattle.iam_decision.specs.declared.scan.Standing.{Standing}
 use Rattle.iam_index.specs.Index.{AllAct}
-use Rattle.iam_engine.specs.Walk.{FindsAsked, FindsDeny, FindsOpen}
+use Rattle.iam_engine.specs.Walk.{FindsAsked, FindsDeny}
 
 -- the statement of a candidate, and where it stands among those of all
 pub acts_at : (action : List ℕ) (candidates : List Standing) (i : ℕ) (x : Standing) → i < length candidates → x ≡ get_or candidates i x

@@ -1,4 +1,4 @@
-// Cells that follow one another, and the decision on each.
+// Cells that follow one another, their rows, and the decision on each.
 ghost use Rattle.std.specs.Prelude.{◌≡◌, ◌⊎◌, ◌+◌, ◌-◌, ◌<◌, ◌≤◌, ◌^◌, ℕ, IfOk, length};
 ghost use Rattle.iam_layers.specs.Cell.{IsCell, IsDecisionOf};
 ghost use Rattle.iam_world.specs.World.{world_cells};

@@ -18,9 +18,10 @@ pub struct OutputFault;
 /// How many bytes a buffer has room for.
 const ROOM: usize = 65_536;
 
-/// An empty buffer. `OutOfMemory` comes where there is no memory for it.
+/// An empty buffer with room for 65,536 bytes. `OutOfMemory` comes where there is no memory for it.
 pub fn buffer(alloc: Global) -> Result<Vec<u8>, OutOfMemory>
-    ensures { IfOk result (λ kept. kept.items ≡ []) }
+    ensures items { IfOk result (λ kept. kept.items ≡ []) }
+    ensures room { IfOk result (λ kept. 65536 ≤ vec_capacity kept) }
 {
     Vec::with_capacity(alloc, ROOM)
 }

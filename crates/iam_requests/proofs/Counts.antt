@@ -1,19 +1,17 @@
--- How many requests of a world are none of another, as a walk over its cells counts them.
-use Rattle.std.proofs.Common.{◌≡◌, ℕ, zero, suc, ◌+◌, ◌-◌, ◌<◌, ◌≤◌, List, [], ◌∷◌, ◌++◌, MatchOption, Option, Some, None, length, refl, ap, subst, ◌∙◌, ⊎_elim, inl, inr, ◌⊎◌, arith}
-use Rattle.std.specs.Int.{from_bool}
+-- How many requests of a world are none of another, counted cell by cell.
+use Rattle.std.proofs.Common.{◌≡◌, ℕ, zero, suc, ◌+◌, ◌<◌, ◌≤◌, List, [], ◌∷◌, ◌++◌, Option, Some, None, length, refl, ap, subst, ◌∙◌, ⊎_elim, inl, inr, ◌⊎◌, arith}
 use Rattle.std.specs.List.{slice_get}
-use Rattle.std.specs.Option.{is_none, option_to_list}
+use Rattle.std.specs.Option.{option_to_list}
 use Rattle.std.proofs.lemmas.Grind.{flat_map-append}
 use Rattle.std.proofs.lemmas.List.{length-append}
 use Rattle.iam_layers.specs.Cell.{IsCell, principal_text}
 use Rattle.iam_layers.specs.Laws.{SomeTriple}
 use Rattle.iam_world.specs.World.{WorldValue, world_cells}
-use Rattle.iam_row.specs.Report.{CellTexts, HasTexts, IsCellTexts}
+use Rattle.iam_row.specs.Report.{CellTexts, IsCellTexts}
 use Rattle.iam_matrix.specs.Matrix.{AreEntriesFrom}
 use Rattle.iam_requests.specs.Code.Found.{AreLinked, FinderValue, IsLeftCount}
 use Rattle.iam_requests.specs.Lists.{somes}
-use Rattle.iam_requests.specs.Requests.{Has, IsUnlessHad}
-use Rattle.iam_requests.proofs.Places.{has_found}
+use Rattle.iam_requests.specs.Requests.{IsUnlessHad}
 
 -- ---- entries of cells, one more each
 
@@ -23,21 +21,21 @@ last_or_before [] x e (suc i) at = absurd (let wrong : ⊥ = cc in wrong)
 last_or_before (y ∷ xs) x e zero at = inl at
 last_or_before (y ∷ xs) x e (suc i) at = ⊎_elim (λ before. inl before) (λ last. inr (let same = last.0 in omega (arith, same), last.1)) (last_or_before xs x e i at)
 
-pub entries_more : {X : Type 0} (Is : ℕ → X → Type 0) (from : ℕ) (xs : List X) (x : X) → AreEntriesFrom Is from xs → Is (from + length xs) x → AreEntriesFrom Is from (xs ++ x ∷ [])
+entries_more : {X : Type 0} (Is : ℕ → X → Type 0) (from : ℕ) (xs : List X) (x : X) → AreEntriesFrom Is from xs → Is (from + length xs) x → AreEntriesFrom Is from (xs ++ x ∷ [])
 entries_more {X} Is from xs x each is i e at =
     ⊎_elim (each i e)
     (λ last. subst (Is (from + i)) last.1 (let same : from + length xs ≡ from + i = (let n = last.0 in omega (arith, n)) in subst (λ n. Is n x) same is))
     (last_or_before xs x e i at)
 
-pub no_entries : {X : Type 0} (Is : ℕ → X → Type 0) (from : ℕ) → AreEntriesFrom Is from []
+no_entries : {X : Type 0} (Is : ℕ → X → Type 0) (from : ℕ) → AreEntriesFrom Is from []
 no_entries Is from i e at = absurd (let wrong : ⊥ = cc in wrong)
 
 -- ---- those that are there
 
-pub somes_more : {X : Type 0} (xs : List (Option X)) (x : Option X) → somes (xs ++ x ∷ []) ≡ somes xs ++ somes (x ∷ [])
+somes_more : {X : Type 0} (xs : List (Option X)) (x : Option X) → somes (xs ++ x ∷ []) ≡ somes xs ++ somes (x ∷ [])
 somes_more xs x = flat_map-append option_to_list xs (x ∷ [])
 
-pub few_somes : {X : Type 0} (xs : List (Option X)) → length (somes xs) ≤ length xs
+few_somes : {X : Type 0} (xs : List (Option X)) → length (somes xs) ≤ length xs
 few_somes [] = omega arith
 few_somes (None ∷ xs) = let few = few_somes xs in omega (arith, few)
 few_somes (Some x ∷ xs) = let few = few_somes xs in omega (arith, few)
@@ -70,13 +68,10 @@ pub record LeftTo (world other : WorldValue) (cells count : ℕ) : Type 0 where
   pub each : AreEntriesFrom (IsLeftEntry world other) 0 lasts
   pub count_is : count ≡ length (somes lasts)
 
-pub left_few : (world other : WorldValue) (cells count : ℕ) → LeftTo world other cells count → count ≤ cells
-left_few world other cells count left = omega (arith, left.count_is, left.all, few_somes left.lasts)
-
 pub left_none : (world other : WorldValue) → LeftTo world other 0 0
 left_none world other = record { lasts = []; all = refl; each = no_entries (IsLeftEntry world other) 0; count_is = refl }
 
-left_more : (world other : WorldValue) (cells count more : ℕ) (entry : Option CellTexts) → IsLeftEntry world other cells entry → more ≡ count + length (somes (entry ∷ []))
+pub left_more : (world other : WorldValue) (cells count more : ℕ) (entry : Option CellTexts) → IsLeftEntry world other cells entry → more ≡ count + length (somes (entry ∷ []))
     → LeftTo world other cells count → LeftTo world other (cells + 1) more
 left_more world other cells count more entry is e left =
     let here : cells ≡ 0 + length left.lasts = omega (arith, left.all) in
@@ -88,31 +83,6 @@ left_more world other cells count more entry is e left =
           let parts = ap (λ (xs : List CellTexts). length xs) (somes_more left.lasts entry) ∙ length-append (somes left.lasts) (somes (entry ∷ [])) in
           omega (arith, e, left.count_is, parts);
     }
-
--- cells whose requests the other world has
-pub left_past : (world other : WorldValue) (cells count n : ℕ) → ((cell : ℕ) → cells ≤ cell → cell < cells + n → (texts : CellTexts) × IsCellTexts world cell texts × Has other texts)
-    → LeftTo world other cells count → LeftTo world other (cells + n) count
-left_past world other cells count zero has left = let same : cells ≡ cells + 0 = omega arith in subst (λ k. LeftTo world other k count) same left
-left_past world other cells count (suc n) has left =
-    let before = left_past world other cells count n (λ cell above below. has cell above (omega (arith, below))) left in
-    let next : cells + n + 1 ≡ cells + suc n = omega arith in
-    subst (λ k. LeftTo world other k count) next (left_more world other (cells + n) count count None (has (cells + n) (omega arith) (omega arith)) (omega arith) before)
-
-pub left_up : (world other : WorldValue) (cells count next : ℕ) → cells ≤ next
-    → ((cell : ℕ) → cells ≤ cell → cell < next → (texts : CellTexts) × IsCellTexts world cell texts × Has other texts) → LeftTo world other cells count
-    → LeftTo world other next count
-left_up world other cells count next up has left =
-    let same : cells + (next - cells) ≡ next = omega (arith, up) in
-    subst (λ k. LeftTo world other k count) same (left_past world other cells count (next - cells) (λ cell above below. has cell above (omega (arith, below, up))) left)
-
--- one more cell, by what was found of its request
-pub left_found : (world other : WorldValue) (cells count : ℕ) (texts : CellTexts) (found : Option (ℕ × ℕ × ℕ)) → IsCellTexts world cells texts
-    → MatchOption found (¬ Has other texts) (λ f. HasTexts other f.0 f.1 f.2 texts) → LeftTo world other cells count
-    → LeftTo world other (cells + 1) (count + from_bool (is_none found))
-left_found world other cells count texts None of absent left =
-    left_more world other cells count (count + 1) (Some texts) (texts, of, (refl, absent)) refl left
-left_found world other cells count texts (Some (p, a, r)) of has left =
-    left_more world other cells count (count + 0) None (texts, of, has_found other p a r texts has) refl left
 
 pub left_count : (world other : WorldValue) (count : ℕ) → LeftTo world other (world_cells world) count → IsLeftCount world other count
 left_count world other count left = (left.lasts, record { count = left.all; each = left.each }, left.count_is)

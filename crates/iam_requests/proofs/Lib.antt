@@ -1,4 +1,5 @@
 pub mod Counts
 pub mod Ones
 pub mod Places
+mod Products
 mod Texts

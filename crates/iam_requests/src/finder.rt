@@ -1,10 +1,11 @@
 // The requests of a world among those of another.
-ghost use Rattle.std.specs.Prelude.{◌≡◌, ℕ, IfOk, IsTrue, MatchOption, None, Some, map};
-ghost use Rattle.std.specs.List.{AllZip, slice_get};
+ghost use Rattle.std.specs.Prelude.{◌≡◌, ◌≤◌, ℕ, IfOk, IsTrue, MatchOption, None, Some, length, map};
+ghost use Rattle.std.specs.List.{AllZip, filter, slice_get};
+ghost use Rattle.std.specs.Option.{is_some};
 ghost use Rattle.iam_layers.specs.Cell.{IsCell};
 ghost use Rattle.iam_row.specs.Report.{CellTexts, HasTexts, IsCellTexts};
 ghost use Rattle.iam_requests.specs.Requests.{Has};
-ghost use Rattle.iam_requests.specs.Code.Found.{IsNumberIn, AreFoundIn, FinderValue};
+ghost use Rattle.iam_requests.specs.Code.Found.{IsLeftCount, IsNumberIn, AreFoundIn, FinderValue};
 ghost use Rattle.iam_requests.specs.Twice.{axis_texts};
 
 use crate::twice::{Axis, texts_of};
@@ -85,6 +86,13 @@ fn has_all(resources: bool, principals: &[Option<u64>], actions: &[Option<u64>])
     resources && are_all(principals) && are_all(actions)
 }
 
+/// How many numbers are there.
+fn count_some(numbers: &[Option<u64>]) -> u64
+    ensures { result ≡ length (filter is_some numbers.now) }
+{
+    numbers.iter().filter(|number| number.is_some()).count() as u64
+}
+
 impl<'a> Finder<'a> {
     /// The requests of a world in another. `OutOfMemory` comes where there is no memory for it.
     pub fn of(alloc: Global, world: &'a World, other: &'a World) -> Result<Finder<'a>, OutOfMemory>
@@ -139,5 +147,22 @@ impl<'a> Finder<'a> {
         ensures { IsTrue result → (cell : ℕ) (texts : CellTexts) → IsCellTexts self.now.world cell texts → Has self.now.other texts }
     {
         self.has_all
+    }
+
+    /// How many requests the other world does not have, at most 16,777,216.
+    pub fn count_left(&self) -> u64
+        ensures count { IsLeftCount self.now.world self.now.other result }
+        ensures few { result ≤ 16777216 }
+    {
+        one_triple();
+        let cells = self.world.cells();
+        if cells == 0 {
+            return 0;
+        }
+        // It has those of which it has each text. A world with cells has at most as many pairs of a principal and an action.
+        let had = count_some(self.principals.as_slice())
+            * count_some(self.actions.as_slice())
+            * count_some(self.resources.as_slice());
+        cells - had
     }
 }

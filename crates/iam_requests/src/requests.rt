@@ -2,12 +2,10 @@
 ghost use Rattle.std.specs.Prelude.{◌≡◌, ◌+◌, ◌≤◌, IfOk};
 ghost use Rattle.iam_world.specs.World.{world_cells};
 ghost use Rattle.iam_requests.specs.Requests.{IsCount};
-ghost use Rattle.iam_requests.specs.Code.Found.{IsLeftCount, reach, AreLinked, RequestsValue};
+ghost use Rattle.iam_requests.specs.Code.Found.{reach, AreLinked, RequestsValue};
 
 use crate::finder::Finder;
 use iam_layers::{World, one_triple};
-use iam_matrix::past_row;
-use iam_row::Position;
 use iam_text::OutOfMemory;
 use std::alloc::Global;
 use std::marker::Model;
@@ -32,30 +30,6 @@ impl<'a> Model for Requests<'a> {
     ghost invariant = { λ requests. AreLinked requests.before.now requests.after.now requests.count requests.to_before requests.to_after };
 }
 
-/// How many requests the other world of a finder does not have.
-fn count_left(finder: &Finder<'_>, world: &World) -> u64
-    requires { finder.now.world ≡ world.now }
-    ensures count { IsLeftCount world.now finder.now.other result }
-    ensures few { result ≤ 16777216 }
-{
-    one_triple();
-    let end = world.cells();
-    if finder.finds_all() {
-        return 0;
-    }
-    let mut count = 0;
-    let mut at = Position::of(world, 0);
-    while at.cell < end {
-        if finder.finds_row(at) {
-            at = past_row(world, at, end);
-            continue;
-        }
-        count += u64::from(finder.find(at).is_none());
-        at = at.next_in(world);
-    }
-    count
-}
-
 impl<'a> Requests<'a> {
     /// The requests of two worlds. `OutOfMemory` comes where there is no memory for them.
     pub fn of(
@@ -69,7 +43,7 @@ impl<'a> Requests<'a> {
         one_triple();
         let to_before = Finder::of(alloc, after, before)?;
         let to_after = Finder::of(alloc, before, after)?;
-        let count = after.cells() + count_left(&to_after, before);
+        let count = after.cells() + to_after.count_left();
         Ok(Requests {
             before,
             after,

@@ -126,7 +126,7 @@ impl<'a> Picker<'a> {
         self.selection
     }
 
-    /// Whether many pairs of a principal and a resource are meant: one in eight, or more.
+    /// Whether many pairs of a principal and a resource are meant: an eighth, rounded down, or more.
     pub fn is_broad(&self) -> bool {
         let pairs = self
             .world

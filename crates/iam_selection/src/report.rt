@@ -119,7 +119,7 @@ pub fn first_selected_report<R: Threads + Sync, G: Gate + Sync>(
 
 /// The least cell of a world that is selected and allowed, or nothing where none is. The cut, the workers, the gate and the
 /// faults are as in [`iam_matrix::first`].
-pub fn first_selected<R: Threads + Sync, G: Gate + Sync>(
+fn first_selected<R: Threads + Sync, G: Gate + Sync>(
     rt: &R,
     alloc: Global,
     world: &World,

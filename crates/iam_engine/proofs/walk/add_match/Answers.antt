@@ -1,4 +1,4 @@
-use Rattle.std.proofs.Common.{◌≡◌, ◌∷◌, ◌++◌, [], List, inl, inr, ◌∙◌, ap, refl}
+use Rattle.std.proofs.Common.{◌∷◌, ◌++◌, [], List, inl, inr, ◌∙◌, ap, refl}
 use Rattle.iam_decision.specs.declared.living.Matched.{Matched}
 use Rattle.iam_engine.proofs.walk.add_match.Goals as goal
 
