@@ -1,5 +1,5 @@
 // Resources of a world that differ in nothing but their ARN and their policy, and that no row tells apart.
-ghost use Rattle.std.specs.Prelude.{◌≡◌, ◌++◌, ◌<◌, ℕ, IfOk, IfSome, IsTrue, List, Some, length};
+ghost use Rattle.std.specs.Prelude.{◌≡◌, ◌++◌, ◌<◌, ℕ, IfOk, IfSome, IsTrue, List, Some, is_some, length, true};
 ghost use Rattle.std.specs.List.{slice_get};
 ghost use Rattle.iam_world.specs.World.{WorldValue};
 ghost use Rattle.iam_slots.specs.Slots.{Keeps};
@@ -182,7 +182,9 @@ fn add_mark(prints: &mut [Option<u64>], row: &Row<'_>, mark: u64) {
 }
 
 /// The print of a resource that one more row matches, or may match.
-fn marked(print: Option<u64>, exact: bool, mark: u64) -> Option<u64> {
+fn marked(print: Option<u64>, exact: bool, mark: u64) -> Option<u64>
+    ensures { exact ≡ true → is_some result ≡ is_some print }
+{
     if exact { Some(print? ^ mark) } else { None }
 }
 

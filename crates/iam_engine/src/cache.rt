@@ -21,7 +21,7 @@ type Kept = LruCache<(usize, u64), bool>;
 #[derive(Drop)]
 pub struct MatchCache<'a> {
     world: &'a World,
-    texts: &'a Texts<'a>,
+    texts: Texts<'a>,
     kept: Kept,
 }
 
@@ -30,7 +30,7 @@ impl<'a> Model for MatchCache<'a> {
 
     ghost view = { λ cache. cache.world.now };
 
-    ghost invariant = { λ cache. Remembers cache.world.now cache.texts.now cache.kept.entries };
+    ghost invariant = { λ cache. Remembers cache.world.now cache.texts cache.kept.entries };
 }
 
 impl<'a> MatchCache<'a> {
@@ -38,7 +38,7 @@ impl<'a> MatchCache<'a> {
     pub fn new(
         alloc: Global,
         world: &'a World,
-        texts: &'a Texts<'a>,
+        texts: Texts<'a>,
         capacity: usize,
     ) -> Result<MatchCache<'a>, OutOfMemory>
         requires { 1 ≤ capacity }
@@ -62,7 +62,7 @@ impl<'a> MatchCache<'a> {
         ensures matched { IsTrue result ↔ Matches pattern.now (chars arn.now) }
         ensures same { self.new ≡ self.old }
     {
-        matches(self.texts, &mut self.kept, pattern, r, arn)
+        matches(&self.texts, &mut self.kept, pattern, r, arn)
     }
 }
 

@@ -7,7 +7,7 @@ ghost use Rattle.iam_engine.specs.Engine.{IsEnoughAt};
 use crate::cache::MatchCache;
 use crate::walk::{find_all, is_denied};
 use iam_decision::{Findings, candidates_suffice, deny_decides, early_decision, early_verdict};
-use iam_index::Index;
+use iam_index::{Index, Texts};
 use iam_layers::{Decision, Frame, Verdict, World};
 use iam_text::OutOfMemory;
 use std::alloc::Global;
@@ -46,7 +46,7 @@ impl<'a> Engine<'a> {
         requires few { capacity ≤ 65536 }
         ensures { IfOk result (λ engine. engine ≡ world.entry.now) }
     {
-        let cache = MatchCache::new(alloc, world, index.texts(), capacity)?;
+        let cache = MatchCache::new(alloc, world, Texts::of(alloc, index), capacity)?;
         Ok(Engine {
             index,
             cache,

@@ -12,7 +12,6 @@ use crate::known::{Known, Theirs};
 use crate::list_rows::{ListRows, are_told, list_at, org_rows, requester_rows};
 use crate::lists::{Listed, Org, Orgs, ResourceLists, org_lists, requester_lists, resource_lists};
 use crate::parts::Parts;
-use crate::texts::Texts;
 use iam_columns::{Columns, Rows};
 use iam_layers::{Frame, Place, Standing, World};
 use iam_match::action_matches;
@@ -28,7 +27,6 @@ pub struct Index<'a> {
     world: &'a World,
     parts: Parts<'a>,
     elements: Elements<'a>,
-    texts: Texts<'a>,
     orgs: Orgs<'a>,
     // Those of each principal, and those that stand with resources.
     requesters: Vec<Listed<'a>>,
@@ -79,12 +77,10 @@ impl<'a> Index<'a> {
         let orgs = org_lists(alloc, world, &mut elements)?;
         let requesters = requester_lists(alloc, world, &mut elements)?;
         let resources = resource_lists(alloc, world, &mut elements)?;
-        let texts = Texts::of(alloc, &orgs, requesters.as_slice(), &resources);
         Ok(Index {
             world,
             parts,
             elements,
-            texts,
             orgs,
             requesters,
             resources,
@@ -191,9 +187,14 @@ impl<'a> Index<'a> {
         &self.elements
     }
 
-    /// The resource texts of its statements that are worth remembering.
-    pub fn texts(&self) -> &Texts<'a> {
-        &self.texts
+    /// The organisations, each with its statements.
+    pub(crate) fn orgs(&self) -> &[Org<'a>] {
+        self.orgs.orgs.as_slice()
+    }
+
+    /// The statements of each principal.
+    pub(crate) fn requesters(&self) -> &[Listed<'a>] {
+        self.requesters.as_slice()
     }
 
     /// `true` only where the conditions of the statement ask for no key that a resource of the world gives.

@@ -3,7 +3,8 @@ ghost use Rattle.std.specs.Prelude.{◌≡◌, IfSome, Some, map, List};
 ghost use Rattle.std.specs.List.{slice_get};
 ghost use Rattle.iam_glob.specs.declared.sign.Sign.{Sign};
 
-use crate::lists::{Listed, Orgs, ResourceLists};
+use crate::index::Index;
+use crate::lists::Listed;
 use iam_layers::Standing;
 use iam_policy::Resources;
 use iam_text::{Glob, Sign, TemplateForm};
@@ -32,21 +33,16 @@ impl<'a> Model for Texts<'a> {
 
 impl<'a> Texts<'a> {
     /// Those of all the statements that an index lists.
-    pub fn of(
-        alloc: Global,
-        orgs: &Orgs<'a>,
-        requesters: &[Listed<'a>],
-        resources: &ResourceLists<'a>,
-    ) -> Texts<'a> {
+    pub fn of(alloc: Global, index: &Index<'a>) -> Texts<'a> {
         let mut texts = Texts {
             globs: Vec::new(alloc),
             numbers: BTreeMap::new(alloc),
         };
-        for org in &orgs.orgs {
+        for org in index.orgs() {
             texts.add_all(org.statements.as_slice());
         }
-        texts.add_lists(requesters);
-        texts.add_lists(resources.lists.as_slice());
+        texts.add_lists(index.requesters());
+        texts.add_lists(index.resource_lists().lists.as_slice());
         texts
     }
 

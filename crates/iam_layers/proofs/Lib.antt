@@ -2,4 +2,5 @@ pub mod CellLemmas
 pub mod DerivedLemmas
 mod ManagementLemmas
 mod OneAnswer
+mod OwnLemmas
 pub mod VerdictLemmas

@@ -1,14 +1,16 @@
 -- What follows from which policies apply: AWS Organizations User Guide, "Service control policies" and "Resource control
 -- policies". And that there is one answer: to a request of a world, and to a cell. LOGIC 10.1 and 11.6.
-use Rattle.std.specs.Prelude.{◌≡◌, ◌⊎◌, ◌<◌, ℕ, List, true}
+use Rattle.std.specs.Prelude.{◌≡◌, ◌⊎◌, ◌↔◌, ◌<◌, ℕ, List, [], ⊤, true}
 use Rattle.std.specs.List.{AllZip}
+use Rattle.iam_context.specs.Context.{ContextValue}
 use Rattle.iam_match.specs.Statement.{RequestValue}
 use Rattle.iam_decision.specs.Applicable.{ApplicableValue}
 use Rattle.iam_decision.specs.declared.verdict.Decision.{Decision}
 use Rattle.iam_decision.specs.declared.verdict.Verdict.{Verdict}
 use Rattle.iam_world.specs.World.{AccountValue, ResourceValue, WorldValue, account_with, world_cells}
 use Rattle.iam_layers.specs.Applicable.{manages}
-use Rattle.iam_layers.specs.Cell.{IsCell, IsDecisionAt, IsDecisionOf, IsRequestAt, IsVerdictAt, IsVerdictOf}
+use Rattle.iam_layers.specs.Cell.{IsCell, IsDecisionAt, IsDecisionOf, IsRequestAt, IsResource, IsVerdictAt, IsVerdictOf}
+use Rattle.iam_layers.specs.Own.{IsOwnDecision, IsOwnVerdict}
 
 -- the account is the same; but one that manages its organisation may have other organisation policies
 pub record IsSameButFreeOrg (account other : AccountValue) : Type 0 where
@@ -67,3 +69,25 @@ abbrev pub OneDecisionOf : Type 0
 OneDecisionOf =
     (world : WorldValue) (cell : ℕ) (decision other : Decision)
     → IsDecisionOf world cell decision → IsDecisionOf world cell other → decision ≡ other
+
+-- a request that gives no keys of its own has the verdict of its principal, action and resource, and the decision
+abbrev pub NoKeysChangeNoVerdict : Type 0
+NoKeysChangeNoVerdict =
+    (world : WorldValue) (p a r : ℕ) (verdict : Verdict) → IsResource world r (λ _. ⊤)
+    → IsOwnVerdict world p a r [] verdict ↔ IsVerdictAt world p a r verdict
+
+abbrev pub NoKeysChangeNoDecision : Type 0
+NoKeysChangeNoDecision =
+    (world : WorldValue) (p a r : ℕ) (decision : Decision) → IsResource world r (λ _. ⊤)
+    → IsOwnDecision world p a r [] decision ↔ IsDecisionAt world p a r decision
+
+-- a request that gives keys of its own has one verdict, and one decision
+abbrev pub OneOwnVerdict : Type 0
+OneOwnVerdict =
+    (world : WorldValue) (p a r : ℕ) (own : ContextValue) (verdict other : Verdict)
+    → IsOwnVerdict world p a r own verdict → IsOwnVerdict world p a r own other → verdict ≡ other
+
+abbrev pub OneOwnDecision : Type 0
+OneOwnDecision =
+    (world : WorldValue) (p a r : ℕ) (own : ContextValue) (decision other : Decision)
+    → IsOwnDecision world p a r own decision → IsOwnDecision world p a r own other → decision ≡ other

@@ -3,3 +3,4 @@ pub mod Cell
 pub mod Code
 pub mod Derived
 pub mod Laws
+pub mod Own

@@ -1,6 +1,6 @@
 // What follows from which policies apply to a request, and that a request has one answer.
 ghost use Rattle.iam_layers.specs.Code.Statements.{RequestersKeepTheirs, ResourcesKeepTheirs};
-ghost use Rattle.iam_layers.specs.Laws.{ManagementIsNotBound, OneDecisionAt, OneDecisionOf, OneRequest, OneTriple, OneVerdictAt, OneVerdictOf, SomeTriple};
+ghost use Rattle.iam_layers.specs.Laws.{ManagementIsNotBound, NoKeysChangeNoDecision, NoKeysChangeNoVerdict, OneDecisionAt, OneDecisionOf, OneOwnDecision, OneOwnVerdict, OneRequest, OneTriple, OneVerdictAt, OneVerdictOf, SomeTriple};
 
 use iam_decision::{one_decision, one_verdict};
 use iam_value::one_stamp;
@@ -54,3 +54,23 @@ pub fn statements_are_kept()
     ensures requesters { RequestersKeepTheirs }
     ensures resources { ResourcesKeepTheirs }
 {}
+
+/// A request that gives no keys of its own is that of its principal, action and resource.
+pub fn no_keys_change_nothing()
+    ensures verdict { NoKeysChangeNoVerdict }
+    ensures decision { NoKeysChangeNoDecision }
+{}
+
+/// A request that gives keys of its own has at most one verdict, wholly.
+pub fn one_own_verdict()
+    ensures { OneOwnVerdict }
+{
+    one_verdict_at()
+}
+
+/// A request that gives keys of its own has at most one decision.
+pub fn one_own_decision()
+    ensures { OneOwnDecision }
+{
+    one_decision_at()
+}

@@ -419,6 +419,21 @@ impl World {
         Sought::of(alloc, self.resource(r).context())
     }
 
+    /// The keys that the world gives to each request, as they are kept.
+    pub fn world_part(&self) -> &Part
+        ensures { result.now.items ≡ self.entry.now.context }
+    {
+        self.parts.context()
+    }
+
+    /// The keys that principal p gives to its requests, as they are kept; p has to be below `principals()`.
+    pub fn principal_part(&self, p: u64) -> &Part
+        requires { p < length self.now.principals }
+        ensures { IsPrincipal self.entry.now p (λ principal. result.now.items ≡ principal.context) }
+    {
+        self.principal(p).context()
+    }
+
     /// The keys that resource r gives to requests for it, as they are kept; r has to be below `resources()`.
     pub fn resource_part(&self, r: u64) -> &Part
         requires { r < length self.now.resources }

@@ -221,7 +221,9 @@ pub fn known(world: &World, kept: &[Keys], p: u64, r: u64) -> Option<usize>
 
 /// How many of these stay where derived keys of this principal come: all, or none where they are another's or as many as may be
 /// kept.
-pub fn staying(kept: &[Keys], p: u64) -> usize {
+pub fn staying(kept: &[Keys], p: u64) -> usize
+    ensures { length kept.now < 8 → All (λ keys. keys.principal ≡ p) kept.now → result ≡ length kept.now }
+{
     match kept.first() {
         Some(keys) if keys.principal == p && kept.len() < MOST => kept.len(),
         _ => 0,

@@ -39,8 +39,8 @@ fn all_context_values(members: &Map<String, Value>) -> bool
     true
 }
 
-/// Whether it is an object of such values.
-fn is_context(value: &Value) -> bool
+/// Whether it is an object of such values: the keys of a context.
+pub fn is_context(value: &Value) -> bool
     ensures { result ≡ is_context (view value.now) }
 {
     match value.as_object() {

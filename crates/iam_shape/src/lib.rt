@@ -21,6 +21,7 @@ mod resources;
 mod shape;
 mod view;
 
+pub use context::is_context;
 pub use fault::ShapeFault;
 pub use iam_text::OutOfMemory;
 pub use laws::{few_documents, one_view};

@@ -34,6 +34,10 @@ AreDecidedFrom world p number from all = (i : ℕ) (decided : Decided) → slice
 abbrev pub IsSpan : WorldValue → Span → Type 0
 IsSpan world span = AreDecidedFrom world span.principal span.number span.from span.decided.items
 
+-- resource r is the next behind those that the span keeps, of this principal and this batch of actions
+abbrev pub IsNext : Span → ℕ → ℕ → ℕ → Type 0
+IsNext span p number r = (span.principal ≡ p) × (span.number ≡ number) × (span.from + length span.decided.items ≡ r)
+
 -- this is known of principal p's requests for action a and the resources from r on
 abbrev pub AreKnownFrom : WorldValue → ℕ → ℕ → ℕ → Known → Type 0
 AreKnownFrom world p a r known = (known.action ≡ a % 64) × AreDecidedFrom world p (a / 64) r known.decided.now

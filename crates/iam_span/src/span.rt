@@ -1,7 +1,7 @@
 // What is decided on requests of a principal for resources that follow one another.
-ghost use Rattle.std.specs.Prelude.{◌≡◌, ◌+◌, [], ◌<◌, IsTrue, length, ℕ, IfSome};
+ghost use Rattle.std.specs.Prelude.{◌≡◌, ◌↔◌, ◌+◌, [], ◌<◌, IsTrue, length, ℕ, IfSome};
 ghost use Rattle.iam_world.specs.World.{WorldValue};
-ghost use Rattle.iam_span.specs.Span.{AreKnownFrom, IsDecidedAt, IsSpan};
+ghost use Rattle.iam_span.specs.Span.{AreKnownFrom, IsDecidedAt, IsNext, IsSpan};
 
 use iam_batch::{Decided, rows_find};
 use iam_decision::{acting_are_found, found_decide};
@@ -63,7 +63,9 @@ impl Span {
 
     /// Whether what is decided on the requests for resource r is to be kept: not where it would take the place of the same for
     /// resources before it.
-    pub fn has_room(&self, p: u64, number: u64, r: u64) -> bool {
+    pub fn has_room(&self, p: u64, number: u64, r: u64) -> bool
+        ensures { IsNext self.now p number r → length self.now.decided.items < self.now.most → IsTrue result }
+    {
         if self.is_next(p, number, r) {
             self.decided.len() < self.most
         } else {
@@ -73,7 +75,7 @@ impl Span {
 
     /// Whether resource r is the next.
     fn is_next(&self, p: u64, number: u64, r: u64) -> bool
-        ensures { IsTrue result → (self.now.principal ≡ p) × (self.now.number ≡ number) × (self.now.from + length self.now.decided.items ≡ r) }
+        ensures { IsTrue result ↔ IsNext self.now p number r }
     {
         self.principal == p
             && self.number == number

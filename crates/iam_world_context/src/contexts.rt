@@ -68,7 +68,7 @@ fn members_part(alloc: Global, members: &Map<String, Value>) -> Result<Part, Out
 }
 
 /// The keys that a context gives, with their values.
-fn read_part(alloc: Global, context: Option<&Value>) -> Result<Part, OutOfMemory>
+pub fn read_part(alloc: Global, context: Option<&Value>) -> Result<Part, OutOfMemory>
     ensures { IfOk result (λ part. part.items ≡ part_of (option_map (λ d. view d.now) context.entry)) }
 {
     let Some(value) = context else {

@@ -8,7 +8,7 @@
 mod contexts;
 mod fault;
 
-pub use contexts::{Contexts, read_contexts};
+pub use contexts::{Contexts, read_contexts, read_part};
 pub use fault::PartFault;
 pub use iam_context::{ContextFault, Part};
 pub use iam_shape::{Path, WorldView};
