@@ -1,4 +1,3 @@
 pub mod Cache
-pub mod Engine
 pub mod Known
 pub mod Walk

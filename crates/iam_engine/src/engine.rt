@@ -1,19 +1,21 @@
 // The engine as its callers see it.
 ghost use Rattle.std.specs.Prelude.{◌≡◌, ◌<◌, ◌≤◌, IfOk, length};
 ghost use Rattle.iam_world.specs.World.{WorldValue};
-ghost use Rattle.iam_layers.specs.Cell.{IsDecisionAt, IsDecisionOf, IsVerdictOf};
-ghost use Rattle.iam_engine.specs.Engine.{IsEnoughAt};
+ghost use Rattle.iam_layers.specs.Cell.{IsDecisionOf, IsVerdictOf};
+ghost use Rattle.iam_layers.specs.Own.{IsCleanAt, IsOwnDecision, IsOwnVerdict};
 
 use crate::cache::MatchCache;
-use crate::walk::{find_all, is_denied};
-use iam_decision::{Findings, candidates_suffice, deny_decides, early_decision, early_verdict};
+use crate::own::own_context;
+use crate::walk::{decision, verdict};
+use iam_context::Part;
+use iam_decision::Findings;
 use iam_index::{Index, Texts};
-use iam_layers::{Decision, Frame, Verdict, World};
+use iam_layers::{Decision, Verdict, World};
 use iam_text::OutOfMemory;
 use std::alloc::Global;
 use std::marker::Model;
 
-/// Decides the cells of a world one at a time, in any order: of each it looks at its candidates alone, and leaves untested what no
+/// Decides requests of a world one at a time, in any order: of each it looks at its candidates alone, and leaves untested what no
 /// longer matters. Which texts match which resources is remembered in one bounded cache. A contract sees the world.
 #[derive(Drop)]
 pub struct Engine<'a> {
@@ -70,17 +72,22 @@ impl<'a> Engine<'a> {
         ensures verdict { IfOk result (IsVerdictOf self.old cell) }
         ensures same { self.new ≡ self.old }
     {
-        let (p, a, r) = self.world().triple(cell);
-        let frame = find(
+        let index = self.index;
+        let world = index.world();
+        let (p, a, r) = world.triple(cell);
+        let derived = world.derived(alloc, p, r)?;
+        let context = index.parts().context(p, r, &derived);
+        let access = world.access(p, r, &context);
+        verdict(
             alloc,
-            self.index,
+            index,
             &mut self.cache,
             &mut self.findings,
+            access,
             p,
             a,
             r,
-        )?;
-        early_verdict(alloc, frame, self.findings.as_slice())
+        )
     }
 
     /// The decision on the request of a cell, as [`Engine::decide`] gives it, and sooner: it stops at the first deny that matches,
@@ -90,74 +97,88 @@ impl<'a> Engine<'a> {
         ensures decision { IfOk result (IsDecisionOf self.old cell) }
         ensures same { self.new ≡ self.old }
     {
-        let (p, a, r) = self.world().triple(cell);
-        decide_at(
+        let index = self.index;
+        let world = index.world();
+        let (p, a, r) = world.triple(cell);
+        let derived = world.derived(alloc, p, r)?;
+        let context = index.parts().context(p, r, &derived);
+        let access = world.access(p, r, &context);
+        decision(
             alloc,
-            self.index,
+            index,
             &mut self.cache,
             &mut self.findings,
+            access,
             p,
             a,
             r,
         )
     }
-}
 
-/// Finds what the verdict on principal p's request for action a on resource r asks for.
-fn find<'a>(
-    alloc: Global,
-    index: &Index<'a>,
-    cache: &mut MatchCache<'a>,
-    findings: &mut Findings,
-    p: u64,
-    a: u64,
-    r: u64,
-) -> Result<Frame, OutOfMemory>
-    requires same { cache.old ≡ index.now }
-    requires principal { p < length index.now.principals }
-    requires action { a < length index.now.actions }
-    requires resource { r < length index.now.resources }
-    ensures enough { IfOk result (λ frame. IsEnoughAt index.now p a r frame findings.new) }
-    ensures same { cache.new ≡ cache.old }
-{
-    candidates_suffice();
-    let world = index.world();
-    let frame = index.frame(p, r);
-    let candidates = index.candidates_at(alloc, p, a, r)?;
-    let derived = world.derived(alloc, p, r)?;
-    let context = index.parts().context(p, r, &derived);
-    let access = world.access(p, r, &context);
-    find_all(alloc, cache, findings, candidates.as_slice(), access, r)?;
-    Ok(frame)
-}
-
-/// The decision on principal p's request for action a on resource r.
-fn decide_at<'a>(
-    alloc: Global,
-    index: &Index<'a>,
-    cache: &mut MatchCache<'a>,
-    findings: &mut Findings,
-    p: u64,
-    a: u64,
-    r: u64,
-) -> Result<Decision, OutOfMemory>
-    requires same { cache.old ≡ index.now }
-    requires principal { p < length index.now.principals }
-    requires action { a < length index.now.actions }
-    requires resource { r < length index.now.resources }
-    ensures decision { IfOk result (IsDecisionAt index.now p a r) }
-    ensures same { cache.new ≡ cache.old }
-{
-    candidates_suffice();
-    deny_decides();
-    let world = index.world();
-    let frame = index.frame(p, r);
-    let candidates = index.candidates_at(alloc, p, a, r)?;
-    let derived = world.derived(alloc, p, r)?;
-    let context = index.parts().context(p, r, &derived);
-    let access = world.access(p, r, &context);
-    if is_denied(alloc, cache, findings, candidates.as_slice(), access, r)? {
-        return Ok(Decision::ExplicitDeny);
+    /// The verdict on the request of principal p for action a on resource r, each below the number of its kind, that gives these keys
+    /// of its own, which have to be clean beside the others (`World::check_own`). As [`Engine::decide`] in all else.
+    pub fn decide_own(
+        &mut self,
+        alloc: Global,
+        p: u64,
+        a: u64,
+        r: u64,
+        own: &Part,
+    ) -> Result<Verdict, OutOfMemory>
+        requires principal { p < length self.old.principals }
+        requires action { a < length self.old.actions }
+        requires resource { r < length self.old.resources }
+        requires clean { IsCleanAt self.old p r own.now.items }
+        ensures verdict { IfOk result (IsOwnVerdict self.old p a r own.now.items) }
+        ensures same { self.new ≡ self.old }
+    {
+        let index = self.index;
+        let world = index.world();
+        let derived = world.derived(alloc, p, r)?;
+        let context = own_context(alloc, world, p, r, own, &derived)?;
+        let access = world.own_access(p, r, own, &derived, &context);
+        verdict(
+            alloc,
+            index,
+            &mut self.cache,
+            &mut self.findings,
+            access,
+            p,
+            a,
+            r,
+        )
     }
-    Ok(early_decision(frame, findings.as_slice()))
+
+    /// The decision on such a request, as [`Engine::decide_own`] gives it, and sooner, as [`Engine::decide_brief`].
+    pub fn decide_own_brief(
+        &mut self,
+        alloc: Global,
+        p: u64,
+        a: u64,
+        r: u64,
+        own: &Part,
+    ) -> Result<Decision, OutOfMemory>
+        requires principal { p < length self.old.principals }
+        requires action { a < length self.old.actions }
+        requires resource { r < length self.old.resources }
+        requires clean { IsCleanAt self.old p r own.now.items }
+        ensures decision { IfOk result (IsOwnDecision self.old p a r own.now.items) }
+        ensures same { self.new ≡ self.old }
+    {
+        let index = self.index;
+        let world = index.world();
+        let derived = world.derived(alloc, p, r)?;
+        let context = own_context(alloc, world, p, r, own, &derived)?;
+        let access = world.own_access(p, r, own, &derived, &context);
+        decision(
+            alloc,
+            index,
+            &mut self.cache,
+            &mut self.findings,
+            access,
+            p,
+            a,
+            r,
+        )
+    }
 }

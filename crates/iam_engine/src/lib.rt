@@ -1,10 +1,11 @@
-//! An engine that decides the cells of a world one at a time, in any order: it looks at the candidates of each alone, remembers within
-//! bounds which texts match which resources, and stops as soon as the answer is settled.
+//! An engine that decides requests of a world one at a time, in any order, also such as give keys of their own: it looks at the candidates
+//! of each alone, remembers within bounds which texts match which resources, and stops as soon as the answer is settled.
 #![tactic(auto)]
 
 mod cache;
 mod engine;
 mod known;
+mod own;
 mod walk;
 
 pub use engine::Engine;
