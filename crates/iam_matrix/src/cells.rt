@@ -1,9 +1,8 @@
 // The verdicts, or the decisions, of all cells by many workers.
-ghost use Rattle.std.specs.Prelude.{◌≡◌, ◌+◌, ◌<◌, ◌≤◌, ◌↔◌, ℕ, IfOk, sum, slice_index, true};
+ghost use Rattle.std.specs.Prelude.{◌≡◌, ◌+◌, ◌<◌, ◌≤◌, ◌↔◌, ℕ, IfOk, sum, slice_index};
 ghost use Rattle.std.specs.List.{flat_map};
 ghost use Rattle.iam_world.specs.World.{world_cells, WorldValue};
 ghost use Rattle.iam_layers.specs.Cell.{IsDecisionOf, IsVerdictOf};
-ghost use Rattle.iam_classes.specs.Engine.{IsSameEngine};
 ghost use Rattle.iam_matrix.specs.Matrix.{IsMatrix};
 ghost use Rattle.iam_matrix.specs.Code.Tiles.{AreEntries, IsTileOf};
 ghost use Rattle.iam_matrix.specs.Workers.{IsUnlawful};
@@ -11,32 +10,33 @@ ghost use Rattle.iam_matrix.specs.Workers.{IsUnlawful};
 use crate::cut::{Cells, Cut};
 use crate::each::end_of;
 use crate::fault::MatrixFault;
-use crate::survey::survey_of;
 use crate::workers::is_unlawful;
-use iam_classes::{ClassEngine, Index};
 use iam_crew::{Bound, Crew, Gate, gather};
+use iam_engine::{Engine, Index};
 use iam_layers::{Decision, Verdict, World};
-use iam_survey::Survey;
 use iam_text::OutOfMemory;
 use std::alloc::Global;
 use std::marker::PhantomData;
 use std::thread::Threads;
+
+/// How many matches the cache of a worker's engine holds.
+const CAPACITY: usize = 1024;
 
 /// What an engine says of a cell.
 trait Entry: Drop {
     // It is what has to be said of this cell.
     ghost is: { WorldValue → ℕ → Self → Type 0 };
 
-    fn at(alloc: Global, engine: &mut ClassEngine<'_>, cell: u64) -> Result<Self, OutOfMemory>
-        requires { cell < world_cells engine.old.world }
-        ensures is { IfOk result (is engine.old.world cell) }
-        ensures same { IsSameEngine engine.old engine.new };
+    fn at(alloc: Global, engine: &mut Engine<'_>, cell: u64) -> Result<Self, OutOfMemory>
+        requires { cell < world_cells engine.old }
+        ensures is { IfOk result (is engine.old cell) }
+        ensures same { engine.new ≡ engine.old };
 }
 
 impl Entry for Verdict {
     ghost is = { λ world cell verdict. IsVerdictOf world cell verdict };
 
-    fn at(alloc: Global, engine: &mut ClassEngine<'_>, cell: u64) -> Result<Verdict, OutOfMemory> {
+    fn at(alloc: Global, engine: &mut Engine<'_>, cell: u64) -> Result<Verdict, OutOfMemory> {
         engine.decide(alloc, cell)
     }
 }
@@ -44,7 +44,7 @@ impl Entry for Verdict {
 impl Entry for Decision {
     ghost is = { λ world cell decision. IsDecisionOf world cell decision };
 
-    fn at(alloc: Global, engine: &mut ClassEngine<'_>, cell: u64) -> Result<Decision, OutOfMemory> {
+    fn at(alloc: Global, engine: &mut Engine<'_>, cell: u64) -> Result<Decision, OutOfMemory> {
         engine.decide_brief(alloc, cell)
     }
 }
@@ -52,9 +52,8 @@ impl Entry for Decision {
 /// Those who make the entries of a world's cells.
 #[derive(Drop)]
 struct Entries<'a, E> {
-    survey: &'a Survey<'a>,
+    index: &'a Index<'a>,
     cut: &'a Cut,
-    workers: u32,
     made: PhantomData<E>,
 }
 
@@ -63,22 +62,22 @@ impl<'a, E: Entry + Send + Sync> Crew for Entries<'a, E> {
 
     type Output = Vec<E>;
 
-    type Tools = ClassEngine<'a>;
+    type Tools = Engine<'a>;
 
-    ghost fits = { λ crew engine. (engine.world ≡ crew.survey.now) × (engine.surveyed ≡ true) };
+    ghost fits = { λ crew engine. engine ≡ crew.index.now };
 
-    ghost takes = { λ crew tile. IsTileOf crew.survey.now crew.cut.now tile };
+    ghost takes = { λ crew tile. IsTileOf crew.index.now crew.cut.now tile };
 
-    ghost gives = { λ crew tile output _. AreEntries (E.is crew.survey.now) (start_of crew.cut.now tile) (slice_index crew.cut.now tile) output.items };
+    ghost gives = { λ crew tile output _. AreEntries (E.is crew.index.now) (start_of crew.cut.now tile) (slice_index crew.cut.now tile) output.items };
 
-    fn tools(&self, alloc: Global) -> Result<ClassEngine<'a>, OutOfMemory> {
-        ClassEngine::surveyed(alloc, self.survey, self.workers)
+    fn tools(&self, alloc: Global) -> Result<Engine<'a>, OutOfMemory> {
+        Engine::new(alloc, self.index.world(), self.index, CAPACITY)
     }
 
     fn work(
         &self,
         alloc: Global,
-        engine: &mut ClassEngine<'a>,
+        engine: &mut Engine<'a>,
         _bound: &mut Bound<'_>,
         tile: u64,
     ) -> Result<Vec<E>, OutOfMemory> {
@@ -91,12 +90,12 @@ impl<'a, E: Entry + Send + Sync> Crew for Entries<'a, E> {
 /// The entries of the cells of a tile.
 fn entries_of<E: Entry>(
     alloc: Global,
-    engine: &mut ClassEngine<'_>,
+    engine: &mut Engine<'_>,
     tile: Cells,
 ) -> Result<Vec<E>, OutOfMemory>
-    requires { tile.from + tile.count ≤ world_cells engine.old.world }
-    ensures entries { IfOk result (λ entries. AreEntries (E.is engine.old.world) tile.from tile.count entries.items) }
-    ensures same { IsSameEngine engine.old engine.new }
+    requires { tile.from + tile.count ≤ world_cells engine.old }
+    ensures entries { IfOk result (λ entries. AreEntries (E.is engine.old) tile.from tile.count entries.items) }
+    ensures same { engine.new ≡ engine.old }
 {
     let end = end_of(engine.world(), tile.from, tile.count);
     let mut entries = Vec::new(alloc);
@@ -133,7 +132,7 @@ fn all_entries<R: Threads + Sync, G: Gate + Sync, E: Entry + Send + Sync>(
     if is_unlawful(workers) {
         return Err(MatrixFault::Workers);
     }
-    let index = Index::build(alloc, world)?;
+    let index = Index::sparse(alloc, world)?;
     Ok(indexed_entries(rt, alloc, &index, cut, workers, gate)?)
 }
 
@@ -151,12 +150,10 @@ fn indexed_entries<R: Threads + Sync, G: Gate + Sync, E: Entry + Send + Sync>(
     requires cut { sum cut.now ≡ world_cells index.now }
     ensures { IfOk result (λ entries. AreEntries (E.is index.now) 0 (world_cells index.now) entries.items) }
 {
-    let survey = survey_of(rt, alloc, index, workers);
     let tiles = cut.lengths().len() as u64;
     let crew = Entries {
-        survey: &survey,
+        index,
         cut,
-        workers,
         made: PhantomData,
     };
     let gathered = gather(rt, alloc, &crew, tiles, workers, gate)?;
