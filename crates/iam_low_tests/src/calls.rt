@@ -1,7 +1,7 @@
 // Calls that take memory and that the program does not make, each of which has to succeed; and the letters of base64, which no
 // command tells from other letters.
-use iam_app::{Options, Task, options_of};
 use iam_context::{Context, Derived, KeyName, Part, Values};
+use iam_options::{Options, Task, options_of};
 use iam_services::Services;
 use iam_text::{Draft, Glob, Piece, Sign, Text};
 use iam_value::bytes;

@@ -1,6 +1,6 @@
 use Rattle.std.proofs.Common.{◌≡◌}
 use Rattle.iam_lanes.specs.Lanes.{left_in}
-use Rattle.iam_tests.proofs.lanes.take_all.Given as goal
+use Rattle.iam_low_tests.proofs.lanes.take_all.Given as goal
 
 abbrev pub invariant-loop-number : goal.invariant-loop-number
 invariant-loop-number g l = l.seat.lanes ≡ l.lanes

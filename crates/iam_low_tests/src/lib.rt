@@ -1,0 +1,11 @@
+//! Tests of lower crates: calls of theirs that the program does not make; the lanes, work and crews of workers.
+#![tactic(auto)]
+
+#[cfg(test)]
+mod calls;
+#[cfg(test)]
+mod crew;
+#[cfg(test)]
+mod lanes;
+#[cfg(test)]
+mod work;
