@@ -1,15 +1,15 @@
 -- Which principals, actions and resources are meant, and which requests are selected.
-use Rattle.std.proofs.Common.{◌≡◌, ◌↔◌, ℕ, zero, suc, ◌+◌, ◌<◌, Bool, IsTrue, List, [], ◌∷◌, ◌++◌, Some, chars, get_or, length, length-append, refl, sym, ap, subst, ◌∙◌, ⊎_elim, arith}
-use Rattle.std.specs.List.{slice_get}
+use Rattle.std.proofs.Common.{◌≡◌, ◌↔◌, ℕ, zero, suc, ◌+◌, ◌*◌, ◌<◌, ◌||◌, Bool, true, false, IsTrue, List, [], ◌∷◌, ◌++◌, Some, chars, get_or, length, length-append, refl, sym, ap, subst, ◌∙◌, ⊎_elim, arith}
+use Rattle.std.specs.List.{list_any, slice_get}
 use Rattle.std.proofs.lemmas.Bool.{cases_lt}
-use Rattle.std.proofs.lemmas.Option.{slice_get_within}
+use Rattle.std.proofs.lemmas.Option.{slice_get-get_or, slice_get_within}
 use Rattle.iam_glob.specs.Glob.{Matches, MatchesFold}
 use Rattle.iam_glob.specs.declared.sign.Sign.{Sign}
 use Rattle.iam_layers.specs.Cell.{IsAction, IsCell, IsPrincipal, IsResource, principal_text}
 use Rattle.iam_layers.specs.Laws.{OneTriple}
 use Rattle.iam_world.specs.World.{ResourceValue, WorldValue}
 use Rattle.iam_row.specs.Report.{HasTexts}
-use Rattle.iam_selection.specs.Selection.{IsMeant, IsSelected, SelectionValue}
+use Rattle.iam_selection.specs.Selection.{IsMeant, IsSelected, SelectionValue, SelectsSome}
 use Rattle.iam_selection.specs.Code.Listing.{AreFlags, IsActionMeant, IsPrincipalMeant, IsResourceMeant}
 
 pub no_flags : (P : ℕ → Type 0) → AreFlags P 0 []
@@ -111,3 +111,34 @@ some_at (x ∷ flags) (suc i) flag h e = some_at flags i flag (omega (arith, h))
 
 pub flag_is : (P : ℕ → Type 0) (n : ℕ) (flags : List Bool) (i : ℕ) (flag : Bool) → AreFlags P n flags → i < n → flag ≡ get_or flags i flag → IsTrue flag ↔ P i
 flag_is P n flags i flag are below e = are.each i flag (some_at flags i flag (omega (arith, below, are.count_is)) e)
+
+-- one of the flags is set, at a place
+some_set : (flags : List Bool) → IsTrue (list_any (λ flag. flag) flags) → (i : ℕ) × (slice_get flags i ≡ Some true)
+some_set [] h = absurd (let wrong : ⊥ = cc in wrong)
+some_set (true ∷ flags) h = (0, refl)
+some_set (false ∷ flags) h = let (i, at) = some_set flags h in (suc i, at)
+
+set_some : (flags : List Bool) (i : ℕ) (flag : Bool) → slice_get flags i ≡ Some flag → IsTrue flag → IsTrue (list_any (λ f. f) flags)
+set_some [] i flag at h = absurd (let wrong : ⊥ = cc in wrong)
+set_some (true ∷ flags) i flag at h = refl
+set_some (false ∷ flags) zero flag at h = absurd (let same : Some false ≡ Some flag = at in let wrong : ⊥ = cc in wrong)
+set_some (false ∷ flags) (suc i) flag at h = set_some flags i flag at h
+
+-- something is meant where one of the flags is set
+pub meant_of_flags : (P : ℕ → Type 0) (n : ℕ) (flags : List Bool) → AreFlags P n flags → IsTrue (list_any (λ flag. flag) flags) → (i : ℕ) × (i < n) × P i
+meant_of_flags P n flags are h =
+    let (i, at) = some_set flags h in
+    let inside = slice_get_within flags i true at in (i, omega (arith, inside, are.count_is), (are.each i true at).0 refl)
+
+pub flags_of_meant : (P : ℕ → Type 0) (n : ℕ) (flags : List Bool) (i : ℕ) → AreFlags P n flags → i < n → P i → IsTrue (list_any (λ flag. flag) flags)
+flags_of_meant P n flags i are below holds =
+    let flag = get_or flags i false in
+    let at : slice_get flags i ≡ Some flag = slice_get-get_or flags i false (omega (arith, below, are.count_is)) in
+    set_some flags i flag at ((are.each i flag at).1 holds)
+
+-- some request is selected where of each one is meant
+pub some_selected : (selection : SelectionValue) (world : WorldValue) (p a r : ℕ) → p < length world.principals → a < length world.actions
+    → r < length world.resources → AreMeant selection world p a r → SelectsSome selection world
+some_selected selection world p a r principal action resource meant =
+    let cell = (p * length world.actions + a) * length world.resources + r in
+    (cell, meant_selected selection world cell p a r (record { principal = principal; action = action; resource = resource; number = refl }) meant)

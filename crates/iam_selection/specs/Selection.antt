@@ -34,6 +34,10 @@ pub record Selects (selection : SelectionValue) (texts : CellTexts) : Type 0 whe
 abbrev pub IsSelected : SelectionValue → WorldValue → ℕ → Type 0
 IsSelected selection world cell = (texts : CellTexts) × IsCellTexts world cell texts × Selects selection texts
 
+-- some request of the world is selected
+abbrev pub SelectsSome : SelectionValue → WorldValue → Type 0
+SelectsSome selection world = (cell : ℕ) × IsSelected selection world cell
+
 -- rows with a decision are asked for
 abbrev pub IsWanted : SelectionValue → Decision → Type 0
 IsWanted selection decision = IsMeant (λ said. said ≡ decision) selection.decisions

@@ -17,6 +17,6 @@ pub use iam_report::OutputFault;
 pub use iam_text::{Glob, Items, OutOfMemory};
 pub use laws::{each_stands_in_all, nothing_selects_all, one_selected_report};
 pub use list::{ListText, comma_of, position_in};
-pub use picker::Picker;
+pub use picker::{Picker, selects_some};
 pub use report::{first_selected_report, index_of, selected_report};
 pub use selection::Selection;

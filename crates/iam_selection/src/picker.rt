@@ -1,9 +1,10 @@
 // Which requests of a world are selected.
 ghost use Rattle.std.specs.Prelude.{◌≡◌, ◌↔◌, IfOk, IsTrue, chars, length};
+ghost use Rattle.std.specs.List.{list_any};
 ghost use Rattle.iam_glob.specs.Glob.{Matches, MatchesFold};
 ghost use Rattle.iam_layers.specs.Cell.{principal_text};
 ghost use Rattle.iam_selection.specs.Code.Listing.{AreFlags, IsActionMeant, IsPrincipalMeant, IsResourceMeant, PickerValue};
-ghost use Rattle.iam_selection.specs.Selection.{IsMeant, IsSelected};
+ghost use Rattle.iam_selection.specs.Selection.{IsMeant, IsSelected, SelectsSome};
 
 use crate::selection::Selection;
 use iam_layers::{World, one_triple};
@@ -95,6 +96,20 @@ fn resources(alloc: Global, world: &World, selection: &Selection) -> Result<Vec<
     Ok(flags)
 }
 
+/// Whether one is meant.
+fn has_some(flags: &[bool]) -> bool
+    ensures { result ≡ list_any (λ flag. flag) flags.now }
+{
+    flags.iter().any(|&flag| flag)
+}
+
+/// Whether all three hold.
+fn are_all(principal: bool, action: bool, resource: bool) -> bool
+    ensures { IsTrue result ↔ IsTrue principal × IsTrue action × IsTrue resource }
+{
+    principal && action && resource
+}
+
 /// How many are meant.
 fn count(flags: &[bool]) -> u64 {
     flags.iter().filter(|&&flag| flag).count() as u64
@@ -124,6 +139,17 @@ impl<'a> Picker<'a> {
         ensures { result.now ≡ self.now.selection }
     {
         self.selection
+    }
+
+    /// Whether some request is selected.
+    fn picks_some(&self) -> bool
+        ensures { IsTrue result ↔ SelectsSome self.now.selection self.now.world }
+    {
+        one_triple();
+        let principal = has_some(self.principals.as_slice());
+        let action = has_some(self.actions.as_slice());
+        let resource = has_some(self.resources.as_slice());
+        are_all(principal, action, resource)
     }
 
     /// Whether many pairs of a principal and a resource are meant: an eighth, rounded down, or more.
@@ -157,4 +183,15 @@ impl<'a> Asks for Picker<'a> {
             && self.actions[at.action as usize]
             && self.resources[at.resource as usize]
     }
+}
+
+/// Whether some request of a world is selected, whatever its decision. `OutOfMemory` comes where there is no memory to find it.
+pub fn selects_some(
+    alloc: Global,
+    world: &World,
+    selection: &Selection,
+) -> Result<bool, OutOfMemory>
+    ensures { IfOk result (λ some. IsTrue some ↔ SelectsSome selection.now world.now) }
+{
+    Ok(Picker::of(alloc, world, selection)?.picks_some())
 }
