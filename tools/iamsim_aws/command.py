@@ -3,9 +3,10 @@
 import argparse
 import gc
 import os
-import sys
-from typing import List, Optional
+import signal
+from typing import Any, List, Optional
 
+from . import files
 from .commands import changes, estates, page, questions, reports, rules, worlds
 from .faults import TOLD, Fault, tell
 
@@ -42,15 +43,27 @@ def parsed(words: Optional[List[str]]) -> argparse.Namespace:
     return options
 
 
+def stopped(_number: int, _frame: Any) -> None:
+    raise KeyboardInterrupt
+
+
+def heed_signals() -> None:
+    """Whatever ends the command ends what it has started too; what is ignored stays so, as under nohup."""
+    for it in (signal.SIGTERM, signal.SIGHUP):
+        if signal.getsignal(it) == signal.SIG_DFL:
+            signal.signal(it, stopped)
+
+
 def main(words: Optional[List[str]] = None) -> int:
     """Runs the command of these words; every fault is told in one line."""
     options = parsed(words)
+    heed_signals()
     # What a command reads it keeps to its end: looking for garbage among it would take a third of the time.
     gc.disable()
     TOLD.clear()
     try:
         status = options.run(options)
-        sys.stdout.flush()
+        files.flush()
         return int(status)
     except Fault as fault:
         tell(fault)

@@ -2,6 +2,7 @@
 
 import copy
 import re
+import urllib.parse
 from typing import Any, Dict, Iterator, List, Optional, Tuple
 
 from . import files
@@ -25,7 +26,12 @@ def document(value: Any, name: str) -> Any:
         and "Document" in value["PolicyVersion"]
     ):
         value = value["PolicyVersion"]["Document"]
-    return files.parsed(value, f"{name}: its document") if isinstance(value, str) else value
+    return files.parsed(decoded(value), f"{name}: its document") if isinstance(value, str) else value
+
+
+def decoded(text: str) -> str:
+    """The API of IAM gives JSON with %-escapes; no JSON begins with one."""
+    return urllib.parse.unquote(text) if text.startswith("%") else text
 
 
 def policy(name: str, value: Any) -> Policy:

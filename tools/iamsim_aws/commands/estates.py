@@ -68,6 +68,10 @@ def commit() -> str:
     return ran.stdout.strip() if ran.returncode == 0 else ""
 
 
+def version() -> str:
+    return program.run(["--version"], b"").decode().strip()
+
+
 def plan(options: argparse.Namespace, base: sqlite3.Connection, key: str, found: List[Tuple[str, str, str]]) -> None:
     """Makes the worlds, and the database without what is allowed."""
     actions = read_actions(options.actions) if options.actions else [ASSUME]
@@ -83,8 +87,7 @@ def plan(options: argparse.Namespace, base: sqlite3.Connection, key: str, found:
     made.make(options.exports)
     accounts = {path: account for account, paths in made.parts.items() for path in paths}
     schema.fill(base, "files", [(*it, accounts.get(it[0]) if it[1] == "export" else None) for it in found])
-    version = program.run(["--version"], b"").decode().strip()
-    said: Dict[str, Any] = {"key": key, "program": version, "commit": commit(), "moment": estate.moment}
+    said: Dict[str, Any] = {"key": key, "program": version(), "commit": commit(), "moment": estate.moment}
     schema.fill(base, "asked", [(name, str(it)) for name, it in {**said, "session": options.session}.items()])
     base.execute("COMMIT")
 
@@ -105,6 +108,9 @@ def begin(options: argparse.Namespace) -> sqlite3.Connection:
     is_later = options.moment is not None and str(options.moment) != schema.asked(base, "moment")
     if schema.asked(base, "key") != key or is_later:
         raise Fault(f"{path}: it is of other files or options: name another folder, or begin anew by --afresh")
+    if schema.asked(base, "program") != version():
+        was = schema.asked(base, "program")
+        raise Fault(f"{path}: it was begun with {was}, and this is {version()}: begin anew by --afresh, or use that one")
     # What failed for want of memory, say, is tried again.
     base.execute("UPDATE worlds SET ended = 'waiting', fault = NULL WHERE ended = 'failed'")
     return base
@@ -112,7 +118,7 @@ def begin(options: argparse.Namespace) -> sqlite3.Connection:
 
 def estate(options: argparse.Namespace) -> int:
     try:
-        os.makedirs(options.folder, exist_ok=True)
+        running.claim(options.folder)
         lock = running.locked(options.folder)
         if not options.slurm:
             running.parallel()

@@ -4,7 +4,6 @@ import argparse
 import csv
 import io
 import re
-import sys
 from typing import Any, Iterator
 
 from .. import files
@@ -77,7 +76,7 @@ def few(kept: References, rows: Iterator[Any]) -> Any:
 
 def split(options: argparse.Namespace) -> int:
     for it in parts(read_world(options.world), options.cells):
-        sys.stdout.buffer.write(world_bytes(it.world) + b"\n")
+        files.write_bytes(world_bytes(it.world) + b"\n")
     return 0
 
 
@@ -96,5 +95,5 @@ def matrices(options: argparse.Namespace) -> int:
             report = ROW.sub(rb"\1", next(answers))
         except Fault as fault:
             raise Fault(f"world {number}: {fault}") from None
-        sys.stdout.buffer.write(report if number == 0 else report[report.index(b"\n") + 1 :])
+        files.write_bytes(report if number == 0 else report[report.index(b"\n") + 1 :])
     return 0

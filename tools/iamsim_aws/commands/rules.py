@@ -37,12 +37,20 @@ def add_all(commands: Any) -> None:
 
 def run(options: argparse.Namespace) -> int:
     """The status; where there is no answer, the reports for pipelines say so and none of an earlier run is left."""
+    files.refuse_taken([options.junit, options.sarif], inputs(options))
     report(options, [fault(files.name_of(options.rules), "it came to no answer")])
     try:
         return checked(options)
     except Fault as why:
         report(options, [fault(files.name_of(options.rules), str(why))])
         raise
+
+
+def inputs(options: argparse.Namespace) -> List[str]:
+    """The files that are read."""
+    drafts_of = [it.rpartition("=")[2] for it in options.put]
+    named = [options.rules, options.world, options.names, options.actions, options.organization, options.terraform]
+    return [*filter(None, named), *options.exports, *options.resources, *options.context, *drafts_of]
 
 
 def report(options: argparse.Namespace, cases: List[Case]) -> None:
