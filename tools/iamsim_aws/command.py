@@ -15,7 +15,7 @@ Only 'organization' calls AWS; iamsim decides. docs/AWS.md explains it."""
 
 STATUSES = """statuses: 0 done; 1 a fault, told in one line; 2 the command line is refused; 3 'can': not all is allowed,
 'rules': a rule is broken, 'changes --fail-on': something changes; 4 'rules': a rule meets no request,
-'changes --fail-on': no request is of --action and --resource"""
+'changes --fail-on': no request is of --action and --resource; 6 '--database': of some requests nothing is known"""
 
 
 def parser() -> argparse.ArgumentParser:

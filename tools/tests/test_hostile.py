@@ -20,6 +20,7 @@ from harness import AWS, IAMSIM, TOOLS, aws, data, document, file, load, same, s
 
 sys.path.insert(0, TOOLS)
 from iamsim_aws import command, files, patterns, program  # noqa: E402
+from iamsim_aws.estates import running, schema  # noqa: E402
 
 EXPORT = data("account.json")
 OBJECT = "arn:aws:s3:::releases/app.zip"
@@ -141,6 +142,20 @@ def wait_for(ready, seconds):
     while not ready():
         assert time.monotonic() < end, f"not within {seconds} seconds"
         time.sleep(0.01)
+
+
+def test_a_line_a_minute():
+    """Where there is no terminal."""
+    folder, real, said = room(), running.MINUTE, io.StringIO()
+    same(estate(folder, "--slurm")[0], 0)
+    base, running.MINUTE = schema.opened(os.path.join(folder, "access.db")), 0.2
+    try:
+        with contextlib.redirect_stderr(said):
+            same(running.ended(subprocess.Popen(["sleep", "0.5"]), base, False), 0)
+            same(running.ended(subprocess.Popen(["sleep", "0.5"]), base, True), 0)
+    finally:
+        running.MINUTE = real
+    same(said.getvalue().splitlines(), ["iamsim-aws: 0 of 1 worlds are asked"] * 2)
 
 
 def test_an_estate_goes_on_with_the_program_that_began_it():

@@ -9,6 +9,7 @@ import sqlite3
 import subprocess
 import sys
 import tempfile
+import time
 from typing import IO, Dict, List, Optional
 
 from .. import files
@@ -79,15 +80,19 @@ def claim(folder: str) -> None:
 
 def locked(folder: str) -> IO[bytes]:
     """Holds the folder until this run and all of its jobs have ended."""
-    path = os.path.join(folder, "lock")
-    try:
-        it = open(path, "ab")
-        fcntl.flock(it, fcntl.LOCK_EX | fcntl.LOCK_NB)
-    except BlockingIOError:
-        raise Fault(f"{folder}: another run of 'iamsim-aws estate' works on it") from None
-    except OSError as error:
-        raise Fault(f"{path}: {error.strerror or error}") from None
-    return it
+    path, end = os.path.join(folder, "lock"), time.monotonic() + 2 * ENDING
+    while True:
+        try:
+            it = open(path, "ab")
+            fcntl.flock(it, fcntl.LOCK_EX | fcntl.LOCK_NB)
+            return it
+        except BlockingIOError:
+            # What a run has started that was killed ends soon after it.
+            if time.monotonic() > end:
+                raise Fault(f"{folder}: another run of 'iamsim-aws estate' works on it") from None
+            time.sleep(0.05)
+        except OSError as error:
+            raise Fault(f"{path}: {error.strerror or error}") from None
 
 
 def parallel() -> str:
