@@ -65,6 +65,13 @@ class Account:
         self.roles: List[Dict[str, Any]] = []
         self.policies: Dict[str, Dict[str, Any]] = {}
 
+    @property
+    def partition(self) -> str:
+        """The partition of the account's own ARNs."""
+        every = [*self.users, *self.roles, *self.groups.values(), *self.policies.values()]
+        own = (str(it.get("Arn")) for it in every if account_of(str(it.get("Arn"))) == self.account)
+        return next((it.split(":")[1] for it in own), "aws")
+
     def copied(self) -> "Account":
         return copy.deepcopy(self)
 

@@ -13,6 +13,10 @@ from .organizations import Organization
 from .patterns import any_matches, is_pattern, matcher
 
 
+# What a role has whose trust policy nobody knows yet: it is asked for as a principal alone.
+UNTOLD = "AssumeRolePolicyUntold"
+
+
 class Estate(NamedTuple):
     """What worlds are made of."""
 
@@ -101,7 +105,7 @@ def roles_as_resources(estate: Estate, account: Account, actions: List[str]) -> 
     if not is_assumed and not has_service(actions, "iam"):
         return []
     made = []
-    for it in account.roles:
+    for it in (one for one in account.roles if not one.get(UNTOLD)):
         arn = text(it, "Arn", f"account {account.account}")
         context = {**tags(it, "aws:ResourceTag/"), **tags(it, "iam:ResourceTag/")}
         one: Dict[str, Any] = {"arn": arn, "account": account.account, "context": context}
