@@ -13,6 +13,8 @@ from .sources import ASSUME, Source, source_of
 def add_options(parser: argparse.ArgumentParser) -> None:
     add = parser.add_argument
     add("--put", action="append", default=[], metavar="NAME=FILE", help="a draft for the policy of that name or ARN")
+    help_of_attach = "a policy that a user, group or role is given besides, inline or by its ARN"
+    add("--attach", action="append", default=[], metavar="NAME=FILE@PRINCIPAL", help=help_of_attach)
     add("--terraform", metavar="PLAN", help="a plan, by 'terraform show -json'")
     add("--allow-unknown", action="store_true", help="leave out what the plan tells only after the apply")
     add("--account", metavar="ID", help="the account of the plan, or of a resource whose ARN names none")
@@ -25,18 +27,20 @@ def before_and_after(source: Source, options: argparse.Namespace) -> Tuple[Sourc
         if estate is None:
             raise Fault("--terraform: a plan is put into effect on exports, and not on a world")
         first, estate = terraform.applied(estate, options.terraform, options.account, options.allow_unknown)
+    if options.attach and estate is None:
+        raise Fault("--attach: a policy is attached in exports, and not in a world")
+    attached = [putting.read_attachment(it) for it in options.attach]
     drafts = [putting.read_draft(it) for it in options.put]
-    estate = putting.with_drafts(estate, drafts) if estate else None
+    estate = putting.with_drafts(putting.with_attachments(estate, attached), drafts) if estate else None
     aliases = estate.organization.names() if estate else {}
     if options.terraform and first and estate:
         refuse_unheld(first, estate)
+    plain = source.like(estate, lambda world: world).world([ASSUME])
+    meant = putting.resolved(plain, drafts, aliases, estate)
 
     def change(world: World) -> World:
-        return putting.put(world, drafts, aliases)
+        return putting.put(world, meant)
 
-    plain = source.like(estate, lambda world: world)
-    putting.refuse_strangers(plain.world([ASSUME]), drafts, aliases, estate)
-    putting.refuse_doubles(plain.world([ASSUME]), drafts, aliases, estate)
     return source.like(first, lambda world: world), source.like(estate, change)
 
 
@@ -50,7 +54,7 @@ def refuse_unheld(before: Estate, after: Estate) -> None:
 
 
 def is_changed(options: argparse.Namespace) -> bool:
-    return bool(options.put or options.terraform)
+    return bool(options.put or options.attach or options.terraform)
 
 
 def is_world(path: str) -> bool:
@@ -78,5 +82,5 @@ def both(options: argparse.Namespace) -> Tuple[Source, Source]:
             raise Fault("compare --before with --after, or exports with --put and --terraform, and not both")
         return side(options, before), side(options, after)
     if not is_changed(options):
-        raise Fault("say what changes: --put NAME=FILE, --terraform PLAN, or --before and --after")
+        raise Fault("say what changes: --put NAME=FILE, --attach NAME=FILE@PRINCIPAL, --terraform PLAN, or --before and --after")
     return before_and_after(source_of(options), options)

@@ -3,7 +3,7 @@
 import functools
 from typing import Any, Dict, Iterable, Iterator, List, NamedTuple, Optional, Tuple
 
-from .arns import account_of, bucket_of, principal_arn
+from .arns import account_of, owner_of, principal_arn
 from .documents import Place, World, each, places, statements_of
 from .patterns import common, is_pattern, matcher, resolved
 
@@ -119,10 +119,10 @@ def filled(pattern: str, account: str) -> Optional[str]:
 
 
 def beside(world: World, arn: str, account: str) -> Resource:
-    """A resource that the world does not name; a bucket's policy is that of each of its objects."""
-    bucket = bucket_of(arn)
-    of_bucket = [it for it in world["resources"] if bucket and bucket_of(it["arn"]) == bucket]
-    for it in sorted(of_bucket, key=lambda it: "policy" not in it)[:1]:
+    """A resource that the world does not name; the policy of a bucket or access point is that of each of its objects."""
+    owner = owner_of(arn)
+    of_owner = [it for it in world["resources"] if owner_of(it["arn"]) == owner]
+    for it in sorted(of_owner, key=lambda it: "policy" not in it)[:1]:
         return {"arn": arn, **{name: it[name] for name in ("account", "policy", "control") if name in it}}
     return {"arn": arn, "account": account}
 

@@ -77,6 +77,12 @@ def account_for(scope: Scope, world: World, arn: str) -> str:
     return found
 
 
+def account_words(world: World, arn: str) -> str:
+    """Whose a resource is taken to be, where its ARN does not say it."""
+    found = "" if account_of(arn) else next((it["account"] for it in world["resources"] if it["arn"] == arn), "")
+    return f", as a resource of account {found}" if found else ""
+
+
 def dressed(scope: Scope, resource: Dict[str, Any]) -> Dict[str, Any]:
     """The resource with the policy that is given beside the question."""
     if scope.policy is None:

@@ -35,7 +35,8 @@ def test_one_request_in_words():
             '      "Action": "s3:PutObject",',
             '      "Resource": "arn:aws:s3:::homes/${aws:username}/*"',
             "    }",
-            "arn:aws:s3:::homes/alice/x is not in the world: it is asked for without a policy of its own",
+            "arn:aws:s3:::homes/alice/x is not in the world: it is asked for without a policy of its own, as a resource of "
+            "account 111122223333",
         ],
     )
     out, _ = aws("can", "alice", "s3:PutObject", "arn:aws:s3:::homes/bob/x", EXPORT, status=3)
@@ -122,6 +123,46 @@ def test_an_object_is_of_the_account_of_its_bucket():
     same(rows("can", "alice", *words, status=3)[0]["decision"], "implicitDeny")
     _, said = aws("can", "alice", "s3:GetObject", "arn:aws:s3:::another/other", *BOTH, status=1)
     assert "which account is it of? Say it by --account" in said, said
+
+
+def test_each_access_point_has_its_own_policy():
+    """So has each key, queue, topic and secret; an object has that of its bucket or of the access point in its ARN."""
+    carol = "arn:aws:iam::444455556666:user/carol"
+    partner = load(data("partner.json"))
+    partner["UserDetailList"][0]["UserPolicyList"] = [{"PolicyName": "p", "PolicyDocument": document(statement())}]
+    exports = [EXPORT, file(partner)]
+    grant = document({"Effect": "Allow", "Principal": {"AWS": carol}, "Action": "*", "Resource": "*"})
+    for one, other in (
+        ("s3:eu-west-1:111122223333:accesspoint/p", "s3:eu-west-1:111122223333:accesspoint/q"),
+        ("s3:eu-west-1:111122223333:accesspoint/p", "s3:::accesspoint"),
+        ("kms:eu-west-1:111122223333:key/1", "kms:eu-west-1:111122223333:key/2"),
+        ("sqs:eu-west-1:111122223333:p", "sqs:eu-west-1:111122223333:q"),
+        ("secretsmanager:eu-west-1:111122223333:secret:p", "secretsmanager:eu-west-1:111122223333:secret:q"),
+    ):
+        granting = {"arn": f"arn:aws:{one}", "account": "111122223333", "policy": grant}
+        given = [*exports, "--resources", file([granting]), "--account", "111122223333"]
+        action = "s3:GetObject" if one.startswith("s3") else f"{one.split(':')[0]}:Do"
+        more = ["", "/object/k"] if one.startswith("s3") else [""]
+        for end in more:
+            aws("can", carol, action, f"arn:aws:{one}{end}", *given)
+            aws("can", carol, action, f"arn:aws:{other}{end}", *given, status=3)
+    point = [{"arn": "arn:aws:s3:eu-west-1:111122223333:accesspoint/p", "account": "111122223333", "policy": grant}]
+    _, said = aws("can", carol, "s3:GetObject", point[0]["arn"], *exports, "--resources", file(point))
+    assert f"{point[0]['arn']}: its requests fall under the policy of its bucket too, which is not asked here" in said, said
+    denying = document({"Effect": "Deny", "Principal": "*", "Action": "*", "Resource": "*"})
+    words = ["changes", *exports, "--resources", file(point), "--put", f"accesspoint/p={file(denying)}", "--format", "csv"]
+    out, _ = aws(*words, "--action", "s3:GetObject", "--resource", "*accesspoint/p")
+    assert f"lost,{carol},s3:GetObject,{point[0]['arn']}," in out, out
+
+
+def test_whose_an_unknown_bucket_is():
+    words = ["s3:GetObject", "arn:aws:s3:::new/k", EXPORT]
+    whose = "arn:aws:s3:::new/k is not in the world: it is asked for without a policy of its own, as a resource of account 1"
+    assert whose in aws("who-can", *words)[0]
+    _, said = aws("rules", file("never worker s3:GetObject arn:aws:s3:::new/k"), EXPORT)
+    assert "without a policy of its own, but its bucket's, as a resource of account 111122223333" in said, said
+    out, _ = aws("can", "alice", "kms:Decrypt", "arn:aws:kms:eu-west-1:111122223333:key/new", EXPORT, status=3)
+    assert "key/new is not in the world: it is asked for without a policy of its own\n" in out, out
 
 
 def test_what_an_answer_hangs_on():

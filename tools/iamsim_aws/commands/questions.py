@@ -10,7 +10,7 @@ from ..exports import policy
 from ..faults import Fault, line_of, tell
 from ..hanging import Turn
 from ..kinds import made_up, stand_words
-from ..questions import Asked, Question, Scope, missing, worlds
+from ..questions import Asked, Question, Scope, account_words, missing, worlds
 from ..reports import Answers, csv_text
 from ..sources import add_source, source_of
 from ..strangers import is_stranger
@@ -81,7 +81,8 @@ def notes(found: List[Found]) -> List[str]:
     """What the answers cover, and which keys could turn them."""
     lines = []
     for asked, answers, turns in found:
-        lines += [f"{arn} is not in the world: it is asked for {policy_words(asked, arn)}" for arn in asked.added]
+        for arn in asked.added:
+            lines.append(f"{arn} is not in the world: it is asked for {policy_words(asked, arn)}{account_words(asked.world, arn)}")
         lines += stand_lines(asked, answers, turns)
         if asked.without:
             lines.append(

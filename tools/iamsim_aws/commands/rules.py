@@ -9,7 +9,7 @@ from ..covering import tell_actions, tell_strangers
 from ..faults import Fault, line_of, tell
 from ..kinds import stand_words
 from ..pipelines import Case, fault, junit, sarif
-from ..questions import Scope
+from ..questions import Scope, account_words
 from ..ruling import Break, Outcome, check, read_rules
 from ..slips import slips
 from ..sources import add_source, source_of
@@ -49,6 +49,7 @@ def run(options: argparse.Namespace) -> int:
 def inputs(options: argparse.Namespace) -> List[str]:
     """The files that are read."""
     drafts_of = [it.rpartition("=")[2] for it in options.put]
+    drafts_of += [it.partition("=")[2].partition("@")[0] for it in options.attach]
     named = [options.rules, options.world, options.names, options.actions, options.organization, options.terraform]
     return [*filter(None, named), *options.exports, *options.resources, *options.context, *drafts_of]
 
@@ -86,9 +87,10 @@ def notes(scope: Scope, outcomes: List[Outcome]) -> None:
     for it in outcomes:
         for line in slips(scope, it.rule.question) if it.rule.kind == "never" and it.state == "kept" else ():
             tell(f"{it.rule.name}: {line}")
-    added = {arn for it in outcomes for asked in it.asked for arn in asked.added}
-    for arn in sorted(added):
-        tell(f"{arn} is not in the world: it is asked for without a policy of its own, but its bucket's")
+    added = {arn: asked.world for it in outcomes for asked in it.asked for arn in asked.added}
+    for arn, world in sorted(added.items(), key=lambda it: it[0]):
+        whose = account_words(world, arn)
+        tell(f"{arn} is not in the world: it is asked for without a policy of its own, but its bucket's{whose}")
     without = {pattern for it in outcomes for asked in it.asked for pattern in asked.without}
     if without:
         tell(
