@@ -45,7 +45,7 @@ def opened(answers: Answers) -> Dict[int, str]:
 
 def steps_of(source: Source) -> Steps:
     """Who may assume which role."""
-    world = source.world([ASSUME])
+    [world] = source.worlds([ASSUME])
     sessions: Dict[str, List[str]] = {}
     for it in world["principals"]:
         if "role" in it:

@@ -282,14 +282,19 @@ def witnesses_of(worlds: Sequence[World], pattern: str) -> Dict[Tuple[str, str],
     """The ARNs and accounts of texts for the patterns of the documents that speak, with what they stand for: for one of a
     changed document if there is one."""
     found: Dict[Tuple[str, str], Origin] = {}
+    absent: Dict[str, None] = {}
     before, after = worlds
     # What a changed limit kept back is what others allow.
     for some in (differing(before, after), all_speaking(before, after, is_limit)):
         for world in some:
-            for it in kinds.resources(world, pattern, world["actions"])[0]:
+            made = kinds.resources(world, pattern, world["actions"])
+            absent.update(dict.fromkeys(made.absent))
+            for it in made.found:
                 key = it.resource["arn"], it.resource["account"]
                 if key not in found or not found[key].policy:
                     found[key] = it.origin
+    if absent:
+        tell(f"no export has these roles, and they are not asked for: {', '.join(absent)}")
     return found
 
 

@@ -1,12 +1,13 @@
 """The source after a change: drafts of policies, a plan of Terraform, or other exports."""
 
 import argparse
-from typing import List, Optional, Tuple
+from typing import List, Optional, Set, Tuple
 
 from . import files, putting, terraform
 from .documents import World
 from .faults import Fault
 from .making import Estate
+from .reports import axes_of
 from .sources import ASSUME, Source, source_of
 
 
@@ -62,13 +63,26 @@ def is_world(path: str) -> bool:
     return isinstance(given, dict) and "principals" in given
 
 
-def side(options: argparse.Namespace, paths: List[str]) -> Source:
+def side(options: argparse.Namespace, paths: List[str], word: str) -> Source:
     """The source of exports, or of one world."""
     worlds = [it for it in paths if is_world(it)]
     if worlds and len(paths) > 1:
         raise Fault("one world is compared with one world, and exports with exports")
     world, exports = (worlds[0], []) if worlds else (None, paths)
-    return source_of(argparse.Namespace(**{**vars(options), "world": world, "exports": exports}))
+    source = source_of(argparse.Namespace(**{**vars(options), "world": world, "exports": exports}))
+    if source.given is not None:
+        refuse_twice(source.given, word)
+    return source
+
+
+def refuse_twice(world: World, word: str) -> None:
+    """Of two that have one name nobody sees which is compared; iamsim refuses them too, by this line."""
+    for axis, texts in zip(("principals", "actions", "resources"), axes_of(world)):
+        seen: Set[str] = set()
+        for n, text in enumerate(texts):
+            if text in seen:
+                raise Fault(f"fault 8 Twice: {word} at {axis}/{n} ({text})")
+            seen.add(text)
 
 
 def both(options: argparse.Namespace) -> Tuple[Source, Source]:
@@ -80,7 +94,7 @@ def both(options: argparse.Namespace) -> Tuple[Source, Source]:
     if before and after:
         if is_changed(options) or options.exports or options.world:
             raise Fault("compare --before with --after, or exports with --put and --terraform, and not both")
-        return side(options, before), side(options, after)
+        return side(options, before, "before"), side(options, after, "after")
     if not is_changed(options):
         raise Fault("say what changes: --put NAME=FILE, --attach NAME=FILE@PRINCIPAL, --terraform PLAN, or --before and --after")
     return before_and_after(source_of(options), options)

@@ -3,7 +3,7 @@
 import functools
 from typing import Any, Dict, Iterable, Iterator, List, NamedTuple, Optional, Tuple
 
-from .arns import account_of, owner_of, principal_arn
+from .arns import account_of, owner_of, principal_arn, resource_part, service_of
 from .documents import Place, World, each, places, statements_of
 from .patterns import common, is_pattern, matcher, resolved
 
@@ -102,12 +102,33 @@ def values_of(world: World, path: str) -> Tuple[Dict[str, str], str]:
     return found, account_of(arn)
 
 
-def filled(pattern: str, account: str) -> Optional[str]:
+def open_parts(world: World, actions: List[str], account: str) -> List[str]:
+    """What stands for the parts of an ARN that a pattern leaves open: as the ARNs have them of the actions' service, where
+    that is one, and of the account."""
+    services = {it.partition(":")[0].lower() for it in actions}
+    service = services.pop() if len(services) == 1 else OPEN[2]
+    service = "iam" if service == "sts" else service
+    own = (principal_arn(it) for it in world["principals"])
+    partition = next((it.split(":")[1] for it in own if account_of(it) == account), OPEN[1])
+    region = "" if service in ("iam", "s3") else REGION
+    return ["arn", partition, service, region, "" if service == "s3" else account, OPEN[5]]
+
+
+def narrowed(pattern: str, template: List[str]) -> str:
+    """The pattern with what stands for the parts that it leaves open before the last one."""
+    parts = pattern.split(":", 5)
+    if len(parts) < 6 and pattern.startswith("*"):
+        parts = [*"*****", parts[-1]]
+    is_open = (n < 5 and is_pattern(part) and matcher(part)(template[n]) for n, part in enumerate(parts))
+    return ":".join(template[n] if free else part for n, (part, free) in enumerate(zip(parts, is_open)))
+
+
+def filled(pattern: str, account: str, template: Optional[List[str]] = None) -> Optional[str]:
     """An ARN that matches the pattern, of that account where it leaves it open."""
     if pattern == "*":
         return "*"
     parts = pattern.split(":", 5)
-    template = [*OPEN[:4], account, OPEN[5]]
+    template = template or [*OPEN[:4], account, OPEN[5]]
     made = []
     for n, part in enumerate(parts):
         open_part = is_pattern(part) and n in (3, 4) and matcher(part)(template[n])
@@ -115,7 +136,7 @@ def filled(pattern: str, account: str) -> Optional[str]:
     text = ":".join([*made, *template[len(made) :]])
     if matcher(pattern)(text):
         return text
-    return common(pattern, f"arn:*:*:*:{account}:*")
+    return common(narrowed(pattern, template), f"arn:*:*:*:{account}:*") or common(pattern, f"arn:*:*:*:{account}:*")
 
 
 def beside(world: World, arn: str, account: str) -> Resource:
@@ -127,7 +148,23 @@ def beside(world: World, arn: str, account: str) -> Resource:
     return {"arn": arn, "account": account}
 
 
-def resources(world: World, asked: str, actions: List[str]) -> Tuple[List[Witness], List[str]]:
+class Witnesses(NamedTuple):
+    """Resources that stand for patterns, the patterns for which none does, and roles that are not there to be assumed."""
+
+    found: List[Witness]
+    without: List[str]
+    absent: List[str]
+
+
+def is_absent_role(world: World, arn: str) -> bool:
+    """Whether a role is asked to be assumed that an account does not have of whose principals the world is."""
+    is_role = service_of(arn) == "iam" and resource_part(arn).startswith("role/")
+    is_assumed = any(it.lower().startswith("sts:") for it in world["actions"])
+    known = {account_of(principal_arn(it)) for it in world["principals"]}
+    return is_role and is_assumed and account_of(arn) in known and all(it["arn"] != arn for it in world["resources"])
+
+
+def resources(world: World, asked: str, actions: List[str]) -> Witnesses:
     """A witness for the asked pattern and for each pattern of a policy that meets it, in the account of who has the policy
     where it leaves that open; and the patterns without one. Named resources stand for themselves alone: a deny on one of
     them says nothing of the others."""
@@ -141,20 +178,22 @@ def resources(world: World, asked: str, actions: List[str]) -> Tuple[List[Witnes
             if pattern is not None and pattern not in named:
                 patterns.setdefault((pattern, account), place.policy.name)
     found: Dict[Tuple[str, str], Witness] = {}
-    without = []
+    without, absent = [], []
     wide = in_parts_of("", asked)
     for pattern, account in [*patterns, *((wide, account) for account in ids if (wide, account) not in patterns)]:
         of_pattern = in_parts_of(pattern, asked)
-        arn = witness(pattern, of_pattern, account)
+        arn = witness(pattern, of_pattern, account, open_parts(world, actions, account))
         owner = (account_of(arn) or account) if arn else ""
-        if arn and owner in ids:
+        if arn and is_absent_role(world, arn):
+            absent.append(arn)
+        elif arn and owner in ids:
             if arn not in named:
                 one = beside(world, arn, owner)
                 origin = Origin(pattern, patterns.get((pattern, account), ""))
                 found.setdefault((arn, one["account"]), Witness(one, origin))
         elif pattern != wide and common(pattern, of_pattern):
             without.append(pattern)
-    return list(found.values()), list(dict.fromkeys(without))
+    return Witnesses(list(found.values()), list(dict.fromkeys(without)), list(dict.fromkeys(absent)))
 
 
 def in_parts_of(pattern: str, asked: str) -> str:
@@ -165,9 +204,10 @@ def in_parts_of(pattern: str, asked: str) -> str:
     return ":".join([*(parts[:5] if len(parts) == 6 else ["arn", *"****"]), asked])
 
 
-def witness(pattern: str, asked: str, account: str) -> Optional[str]:
+def witness(pattern: str, asked: str, account: str, template: List[str]) -> Optional[str]:
     """A resource that matches both patterns."""
-    for text in (filled(pattern, account), filled(asked, account), common(pattern, asked)):
+    narrow = common(narrowed(pattern, template), narrowed(asked, template))
+    for text in (filled(pattern, account, template), filled(asked, account, template), narrow, common(pattern, asked)):
         if (
             text
             and (text == "*" or text.startswith("arn:") and text.count(":") >= 5)

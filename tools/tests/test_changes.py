@@ -92,8 +92,8 @@ def test_drafts_of_each_kind():
         changes(EXPORT, "--put", f"audit={nothing}"),
         {("lost", ALICE, "sts:AssumeRole", role): ("allowed", "implicitDeny")},
     )
-    # An inline policy of a group, and a boundary that knows all roles under app/: those that are there do not trust bob, another
-    # one, for which role/app/x stands, may.
+    # An inline policy of a group, and a boundary that knows all roles under app/: those that are there do not trust bob, and
+    # one that is not there is not asked for, which is told.
     same(
         set(changes(EXPORT, "--put", f"Homes={nothing}")),
         {
@@ -103,7 +103,9 @@ def test_drafts_of_each_kind():
     )
     boundary = file(document(statement(action="sts:AssumeRole", resource=f"{ACCOUNT}role/app/*")))
     found = changes(EXPORT, "--put", f"AtMost={boundary}", "--action", "sts:AssumeRole")
-    same(set(found), {("gained", BOB, "sts:AssumeRole", f"{ACCOUNT}role/app/x")})
+    same(found, {})
+    _, said = aws("changes", EXPORT, "--put", f"AtMost={boundary}", "--action", "sts:AssumeRole")
+    assert f"no export has these roles, and they are not asked for: {ACCOUNT}role/app/x\n" in said, said
     same(
         set(changes(EXPORT, "--put", f"AtMost={nothing}", "--action", "sts:AssumeRole")),
         {("lost", BOB, "sts:AssumeRole", f"{ACCOUNT}role/app/deploy")},
@@ -489,6 +491,20 @@ def test_worlds_before_and_after():
     assert "--before and --after belong together" in said, said
     _, said = aws("changes", EXPORT, status=1)
     assert "say what changes" in said, said
+
+
+def test_worlds_in_which_one_stands_twice():
+    """As iamsim itself has it: of two that have one name nobody sees which is compared."""
+    allow = {**statement(), "Condition": {"Bool": {"aws:MultiFactorAuthPresent": "true"}}}
+    before, after = small_world(document(allow)), small_world(document(statement()))
+    for it in (before, after):
+        it["principals"].append({**it["principals"][0], "context": {"aws:MultiFactorAuthPresent": "true"}})
+    for one, other, word in ((before, after, "before"), (small_world(document()), after, "after")):
+        words = ["--before", file(one), "--after", file(other), "--fail-on", "gained"]
+        _, said = aws("changes", *words, status=1)
+        same(said, f"iamsim-aws: fault 8 Twice: {word} at principals/1 (arn:aws:iam::111122223333:user/ann)\n")
+        _, plain = run([IAMSIM, "changes", words[1], words[3]], status=1)
+        assert plain.startswith(f"fault 8 Twice: {word} at principals/1"), plain
 
 
 def test_changes_in_words_and_for_a_review():

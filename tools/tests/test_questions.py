@@ -165,6 +165,48 @@ def test_whose_an_unknown_bucket_is():
     assert "key/new is not in the world: it is asked for without a policy of its own\n" in out, out
 
 
+def test_a_role_that_no_export_has():
+    """Nobody is asked to assume it where the account has an export, and what is made up is as ARNs of its service are."""
+    absent = f"{ACCOUNT}role/nosuch"
+    _, said = aws("can", "bob", "sts:AssumeRole", absent, EXPORT, status=1)
+    same(said, f"iamsim-aws: no export has the role {absent}, so nobody may assume it\n")
+    out, said = aws("rules", file(f"never * sts:AssumeRole {absent}\n"), EXPORT, status=4)
+    assert f"no export has the role {absent}" in out, out
+    out, said = aws("rules", file("never * sts:AssumeRole *:role/adm*\n"), EXPORT, "--allow-empty")
+    assert "arn:x" not in out + said and "0 broken" in out, out
+    out, _ = aws("who-can", "sts:AssumeRole", "*:role/app/*", "--kinds", EXPORT)
+    assert f"no export has these roles, and they are not asked for: {ACCOUNT}role/app/x\n" in out, out
+    # A role that is not there may be made or passed, and one of another account may be there.
+    aws("can", "bob", "iam:PassRole", absent, EXPORT, status=3)
+    other = "arn:aws:iam::999988887777:role/there"
+    out, _ = aws("can", "bob", "sts:AssumeRole", other, EXPORT, status=3)
+    assert out.startswith(f"implicitDeny: {ACCOUNT}user/ops/bob sts:AssumeRole {other}\n"), out
+    for action, pattern, wanted in (
+        ("kms:Decrypt", "*:key/q*", "arn:aws:kms:us-east-1:111122223333:key/qx"),
+        ("iam:PassRole", "*:role/q*", f"{ACCOUNT}role/qx"),
+        ("s3:GetObject", "*/q*", "arn:aws:s3:::x/qx"),
+    ):
+        found = rows("who-can", action, pattern, "--kinds", EXPORT)
+        assert wanted in {it["resource"] for it in found}, {it["resource"] for it in found}
+
+
+def test_a_world_that_was_made_for_other_actions():
+    """A trust policy says nothing on iam: actions, and without one nothing says who may assume a role."""
+    export = load(EXPORT)
+    export["UserDetailList"][1].pop("PermissionsBoundary")
+    path, worlds = file(export), {}
+    for action in ("sts:AssumeRole", "iam:PutRolePolicy"):
+        worlds[action] = file(aws("world", path, "--actions", file(action), "--moment", "0", "--session", "s1")[0])
+    asked = ["who-can", "iam:PutRolePolicy", "role/app/audit"]
+    wanted = decided(rows(*asked, path))
+    same({it[0] for it, decision in wanted.items() if decision == "allowed"}, {f"{ACCOUNT}user/ops/bob"})
+    for it in worlds.values():
+        same(decided(json.loads(aws(*asked, "--world", it, "--format", "json")[0])), wanted)
+        aws("rules", file("never * iam:PutRolePolicy *:role/app/audit"), "--world", it, status=3)
+    _, said = aws("who-can", "sts:AssumeRole", "role/app/audit", "--world", worlds["iam:PutRolePolicy"], status=1)
+    assert "the world has no trust policy of" in said and "make it with an sts: action" in said, said
+
+
 def test_what_an_answer_hangs_on():
     found = rows("who-can", "sts:AssumeRole", "role/app/partner", *BOTH)
     carol = [it for it in found if it["principal"] == "arn:aws:iam::444455556666:user/carol"][0]

@@ -88,6 +88,8 @@ def notes(found: List[Found]) -> List[str]:
             lines.append(
                 f"no text stands for these patterns, whose account or variables nothing gives: {', '.join(asked.without)}"
             )
+        if asked.absent:
+            lines.append(f"no export has these roles, and they are not asked for: {', '.join(asked.absent)}")
         lines += key_notes(asked, turns)
     if any(it.asked.witnesses for it in found):
         lines.append(

@@ -91,6 +91,9 @@ def notes(scope: Scope, outcomes: List[Outcome]) -> None:
     for arn, world in sorted(added.items(), key=lambda it: it[0]):
         whose = account_words(world, arn)
         tell(f"{arn} is not in the world: it is asked for without a policy of its own, but its bucket's{whose}")
+    absent = {arn for it in outcomes for asked in it.asked for arn in asked.absent}
+    if absent:
+        tell(f"no export has these roles, and they are not asked for: {', '.join(sorted(absent))}")
     without = {pattern for it in outcomes for asked in it.asked for pattern in asked.without}
     if without:
         tell(
