@@ -105,7 +105,7 @@ def test_drafts_of_each_kind():
     found = changes(EXPORT, "--put", f"AtMost={boundary}", "--action", "sts:AssumeRole")
     same(found, {})
     _, said = aws("changes", EXPORT, "--put", f"AtMost={boundary}", "--action", "sts:AssumeRole")
-    assert f"no export has these roles, and they are not asked for: {ACCOUNT}role/app/x\n" in said, said
+    assert f"no export has these roles, so nobody may assume them: {ACCOUNT}role/app/x\n" in said, said
     same(
         set(changes(EXPORT, "--put", f"AtMost={nothing}", "--action", "sts:AssumeRole")),
         {("lost", BOB, "sts:AssumeRole", f"{ACCOUNT}role/app/deploy")},
@@ -280,6 +280,15 @@ def test_a_named_action_does_not_hide_the_rest_of_a_pattern():
     )
 
 
+def test_an_action_that_the_service_reference_lacks():
+    """It is asked for all the same where a draft names it, and told."""
+    draft = file(document(statement(action=["s3:NewAction", "s3:PutObject"])))
+    words = ["changes", EXPORT, "--put", f"ReadObjects={draft}", "--services", data("s3.json"), "--format", "csv"]
+    out, said = aws(*words, "--resource", "arn:aws:s3:::new/k", "--fail-on", "gained", status=3)
+    assert f"gained,{ALICE},s3:NewAction,arn:aws:s3:::new/k," in out, out
+    assert "the service reference lacks these actions, which are asked for all the same: s3:NewAction\n" in said, said
+
+
 def test_given_actions_join_those_of_the_draft():
     draft = file(document(statement(action=["s3:Get*", "s3:List*"]), statement("Allow", "dynamodb:Query")))
     both = [ALICE, f"{SESSION}deploy/s1"]
@@ -344,7 +353,8 @@ def test_a_choice_that_meets_nothing():
         "nothing names a resource that arn:aws:s3:::hoems/* means, but policies for all: is it a slip?\n" in said
     ), said
     _, said = aws(*words, "--action", "s3:PutObjekt")
-    assert "names an action that s3:PutObjekt means, but for all of a service: is it a slip? If not, give" in said, said
+    hint = "names an action that s3:PutObjekt means, but by a pattern (near is s3:PutObject): is it a slip? If not, give"
+    assert hint in said, said
     out, said = aws(*words, "--action", "kms:*", status=4)
     same(out, "0 lost and 0 gained, of 0 requests\n")
     assert "no request was compared" in said, said

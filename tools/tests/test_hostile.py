@@ -278,6 +278,15 @@ def test_streams_that_are_closed_or_full():
     same(status, 0, said)
 
 
+def test_no_world_is_no_matrix():
+    """Where what comes before in a pipe has failed."""
+    for given in ("", "\n \n"):
+        _, said = aws("matrices", given=given, status=1)
+        same(said, "iamsim-aws: standard input is empty: was there a fault?\n")
+    ran = subprocess.run(["sh", "-c", f"{AWS} split /nowhere/w.json | {AWS} matrices"], stderr=subprocess.DEVNULL)
+    same(ran.returncode, 1)
+
+
 def test_documents_as_calls_of_aws_encode_them():
     """The API gives a document as JSON with %-escapes; so do the SDKs that do not decode it."""
     export, policy = load(EXPORT), document(statement(action="s3:GetObject", resource="arn:aws:s3:::b/a+b ü%"))

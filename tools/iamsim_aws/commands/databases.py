@@ -12,7 +12,7 @@ from ..reports import csv_text
 
 HEADER = ["principal", "action", "resource", "decision", "policies"]
 OTHERS = ["exports", "world", "names", "actions", "resources", "organization", "context", "moment", "services"]
-OTHERS += ["kinds", "policy", "sealed", "account", "chains"]
+OTHERS += ["kinds", "policy", "sealed", "account", "chains", "put", "attach", "terraform"]
 
 
 def opened(options: argparse.Namespace) -> Database:

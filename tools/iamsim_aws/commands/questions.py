@@ -3,7 +3,7 @@
 import argparse
 from typing import Any, Dict, List, NamedTuple, Set
 
-from .. import chains, files, hanging
+from .. import chains, drafts, files, hanging
 from ..asking import ask
 from ..covering import tell_strangers
 from ..exports import policy
@@ -55,7 +55,7 @@ def add_question(parser: argparse.ArgumentParser) -> None:
     parser.add_argument(
         "--sealed", action="store_true", help="that policy must grant in the same account too, as a KMS key's"
     )
-    parser.add_argument("--account", metavar="ID", help="the account of a resource whose ARN names none")
+    drafts.add_options(parser)
     parser.add_argument("--format", choices=["text", "json", "csv"], default="text")
     parser.add_argument("--database", metavar="FILE", help="ask the database of 'iamsim-aws estate', and nothing else")
 
@@ -63,7 +63,10 @@ def add_question(parser: argparse.ArgumentParser) -> None:
 def scope_of(options: argparse.Namespace) -> Scope:
     path = options.policy
     own = policy(files.name_of(path), files.read_json(path)) if path else None
-    return Scope(source_of(options), options.kinds, own, options.account, options.sealed)
+    source = source_of(options)
+    if drafts.is_changed(options):
+        source = drafts.before_and_after(source, options)[1]
+    return Scope(source, options.kinds, own, options.account, options.sealed)
 
 
 def answered(scope: Scope, question: Question) -> List[Found]:
@@ -89,7 +92,7 @@ def notes(found: List[Found]) -> List[str]:
                 f"no text stands for these patterns, whose account or variables nothing gives: {', '.join(asked.without)}"
             )
         if asked.absent:
-            lines.append(f"no export has these roles, and they are not asked for: {', '.join(asked.absent)}")
+            lines.append(f"no export has these roles, so nobody may assume them: {', '.join(asked.absent)}")
         lines += key_notes(asked, turns)
     if any(it.asked.witnesses for it in found):
         lines.append(

@@ -89,6 +89,8 @@ def matrices(options: argparse.Namespace) -> int:
         for word in (f"--{name}", str(getattr(options, name)))
     ]
     worlds = [it for it in files.read_bytes("-").splitlines() if it.strip()]
+    if not worlds:
+        raise Fault("standard input is empty: was there a fault?")
     answers = side_by_side(words, worlds, len(worlds))
     for number in range(len(worlds)):
         try:

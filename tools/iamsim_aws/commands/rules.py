@@ -2,11 +2,11 @@
 
 import argparse
 import time
-from typing import Any, List, Set
+from typing import Any, List, Sequence, Set, Tuple
 
 from .. import drafts, files
 from ..covering import tell_actions, tell_strangers
-from ..faults import Fault, line_of, tell
+from ..faults import TOLD, Fault, line_of, tell
 from ..kinds import stand_words
 from ..pipelines import Case, fault, junit, sarif
 from ..questions import Scope, account_words
@@ -54,10 +54,25 @@ def inputs(options: argparse.Namespace) -> List[str]:
     return [*filter(None, named), *options.exports, *options.resources, *options.context, *drafts_of]
 
 
-def report(options: argparse.Namespace, cases: List[Case]) -> None:
+def report(options: argparse.Namespace, cases: List[Case], notes: Sequence[str] = ()) -> None:
     for path, write in ((options.junit, junit), (options.sarif, sarif)):
         if path:
-            files.write_file(path, write(cases))
+            files.write_file(path, write(cases, notes))
+
+
+def cases_of(options: argparse.Namespace, outcomes: List[Outcome], fails: Set[str]) -> Tuple[List[Case], List[str]]:
+    """The outcomes as reports for pipelines have them, and what was told that is of no rule. What was not asked fails there."""
+    every = list(dict.fromkeys(TOLD))
+    of_rules = {it.rule.name: [line for line in every if line.startswith(f"{it.rule.name}: ")] for it in outcomes}
+    cases = [case_of(it, options.most, fails, of_rules[it.rule.name]) for it in outcomes]
+    rest = [line for line in every if not any(line in of for of in of_rules.values())]
+    file = files.name_of(options.rules)
+    unasked = [Case(file, 1, "what was not asked", "unasked", [it], [it]) for it in filter(is_unasked, rest)]
+    return cases + unasked, [it for it in rest if not is_unasked(it)]
+
+
+def is_unasked(line: str) -> bool:
+    return any(it in line for it in ("not asked", "nobody is asked", "no text stands"))
 
 
 def checked(options: argparse.Namespace) -> int:
@@ -75,7 +90,7 @@ def checked(options: argparse.Namespace) -> int:
     counts = {state: sum(it.state == state for it in outcomes) for state in STATUSES}
     files.write(f"{len(outcomes)} rules: " + ", ".join(f"{n} {state}" for state, n in counts.items()) + "\n")
     fails = {"broken"} if options.allow_empty else {"broken", "empty"}
-    report(options, [case_of(it, options.most, fails) for it in outcomes])
+    report(options, *cases_of(options, outcomes, fails))
     found = [STATUSES[state] for state in ("broken", "empty") if counts[state] and state in fails]
     return found[0] if found else 0
 
@@ -93,7 +108,7 @@ def notes(scope: Scope, outcomes: List[Outcome]) -> None:
         tell(f"{arn} is not in the world: it is asked for without a policy of its own, but its bucket's{whose}")
     absent = {arn for it in outcomes for asked in it.asked for arn in asked.absent}
     if absent:
-        tell(f"no export has these roles, and they are not asked for: {', '.join(sorted(absent))}")
+        tell(f"no export has these roles, so nobody may assume them: {', '.join(sorted(absent))}")
     without = {pattern for it in outcomes for asked in it.asked for pattern in asked.without}
     if without:
         tell(
@@ -123,9 +138,12 @@ def lines_of(outcome: Outcome, most: int) -> List[str]:
     return [*lines, f"  and {more} more"] if more > 0 else lines
 
 
-def case_of(outcome: Outcome, most: int, fails: Set[str]) -> Case:
-    """An outcome as reports for pipelines have it."""
-    rule, passes = outcome.rule, outcome.state not in fails
+def case_of(outcome: Outcome, most: int, fails: Set[str], notes: List[str]) -> Case:
+    """An outcome as reports for pipelines have it, with what was told of it."""
+    rule, unasked = outcome.rule, [it for it in notes if is_unasked(it)]
+    rest = [it for it in notes if it not in unasked]
+    if outcome.state not in fails:
+        return Case(rule.file, rule.line, rule.text, "unasked" if unasked else outcome.state, unasked, unasked, rest)
     reasons = [message(it, outcome.giver) for it in outcome.broken[:most]] or [outcome.empty]
-    lines = lines_of(outcome, most)
-    return Case(rule.file, rule.line, rule.text, outcome.state, [] if passes else lines, [] if passes else reasons)
+    lines = lines_of(outcome, most) + unasked
+    return Case(rule.file, rule.line, rule.text, outcome.state, lines, reasons + unasked, rest)
