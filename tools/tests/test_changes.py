@@ -537,7 +537,7 @@ def test_changes_in_words_and_for_a_review():
     same(
         out.splitlines(),
         [
-            "**1 lost and 0 gained, of 1 requests**",
+            "**0 gained and 1 lost by 1 principal, of 1 requests**",
             "",
             "### Lost",
             "",
@@ -570,7 +570,7 @@ def test_a_review_of_many_requests():
     same(
         out.splitlines(),
         [
-            "**0 lost and 10 gained, of 10 requests**",
+            "**10 gained by 1 principal, among them an administrator, and 0 lost, of 10 requests**",
             "",
             "### Gained",
             "",
@@ -696,7 +696,7 @@ def test_a_review_has_the_warnings():
     same(
         out.splitlines(),
         [
-            "**0 lost and 0 gained, of 0 requests**",
+            "**0 gained and 0 lost, of 0 requests**",
             "",
             "### Notes",
             "",
@@ -709,7 +709,7 @@ def test_a_review_has_the_warnings():
     out, said = aws(
         "changes", "--before", file(before), "--after", file(before), "--action", "s3:GetObject", "--format", "markdown"
     )
-    same((out, said), ("**0 lost and 0 gained, of 1 requests**\n", ""))
+    same((out, said), ("**0 gained and 0 lost, of 1 requests**\n", ""))
 
 
 def test_actions_without_the_service_reference():

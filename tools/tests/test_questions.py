@@ -173,6 +173,41 @@ def test_questions_over_a_draft():
     assert "leave --put out" in aws("who-can", *asked[:2], *given, "--database", "none", status=1)[1]
 
 
+def test_the_deciding_statement_comes_first():
+    """What allows everything is told where it is wanted alone; where no identity policy allows this, the nearest is named."""
+    full = document(statement())
+    world = small_world(document(statement(action="s3:GetObject", resource="arn:aws:s3:::b/*")))
+    world["accounts"][0]["org"] = [[full], [full, document(statement(action="s3:*"))]]
+    world["principals"][0]["boundary"] = full
+    path = file(world)
+    words = ["s3:GetObject", "arn:aws:s3:::b/k", "--world", path]
+    own, limit = "principals/0/identity/0, statement 0 (identity policy)", "accounts/0/org/1/1, statement 0 (organisation policy)"
+    for it in (["can", "ann"], ["who-can"]):
+        lines = aws(*it, *words)[0].splitlines()
+        same([line.strip() for line in lines if "allowed by" in line], [f"allowed by {own}", f"allowed by {limit}"])
+        more = aws(*it, *words, "--verbose")[0]
+        for place in ("accounts/0/org/0/0", "accounts/0/org/1/0", "principals/0/boundary"):
+            assert f"allowed by {place}, statement 0" in more, more
+    rule = file("never ann s3:GetObject arn:aws:s3:::b/k")
+    out, _ = aws("rules", rule, "--world", path, status=3)
+    assert f"may s3:GetObject arn:aws:s3:::b/k: allowed by {own}; allowed by {limit}\n" in out, out
+    world["principals"][0]["identity"] = []
+    out, _ = aws("changes", "--before", file(world), "--after", path)
+    assert f"    allowed by {own}\n    allowed by {limit}\n" in out and "org/0/0" not in out, out
+    # The nearest statement has the action, and another resource or a condition.
+    conditioned = statement(action="s3:Get*", Condition={"Bool": {"aws:SecureTransport": "true"}})
+    for some, why in (
+        ([statement(action="s3:PutObject"), statement(action="s3:get*", resource=["arn:aws:s3:::c/*", "arn:aws:s3:::d"])],
+         "statement 1 (identity policy): it is of arn:aws:s3:::c/*, arn:aws:s3:::d"),
+        ([statement(action="s3:*", resource="arn:aws:s3:::c"), conditioned],
+         "statement 1 (identity policy): its condition or variables do not hold"),
+    ):
+        out, _ = aws("can", "ann", "s3:GetObject", "*", "--world", file(small_world(document(*some))), status=3)
+        assert f"allows this\n    nearest is principals/0/identity/0, {why}\n" in out, out
+    out, _ = aws("can", "ann", "s3:GetObject", "*", "--world", file(small_world(document(statement(action="kms:*")))), status=3)
+    assert "nearest" not in out, out
+
+
 def test_whose_an_unknown_bucket_is():
     words = ["s3:GetObject", "arn:aws:s3:::new/k", EXPORT]
     whose = "arn:aws:s3:::new/k is not in the world: it is asked for without a policy of its own, as a resource of account 1"

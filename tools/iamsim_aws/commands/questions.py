@@ -16,7 +16,7 @@ from ..sources import add_source, source_of
 from ..strangers import is_stranger
 from ..telling import HEADER, as_fields, as_json, told
 from . import databases
-from .parsers import add, whole
+from .parsers import add, add_verbose, whole
 
 
 class Found(NamedTuple):
@@ -56,6 +56,7 @@ def add_question(parser: argparse.ArgumentParser) -> None:
         "--sealed", action="store_true", help="that policy must grant in the same account too, as a KMS key's"
     )
     drafts.add_options(parser)
+    add_verbose(parser)
     parser.add_argument("--format", choices=["text", "json", "csv"], default="text")
     parser.add_argument("--database", metavar="FILE", help="ask the database of 'iamsim-aws estate', and nothing else")
 
@@ -156,7 +157,7 @@ def can(options: argparse.Namespace) -> int:
     lines = []
     for it in found:
         for cell in range(len(it.answers.numbers)):
-            lines += told(it.answers, cell, it.turns.get(cell, []), True)
+            lines += told(it.answers, cell, it.turns.get(cell, []), True, options.verbose)
     write(options, found, lines)
     return 0 if all(it.decision == "allowed" for of in found for it in of.answers.table) else 3
 
@@ -168,7 +169,7 @@ def who_can(options: argparse.Namespace) -> int:
     found = answered(scope, Question("*", options.action, options.resource))
     lines: List[str] = []
     for it in found:
-        lines += who_lines(it)
+        lines += who_lines(it, options.verbose)
     if options.chains:
         lines += chain_lines(scope, found, options.depth)
     write(options, found, lines)
@@ -176,7 +177,7 @@ def who_can(options: argparse.Namespace) -> int:
     return 0
 
 
-def who_lines(found: Found) -> List[str]:
+def who_lines(found: Found, is_verbose: bool) -> List[str]:
     """Who is allowed, and who would be with one key more; then the same of who is outside."""
     answers = found.answers
     outside = [is_stranger(it) for it in answers.world["principals"]]
@@ -184,24 +185,24 @@ def who_lines(found: Found) -> List[str]:
     some = [it for it in answers.allowed() if not outside[answers.place(it)[0]]]
     who, cells = len({answers.place(it)[0] for it in some}), people * answers.shape[1] * answers.shape[2]
     lines = [f"{who} of {people} principals are allowed, by {len(some)} of {cells} requests"]
-    lines += lines_for(found, some, [it for it in sorted(found.turns) if not outside[answers.place(it)[0]]])
+    lines += lines_for(found, some, [it for it in sorted(found.turns) if not outside[answers.place(it)[0]]], is_verbose)
     if any(outside):
         some = [it for it in answers.allowed() if outside[answers.place(it)[0]]]
         who = len({answers.place(it)[0] for it in some})
         what = "stand-ins for who is outside the exports are allowed, where their own accounts let them"
         lines.append(f"{who} of {sum(outside)} {what}")
-        lines += lines_for(found, some, [it for it in sorted(found.turns) if outside[answers.place(it)[0]]])
+        lines += lines_for(found, some, [it for it in sorted(found.turns) if outside[answers.place(it)[0]]], is_verbose)
     return lines
 
 
-def lines_for(found: Found, allowed: List[int], turned: List[int]) -> List[str]:
+def lines_for(found: Found, allowed: List[int], turned: List[int], is_verbose: bool) -> List[str]:
     _, answers, turns = found
     some = set(allowed)
-    lines = [line for it in allowed for line in told(answers, it, turns.get(it, []), False)]
+    lines = [line for it in allowed for line in told(answers, it, turns.get(it, []), False, is_verbose)]
     more = [it for it in turned if it not in some]
     if more:
         lines.append(f"{len(more)} more would be, with a key that nothing gives:")
-    return lines + [line for it in more for line in told(answers, it, turns[it], False)]
+    return lines + [line for it in more for line in told(answers, it, turns[it], False, is_verbose)]
 
 
 def chain_lines(scope: Scope, found: List[Found], depth: int) -> List[str]:

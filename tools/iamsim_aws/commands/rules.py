@@ -13,8 +13,8 @@ from ..questions import Scope, account_words
 from ..ruling import Break, Outcome, check, read_rules
 from ..slips import slips
 from ..sources import add_source, source_of
-from ..telling import BY, LACKS, causes
-from .parsers import add, whole
+from ..telling import BY, LACKS, deciding
+from .parsers import add, add_verbose, whole
 
 STATUSES = {"kept": 0, "broken": 3, "empty": 4}
 
@@ -31,6 +31,7 @@ def add_all(commands: Any) -> None:
     parser.add_argument(
         "--most", type=whole, default=20, metavar="N", help="tell so many requests of a broken rule (default: 20)"
     )
+    add_verbose(parser)
     parser.add_argument("--junit", metavar="FILE", help="writes a report for a pipeline")
     parser.add_argument("--sarif", metavar="FILE", help="writes a report for code scanning")
 
@@ -64,7 +65,7 @@ def cases_of(options: argparse.Namespace, outcomes: List[Outcome], fails: Set[st
     """The outcomes as reports for pipelines have them, and what was told that is of no rule. What was not asked fails there."""
     every = list(dict.fromkeys(TOLD))
     of_rules = {it.rule.name: [line for line in every if line.startswith(f"{it.rule.name}: ")] for it in outcomes}
-    cases = [case_of(it, options.most, fails, of_rules[it.rule.name]) for it in outcomes]
+    cases = [case_of(it, options, fails, of_rules[it.rule.name]) for it in outcomes]
     rest = [line for line in every if not any(line in of for of in of_rules.values())]
     file = files.name_of(options.rules)
     unasked = [Case(file, 1, "what was not asked", "unasked", [it], [it]) for it in filter(is_unasked, rest)]
@@ -86,7 +87,7 @@ def checked(options: argparse.Namespace) -> int:
     scope = Scope(source, account=options.account)
     outcomes = check(scope, rules, options.as_given, before)
     notes(scope, outcomes)
-    files.write("".join(f"{line_of(line)}\n" for it in outcomes for line in lines_of(it, options.most)))
+    files.write("".join(f"{line_of(line)}\n" for it in outcomes for line in lines_of(it, options)))
     counts = {state: sum(it.state == state for it in outcomes) for state in STATUSES}
     files.write(f"{len(outcomes)} rules: " + ", ".join(f"{n} {state}" for state, n in counts.items()) + "\n")
     fails = {"broken"} if options.allow_empty else {"broken", "empty"}
@@ -116,34 +117,39 @@ def notes(scope: Scope, outcomes: List[Outcome]) -> None:
         )
 
 
-def message(broken: Break, giver: str) -> str:
+def message(broken: Break, giver: str, is_verbose: bool) -> str:
     """Why a request is decided as it is."""
     row, turn = broken.answers.row(broken.cell), broken.turn
-    why = [f"{BY[row.answer.decision]} {it.words()}" for it in causes(broken.answers, broken.cell)]
+    why = [f"{BY[row.answer.decision]} {it.words()}" for it in deciding(broken.answers, broken.cell, is_verbose)]
     why += [f"lacks {it}: {LACKS[it]}" for it in row.answer.lacks]
-    why += [f"was {BY['allowed']} {it.words()}" for it in (causes(*broken.before) if broken.before else [])]
+    before = deciding(*broken.before, is_verbose) if broken.before else []
+    why += [f"was {BY['allowed']} {it.words()}" for it in before]
     why += stand_words(broken.stand, row.action, row.resource)
     may = "may" if row.answer.decision == "allowed" else "may not"
     given = f" if `{turn.key}` is `{turn.value}`, which nothing gives ({giver} gives it)" if turn else ""
     return f"{row.principal} {may} {row.action} {row.resource}{given}: {'; '.join(why) or 'no statement speaks of it'}"
 
 
-def lines_of(outcome: Outcome, most: int) -> List[str]:
+def messages(outcome: Outcome, options: argparse.Namespace) -> List[str]:
+    return [message(it, outcome.giver, options.verbose) for it in outcome.broken[: options.most]]
+
+
+def lines_of(outcome: Outcome, options: argparse.Namespace) -> List[str]:
     rule = outcome.rule
     if outcome.state == "empty":
         return [f"empty: {rule.name}: {rule.text}: {outcome.empty}"]
     lines = [f"{outcome.state}: {rule.name}: {rule.text} ({outcome.requests} requests)"]
-    lines += [f"  {message(it, outcome.giver)}" for it in outcome.broken[:most]]
-    more = len(outcome.broken) - most
+    lines += [f"  {it}" for it in messages(outcome, options)]
+    more = len(outcome.broken) - options.most
     return [*lines, f"  and {more} more"] if more > 0 else lines
 
 
-def case_of(outcome: Outcome, most: int, fails: Set[str], notes: List[str]) -> Case:
+def case_of(outcome: Outcome, options: argparse.Namespace, fails: Set[str], notes: List[str]) -> Case:
     """An outcome as reports for pipelines have it, with what was told of it."""
     rule, unasked = outcome.rule, [it for it in notes if is_unasked(it)]
     rest = [it for it in notes if it not in unasked]
     if outcome.state not in fails:
         return Case(rule.file, rule.line, rule.text, "unasked" if unasked else outcome.state, unasked, unasked, rest)
-    reasons = [message(it, outcome.giver) for it in outcome.broken[:most]] or [outcome.empty]
-    lines = lines_of(outcome, most) + unasked
+    reasons = messages(outcome, options) or [outcome.empty]
+    lines = lines_of(outcome, options) + unasked
     return Case(rule.file, rule.line, rule.text, outcome.state, lines, reasons + unasked, rest)
