@@ -19,7 +19,8 @@ def named_actions(scope: Scope, asked: str) -> List[str]:
     """The actions that lists and policies name; for a pattern the patterns of policies too."""
     source = scope.source
     spoken = [it for it in patterns_of_actions(source.world([ASSUME])) if not is_wide(it.partition(":")[2])]
-    return [*source.references.actions(), *source.actions, *(it for it in spoken if is_pattern(asked) or not is_pattern(it))]
+    known = [it for it in spoken if is_pattern(asked) or not is_pattern(it)]
+    return [*source.references.actions(), *source.actions, *known]
 
 
 def is_known_resource(scope: Scope, asked: str) -> bool:

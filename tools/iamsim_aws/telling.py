@@ -100,18 +100,23 @@ def deciding(answers: Answers, cell: int, is_verbose: bool = False) -> List[Caus
 
 def nearest(answers: Answers, cell: int) -> List[str]:
     """A line on the identity statement that allows the action, but not there or not so."""
-    row, found = answers.row(cell), []
+    row = answers.row(cell)
     principal = answers.world["principals"][answers.place(cell)[0]]
-    for policy in principal.get("identity") or []:
-        for n, it in enumerate(statements_of(policy.document)):
-            if not isinstance(it, dict) or it.get("Effect") != "Allow" or not any_matches(texts_of(it, "Action"), [row.action], True):
-                continue
-            patterns = texts_of(it, "Resource")
+    every = (
+        Cause("", "identity", policy.name, n, it)
+        for policy in principal.get("identity") or []
+        for n, it in enumerate(statements_of(policy.document))
+        if isinstance(it, dict) and it.get("Effect") == "Allow"
+    )
+    found: Dict[bool, str] = {}
+    for it in every:
+        if any_matches(texts_of(it.statement, "Action"), [row.action], True):
+            patterns = texts_of(it.statement, "Resource")
             is_there = any_matches((VARIABLE.sub("*", text) for text in patterns), [row.resource])
-            why = "its condition or variables do not hold" if is_there else f"it is of {', '.join(patterns) or 'other resources'}"
-            cause = Cause("", "identity", policy.name, n, it)
-            found.append((not is_there, f"    nearest is {cause.words()}: {why}"))
-    return [line for _, line in sorted(found, key=lambda it: it[0])[:1]]
+            of = f"it is of {', '.join(patterns) or 'other resources'}"
+            why = "its condition or variables do not hold" if is_there else of
+            found.setdefault(is_there, f"    nearest is {it.words()}: {why}")
+    return [found[max(found)]] if found else []
 
 
 def turn_words(turn: Turn) -> str:

@@ -284,6 +284,10 @@ def only_attached(kind: str) -> Handle:
     return handle
 
 
+def exclusive(kind: str, handle: Handle, name: str) -> Kind:
+    return Kind(handle, (f"{kind}_name",), lists=(name,), is_link=True)
+
+
 def join(it: Values, group: Any, is_there: bool) -> None:
     rest = [name for name in it.get("GroupList") or [] if name != group]
     it["GroupList"] = [*rest, group] if is_there else rest
@@ -335,7 +339,8 @@ def statement_of(values: Values, arn: str) -> Values:
     equal["lambda:FunctionUrlAuthType"] = values.get("function_url_auth_type")
     equal["lambda:EventSourceToken"] = values.get("event_source_token")
     like = {"aws:SourceArn": values.get("source_arn")}
-    given = ((name, {key: it for key, it in of.items() if it}) for name, of in (("StringEquals", equal), ("ArnLike", like)))
+    some = (("StringEquals", equal), ("ArnLike", like))
+    given = ((name, {key: it for key, it in of.items() if it}) for name, of in some)
     made = {"Sid": values.get("statement_id"), "Effect": "Allow", "Action": values.get("action"), "Resource": arn}
     made["Principal"] = who if who == "*" else {"Service" if who.endswith(SERVICES) else "AWS": who}
     made["Condition"] = {name: of for name, of in given if of}
@@ -352,6 +357,30 @@ def on_permission(apply: Apply, change: Change) -> None:
         it.pop("policy", None)
         if kept:
             it["policy"] = Policy(resource_policy(it["arn"]), {"Version": "2012-10-17", "Statement": kept})
+
+
+def permission_set_roles(apply: Apply, change: Change) -> List[Values]:
+    """The roles that IAM Identity Center makes of a permission set, whose name another resource of the plan tells."""
+    arn = change.values.get("permission_set_arn")
+    sets = [it.values for it in apply.plan.changes if it.kind == "aws_ssoadmin_permission_set"]
+    begins = tuple(f"AWSReservedSSO_{it.get('name')}_" for it in sets if arn and arn == it.get("arn"))
+    if not begins:
+        apply.plan.lacks(change, "permission_set_arn")
+    every = [it for account in apply.estate.accounts for it in account.roles]
+    return [it for it in every if str(it.get("RoleName")).startswith(begins)]
+
+
+def on_set_policy(apply: Apply, change: Change) -> None:
+    """aws_ssoadmin_permission_set_inline_policy."""
+    made = {"PolicyName": SSO_INLINE, "PolicyDocument": change.values.get("inline_policy")} if change.after else None
+    for it in permission_set_roles(apply, change):
+        put_into(it.setdefault("RolePolicyList", []), "PolicyName", SSO_INLINE, made)
+
+
+def on_set_attachment(apply: Apply, change: Change) -> None:
+    """aws_ssoadmin_managed_policy_attachment."""
+    for it in permission_set_roles(apply, change):
+        attach(it, str(change.values.get("managed_policy_arn")), change.after is not None)
 
 
 def arn_of(apply: Apply, change: Change, name: str) -> Optional[str]:
@@ -494,6 +523,8 @@ REGIONAL = {
     "aws_sqs_queue": ("sqs", ""),
     "aws_sns_topic": ("sns", ""),
 }
+# The name of the inline policy of a permission set.
+SSO_INLINE = "AwsSSOInlinePolicy"
 # What services are named by in a policy.
 SERVICES = (".amazonaws.com", ".amazonaws.com.cn")
 MEMBERS = tuple(f"{it}s" for it in INLINE)
@@ -509,19 +540,17 @@ KINDS: Dict[str, Kind] = {
     "aws_iam_policy_attachment": Kind(on_every_attachment, ("policy_arn",), lists=MEMBERS, is_link=True),
     "aws_iam_group_membership": Kind(on_membership, ("group",), lists=("users",), is_link=True),
     "aws_iam_user_group_membership": Kind(on_membership, ("user",), lists=("groups",), is_link=True),
-    **{
-        f"aws_iam_{it}_policies_exclusive": Kind(only_inline(it), (f"{it}_name",), lists=("policy_names",), is_link=True)
-        for it in INLINE
-    },
-    **{
-        f"aws_iam_{it}_policy_attachments_exclusive": Kind(
-            only_attached(it), (f"{it}_name",), lists=("policy_arns",), is_link=True
-        )
-        for it in INLINE
-    },
+    **{f"aws_iam_{it}_policies_exclusive": exclusive(it, only_inline(it), "policy_names") for it in INLINE},
+    **{f"aws_iam_{it}_policy_attachments_exclusive": exclusive(it, only_attached(it), "policy_arns") for it in INLINE},
     **{kind: Kind(on_resource, (target,), "policy", is_link=True) for kind, target in TARGETS.items()},
     "aws_lambda_permission": Kind(
         on_permission, ("function_name", "action", "principal", "source_arn", "source_account"), is_link=True
+    ),
+    "aws_ssoadmin_permission_set_inline_policy": Kind(
+        on_set_policy, ("permission_set_arn",), "inline_policy", is_link=True
+    ),
+    "aws_ssoadmin_managed_policy_attachment": Kind(
+        on_set_attachment, ("permission_set_arn", "managed_policy_arn"), is_link=True
     ),
     "aws_organizations_policy": Kind(on_organization_policy, document="content"),
     "aws_organizations_policy_attachment": Kind(on_organization_attachment, ("policy_id", "target_id"), is_link=True),

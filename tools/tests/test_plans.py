@@ -200,6 +200,28 @@ def test_exclusive_lists():
     same(gained(made)[0], {("gained", f"{SESSION}worker/s1")})
 
 
+def test_permission_sets():
+    """Their policies are those of the roles that IAM Identity Center has made of them, whose names begin with theirs."""
+    export, arn = load(EXPORT), "arn:aws:sso:::permissionSet/ssoins-1/ps-1"
+    trust = document({"Effect": "Allow", "Principal": {"Federated": "x"}, "Action": "sts:AssumeRoleWithSAML"})
+    path = "/aws-reserved/sso.amazonaws.com/"
+    for name in ("AWSReservedSSO_Read_0123456789abcdef", "AWSReservedSSO_ReadMore_0123456789abcdef"):
+        role = {"Path": path, "RoleName": name, "Arn": f"{ACCOUNT}role{path}{name}", "AssumeRolePolicyDocument": trust}
+        export["RoleDetailList"].append(role)
+    named = {"name": "Read", "arn": arn}
+    own = {"permission_set_arn": arn, "inline_policy": READ}
+    attached = {"permission_set_arn": arn, "managed_policy_arn": "arn:aws:iam::aws:policy/ReadObjects"}
+    who = {("gained", f"{SESSION}AWSReservedSSO_Read_0123456789abcdef/s1")}
+    for kind, values in (("permission_set_inline_policy", own), ("managed_policy_attachment", attached)):
+        made = [change(f"aws_ssoadmin_{kind}.r", None, values), change("aws_ssoadmin_permission_set.r", named, named)]
+        same(gained(plan(*made), export=file(export))[0], who)
+        _, said = gained(plan(made[0]), export=file(export), status=1)
+        assert f"only the apply tells aws_ssoadmin_{kind}.r.permission_set_arn" in said, said
+    export["RoleDetailList"][-2]["RolePolicyList"] = [{"PolicyName": "AwsSSOInlinePolicy", "PolicyDocument": READ}]
+    gone = plan(change("aws_ssoadmin_permission_set_inline_policy.r", own, None), change("aws_ssoadmin_permission_set.r", named, named))
+    same(gained(gone, export=file(export))[0], {("lost", f"{SESSION}AWSReservedSSO_Read_0123456789abcdef/s1")})
+
+
 PARTNER = "arn:aws:iam::444455556666:user/carol"
 REGION = {"provider_config": {"aws": {"name": "aws", "expressions": {"region": {"constant_value": "eu-west-1"}}}}}
 

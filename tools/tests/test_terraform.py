@@ -569,7 +569,7 @@ def test_a_managed_policy_that_the_export_does_not_hold():
     )
     for name in ("Unused", f"{ACCOUNT}policy/limits/Unused"):
         _, said = aws("changes", file(export), "--put", f"{name}={draft}", status=1)
-        same(said, f"iamsim-aws: --put {name}: nobody has this policy, so the draft changes nothing\n")
+        same(said, f"iamsim-aws: --put {name}: nobody has this policy, so the draft changes nothing{ATTACH}\n")
     _, said = aws("changes", EXPORT, "--put", f"{arn.replace('policy/', '')}={draft}", status=1)
     assert "no policy and no resource is called so" in said, said
 

@@ -115,16 +115,16 @@ class Database:
 
     def unknown(self) -> int:
         """How many of the chosen requests of all principals no world that is loaded has asked for."""
-        rows = {name: self.rows_of(name) for name in ("principals", "actions", "resources")}
+        people, actions, resources = map(self.rows_of, ("principals", "actions", "resources"))
 
-        def within(name: str, first: int, end: int) -> int:
-            return bisect.bisect_left(rows[name], end) - bisect.bisect_left(rows[name], first)
+        def within(rows: List[int], first: int, end: int) -> int:
+            return bisect.bisect_left(rows, end) - bisect.bisect_left(rows, first)
 
         known = sum(
-            within("principals", it.p, it.end_p) * within("actions", it.a, it.end_a) * within("resources", it.r, it.end_r)
+            within(people, it.p, it.end_p) * within(actions, it.a, it.end_a) * within(resources, it.r, it.end_r)
             for it in self.done
         )
-        return len(rows["principals"]) * len(rows["actions"]) * len(rows["resources"]) - known
+        return len(people) * len(actions) * len(resources) - known
 
     def rows_of(self, name: str) -> List[int]:
         return [it[0] for it in self.base.execute(f"SELECT n FROM some_{name} ORDER BY n")]
