@@ -114,9 +114,11 @@ class Account:
         return found + [self.managed(text(it, "PolicyArn", arn), arn) for it in attached]
 
     def of_groups(self, user: Dict[str, Any]) -> List[Policy]:
-        found = []
-        for name in user.get("GroupList") or []:
-            if name not in self.groups:
+        found, names = [], user.get("GroupList") or []
+        if not isinstance(names, list):
+            raise Fault(f"{user['Arn']}: GroupList is no list")
+        for name in names:
+            if not isinstance(name, str) or name not in self.groups:
                 raise Fault(f"{user['Arn']}: the export does not hold the group {name}")
             found += self.own(self.groups[name], "GroupPolicyList")
         return found

@@ -553,7 +553,7 @@ def test_roles_with_a_key():
             out.splitlines()[-2:],
             [
                 "1 more may come to it by assuming roles, with keys that nothing gives:",
-                f"  {ann} -> {a} -> {b} -> {c} -> {d}, if `sts:ExternalId` is `e-1`",
+                f"  {ann} (if `sts:ExternalId` is `e-1`) -> {a} -> {b} -> {c} -> {d}",
             ],
         )
     # Where the request itself wants a key, nobody comes to it without.
@@ -561,7 +561,7 @@ def test_roles_with_a_key():
     out, _ = aws("who-can", "s3:GetObject", "b/k", "--world", file(made), "--chains", "--depth", "1")
     same(
         out.splitlines()[-2:],
-        ["1 more may come to it by assuming roles, with keys that nothing gives:", f"  {c} -> {d}, if `k` is `true`"],
+        ["1 more may come to it by assuming roles, with keys that nothing gives:", f"  {c} -> {d} (if `k` is `true`)"],
     )
 
 
