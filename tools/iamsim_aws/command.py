@@ -1,6 +1,7 @@
 """The command line."""
 
 import argparse
+import contextlib
 import gc
 import os
 import signal
@@ -78,4 +79,7 @@ def main(words: Optional[List[str]] = None) -> int:
         tell(
             f"it could not go on, most likely for an input of another form than docs/AWS.md shows ({type(error).__name__}: {error})"
         )
+    # What was written before a fault is written, or nothing more is said of it.
+    with contextlib.suppress(Fault, OSError):
+        files.flush()
     return 1

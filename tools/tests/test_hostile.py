@@ -16,7 +16,7 @@ import tempfile
 import time
 from urllib.parse import quote
 
-from harness import AWS, IAMSIM, TOOLS, aws, data, document, file, load, same, statement
+from harness import AWS, IAMSIM, TOOLS, aws, data, document, file, load, same, small_world, statement
 
 sys.path.insert(0, TOOLS)
 from iamsim_aws import command, files, patterns, program  # noqa: E402
@@ -270,6 +270,11 @@ def test_streams_that_are_closed_or_full():
         same(ran.returncode, 1, ran.stderr)
         same(ran.stderr.splitlines()[-1], f"iamsim-aws: {why}", words)
         assert "another form" not in ran.stderr and "Exception" not in ran.stderr, ran.stderr
+    # Of what waited to be written before a fault nothing more is said.
+    worlds = file(json.dumps(small_world()) + "\n{}\n")
+    ran = subprocess.run(["sh", "-c", f"{AWS} matrices < {worlds} > /dev/full"], stderr=subprocess.PIPE, encoding="utf-8")
+    same((ran.returncode, ran.stderr.count("\n")), (1, 1), ran.stderr)
+    assert ran.stderr.startswith("iamsim-aws: world 1: fault 2 World"), ran.stderr
     # What is told goes nowhere else where standard error is closed.
     ran = subprocess.run(["sh", "-c", f"{AWS} world {EXPORT} 2>&-"], stdout=subprocess.PIPE)
     same((ran.returncode, len(json.loads(ran.stdout)["principals"])), (0, 8))
