@@ -272,7 +272,8 @@ def test_streams_that_are_closed_or_full():
         assert "another form" not in ran.stderr and "Exception" not in ran.stderr, ran.stderr
     # Of what waited to be written before a fault nothing more is said.
     worlds = file(json.dumps(small_world()) + "\n{}\n")
-    ran = subprocess.run(["sh", "-c", f"{AWS} matrices < {worlds} > /dev/full"], stderr=subprocess.PIPE, encoding="utf-8")
+    words, env = f"{AWS} matrices < {worlds} > /dev/full", {k: v for k, v in os.environ.items() if k != "PYTHONUNBUFFERED"}
+    ran = subprocess.run(["sh", "-c", words], stderr=subprocess.PIPE, encoding="utf-8", env=env)
     same((ran.returncode, ran.stderr.count("\n")), (1, 1), ran.stderr)
     assert ran.stderr.startswith("iamsim-aws: world 1: fault 2 World"), ran.stderr
     # What is told goes nowhere else where standard error is closed.
