@@ -2,6 +2,7 @@
 ended. GNU parallel is stood for by a few lines here, so that these run where it is not installed."""
 
 import contextlib
+import csv
 import fcntl
 import gzip
 import io
@@ -19,7 +20,7 @@ from urllib.parse import quote
 from harness import AWS, IAMSIM, TOOLS, aws, data, document, file, load, same, small_world, statement
 
 sys.path.insert(0, TOOLS)
-from iamsim_aws import command, files, patterns, program  # noqa: E402
+from iamsim_aws import command, files, patterns, program, reports  # noqa: E402
 from iamsim_aws.estates import running, schema  # noqa: E402
 
 EXPORT = data("account.json")
@@ -282,6 +283,20 @@ def test_streams_that_are_closed_or_full():
     # GNU parallel wants the folder that TMPDIR names.
     status, _, said = estate(room(), env=surroundings(TMPDIR="/nowhere"))
     same(status, 0, said)
+
+
+def test_control_characters_in_csv():
+    """Each row is one row for whoever reads it, and each name is as it was given."""
+    names = ["a\rb", "a\nb", "a\r\nb", "\x00\x1b[31m\t", 'a,"b"', "plain", " "]
+    resources = [{"arn": f"arn:aws:s3:::b/{it}", "account": "111122223333"} for it in names if "\x00" not in it]
+    made = small_world(document(statement()), resources=resources)
+    words = [AWS, "can", "ann", "s3:GetObject", "*", "--world", file(made), "--format", "csv"]
+    out = subprocess.run(words, stdout=subprocess.PIPE).stdout.decode()
+    rows = list(csv.reader(io.StringIO(out, newline="")))
+    same([it[2] for it in rows], ["resource", *(it["arn"] for it in resources)])
+    text = reports.csv_text(["x", "y"], [[it, it] for it in names])
+    assert text.startswith("x,y\n") and text.endswith("plain,plain\n , \n"), text
+    same(text.count('"'), 2 * 2 * 3 + 2 * 6)
 
 
 def test_no_world_is_no_matrix():
