@@ -1,7 +1,7 @@
 """Witnesses: texts that stand for the actions and resources that policies speak of by patterns."""
 
 import functools
-from typing import Any, Dict, Iterable, Iterator, List, NamedTuple, Optional, Tuple
+from typing import Any, Callable, Dict, Iterable, Iterator, List, NamedTuple, Optional, Tuple
 
 from .arns import account_of, owner_of, principal_arn, resource_part, service_of
 from .documents import Place, World, each, places, statements_of
@@ -102,16 +102,18 @@ def values_of(world: World, path: str) -> Tuple[Dict[str, str], str]:
     return found, account_of(arn)
 
 
-def open_parts(world: World, actions: List[str], account: str) -> List[str]:
-    """What stands for the parts of an ARN that a pattern leaves open: as the ARNs have them of the actions' service, where
-    that is one, and of the account."""
+def open_parts(world: World, actions: List[str], account: str, pattern: str) -> List[str]:
+    """What stands for the parts of an ARN that a pattern leaves open: as the ARNs of its service have them, or of the
+    actions' where that is one, and those of the account."""
     services = {it.partition(":")[0].lower() for it in actions}
     service = services.pop() if len(services) == 1 else OPEN[2]
     service = "iam" if service == "sts" else service
+    service = service_of(pattern) if service_of(pattern).strip("*?") else service
     own = (principal_arn(it) for it in world["principals"])
     partition = next((it.split(":")[1] for it in own if account_of(it) == account), OPEN[1])
-    region = "" if service in ("iam", "s3") else REGION
-    return ["arn", partition, service, region, "" if service == "s3" else account, OPEN[5]]
+    is_bucket = service == "s3" and "accesspoint/" not in pattern
+    region = "" if service == "iam" or is_bucket else REGION
+    return ["arn", partition, service, region, "" if is_bucket else account, OPEN[5]]
 
 
 def narrowed(pattern: str, template: List[str]) -> str:
@@ -182,7 +184,7 @@ def resources(world: World, asked: str, actions: List[str]) -> Witnesses:
     wide = in_parts_of("", asked)
     for pattern, account in [*patterns, *((wide, account) for account in ids if (wide, account) not in patterns)]:
         of_pattern = in_parts_of(pattern, asked)
-        arn = witness(pattern, of_pattern, account, open_parts(world, actions, account))
+        arn = witness(pattern, of_pattern, account, functools.partial(open_parts, world, actions, account))
         owner = (account_of(arn) or account) if arn else ""
         if arn and is_absent_role(world, arn):
             absent.append(arn)
@@ -204,10 +206,11 @@ def in_parts_of(pattern: str, asked: str) -> str:
     return ":".join([*(parts[:5] if len(parts) == 6 else ["arn", *"****"]), asked])
 
 
-def witness(pattern: str, asked: str, account: str, template: List[str]) -> Optional[str]:
+def witness(pattern: str, asked: str, account: str, template_of: Callable[[str], List[str]]) -> Optional[str]:
     """A resource that matches both patterns."""
-    narrow = common(narrowed(pattern, template), narrowed(asked, template))
-    for text in (filled(pattern, account, template), filled(asked, account, template), narrow, common(pattern, asked)):
+    one, other = template_of(pattern), template_of(asked)
+    narrow = common(narrowed(pattern, one), narrowed(asked, other))
+    for text in (filled(pattern, account, one), filled(asked, account, other), narrow, common(pattern, asked)):
         if (
             text
             and (text == "*" or text.startswith("arn:") and text.count(":") >= 5)

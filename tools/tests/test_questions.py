@@ -238,6 +238,9 @@ def test_a_role_that_no_export_has():
         ("kms:Decrypt", "*:key/q*", "arn:aws:kms:us-east-1:111122223333:key/qx"),
         ("iam:PassRole", "*:role/q*", f"{ACCOUNT}role/qx"),
         ("s3:GetObject", "*/q*", "arn:aws:s3:::x/qx"),
+        ("s3:GetObject", "arn:aws:s3:*:*:q/*", "arn:aws:s3:::q/x"),
+        ("s3:GetObject", "arn:aws:s3:*:*:accesspoint/q*", "arn:aws:s3:us-east-1:111122223333:accesspoint/qx"),
+        ("s3:GetObject", "arn:aws:kms:*:*:key/q*", "arn:aws:kms:us-east-1:111122223333:key/qx"),
     ):
         found = rows("who-can", action, pattern, "--kinds", EXPORT)
         assert wanted in {it["resource"] for it in found}, {it["resource"] for it in found}
