@@ -94,7 +94,10 @@ def both(options: argparse.Namespace) -> Tuple[Source, Source]:
     if before and after:
         if is_changed(options) or options.exports or options.world:
             raise Fault("compare --before with --after, or exports with --put and --terraform, and not both")
-        return side(options, before, "before"), side(options, after, "after")
+        sides = side(options, before, "before"), side(options, after, "after")
+        for it in sides:
+            it.has_trust = any(one.has_trust for one in sides)
+        return sides
     if not is_changed(options):
         raise Fault("say what changes: --put NAME=FILE, --attach NAME=FILE@PRINCIPAL, --terraform PLAN, or --before and --after")
     return before_and_after(source_of(options), options)

@@ -147,6 +147,8 @@ class Source:
         self.references = references
         self.change: Callable[[World], World] = lambda world: world
         self.made: Dict[Tuple[bool, bool], World] = {}
+        # Whether roles have trust policies, so that iam: actions want a world of their own.
+        self.has_trust = given is None or any(is_role(it) and "policy" in it for it in given["resources"])
 
     def like(self, estate: Optional[Estate], change: Callable[[World], World]) -> "Source":
         """A source of the same form, of another estate or of changed worlds."""
@@ -171,7 +173,7 @@ class Source:
         no one world for both."""
         if self.given is not None and has_service(actions, "sts") and not has_service(self.given["actions"], "sts"):
             refuse_untrusted(self.given)
-        of_iam = [it for it in actions if has_service([it], "iam")]
+        of_iam = [it for it in actions if self.has_trust and has_service([it], "iam")]
         groups = [[it for it in actions if it not in of_iam], of_iam]
         return [self.world(it) for it in groups if it]
 

@@ -259,6 +259,10 @@ def test_a_world_that_was_made_for_other_actions():
     for it in worlds.values():
         same(decided(json.loads(aws(*asked, "--world", it, "--format", "json")[0])), wanted)
         aws("rules", file("never * iam:PutRolePolicy *:role/app/audit"), "--world", it, status=3)
+    # A world without trust policies is asked whole.
+    both = file(small_world(document(statement()), actions=("s3:GetObject", "iam:PassRole")))
+    out, _ = aws("who-can", "*", "*", "--world", both)
+    same(out.count("principals are allowed"), 1, out)
     _, said = aws("who-can", "sts:AssumeRole", "role/app/audit", "--world", worlds["iam:PutRolePolicy"], status=1)
     assert "the world has no trust policy of" in said and "make it with an sts: action" in said, said
 
