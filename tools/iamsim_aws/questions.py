@@ -108,7 +108,8 @@ def asked_in(scope: Scope, world: World, question: Question) -> Asked:
     if not found and ARN.fullmatch(pattern) and not is_pattern(pattern) and not kinds.is_absent_role(world, pattern):
         found, added = [kinds.beside(world, pattern, account_for(scope, world, pattern))], [pattern]
     has_kinds = scope.kinds and is_pattern(pattern)
-    witnesses, without, absent = kinds.resources(world, pattern, world["actions"]) if has_kinds else ([], [], [])
+    nothing = kinds.Witnesses([], [], [])
+    witnesses, without, absent = kinds.resources(world, pattern, world["actions"]) if has_kinds else nothing
     found += [it.resource for it in witnesses]
     estate = scope.source.estate
     resources = [bound(estate, dressed(scope, it)) if estate else dressed(scope, it) for it in found]

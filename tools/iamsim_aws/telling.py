@@ -1,13 +1,13 @@
 """Answers in words: statements by their policies' names, what lacks, and what an answer hangs on."""
 
 import json
-from typing import Any, Dict, List, NamedTuple, Tuple
+from typing import Any, Callable, Dict, List, NamedTuple, Tuple
 
 from .arns import account_of, principal_arn
 from .documents import Policy, World, each, statements_of
 from .faults import line_of
 from .hanging import Turn
-from .kinds import Origins, texts_of
+from .kinds import Origins, speaks_of, texts_of
 from .patterns import VARIABLE, any_matches
 from .reports import Answers
 from .strangers import is_stranger
@@ -119,6 +119,26 @@ def nearest(answers: Answers, cell: int) -> List[str]:
     return [found[max(found)]] if found else []
 
 
+def silent_levels(layer: str) -> Callable[[Answers, int], List[str]]:
+    """A line on each level of which no policy speaks of a request, from the root down."""
+
+    def told_of(answers: Answers, cell: int) -> List[str]:
+        (p, _, r), row, lines = answers.place(cell), answers.row(cell), []
+        for n, level in enumerate(policies_of(answers.world, p, r, layer)):
+            every = [it for policy in level for it in statements_of(policy.document) if it.get("Effect") == "Allow"]
+            own = [it for it in every if speaks_of(it, (row.action,))]
+            texts = [VARIABLE.sub("*", text) for it in own for text in texts_of(it, "Resource")]
+            if not any("NotResource" in it for it in own) and not any_matches(texts, [row.resource]):
+                lines.append(f"    level {n} from the root does not: {', '.join(policy.name for policy in level)}")
+        return lines
+
+    return told_of
+
+
+# What is told besides of a layer that lacks.
+HINTS = {"identity": nearest, "org": silent_levels("org"), "control": silent_levels("control")}
+
+
 def turn_words(turn: Turn) -> str:
     what = "allowed" if turn.decision == "allowed" else "denied"
     return f"{what} if `{turn.key}` is `{turn.value}`"
@@ -141,7 +161,7 @@ def told(answers: Answers, cell: int, turns: List[Turn], is_long: bool, is_verbo
             else []
         )
     for layer in answer.lacks:
-        lines += [f"  lacks {layer}: {LACKS[layer]}", *(nearest(answers, cell) if layer == "identity" else [])]
+        lines += [f"  lacks {layer}: {LACKS[layer]}", *(HINTS[layer](answers, cell) if layer in HINTS else [])]
     lines += [f"  {turn_words(it)}" for it in turns]
     return [line_of(it) for it in lines]
 

@@ -194,6 +194,12 @@ def test_the_deciding_statement_comes_first():
     world["principals"][0]["identity"] = []
     out, _ = aws("changes", "--before", file(world), "--after", path)
     assert f"    allowed by {own}\n    allowed by {limit}\n" in out and "org/0/0" not in out, out
+    # Of a level that lacks this its policies are named.
+    world["principals"][0]["identity"] = [full]
+    world["accounts"][0]["org"] = [[full], [document(statement(action="kms:*")), document(statement(resource="arn:aws:s3:::c"))]]
+    out, _ = aws("can", "ann", *words[:3], file(world), status=3)
+    assert "that allows this\n    level 1 from the root does not: accounts/0/org/1/0, accounts/0/org/1/1\n" in out, out
+    assert "level 0" not in out, out
     # The nearest statement has the action, and another resource or a condition.
     conditioned = statement(action="s3:Get*", Condition={"Bool": {"aws:SecureTransport": "true"}})
     for some, why in (
