@@ -99,5 +99,6 @@ def both(options: argparse.Namespace) -> Tuple[Source, Source]:
             it.has_trust = any(one.has_trust for one in sides)
         return sides
     if not is_changed(options):
-        raise Fault("say what changes: --put NAME=FILE, --attach NAME=FILE@PRINCIPAL, --terraform PLAN, or --before and --after")
+        ways = "--put NAME=FILE, --attach NAME=FILE@PRINCIPAL, --terraform PLAN, or --before and --after"
+        raise Fault(f"say what changes: {ways}")
     return before_and_after(source_of(options), options)

@@ -68,7 +68,8 @@ def who_can(options: argparse.Namespace) -> int:
         base = opened(options)
         people, actions, resources = base.choice("*", options.action, options.resource)
         cells, unknown = people * actions * resources, base.unknown()
-        missing = f"of {unknown} of {cells} requests nothing is known: their worlds are not loaded or they were not asked for"
+        why = "their worlds are not loaded or they were not asked for"
+        missing = f"of {unknown} of {cells} requests nothing is known: {why}"
         if options.format == "text":
             who, count = base.counted()
             more = f"; {missing}" if unknown else ""

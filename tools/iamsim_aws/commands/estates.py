@@ -76,7 +76,8 @@ def refuse(made: Plan, leaves_out: bool) -> None:
     for line in made.refused:
         tell(f"iamsim refuses a policy: {line}")
     if any(it.startswith("account ") for it in made.left_out):
-        raise Fault("a policy of the organisation is refused, and binds all principals of its account: nothing was asked")
+        why = "a policy of the organisation is refused, and binds all principals of its account"
+        raise Fault(f"{why}: nothing was asked")
     if made.refused and not leaves_out:
         count = f"{len(made.refused)} policies are refused, of {len(made.left_out)} principals and resources"
         raise Fault(f"{count}, and nothing was asked: mend them, or leave out who has them by --leave-out")
@@ -126,7 +127,8 @@ def begin(options: argparse.Namespace) -> sqlite3.Connection:
         raise Fault(f"{path}: it is of other files or options: name another folder, or begin anew by --afresh")
     if schema.asked(base, "program") != version():
         was = schema.asked(base, "program")
-        raise Fault(f"{path}: it was begun with {was}, and this is {version()}: begin anew by --afresh, or use that one")
+        what = f"it was begun with {was}, and this is {version()}"
+        raise Fault(f"{path}: {what}: begin anew by --afresh, or use that one")
     # What failed for want of memory, say, is tried again.
     base.execute("UPDATE worlds SET ended = 'waiting', fault = NULL WHERE ended = 'failed'")
     return base

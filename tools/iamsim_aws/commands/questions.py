@@ -86,7 +86,8 @@ def notes(found: List[Found]) -> List[str]:
     lines = []
     for asked, answers, turns in found:
         for arn in asked.added:
-            lines.append(f"{arn} is not in the world: it is asked for {policy_words(asked, arn)}{account_words(asked.world, arn)}")
+            whose = account_words(asked.world, arn)
+            lines.append(f"{arn} is not in the world: it is asked for {policy_words(asked, arn)}{whose}")
         lines += stand_lines(asked, answers, turns)
         if asked.without:
             lines.append(

@@ -13,6 +13,11 @@ from . import schema
 NOTE = (
     "the database has what is allowed alone: not who is outside the exports, nor what hangs on keys that nothing gives"
 )
+WORDS = {
+    "allowed": "allowed",
+    "notAllowed": "not allowed",
+    "unknown": "unknown, since its world is not loaded or it was not asked for",
+}
 
 
 class Request(NamedTuple):
@@ -143,8 +148,7 @@ class Database:
 
     def told(self, it: Request, is_long: bool) -> List[str]:
         """An answer in lines."""
-        words = {"notAllowed": "not allowed", "unknown": "unknown, since its world is not loaded or it was not asked for"}
-        lines = [f"{words.get(it.decision, it.decision)}: {it.principal} {it.action} {it.resource}"]
+        lines = [f"{WORDS[it.decision]}: {it.principal} {it.action} {it.resource}"]
         for cause in self.causes(it):
             lines.append(f"  allowed by {cause.words()}")
             if is_long:
