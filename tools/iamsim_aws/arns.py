@@ -16,8 +16,20 @@ def service_of(arn: str) -> str:
     return (arn.split(":", 5) + [""] * 5)[2]
 
 
+def is_access_point(arn: str) -> bool:
+    """Whether it is an access point of S3, or an object by one."""
+    return service_of(arn) == "s3" and account_of(arn) != "" and resource_part(arn).startswith("accesspoint/")
+
+
+def owner_of(arn: str) -> str:
+    """The resource whose policy a resource has: an object has that of its bucket or access point."""
+    part = resource_part(arn)
+    names = part.split("/")[: 2 if is_access_point(arn) else 1]
+    return arn[: len(arn) - len(part)] + "/".join(names) if service_of(arn) == "s3" else arn
+
+
 def bucket_of(arn: str) -> str:
-    return resource_part(arn).split("/")[0] if service_of(arn) == "s3" else ""
+    return resource_part(owner_of(arn)) if service_of(arn) == "s3" and not is_access_point(arn) else ""
 
 
 def session_arn(role: str, session: str) -> str:

@@ -12,21 +12,19 @@ from .strangers import strangers, with_strangers
 
 
 class Step(NamedTuple):
-    """A principal that may assume a role, and the key that it lacks for it, in words."""
+    """A principal that may assume a role, or do what is asked, and the key that it lacks for that, in words."""
 
     principal: str
     given: str
 
 
 class Way(NamedTuple):
-    """The principals from the first to the one that may do what is asked, and the keys that are lacked, in words."""
+    """The steps from the first principal to the one that may do what is asked."""
 
-    principals: List[str]
-    given: List[str]
+    steps: List[Step]
 
     def words(self) -> str:
-        given = f", if {' and '.join(dict.fromkeys(self.given))}" if self.given else ""
-        return " -> ".join(self.principals) + given
+        return " -> ".join(f"{it.principal} (if {it.given})" if it.given else it.principal for it in self.steps)
 
 
 # The steps that lead to each session.
@@ -45,7 +43,7 @@ def opened(answers: Answers) -> Dict[int, str]:
 
 def steps_of(source: Source) -> Steps:
     """Who may assume which role."""
-    world = source.world([ASSUME])
+    [world] = source.worlds([ASSUME])
     sessions: Dict[str, List[str]] = {}
     for it in world["principals"]:
         if "role" in it:
@@ -63,20 +61,19 @@ def steps_of(source: Source) -> Steps:
 
 def ways(steps: Steps, ends: Dict[str, str], depth: int) -> Dict[str, Way]:
     """For each principal that is no end itself a shortest way to one, of at most `depth` steps."""
-    found = {it: Way([it], [given] if given else []) for it, given in sorted(ends.items())}
+    found = {it: Way([Step(it, given)]) for it, given in sorted(ends.items())}
     reached = list(found)
     for _ in range(depth):
         nearer = []
         for it in reached:
-            for principal, given in steps.get(it, []):
-                if principal not in found:
-                    way = found[it]
-                    found[principal] = Way([principal, *way.principals], [*([given] if given else []), *way.given])
-                    nearer.append(principal)
+            for step in steps.get(it, []):
+                if step.principal not in found:
+                    found[step.principal] = Way([step, *found[it].steps])
+                    nearer.append(step.principal)
         if not nearer:
             break
         reached = nearer
-    return {principal: way for principal, way in found.items() if len(way.principals) > 1}
+    return {principal: way for principal, way in found.items() if len(way.steps) > 1}
 
 
 def chains(source: Source, allowed: Set[str], lacking: Dict[str, str], depth: int) -> List[List[Way]]:

@@ -179,8 +179,12 @@ def spoken_actions(before: Source, after: Source, patterns: List[str]) -> Action
     spoken, references = spoken_of(*worlds), before.references
     bounds = {text: policy for it in worlds for text, policy in binding(it).items()}
     texts = [text for text in patterns_in(worlds) if not is_pattern(text)]
-    # Of a service that has a file all actions are known.
+    # Of a service that has a file all actions are known, but for those that somebody names all the same.
     known = [*references.actions(), *(it for it in texts if not references.has_file(it))]
+    lacked = [it for it in texts if not references.knows(it) and it in spoken]
+    if lacked:
+        tell(f"the service reference lacks these actions, which are asked for all the same: {', '.join(lacked)}")
+    known += lacked
     wide = {text: policy for text, policy in spoken.items() if is_pattern(text)}
     found: Actions = {}
     for asked in patterns:
@@ -282,14 +286,19 @@ def witnesses_of(worlds: Sequence[World], pattern: str) -> Dict[Tuple[str, str],
     """The ARNs and accounts of texts for the patterns of the documents that speak, with what they stand for: for one of a
     changed document if there is one."""
     found: Dict[Tuple[str, str], Origin] = {}
+    absent: Dict[str, None] = {}
     before, after = worlds
     # What a changed limit kept back is what others allow.
     for some in (differing(before, after), all_speaking(before, after, is_limit)):
         for world in some:
-            for it in kinds.resources(world, pattern, world["actions"])[0]:
+            made = kinds.resources(world, pattern, world["actions"])
+            absent.update(dict.fromkeys(made.absent))
+            for it in made.found:
                 key = it.resource["arn"], it.resource["account"]
                 if key not in found or not found[key].policy:
                     found[key] = it.origin
+    if absent:
+        tell(f"no export has these roles, so nobody may assume them: {', '.join(absent)}")
     return found
 
 
@@ -353,7 +362,7 @@ def with_keys(before: World, after: World) -> List[Tuple[str, World, World]]:
 
 def as_services_have(references: References, changes: Changes) -> Changes:
     """The changes without requests that no service has, as far as the service reference is given."""
-    before, after = (references.pairs(it.world) for it in changes[:2])
+    before, after = (references.pairs(it.world, True) for it in changes[:2])
     lost = [cell for cell in changes.lost if before[cell % len(before)]]
     gained = [cell for cell in changes.gained if after[cell % len(after)]]
     left = len(changes.lost) + len(changes.gained) - len(lost) - len(gained)

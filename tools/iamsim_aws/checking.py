@@ -77,6 +77,8 @@ def refusal(world: World) -> Optional[str]:
     try:
         run(["check"], encoded(compact(world)))
     except Refused as refused:
+        if not str(refused).startswith("fault "):
+            raise
         return str(refused)
     return None
 

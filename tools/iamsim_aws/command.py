@@ -1,11 +1,13 @@
 """The command line."""
 
 import argparse
+import contextlib
 import gc
 import os
-import sys
-from typing import List, Optional
+import signal
+from typing import Any, List, Optional
 
+from . import files
 from .commands import changes, estates, page, questions, reports, rules, worlds
 from .faults import TOLD, Fault, tell
 
@@ -14,7 +16,7 @@ Only 'organization' calls AWS; iamsim decides. docs/AWS.md explains it."""
 
 STATUSES = """statuses: 0 done; 1 a fault, told in one line; 2 the command line is refused; 3 'can': not all is allowed,
 'rules': a rule is broken, 'changes --fail-on': something changes; 4 'rules': a rule meets no request,
-'changes --fail-on': no request is of --action and --resource"""
+'changes --fail-on': no request is of --action and --resource; 6 '--database': of some requests nothing is known"""
 
 
 def parser() -> argparse.ArgumentParser:
@@ -42,15 +44,27 @@ def parsed(words: Optional[List[str]]) -> argparse.Namespace:
     return options
 
 
+def stopped(_number: int, _frame: Any) -> None:
+    raise KeyboardInterrupt
+
+
+def heed_signals() -> None:
+    """Whatever ends the command ends what it has started too; what is ignored stays so, as under nohup."""
+    for it in (signal.SIGTERM, signal.SIGHUP):
+        if signal.getsignal(it) == signal.SIG_DFL:
+            signal.signal(it, stopped)
+
+
 def main(words: Optional[List[str]] = None) -> int:
     """Runs the command of these words; every fault is told in one line."""
     options = parsed(words)
+    heed_signals()
     # What a command reads it keeps to its end: looking for garbage among it would take a third of the time.
     gc.disable()
     TOLD.clear()
     try:
         status = options.run(options)
-        sys.stdout.flush()
+        files.flush()
         return int(status)
     except Fault as fault:
         tell(fault)
@@ -65,4 +79,7 @@ def main(words: Optional[List[str]] = None) -> int:
         tell(
             f"it could not go on, most likely for an input of another form than docs/AWS.md shows ({type(error).__name__}: {error})"
         )
+    # What was written before a fault is written, or nothing more is said of it.
+    with contextlib.suppress(Fault, OSError):
+        files.flush()
     return 1

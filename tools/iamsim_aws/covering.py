@@ -1,13 +1,15 @@
 """What an answer does not cover, in lines on standard error."""
 
-from typing import Any, Dict, Iterable
+import re
+from typing import Any, Dict, Iterable, Set
 
 from .arns import account_of
 from .documents import World, conditions_of, statements_of
+from .exports import ACCOUNT
 from .faults import tell
 from .patterns import is_pattern
 from .sources import Source
-from .strangers import accounts_of, named_by, stand_in
+from .strangers import EVERYBODY, accounts_of, named_by, stand_in
 
 
 def tell_actions(source: Source, patterns: Iterable[str]) -> None:
@@ -25,13 +27,25 @@ def tell_strangers(source: Source, worlds: Iterable[World]) -> None:
         for it in world["resources"]:
             for statement in statements_of(it["policy"].document) if "policy" in it else ():
                 for text in named_by(statement):
-                    if account_of(text) not in ("", *known) and not stand_in(text, "aws", "", "session"):
-                        found[f"{it['policy'].name} names {text}, for whom nobody is asked"] = None
+                    why = why_nobody(text, known)
+                    found.update({f"{it['policy'].name} names {text}, {why}": None} if why else {})
                 if in_organization and named_by(statement) and asks_for_members(statement):
                     what = "grants to members of an organisation: of those without an export nobody is asked"
                     found[f"{it['policy'].name} {what}"] = None
     for line in found:
         tell(line)
+
+
+def why_nobody(text: str, known: Set[str]) -> str:
+    """Why nobody is asked for whom a policy names, or nothing."""
+    if re.fullmatch(r"A[A-Z]{3}[A-Z0-9]{12,}", text):
+        return "the id of who is deleted: it means nobody"
+    if not text.startswith("arn:") and text != EVERYBODY and not ACCOUNT.fullmatch(text):
+        return "which is no ARN and no account: it means nobody"
+    if ":role/aws-service-role/" in text:
+        return "a service-linked role, for whom nobody is asked"
+    is_stranger = account_of(text) not in ("", *known)
+    return "for whom nobody is asked" if is_stranger and not stand_in(text, "aws", "", "session") else ""
 
 
 def asks_for_members(statement: Any) -> bool:

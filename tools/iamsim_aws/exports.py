@@ -2,6 +2,7 @@
 
 import copy
 import re
+import urllib.parse
 from typing import Any, Dict, Iterator, List, Optional, Tuple
 
 from . import files
@@ -25,7 +26,12 @@ def document(value: Any, name: str) -> Any:
         and "Document" in value["PolicyVersion"]
     ):
         value = value["PolicyVersion"]["Document"]
-    return files.parsed(value, f"{name}: its document") if isinstance(value, str) else value
+    return files.parsed(decoded(value), f"{name}: its document") if isinstance(value, str) else value
+
+
+def decoded(text: str) -> str:
+    """The API of IAM gives JSON with %-escapes; no JSON begins with one."""
+    return urllib.parse.unquote(text) if text.startswith("%") else text
 
 
 def policy(name: str, value: Any) -> Policy:
@@ -58,6 +64,13 @@ class Account:
         self.groups: Dict[str, Dict[str, Any]] = {}
         self.roles: List[Dict[str, Any]] = []
         self.policies: Dict[str, Dict[str, Any]] = {}
+
+    @property
+    def partition(self) -> str:
+        """The partition of the account's own ARNs."""
+        every = [*self.users, *self.roles, *self.groups.values(), *self.policies.values()]
+        own = (str(it.get("Arn")) for it in every if account_of(str(it.get("Arn"))) == self.account)
+        return next((it.split(":")[1] for it in own), "aws")
 
     def copied(self) -> "Account":
         return copy.deepcopy(self)
@@ -101,9 +114,11 @@ class Account:
         return found + [self.managed(text(it, "PolicyArn", arn), arn) for it in attached]
 
     def of_groups(self, user: Dict[str, Any]) -> List[Policy]:
-        found = []
-        for name in user.get("GroupList") or []:
-            if name not in self.groups:
+        found, names = [], user.get("GroupList") or []
+        if not isinstance(names, list):
+            raise Fault(f"{user['Arn']}: GroupList is no list")
+        for name in names:
+            if not isinstance(name, str) or name not in self.groups:
                 raise Fault(f"{user['Arn']}: the export does not hold the group {name}")
             found += self.own(self.groups[name], "GroupPolicyList")
         return found

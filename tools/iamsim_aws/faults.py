@@ -1,7 +1,8 @@
 """What ends the command, and lines beside the answer."""
 
 import sys
-from typing import List
+import time
+from typing import Any, List
 
 # The lines that were told, which a report may hold too.
 TOLD: List[str] = []
@@ -21,4 +22,33 @@ def line_of(text: object) -> str:
 def tell(text: object) -> None:
     """A line on standard error."""
     TOLD.append(line_of(text))
-    print(f"iamsim-aws: {TOLD[-1]}", file=sys.stderr)
+    if sys.stderr is not None:
+        print(f"iamsim-aws: {TOLD[-1]}", file=sys.stderr)
+
+
+class Progress:
+    """How far a long task is, in one line of a terminal that is written again and again, and goes at the end."""
+
+    AFTER = 2.0
+
+    def __init__(self, count: int):
+        self.count, self.done, self.wide = count, 0, 0
+        self.began = self.told = time.monotonic()
+
+    def __enter__(self) -> "Progress":
+        return self
+
+    def __exit__(self, *_: Any) -> None:
+        self.show("")
+
+    def tell(self) -> None:
+        now = time.monotonic()
+        if now - self.began > self.AFTER and now - self.told >= 1:
+            self.told = now
+            self.show(f"iamsim has answered {self.done} of {self.count} questions, {now - self.began:.0f} s")
+
+    def show(self, text: str) -> None:
+        if sys.stderr is not None and sys.stderr.isatty() and (text or self.wide):
+            sys.stderr.write(f"\r{text.ljust(self.wide)}" + ("" if text else "\r"))
+            sys.stderr.flush()
+            self.wide = len(text)

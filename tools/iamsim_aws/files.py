@@ -1,12 +1,18 @@
 """Files as people have them: UTF-8 with or without a byte order mark, UTF-16, gzip; '-' is standard input."""
 
+import collections
 import gzip
+import io
 import json
+import os
 import sys
 import zlib
-from typing import Any, Dict, List, Tuple
+from typing import Any, Dict, Iterable, List, Optional, Tuple
 
 from .faults import Fault, tell
+
+# The bytes that a gzip file may hold: many times an export, and a part of a machine's memory.
+MOST = 1 << 28
 
 
 def name_of(path: str) -> str:
@@ -16,13 +22,28 @@ def name_of(path: str) -> str:
 def read_bytes(path: str) -> bytes:
     try:
         if path == "-":
-            data = sys.stdin.buffer.read()
+            data = stream(sys.stdin, "standard input").buffer.read()
         else:
             with open(path, "rb") as it:
                 data = it.read()
-        return gzip.decompress(data) if data[:2] == b"\x1f\x8b" else data
+        return unpacked(data, name_of(path)) if data[:2] == b"\x1f\x8b" else data
     except (OSError, EOFError, zlib.error) as error:
         raise Fault(f"{name_of(path)}: {getattr(error, 'strerror', None) or error}") from None
+
+
+def unpacked(data: bytes, what: str) -> bytes:
+    with gzip.GzipFile(fileobj=io.BytesIO(data)) as it:
+        found = it.read(MOST + 1)
+    if len(found) > MOST:
+        raise Fault(f"{what}: unpacked it has over {MOST >> 20} MiB: give its parts, or what is unpacked")
+    return found
+
+
+def stream(it: Any, name: str) -> Any:
+    """A standard stream, which whoever starts the command may have closed."""
+    if it is None:
+        raise Fault(f"{name} is closed")
+    return it
 
 
 def encoding_of(data: bytes) -> str:
@@ -55,8 +76,8 @@ def parsed(text: str, what: str) -> Any:
     def members(pairs: List[Tuple[str, Any]]) -> Dict[str, Any]:
         made = dict(pairs)
         if len(made) < len(pairs):
-            keys = [key for key, _ in pairs]
-            equal.update((it, None) for it in made if keys.count(it) > 1)
+            counts = collections.Counter(key for key, _ in pairs)
+            equal.update((it, None) for it in made if counts[it] > 1)
         return made
 
     try:
@@ -90,7 +111,49 @@ def encoded(text: str) -> bytes:
 
 def write(text: str) -> None:
     """Writes to standard output, in UTF-8 whatever the terminal's setting."""
-    sys.stdout.buffer.write(encoded(text))
+    write_bytes(encoded(text))
+
+
+def write_bytes(data: bytes) -> None:
+    try:
+        stream(sys.stdout, "standard output").buffer.write(data)
+    except BrokenPipeError:
+        raise
+    except OSError as error:
+        raise unwritten(error) from None
+
+
+def flush() -> None:
+    """Writes what waits; what cannot be written is not tried again when Python ends."""
+    try:
+        stream(sys.stdout, "standard output").flush()
+    except BrokenPipeError:
+        raise
+    except OSError as error:
+        raise unwritten(error) from None
+
+
+def unwritten(error: OSError) -> Fault:
+    os.dup2(os.open(os.devnull, os.O_WRONLY), sys.stdout.fileno())
+    return Fault(f"standard output: {error.strerror or error}")
+
+
+def refuse_taken(written: Iterable[Optional[str]], read: Iterable[Optional[str]]) -> None:
+    """No file that a command writes is one that it reads, or writes twice; and the answer has standard output."""
+    taken = [it for it in read if it and it != "-"]
+    for path in (it for it in written if it is not None):
+        if path == "-":
+            raise Fault("a report cannot be standard output, which has the answer: name a file")
+        if any(is_same(path, it) for it in taken):
+            raise Fault(f"{path}: it is read or written by this command already: name another file")
+        taken.append(path)
+
+
+def is_same(one: str, other: str) -> bool:
+    try:
+        return os.path.samefile(one, other)
+    except OSError:
+        return os.path.realpath(one) == os.path.realpath(other)
 
 
 def write_file(path: str, text: str) -> None:

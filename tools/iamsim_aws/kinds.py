@@ -1,9 +1,9 @@
 """Witnesses: texts that stand for the actions and resources that policies speak of by patterns."""
 
 import functools
-from typing import Any, Dict, Iterable, Iterator, List, NamedTuple, Optional, Tuple
+from typing import Any, Callable, Dict, Iterable, Iterator, List, NamedTuple, Optional, Tuple
 
-from .arns import account_of, bucket_of, principal_arn
+from .arns import account_of, owner_of, principal_arn, resource_part, service_of
 from .documents import Place, World, each, places, statements_of
 from .patterns import common, is_pattern, matcher, resolved
 
@@ -102,12 +102,35 @@ def values_of(world: World, path: str) -> Tuple[Dict[str, str], str]:
     return found, account_of(arn)
 
 
-def filled(pattern: str, account: str) -> Optional[str]:
+def open_parts(world: World, actions: List[str], account: str, pattern: str) -> List[str]:
+    """What stands for the parts of an ARN that a pattern leaves open: as the ARNs of its service have them, or of the
+    actions' where that is one, and those of the account."""
+    services = {it.partition(":")[0].lower() for it in actions}
+    service = services.pop() if len(services) == 1 else OPEN[2]
+    service = "iam" if service == "sts" else service
+    service = service_of(pattern) if service_of(pattern).strip("*?") else service
+    own = (principal_arn(it) for it in world["principals"])
+    partition = next((it.split(":")[1] for it in own if account_of(it) == account), OPEN[1])
+    is_bucket = service == "s3" and "accesspoint/" not in pattern
+    region = "" if service == "iam" or is_bucket else REGION
+    return ["arn", partition, service, region, "" if is_bucket else account, OPEN[5]]
+
+
+def narrowed(pattern: str, template: List[str]) -> str:
+    """The pattern with what stands for the parts that it leaves open before the last one."""
+    parts = pattern.split(":", 5)
+    if len(parts) < 6 and pattern.startswith("*"):
+        parts = [*"*****", parts[-1]]
+    is_open = (n < 5 and is_pattern(part) and matcher(part)(template[n]) for n, part in enumerate(parts))
+    return ":".join(template[n] if free else part for n, (part, free) in enumerate(zip(parts, is_open)))
+
+
+def filled(pattern: str, account: str, template: Optional[List[str]] = None) -> Optional[str]:
     """An ARN that matches the pattern, of that account where it leaves it open."""
     if pattern == "*":
         return "*"
     parts = pattern.split(":", 5)
-    template = [*OPEN[:4], account, OPEN[5]]
+    template = template or [*OPEN[:4], account, OPEN[5]]
     made = []
     for n, part in enumerate(parts):
         open_part = is_pattern(part) and n in (3, 4) and matcher(part)(template[n])
@@ -115,19 +138,35 @@ def filled(pattern: str, account: str) -> Optional[str]:
     text = ":".join([*made, *template[len(made) :]])
     if matcher(pattern)(text):
         return text
-    return common(pattern, f"arn:*:*:*:{account}:*")
+    return common(narrowed(pattern, template), f"arn:*:*:*:{account}:*") or common(pattern, f"arn:*:*:*:{account}:*")
 
 
 def beside(world: World, arn: str, account: str) -> Resource:
-    """A resource that the world does not name; a bucket's policy is that of each of its objects."""
-    bucket = bucket_of(arn)
-    of_bucket = [it for it in world["resources"] if bucket and bucket_of(it["arn"]) == bucket]
-    for it in sorted(of_bucket, key=lambda it: "policy" not in it)[:1]:
+    """A resource that the world does not name; the policy of a bucket or access point is that of each of its objects."""
+    owner = owner_of(arn)
+    of_owner = [it for it in world["resources"] if owner_of(it["arn"]) == owner]
+    for it in sorted(of_owner, key=lambda it: "policy" not in it)[:1]:
         return {"arn": arn, **{name: it[name] for name in ("account", "policy", "control") if name in it}}
     return {"arn": arn, "account": account}
 
 
-def resources(world: World, asked: str, actions: List[str]) -> Tuple[List[Witness], List[str]]:
+class Witnesses(NamedTuple):
+    """Resources that stand for patterns, the patterns for which none does, and roles that are not there to be assumed."""
+
+    found: List[Witness]
+    without: List[str]
+    absent: List[str]
+
+
+def is_absent_role(world: World, arn: str) -> bool:
+    """Whether a role is asked to be assumed that an account does not have of whose principals the world is."""
+    is_role = service_of(arn) == "iam" and resource_part(arn).startswith("role/")
+    is_assumed = any(it.lower().startswith("sts:") for it in world["actions"])
+    known = {account_of(principal_arn(it)) for it in world["principals"]}
+    return is_role and is_assumed and account_of(arn) in known and all(it["arn"] != arn for it in world["resources"])
+
+
+def resources(world: World, asked: str, actions: List[str]) -> Witnesses:
     """A witness for the asked pattern and for each pattern of a policy that meets it, in the account of who has the policy
     where it leaves that open; and the patterns without one. Named resources stand for themselves alone: a deny on one of
     them says nothing of the others."""
@@ -141,20 +180,22 @@ def resources(world: World, asked: str, actions: List[str]) -> Tuple[List[Witnes
             if pattern is not None and pattern not in named:
                 patterns.setdefault((pattern, account), place.policy.name)
     found: Dict[Tuple[str, str], Witness] = {}
-    without = []
+    without, absent = [], []
     wide = in_parts_of("", asked)
     for pattern, account in [*patterns, *((wide, account) for account in ids if (wide, account) not in patterns)]:
         of_pattern = in_parts_of(pattern, asked)
-        arn = witness(pattern, of_pattern, account)
+        arn = witness(pattern, of_pattern, account, functools.partial(open_parts, world, actions, account))
         owner = (account_of(arn) or account) if arn else ""
-        if arn and owner in ids:
+        if arn and is_absent_role(world, arn):
+            absent.append(arn)
+        elif arn and owner in ids:
             if arn not in named:
                 one = beside(world, arn, owner)
                 origin = Origin(pattern, patterns.get((pattern, account), ""))
                 found.setdefault((arn, one["account"]), Witness(one, origin))
         elif pattern != wide and common(pattern, of_pattern):
             without.append(pattern)
-    return list(found.values()), list(dict.fromkeys(without))
+    return Witnesses(list(found.values()), list(dict.fromkeys(without)), list(dict.fromkeys(absent)))
 
 
 def in_parts_of(pattern: str, asked: str) -> str:
@@ -165,9 +206,11 @@ def in_parts_of(pattern: str, asked: str) -> str:
     return ":".join([*(parts[:5] if len(parts) == 6 else ["arn", *"****"]), asked])
 
 
-def witness(pattern: str, asked: str, account: str) -> Optional[str]:
+def witness(pattern: str, asked: str, account: str, template_of: Callable[[str], List[str]]) -> Optional[str]:
     """A resource that matches both patterns."""
-    for text in (filled(pattern, account), filled(asked, account), common(pattern, asked)):
+    one, other = template_of(pattern), template_of(asked)
+    narrow = common(narrowed(pattern, one), narrowed(asked, other))
+    for text in (filled(pattern, account, one), filled(asked, account, other), narrow, common(pattern, asked)):
         if (
             text
             and (text == "*" or text.startswith("arn:") and text.count(":") >= 5)

@@ -3,7 +3,16 @@
 from typing import Any, Dict, List, NamedTuple, Optional
 
 from . import files
-from .arns import account_of, bucket_of, names_of_principal, names_of_resource, principal_arn, resource_part, service_of
+from .arns import (
+    account_of,
+    is_access_point,
+    names_of_principal,
+    names_of_resource,
+    owner_of,
+    principal_arn,
+    resource_part,
+    service_of,
+)
 from .documents import World
 from .exports import ACCOUNT, Account, is_service_linked, policy, role_of, tags, text, user_of
 from .faults import Fault
@@ -11,6 +20,10 @@ from .keys import with_callers
 from .naming import control_policy, resource_policy, trust_policy
 from .organizations import Organization
 from .patterns import any_matches, is_pattern, matcher
+
+
+# What a role has whose trust policy nobody knows yet: it is asked for as a principal alone.
+UNTOLD = "AssumeRolePolicyUntold"
 
 
 class Estate(NamedTuple):
@@ -40,12 +53,12 @@ def read_resources(paths: List[str]) -> List[Dict[str, Any]]:
 
 
 def with_buckets(given: List[Dict[str, Any]]) -> List[Dict[str, Any]]:
-    """An object without a policy has that of its bucket, where this is given."""
-    policies = {it["arn"]: it["policy"] for it in given if "policy" in it and bucket_of(it["arn"])}
+    """An object without a policy has that of its bucket or access point, where this is given."""
+    policies = {it["arn"]: it["policy"] for it in given if "policy" in it}
 
     def own(it: Dict[str, Any]) -> Dict[str, Any]:
-        bucket = it["arn"].split("/")[0]
-        return {**it, "policy": policies[bucket]} if "policy" not in it and bucket in policies else it
+        owner = owner_of(it["arn"])
+        return {**it, "policy": policies[owner]} if "policy" not in it and owner in policies else it
 
     return [own(it) for it in given]
 
@@ -81,6 +94,8 @@ def warnings(resources: List[Dict[str, Any]]) -> List[str]:
             found.append(f"{arn}: a resource is one text and no pattern: this one is named {arn}, wildcards and all")
         if of and of != it["account"]:
             found.append(f"{arn}: its ARN names the account {of}, and its account is {it['account']}")
+        if is_access_point(arn):
+            found.append(f"{arn}: its requests fall under the policy of its bucket too, which is not asked here")
         is_key = service_of(arn) == "kms" and resource_part(arn).startswith("key/")
         is_role = service_of(arn) == "iam" and resource_part(arn).startswith("role/")
         if (is_key or is_role) and "policy" in it and it.get("sealed") is not True:
@@ -101,7 +116,7 @@ def roles_as_resources(estate: Estate, account: Account, actions: List[str]) -> 
     if not is_assumed and not has_service(actions, "iam"):
         return []
     made = []
-    for it in account.roles:
+    for it in (one for one in account.roles if not one.get(UNTOLD)):
         arn = text(it, "Arn", f"account {account.account}")
         context = {**tags(it, "aws:ResourceTag/"), **tags(it, "iam:ResourceTag/")}
         one: Dict[str, Any] = {"arn": arn, "account": account.account, "context": context}

@@ -2,7 +2,7 @@
 
 from typing import Any, Dict, Set
 
-from .arns import bucket_of, resource_part
+from .arns import owner_of, resource_part
 
 INLINE, TRUST = " inline ", " trust policy"
 
@@ -18,7 +18,7 @@ def trust_policy(role: str) -> str:
 
 def resource_policy(arn: str) -> str:
     """The policy of a resource; an object has that of its bucket."""
-    return f"{arn.split('/')[0] if bucket_of(arn) else arn} policy"
+    return f"{owner_of(arn)} policy"
 
 
 def control_policy(arn: str) -> str:

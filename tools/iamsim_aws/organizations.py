@@ -57,7 +57,10 @@ class Organization:
         way = [target]
         while not way[0].startswith("r-"):
             try:
-                way.insert(0, self.parents[way[0]][0]["Id"])
+                parent = self.parents[way[0]][0]["Id"]
+                if not isinstance(parent, str):
+                    raise TypeError
+                way.insert(0, parent)
             except (KeyError, IndexError, TypeError):
                 raise Fault(f"organization: no parent of {way[0]}") from None
             if len(way) > 64:

@@ -11,8 +11,10 @@ VARIABLE = re.compile(r"\$\{([^${},'*?]+)(?:, *'([^']*)')?\}|\$\{([*?$])\}")
 @functools.lru_cache(maxsize=None)
 def matcher(pattern: str, fold: bool = False) -> Callable[[str], object]:
     """Whether a text matches the whole pattern."""
-    signs = {"*": ".*", "?": "."}
-    expression = "".join(signs.get(it) or re.escape(it) for it in re.sub(r"\*+", "*", pattern))
+    first, *rest = ("".join("." if it == "?" else re.escape(it) for it in part) for part in re.split(r"\*+", pattern))
+    # What stands between two runs is taken where it comes first, for good: a look ahead is not gone back into.
+    middle = "".join(f"(?=(?P<run{n}>.*?{part}))(?P=run{n})" for n, part in enumerate(rest[:-1]))
+    expression = first + middle + "".join(f".*{part}" for part in rest[-1:])
     return re.compile(expression, re.DOTALL | (re.IGNORECASE if fold else 0)).fullmatch
 
 

@@ -2,7 +2,7 @@
 
 import os
 import pathlib
-from typing import Any, Dict, List, NamedTuple
+from typing import Any, Dict, List, NamedTuple, Sequence
 from urllib.parse import quote
 from xml.sax.saxutils import escape, quoteattr
 
@@ -13,12 +13,14 @@ DESCRIBED = {
     "broken": "A rule of access is broken",
     "empty": "A rule of access meets no request",
     "fault": "The rules were not checked",
+    "unasked": "Something was not asked",
+    "note": "What a rule does not tell",
 }
 
 
 class Case(NamedTuple):
-    """A rule and how it fares: its file and line, its words, 'kept' or what is wrong, that in lines, and each reason by
-    itself. One that passes has none of these."""
+    """A rule and how it fares: its file and line, its words, 'kept' or what is wrong, that in lines, each reason by itself,
+    and what was told of it besides. One that passes has no lines and no reasons."""
 
     file: str
     line: int
@@ -26,6 +28,7 @@ class Case(NamedTuple):
     state: str
     lines: List[str]
     reasons: List[str]
+    notes: List[str] = []
 
     @property
     def name(self) -> str:
@@ -37,7 +40,13 @@ def fault(file: str, why: str) -> Case:
     return Case(file, 1, "", "fault", [why], [why])
 
 
-def junit(cases: List[Case]) -> str:
+def as_element(notes: Sequence[str], margin: str) -> List[str]:
+    """What was told, for a test or for all of them."""
+    text = "\n".join(escape(line_of(it)) for it in notes)
+    return [f"{margin}<system-err>{text}</system-err>"] if notes else []
+
+
+def junit(cases: List[Case], notes: Sequence[str] = ()) -> str:
     failures, errors = (sum(bool(it.lines) and (it.state == "fault") == kind for it in cases) for kind in (False, True))
     lines = [
         '<?xml version="1.0" encoding="UTF-8"?>',
@@ -46,16 +55,18 @@ def junit(cases: List[Case]) -> str:
     for it in cases:
         head = f"<testcase classname={quoteattr(line_of(it.file))} name={quoteattr(line_of(it.name))}"
         if not it.lines:
-            lines.append(f"  {head}/>")
+            said = as_element(it.notes, "    ")
+            lines += [f"  {head}>", *said, "  </testcase>"] if said else [f"  {head}/>"]
             continue
         tag, first = "error" if it.state == "fault" else "failure", line_of((it.reasons or it.lines)[0]).strip()
         text = "\n".join(escape(line_of(line)) for line in it.lines)
         lines += [
             f"  {head}>",
             f'    <{tag} type="{it.state}" message={quoteattr(first)}>{text}</{tag}>',
+            *as_element(it.notes, "    "),
             "  </testcase>",
         ]
-    return "\n".join([*lines, "</testsuite>"]) + "\n"
+    return "\n".join([*lines, *as_element(notes, "  "), "</testsuite>"]) + "\n"
 
 
 def place_of(file: str) -> Dict[str, str]:
@@ -69,16 +80,19 @@ def place_of(file: str) -> Dict[str, str]:
     return {"uri": quote(way), "uriBaseId": "%SRCROOT%"}
 
 
-def sarif(cases: List[Case]) -> str:
+def sarif(cases: List[Case], notes: Sequence[str] = ()) -> str:
     results: List[Dict[str, Any]] = []
     for it in cases:
         region = {"artifactLocation": place_of(it.file), "region": {"startLine": it.line}}
-        for why in it.reasons:
+        told = [(it.state, "error", why) for why in it.reasons] + [("note", "note", line) for line in it.notes]
+        for rule, level, why in told:
             text = f"{it.text}: {why}" if it.text else why
-            message = {"ruleId": it.state, "level": "error", "message": {"text": text}}
+            message = {"ruleId": rule, "level": level, "message": {"text": text}}
             results.append({**message, "locations": [{"physicalLocation": region}]})
     rules = [{"id": name, "shortDescription": {"text": text}} for name, text in DESCRIBED.items()]
-    ended = {"executionSuccessful": all(it.state != "fault" for it in cases)}
+    ended: Dict[str, Any] = {"executionSuccessful": all(it.state != "fault" for it in cases)}
+    if notes:
+        ended["toolExecutionNotifications"] = [{"level": "note", "message": {"text": it}} for it in notes]
     value = {
         "$schema": "https://json.schemastore.org/sarif-2.1.0.json",
         "version": "2.1.0",

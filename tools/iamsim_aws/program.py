@@ -1,16 +1,22 @@
 """Asking iamsim."""
 
+import collections
 import os
 import shutil
 import subprocess
 import sys
-from typing import Iterable, Iterator, List, Tuple
+from subprocess import PIPE
+from typing import Any, Deque, Iterable, Iterator, List, Set, Tuple
 
 from .documents import World, bare
-from .faults import Fault
+from .faults import Fault, Progress
 from .files import compact, encoded
 
 TOP = os.path.dirname(os.path.dirname(os.path.dirname(os.path.realpath(__file__))))
+
+
+# Each iamsim that was asked and has not answered.
+RUNNING: Set["subprocess.Popen[bytes]"] = set()
 
 
 class Refused(Fault):
@@ -30,13 +36,26 @@ def program() -> str:
 def run(words: List[str], world: bytes) -> bytes:
     """What iamsim writes, or its fault."""
     try:
-        ran = subprocess.run([program(), *words], input=world, capture_output=True)
+        ran = subprocess.Popen([program(), *words], stdin=PIPE, stdout=PIPE, stderr=PIPE)
     except OSError as error:
         raise Fault(f"iamsim cannot be run: {error.strerror or error}") from None
+    RUNNING.add(ran)
+    try:
+        out, said = ran.communicate(world)
+    except BaseException:
+        ran.kill()
+        raise
+    finally:
+        RUNNING.discard(ran)
     if ran.returncode != 0:
-        said = ran.stderr.decode(errors="replace").strip()
-        raise Refused(said or f"iamsim ended with status {ran.returncode}")
-    return ran.stdout
+        raise Refused(said.decode(errors="replace").strip() or f"iamsim ended with status {ran.returncode}")
+    return out
+
+
+def stop() -> None:
+    """Ends each iamsim that was asked and has not answered."""
+    for it in list(RUNNING):
+        it.kill()
 
 
 def world_bytes(world: World) -> bytes:
@@ -53,20 +72,36 @@ def side_by_side(words: List[str], worlds: Iterable[bytes], count: int) -> Itera
 
 
 def each_of(jobs: Iterable[Tuple[List[str], bytes]], count: int) -> Iterator[bytes]:
-    """What iamsim writes under some words of each world, in their order; each has its share of the processors."""
+    """What iamsim writes under some words of each world, in their order; each has its share of the processors. No more
+    worlds are made than are asked and wait to be."""
     # The jobs of an estate, which are many, do not want it.
     import concurrent.futures
 
     together = max(1, min(count, processors()))
     share = ["--workers", str(max(1, processors() // together))]
-    with concurrent.futures.ThreadPoolExecutor(together) as pool:
-        waiting = []
-        for words, world in jobs:
+    waiting: Deque[Any] = collections.deque()
+    with concurrent.futures.ThreadPoolExecutor(together) as pool, Progress(count) as progress:
+
+        def asked(words: List[str], world: bytes) -> None:
             more = [] if any(it.startswith("--workers") for it in words) else share
             waiting.append(pool.submit(run, [*words, *more], world))
+
+        def answer() -> bytes:
+            while not concurrent.futures.wait([waiting[0]], 1).done:
+                progress.tell()
+            progress.done += 1
+            progress.tell()
+            return bytes(waiting.popleft().result())
+
         try:
-            for it in waiting:
-                yield it.result()
+            for it in jobs:
+                asked(*it)
+                if len(waiting) == 2 * together:
+                    yield answer()
+            while waiting:
+                yield answer()
         finally:
             for it in waiting:
                 it.cancel()
+            if any(not it.done() for it in waiting):
+                stop()

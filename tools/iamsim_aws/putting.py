@@ -3,9 +3,9 @@
 from typing import Any, Dict, List, NamedTuple, Optional, Set, Tuple
 
 from . import files
-from .arns import account_of, bucket_of, resource_part, service_of
+from .arns import account_of, bucket_of, owner_of, resource_part, service_of
 from .documents import Policy, World, mapped, places
-from .exports import document
+from .exports import Account, document
 from .faults import Fault
 from .making import Estate
 from .naming import called, organization_policy, resource_policy
@@ -30,64 +30,106 @@ def read_draft(text: str) -> Draft:
 def is_resource(it: Dict[str, Any], name: str) -> bool:
     """Whether the resource's policy is called so: by its ARN, its bucket or its last part. A role's policy is a trust
     policy, where it has one."""
-    arn, part, bucket = it["arn"], resource_part(it["arn"]), bucket_of(it["arn"])
+    arn, owner = it["arn"], owner_of(it["arn"])
     if service_of(arn) == "iam" and "policy" not in it:
         return False
-    names = {bucket, arn.split("/")[0]} if bucket else {part, part.split("/")[-1]}
-    return name in {arn, resource_policy(arn), *names}
+    part = resource_part(owner)
+    return name in {arn, resource_policy(arn), owner, part, part.split("/")[-1]}
 
 
 def name_of(resource: Dict[str, Any]) -> str:
     return resource["policy"].name if "policy" in resource else resource_policy(resource["arn"])
 
 
-def put_one(world: World, draft: Draft, aliases: Dict[str, str]) -> Tuple[World, bool]:
-    """The world with one draft, and whether it has such a policy."""
-    if any(is_resource(it, draft.name) for it in world["resources"]):
-        resources = [
-            {**it, "policy": Policy(name_of(it), draft.document)} if is_resource(it, draft.name) else it
-            for it in world["resources"]
-        ]
-        return {**world, "resources": resources}, True
-    meant = meant_by(world, draft, aliases)
-    made = mapped(world, lambda _kind, _path, it: Policy(it.name, draft.document) if it.name in meant else it)
-    return made, bool(meant)
+def meant_by(world: World, draft: Draft, aliases: Dict[str, str], estate: Optional[Estate]) -> str:
+    """The name of the one policy that a draft is of; nothing where nobody has it."""
+    others = estate.organization.policies.values() if estate else ()
+    found = {name_of(it) for it in world["resources"] if is_resource(it, draft.name)}
+    found |= {it.policy.name for it in places(world) if draft.name in called(it.policy.name)}
+    found |= {name for name, alias in aliases.items() if alias == draft.name}
+    found |= {organization_policy(it["PolicySummary"]) for it in others if draft.name in names_of_organization(it)}
+    if len(found) > 1 and draft.name not in found:
+        raise Fault(f"--put {draft.name}: several policies are called so, name one of them: {', '.join(sorted(found))}")
+    return draft.name if draft.name in found else "".join(found)
 
 
-def meant_by(world: World, draft: Draft, aliases: Dict[str, str]) -> Set[str]:
-    """The name of the policy that a draft is of, which is no resource's."""
-    names = {it.policy.name for it in places(world)}
-    meant = {it for it in names if draft.name in called(it) or aliases.get(it) == draft.name}
-    if draft.name in meant:
-        meant = {draft.name}
-    if len(meant) > 1:
-        raise Fault(f"--put {draft.name}: several policies are called so: {', '.join(sorted(meant))}")
-    return meant
-
-
-def refuse_doubles(world: World, drafts: List[Draft], aliases: Dict[str, str], estate: Optional[Estate]) -> None:
-    """Of two drafts of one policy nobody sees which counts."""
+def resolved(world: World, drafts: List[Draft], aliases: Dict[str, str], estate: Optional[Estate]) -> List[Draft]:
+    """The drafts by the whole names of their policies, which are the same in each world."""
+    names = [meant_by(world, it, aliases, estate) for it in drafts]
+    refuse_strangers(world, drafts, names, estate)
     seen: Dict[str, str] = {}
-    others = estate.organization.policies.items() if estate else ()
-    for draft in drafts:
-        own = {it["arn"] for it in world["resources"] if is_resource(it, draft.name)}
-        of_organization = {key for key, it in others if draft.name in names_of_organization(it)}
-        meant = own or of_organization or meant_by(world, draft, aliases) or {draft.name}
-        for it in sorted(meant):
-            if it in seen:
-                raise Fault(f"--put {seen[it]} and --put {draft.name}: both are drafts of one policy")
-            seen[it] = draft.name
+    for name, draft in zip(names, drafts):
+        if (name or draft.name) in seen:
+            raise Fault(f"--put {seen[name or draft.name]} and --put {draft.name}: both are drafts of one policy")
+        seen[name or draft.name] = draft.name
+    return [Draft(name, it.document) for name, it in zip(names, drafts) if name]
 
 
-def put(world: World, drafts: List[Draft], aliases: Dict[str, str]) -> World:
-    """The world with the drafts of policies that it has."""
-    for draft in drafts:
-        world, _ = put_one(world, draft, aliases)
-    return world
+def put(world: World, drafts: List[Draft]) -> World:
+    """The world with the drafts of policies that it has, by their whole names."""
+    documents = {it.name: it.document for it in drafts}
+
+    def own(it: Dict[str, Any]) -> Dict[str, Any]:
+        name = name_of(it)
+        is_new = "policy" not in it and name in documents and is_resource(it, name)
+        return {**it, "policy": Policy(name, documents[name])} if is_new else it
+
+    made = {**world, "resources": [own(it) for it in world["resources"]]}
+    return mapped(made, lambda _kind, _path, it: Policy(it.name, documents.get(it.name, it.document)))
 
 
 def is_managed(name: str) -> bool:
     return service_of(name) == "iam" and resource_part(name).startswith("policy/")
+
+
+class Attachment(NamedTuple):
+    """A policy that somebody is given who does not have it: an inline one, or a managed one by its ARN."""
+
+    name: str
+    document: Any
+    principal: str
+
+
+def read_attachment(text: str) -> Attachment:
+    """Of an argument NAME=FILE@PRINCIPAL."""
+    name, equals, rest = text.partition("=")
+    path, at, principal = rest.partition("@")
+    if not (equals and at and name and path and principal):
+        raise Fault(f"--attach {text}: it takes POLICY-NAME=FILE@PRINCIPAL")
+    return Attachment(name, document(files.read_json(path), files.name_of(path)), principal)
+
+
+def with_attachments(estate: Estate, some: List[Attachment]) -> Estate:
+    """The estate in which users, groups and roles have those policies besides."""
+    made = estate.copied() if some else estate
+    for it in some:
+        account, holder, inline = holder_of(made, it)
+        arn = str(holder["Arn"])
+        if any(it.name == one.get("PolicyName") for one in holder.get(inline) or []):
+            raise Fault(f"--attach {it.name}: {arn} has a policy of that name: --put gives a draft of it")
+        if is_managed(it.name):
+            version = {"Document": it.document, "IsDefaultVersion": True}
+            account.policies[it.name] = {"Arn": it.name, "PolicyVersionList": [version]}
+            holder.setdefault("AttachedManagedPolicies", []).append({"PolicyArn": it.name})
+        else:
+            holder.setdefault(inline, []).append({"PolicyName": it.name, "PolicyDocument": it.document})
+    return made
+
+
+def holder_of(estate: Estate, it: Attachment) -> Tuple[Account, Dict[str, Any], str]:
+    """The one user, group or role of that name, with its account and the list of its inline policies."""
+    found = []
+    for account in estate.accounts:
+        every = [(one, "UserPolicyList") for one in account.users] + [(one, "RolePolicyList") for one in account.roles]
+        for holder, inline in [*every, *((one, "GroupPolicyList") for one in account.groups.values())]:
+            part = resource_part(str(holder.get("Arn")))
+            if it.principal in (holder.get("Arn"), part, part.split("/")[-1]):
+                found.append((account, holder, inline))
+    if len(found) != 1:
+        names = ", ".join(str(one["Arn"]) for _, one, _ in found)
+        several = f"several are called {it.principal}, name one of them: {names}"
+        raise Fault(f"--attach {it.name}: {several if found else f'no user, group or role is called {it.principal}'}")
+    return found[0]
 
 
 def with_drafts(estate: Estate, drafts: List[Draft]) -> Estate:
@@ -114,19 +156,21 @@ def names_of_organization(it: Dict[str, Any]) -> Set[str]:
     return called(organization_policy(summary)) | {str(summary["Id"]), str(summary.get("Name"))}
 
 
-def refuse_strangers(world: World, drafts: List[Draft], aliases: Dict[str, str], estate: Optional[Estate]) -> None:
+def refuse_strangers(world: World, drafts: List[Draft], names: List[str], estate: Optional[Estate]) -> None:
     """Each draft has to be of a policy that somebody has; one of the organisation may bind what the world does not name."""
-    held: Set[str] = set()
-    bound: Set[str] = set()
+    bound: Set[str] = {it.policy.name for it in places(world)} | {name_of(it) for it in world["resources"]}
+    managed: Set[str] = set()
+    unbound: Set[str] = set()
     if estate:
-        held = {name for it in estate.accounts for arn in it.policies for name in called(arn)}
+        managed = {name for it in estate.accounts for arn in it.policies for name in called(arn)}
         attached = {it.get("Id") for of in estate.organization.targets.values() for it in of}
         for key, it in estate.organization.policies.items():
-            (bound if key in attached else held).update(names_of_organization(it))
-    for draft in drafts:
-        if not put_one(world, draft, aliases)[1] and draft.name not in bound:
-            if draft.name in held:
-                raise Fault(f"--put {draft.name}: nobody has this policy, so the draft changes nothing")
+            (bound if key in attached else unbound).add(organization_policy(it["PolicySummary"]))
+    for draft, name in zip(drafts, names):
+        if name not in bound:
+            if draft.name in managed or name in unbound:
+                hint = "" if name in unbound else ": --attach NAME=FILE@PRINCIPAL gives it to somebody"
+                raise Fault(f"--put {draft.name}: nobody has this policy, so the draft changes nothing{hint}")
             hint = near(draft.name, short_names(world))
             raise Fault(f"--put {draft.name}: no policy and no resource is called so{hint}")
 

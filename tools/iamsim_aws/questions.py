@@ -39,13 +39,14 @@ class Question(NamedTuple):
 
 
 class Asked(NamedTuple):
-    """A world of a question's requests, what its witnesses stand for, patterns without a witness, and the resources that
-    the world did not name."""
+    """A world of a question's requests, what its witnesses stand for, patterns without a witness, the resources that the
+    world did not name, and roles that are not there to be assumed."""
 
     world: World
     witnesses: Origins
     without: List[str]
     added: List[str]
+    absent: List[str]
 
 
 def principals(some: List[Dict[str, Any]], question: Question) -> List[Dict[str, Any]]:
@@ -77,6 +78,12 @@ def account_for(scope: Scope, world: World, arn: str) -> str:
     return found
 
 
+def account_words(world: World, arn: str) -> str:
+    """Whose a resource is taken to be, where its ARN does not say it."""
+    found = "" if account_of(arn) else next((it["account"] for it in world["resources"] if it["arn"] == arn), "")
+    return f", as a resource of account {found}" if found else ""
+
+
 def dressed(scope: Scope, resource: Dict[str, Any]) -> Dict[str, Any]:
     """The resource with the policy that is given beside the question."""
     if scope.policy is None:
@@ -98,11 +105,11 @@ def asked_in(scope: Scope, world: World, question: Question) -> Asked:
     pattern = question.resource
     found = [it for it in world["resources"] if any_matches([pattern], names_of_resource(it["arn"]))]
     added = []
-    if not found and ARN.fullmatch(pattern) and not is_pattern(pattern):
+    if not found and ARN.fullmatch(pattern) and not is_pattern(pattern) and not kinds.is_absent_role(world, pattern):
         found, added = [kinds.beside(world, pattern, account_for(scope, world, pattern))], [pattern]
-    witnesses, without = (
-        kinds.resources(world, pattern, world["actions"]) if scope.kinds and is_pattern(pattern) else ([], [])
-    )
+    has_kinds = scope.kinds and is_pattern(pattern)
+    nothing = kinds.Witnesses([], [], [])
+    witnesses, without, absent = kinds.resources(world, pattern, world["actions"]) if has_kinds else nothing
     found += [it.resource for it in witnesses]
     estate = scope.source.estate
     resources = [bound(estate, dressed(scope, it)) if estate else dressed(scope, it) for it in found]
@@ -113,7 +120,7 @@ def asked_in(scope: Scope, world: World, question: Question) -> Asked:
     stand: Origins = {}
     for it in witnesses:
         stand.setdefault(it.resource["arn"], it.origin)
-    return Asked(narrow, stand, without, added)
+    return Asked(narrow, stand, without, added, absent)
 
 
 def worlds(scope: Scope, question: Question) -> List[Asked]:
@@ -134,6 +141,8 @@ def missing(scope: Scope, question: Question) -> str:
     if not any(principals(it["principals"], question) for it in found):
         people = [principal_arn(one) for it in found for one in it["principals"]]
         return f"no principal matches {question.principal}{near(question.principal, people)}"
+    if any(kinds.is_absent_role(it, question.resource) for it in found):
+        return f"no export has the role {question.resource}, so nobody may assume it"
     hint = near(question.resource, [one["arn"] for it in found for one in it["resources"]])
     more = ", resources by --resources," if scope.source.estate else ""
     return f"no resource matches {question.resource}{hint}: name its ARN{more} or ask with --kinds"

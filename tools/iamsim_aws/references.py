@@ -74,10 +74,12 @@ class References:
     def actions(self) -> List[str]:
         return [f"{it.name}:{name}" for it in self.services.values() for name in it.names]
 
-    def pairs(self, world: World) -> List[bool]:
-        """Whether a service has the request of each action and resource, in the order of cells; of one without a file, yes."""
+    def pairs(self, world: World, keeps_unknown: bool = False) -> List[bool]:
+        """Whether a service has the request of each action and resource, in the order of cells; of one without a file, yes.
+        Actions that the files lack may be kept."""
         pairs = ((action, it["arn"]) for action in world["actions"] for it in world["resources"])
-        return [not self.services or self.keeps(*it) for it in pairs]
+        kept = {it for it in world["actions"] if not self.services or keeps_unknown and not self.knows(it)}
+        return [action in kept or self.keeps(action, arn) for action, arn in pairs]
 
     def has_file(self, action: str) -> bool:
         return action.lower().partition(":")[0] in self.services

@@ -187,9 +187,16 @@ def is_brief(text: str) -> bool:
     return '"statements":[' not in text[:65536].replace(" ", "")
 
 
+class Lines(io.StringIO):
+    """Takes rows that end with both signs of a line's end, so that a field with either is quoted, and keeps the last."""
+
+    def write(self, text: str) -> int:
+        return super().write(text[:-2] + "\n")
+
+
 def csv_text(header: List[str], rows: Any) -> str:
-    out = io.StringIO(newline="")
-    writer = csv.writer(out, lineterminator="\n")
+    out = Lines(newline="")
+    writer = csv.writer(out, lineterminator="\r\n")
     writer.writerow(header)
     writer.writerows(rows)
     return out.getvalue()

@@ -3,11 +3,13 @@
 from typing import Any, Dict, Iterable, Iterator, List, NamedTuple, Tuple
 
 from .changing import Changes, same_cell
+from .documents import statements_of
 from .faults import TOLD, line_of
 from .kinds import Origins, stand_words
 from .references import is_mixed
 from .reports import csv_text
-from .telling import BY, LACKS, causes
+from .strangers import is_stranger
+from .telling import BY, LACKS, deciding, is_everything
 
 KINDS = ("gained", "lost")
 MIXED = "of an action of one service on a resource of another (--services FOLDER leaves out those that no service has)"
@@ -29,6 +31,7 @@ class Line(NamedTuple):
     given: str
     why: List[str]
     stand: Origins
+    is_administrator: bool
 
     def is_mixed(self) -> bool:
         return is_mixed(self.action, self.resource)
@@ -38,13 +41,12 @@ class Line(NamedTuple):
         return next(iter(stand_words(self.stand, text)), text)
 
 
-def lines_of(changes: Changes) -> List[Line]:
-    return [line_for(changes, it, True) for it in changes.lost] + [
-        line_for(changes, it, False) for it in changes.gained
-    ]
+def lines_of(changes: Changes, is_verbose: bool = False) -> List[Line]:
+    cells = [(it, True) for it in changes.lost] + [(it, False) for it in changes.gained]
+    return [line_for(changes, it, is_lost, is_verbose) for it, is_lost in cells]
 
 
-def line_for(changes: Changes, cell: int, is_lost: bool) -> Line:
+def line_for(changes: Changes, cell: int, is_lost: bool, is_verbose: bool) -> Line:
     """A request that changes, and why it is decided now as it is; where it is no longer there, as it was."""
     one, other = (changes.before, changes.after) if is_lost else (changes.after, changes.before)
     there = same_cell(changes, cell, is_lost)
@@ -54,13 +56,15 @@ def line_for(changes: Changes, cell: int, is_lost: bool) -> Line:
     answers, at = (other, there) if is_lost and there is not None else (one, cell)
     answer = answers.at(at)
     before = "was " if is_lost and there is None else ""
-    why = [f"{before}{BY[answer.decision]} {it.words()}" for it in causes(answers, at)] + [
+    why = [f"{before}{BY[answer.decision]} {it.words()}" for it in deciding(answers, at, is_verbose)] + [
         f"lacks {it}: {LACKS[it]}" for it in answer.lacks
     ]
     if is_lost and there is not None:
-        why += [f"was {BY['allowed']} {it.words()}" for it in causes(one, cell)]
+        why += [f"was {BY['allowed']} {it.words()}" for it in deciding(one, cell, is_verbose)]
     request = row.principal, row.action, row.resource
-    return Line("lost" if is_lost else "gained", *request, *decisions, changes.given, why, changes.stand)
+    is_administrator = may_everything(one.world["principals"][one.place(cell)[0]])
+    change = "lost" if is_lost else "gained"
+    return Line(change, *request, *decisions, changes.given, why, changes.stand, is_administrator)
 
 
 def parted(lines: List[Line]) -> List[Tuple[str, List[Line]]]:
@@ -69,6 +73,24 @@ def parted(lines: List[Line]) -> List[Tuple[str, List[Line]]]:
     kinds = [(kind, [it for it in plain if it.change == kind]) for kind in KINDS]
     mixed = sorted((it for it in lines if it.is_mixed()), key=lambda it: KINDS.index(it.change))
     return [(title, of) for title, of in [*kinds, (f"{len(mixed)} {MIXED}", mixed)] if of]
+
+
+def may_everything(principal: Dict[str, Any]) -> bool:
+    """Whether an identity policy allows a principal everything."""
+    every = (statement for it in principal.get("identity") or [] for statement in statements_of(it.document))
+    return not is_stranger(principal) and any(map(is_everything, every))
+
+
+def verdict(lines: List[Line], requests: int) -> str:
+    """What is gained and lost, and by how many."""
+    told = []
+    for kind in KINDS:
+        of = [it for it in lines if it.change == kind]
+        who = len({it.principal for it in of})
+        by = f" by {who} principal{'s' if who > 1 else ''}" if of else ""
+        is_grave = kind == "gained" and any(it.is_administrator for it in of)
+        told.append(f"{len(of)} {kind}{by}{', among them an administrator,' if is_grave else ''}")
+    return f"{' and '.join(told)}, of {requests} requests"
 
 
 def summary(lines: List[Line], requests: int) -> str:
@@ -153,7 +175,7 @@ def fitting(pieces: Iterable[Tuple[str, int]], room: int) -> Tuple[List[str], in
 
 def as_markdown(lines: List[Line], requests: int) -> str:
     """For a comment on GitHub, with what was told on standard error; its last line says what it has no room for."""
-    head = f"**{summary(lines, requests)}**"
+    head = f"**{verdict(lines, requests)}**"
     notes, untold = fitting(((f"- {code(it)}", 1) for it in TOLD), LIMIT // 4)
     notes = ["", "### Notes", "", *notes] if notes else []
     rows, left = fitting(pieces_of(lines), LIMIT - LAST - len("\n".join([head, *notes])))

@@ -15,12 +15,12 @@ def is_wide(name: str) -> bool:
     return not name.strip("*?/")
 
 
-def is_known_action(scope: Scope, asked: str) -> bool:
-    """Whether a list of actions or a policy names an action that a pattern means."""
+def named_actions(scope: Scope, asked: str) -> List[str]:
+    """The actions that lists and policies name; for a pattern the patterns of policies too."""
     source = scope.source
-    spoken = patterns_of_actions(source.world([ASSUME]))
-    named = [*source.references.actions(), *source.actions, *(it for it in spoken if not is_wide(it.partition(":")[2]))]
-    return any(common(it, asked, True) for it in named)
+    spoken = [it for it in patterns_of_actions(source.world([ASSUME])) if not is_wide(it.partition(":")[2])]
+    known = [it for it in spoken if is_pattern(asked) or not is_pattern(it)]
+    return [*source.references.actions(), *source.actions, *known]
 
 
 def is_known_resource(scope: Scope, asked: str) -> bool:
@@ -44,8 +44,10 @@ def may_mean(asked: str, pattern: str) -> bool:
 def slips(scope: Scope, question: Question) -> List[str]:
     """A line for each name of a question that is likely a slip."""
     action, resource, found = question.action, question.resource, []
-    if not is_wide(action) and not is_known_action(scope, action):
-        what = f"no list and no policy names an action that {action} means, but for all of a service"
+    named = [] if is_wide(action) else named_actions(scope, action)
+    if not is_wide(action) and not any(common(it, action, True) for it in named):
+        but = "for all of a service" if is_pattern(action) else f"by a pattern{near(action, named)}"
+        what = f"no list and no policy names an action that {action} means, but {but}"
         found.append(f"{what}: is it a slip? If not, give its actions by --actions FILE or --services FOLDER")
     if is_pattern(resource) and not is_wide(resource_part(resource)) and not is_known_resource(scope, resource):
         hint = near(resource, [it["arn"] for it in scope.source.world([ASSUME])["resources"]])

@@ -5,6 +5,7 @@ import time
 from typing import Any, Callable, Dict, List, Optional, Tuple
 
 from . import files
+from .arns import resource_part, service_of
 from .documents import World, dressed
 from .exports import read_exports
 from .faults import Fault, tell
@@ -116,6 +117,26 @@ def refuse_shape(given: Any, what: str) -> None:
                 raise Fault(f"{what}: it is no world: {axis}/{n} is not of the form of a world")
 
 
+def is_role(resource: Dict[str, Any]) -> bool:
+    return service_of(resource["arn"]) == "iam" and resource_part(resource["arn"]).startswith("role/")
+
+
+def for_actions(world: World, has_sts: bool, has_iam: bool) -> World:
+    """A world that was made before, for these actions: a role's trust policy says nothing on iam: actions."""
+    if has_sts or not has_iam:
+        return world
+    trust = ("policy", "sealed", "control")
+    resources = [{k: v for k, v in it.items() if k not in trust} if is_role(it) else it for it in world["resources"]]
+    return {**world, "resources": resources}
+
+
+def refuse_untrusted(world: World) -> None:
+    """Where a role has no trust policy, nothing says who may assume it."""
+    for it in world["resources"]:
+        if is_role(it) and "policy" not in it:
+            raise Fault(f"the world has no trust policy of {it['arn']}: make it with an sts: action")
+
+
 class Source:
     """Makes worlds of actions: of exports, or of one world; `change` makes another world of each."""
 
@@ -126,6 +147,8 @@ class Source:
         self.references = references
         self.change: Callable[[World], World] = lambda world: world
         self.made: Dict[Tuple[bool, bool], World] = {}
+        # Whether roles have trust policies, so that iam: actions want a world of their own.
+        self.has_trust = given is None or any(is_role(it) and "policy" in it for it in given["resources"])
 
     def like(self, estate: Optional[Estate], change: Callable[[World], World]) -> "Source":
         """A source of the same form, of another estate or of changed worlds."""
@@ -141,15 +164,16 @@ class Source:
     def world(self, actions: List[str]) -> World:
         kind = has_service(actions, "sts"), has_service(actions, "iam")
         if kind not in self.made:
-            found = self.given if self.estate is None else world_of(self.estate, actions)
-            assert found is not None
+            found = for_actions(self.given or {}, *kind) if self.estate is None else world_of(self.estate, actions)
             self.made[kind] = self.change(found)
         return {**self.made[kind], "actions": actions}
 
     def worlds(self, actions: List[str]) -> List[World]:
-        """Worlds that together have these actions. A role's trust policy decides on sts: and on no iam: action, so
-        exports never give one world for both."""
-        of_iam = [it for it in actions if self.estate is not None and has_service([it], "iam")]
+        """Worlds that together have these actions. A role's trust policy decides on sts: and on no iam: action, so there is
+        no one world for both."""
+        if self.given is not None and has_service(actions, "sts") and not has_service(self.given["actions"], "sts"):
+            refuse_untrusted(self.given)
+        of_iam = [it for it in actions if self.has_trust and has_service([it], "iam")]
         groups = [[it for it in actions if it not in of_iam], of_iam]
         return [self.world(it) for it in groups if it]
 

@@ -1,13 +1,14 @@
 """Answers in words: statements by their policies' names, what lacks, and what an answer hangs on."""
 
 import json
-from typing import Any, Dict, List, NamedTuple, Tuple
+from typing import Any, Callable, Dict, List, NamedTuple, Tuple
 
 from .arns import account_of, principal_arn
-from .documents import Policy, World, statements_of
+from .documents import Policy, World, each, statements_of
 from .faults import line_of
 from .hanging import Turn
-from .kinds import Origins
+from .kinds import Origins, speaks_of, texts_of
+from .patterns import VARIABLE, any_matches
 from .reports import Answers
 from .strangers import is_stranger
 
@@ -27,6 +28,8 @@ LACKS = {
     "boundary": "the principal's permissions boundary does not allow this",
     "session": "no session policy of the session allows this",
 }
+# The layers that keep back what others allow.
+LIMITS = ("org", "control", "boundary")
 BY = {"allowed": "allowed by", "explicitDeny": "denied by", "implicitDeny": "allowed, which does not suffice, by"}
 
 
@@ -82,6 +85,60 @@ def causes(answers: Answers, cell: int) -> List[Cause]:
     return list(found.values())
 
 
+def is_everything(statement: Any) -> bool:
+    """Whether a statement allows all to all, as FullAWSAccess does."""
+    plain = isinstance(statement, dict) and statement.get("Effect") == "Allow" and not statement.get("Condition")
+    return plain and all(each(statement.get(name)) == ["*"] for name in ("Action", "Resource"))
+
+
+def deciding(answers: Answers, cell: int, is_verbose: bool = False) -> List[Cause]:
+    """The statements that decide, those of the organisation last; without limits that keep nothing, unless they are wanted."""
+    every = causes(answers, cell)
+    some = [it for it in every if it.layer not in LIMITS or not is_everything(it.statement)] or every
+    return every if is_verbose else sorted(some, key=lambda it: it.layer in ("org", "control"))
+
+
+def nearest(answers: Answers, cell: int) -> List[str]:
+    """A line on the identity statement that allows the action, but not there or not so."""
+    row = answers.row(cell)
+    principal = answers.world["principals"][answers.place(cell)[0]]
+    every = (
+        Cause("", "identity", policy.name, n, it)
+        for policy in principal.get("identity") or []
+        for n, it in enumerate(statements_of(policy.document))
+        if isinstance(it, dict) and it.get("Effect") == "Allow"
+    )
+    found: Dict[bool, str] = {}
+    for it in every:
+        if any_matches(texts_of(it.statement, "Action"), [row.action], True):
+            patterns = texts_of(it.statement, "Resource")
+            is_there = any_matches((VARIABLE.sub("*", text) for text in patterns), [row.resource])
+            of = f"it is of {', '.join(patterns) or 'other resources'}"
+            why = "its condition or variables do not hold" if is_there else of
+            found.setdefault(is_there, f"    nearest is {it.words()}: {why}")
+    return [found[max(found)]] if found else []
+
+
+def silent_levels(layer: str) -> Callable[[Answers, int], List[str]]:
+    """A line on each level of which no policy speaks of a request, from the root down."""
+
+    def told_of(answers: Answers, cell: int) -> List[str]:
+        (p, _, r), row, lines = answers.place(cell), answers.row(cell), []
+        for n, level in enumerate(policies_of(answers.world, p, r, layer)):
+            every = [it for policy in level for it in statements_of(policy.document) if it.get("Effect") == "Allow"]
+            own = [it for it in every if speaks_of(it, (row.action,))]
+            texts = [VARIABLE.sub("*", text) for it in own for text in texts_of(it, "Resource")]
+            if not any("NotResource" in it for it in own) and not any_matches(texts, [row.resource]):
+                lines.append(f"    level {n} from the root does not: {', '.join(policy.name for policy in level)}")
+        return lines
+
+    return told_of
+
+
+# What is told besides of a layer that lacks.
+HINTS = {"identity": nearest, "org": silent_levels("org"), "control": silent_levels("control")}
+
+
 def turn_words(turn: Turn) -> str:
     what = "allowed" if turn.decision == "allowed" else "denied"
     return f"{what} if `{turn.key}` is `{turn.value}`"
@@ -92,18 +149,19 @@ def request_words(answers: Answers, cell: int) -> str:
     return f"{row.principal} {row.action} {row.resource}"
 
 
-def told(answers: Answers, cell: int, turns: List[Turn], is_long: bool) -> List[str]:
+def told(answers: Answers, cell: int, turns: List[Turn], is_long: bool, is_verbose: bool = False) -> List[str]:
     """An answer in lines."""
     answer = answers.at(cell)
     lines = [f"{answer.decision}: {request_words(answers, cell)}"]
-    for it in causes(answers, cell):
+    for it in deciding(answers, cell, is_verbose):
         lines.append(f"  {BY[answer.decision]} {it.words()}")
         lines += (
             [f"    {line_of(it)}" for it in json.dumps(it.statement, indent=2, ensure_ascii=False).split("\n")]
             if is_long
             else []
         )
-    lines += [f"  lacks {it}: {LACKS[it]}" for it in answer.lacks]
+    for layer in answer.lacks:
+        lines += [f"  lacks {layer}: {LACKS[layer]}", *(HINTS[layer](answers, cell) if layer in HINTS else [])]
     lines += [f"  {turn_words(it)}" for it in turns]
     return [line_of(it) for it in lines]
 

@@ -91,8 +91,8 @@ def test_drafts_of_each_kind():
         changes(EXPORT, "--put", f"audit={nothing}"),
         {("lost", ALICE, "sts:AssumeRole", role): ("allowed", "implicitDeny")},
     )
-    # An inline policy of a group, and a boundary that knows all roles under app/: those that are there do not trust bob, another
-    # one, for which role/app/x stands, may.
+    # An inline policy of a group, and a boundary that knows all roles under app/: those that are there do not trust bob, and
+    # one that is not there is not asked for, which is told.
     same(
         set(changes(EXPORT, "--put", f"Homes={nothing}")),
         {
@@ -102,7 +102,9 @@ def test_drafts_of_each_kind():
     )
     boundary = file(document(statement(action="sts:AssumeRole", resource=f"{ACCOUNT}role/app/*")))
     found = changes(EXPORT, "--put", f"AtMost={boundary}", "--action", "sts:AssumeRole")
-    same(set(found), {("gained", BOB, "sts:AssumeRole", f"{ACCOUNT}role/app/x")})
+    same(found, {})
+    _, said = aws("changes", EXPORT, "--put", f"AtMost={boundary}", "--action", "sts:AssumeRole")
+    assert f"no export has these roles, so nobody may assume them: {ACCOUNT}role/app/x\n" in said, said
     same(
         set(changes(EXPORT, "--put", f"AtMost={nothing}", "--action", "sts:AssumeRole")),
         {("lost", BOB, "sts:AssumeRole", f"{ACCOUNT}role/app/deploy")},
@@ -277,6 +279,15 @@ def test_a_named_action_does_not_hide_the_rest_of_a_pattern():
     )
 
 
+def test_an_action_that_the_service_reference_lacks():
+    """It is asked for all the same where a draft names it, and told."""
+    draft = file(document(statement(action=["s3:NewAction", "s3:PutObject"])))
+    words = ["changes", EXPORT, "--put", f"ReadObjects={draft}", "--services", data("s3.json"), "--format", "csv"]
+    out, said = aws(*words, "--resource", "arn:aws:s3:::new/k", "--fail-on", "gained", status=3)
+    assert f"gained,{ALICE},s3:NewAction,arn:aws:s3:::new/k," in out, out
+    assert "the service reference lacks these actions, which are asked for all the same: s3:NewAction\n" in said, said
+
+
 def test_given_actions_join_those_of_the_draft():
     draft = file(document(statement(action=["s3:Get*", "s3:List*"]), statement("Allow", "dynamodb:Query")))
     both = [ALICE, f"{SESSION}deploy/s1"]
@@ -341,7 +352,8 @@ def test_a_choice_that_meets_nothing():
         "nothing names a resource that arn:aws:s3:::hoems/* means, but policies for all: is it a slip?\n" in said
     ), said
     _, said = aws(*words, "--action", "s3:PutObjekt")
-    assert "names an action that s3:PutObjekt means, but for all of a service: is it a slip? If not, give" in said, said
+    hint = "names an action that s3:PutObjekt means, but by a pattern (near is s3:PutObject): is it a slip? If not, give"
+    assert hint in said, said
     out, said = aws(*words, "--action", "kms:*", status=4)
     same(out, "0 lost and 0 gained, of 0 requests\n")
     assert "no request was compared" in said, said
@@ -435,6 +447,33 @@ def test_worlds_before_and_after():
     assert "say what changes" in said, said
 
 
+def test_worlds_with_and_without_trust_policies():
+    """What both are asked for is compared, also where one has roles with trust policies alone."""
+    role = {"arn": f"{ACCOUNT}role/r", "account": "111122223333"}
+    trusted = {**role, "sealed": True, "policy": document({"Effect": "Deny", "Principal": "*", "Action": "sts:*"})}
+    sides = [
+        small_world(*of, resources=[it], actions=("s3:GetObject", "iam:PassRole"))
+        for of, it in (([], trusted), ([document(statement(action="iam:PassRole"))], role))
+    ]
+    for one, other, change in ((0, 1, "gained"), (1, 0, "lost")):
+        found = changes("--before", file(sides[one]), "--after", file(sides[other]))
+        same(set(found), {(change, f"{ACCOUNT}user/ann", "iam:PassRole", role["arn"])})
+
+
+def test_worlds_in_which_one_stands_twice():
+    """As iamsim itself has it: of two that have one name nobody sees which is compared."""
+    allow = {**statement(), "Condition": {"Bool": {"aws:MultiFactorAuthPresent": "true"}}}
+    before, after = small_world(document(allow)), small_world(document(statement()))
+    for it in (before, after):
+        it["principals"].append({**it["principals"][0], "context": {"aws:MultiFactorAuthPresent": "true"}})
+    for one, other, word in ((before, after, "before"), (small_world(document()), after, "after")):
+        words = ["--before", file(one), "--after", file(other), "--fail-on", "gained"]
+        _, said = aws("changes", *words, status=1)
+        same(said, f"iamsim-aws: fault 8 Twice: {word} at principals/1 (arn:aws:iam::111122223333:user/ann)\n")
+        _, plain = run([IAMSIM, "changes", words[1], words[3]], status=1)
+        assert plain.startswith(f"fault 8 Twice: {word} at principals/1"), plain
+
+
 def test_changes_in_words_and_for_a_review():
     before = small_world(document(statement(Sid="Old|`", action="s3:GetObject")))
     after = small_world(document(statement("Deny", Sid="<b>No", action="s3:GetObject")))
@@ -455,7 +494,7 @@ def test_changes_in_words_and_for_a_review():
     same(
         out.splitlines(),
         [
-            "**1 lost and 0 gained, of 1 requests**",
+            "**0 gained and 1 lost by 1 principal, of 1 requests**",
             "",
             "### Lost",
             "",
@@ -488,7 +527,7 @@ def test_a_review_of_many_requests():
     same(
         out.splitlines(),
         [
-            "**0 lost and 10 gained, of 10 requests**",
+            "**10 gained by 1 principal, among them an administrator, and 0 lost, of 10 requests**",
             "",
             "### Gained",
             "",
@@ -614,7 +653,7 @@ def test_a_review_has_the_warnings():
     same(
         out.splitlines(),
         [
-            "**0 lost and 0 gained, of 0 requests**",
+            "**0 gained and 0 lost, of 0 requests**",
             "",
             "### Notes",
             "",
@@ -627,7 +666,7 @@ def test_a_review_has_the_warnings():
     out, said = aws(
         "changes", "--before", file(before), "--after", file(before), "--action", "s3:GetObject", "--format", "markdown"
     )
-    same((out, said), ("**0 lost and 0 gained, of 1 requests**\n", ""))
+    same((out, said), ("**0 gained and 0 lost, of 1 requests**\n", ""))
 
 
 def test_actions_without_the_service_reference():

@@ -201,28 +201,46 @@ def test_a_killed_run_goes_on():
             time.sleep(0.02)
         os.killpg(it.pid, signal.SIGKILL)
         it.wait()
+        with open(os.path.join(where, "lock"), "ab") as lock:
+            fcntl.flock(lock, fcntl.LOCK_EX)  # until what it had started has ended
         done, loaded = rows(
             where, "SELECT (SELECT sum(allowed) FROM worlds WHERE ended = 'done'), (SELECT count(*) FROM access)"
         )[0]
         same(done, loaded)
-        out, said = aws("who-can", "s3:GetObject", "*", "--database", os.path.join(where, "access.db"))
         left = len(rows(where, "SELECT world FROM worlds WHERE ended = 'waiting'"))
+        path = os.path.join(where, "access.db")
+        _, said = aws("who-can", "*", "*", "--database", path, status=6 if left else 0)
         assert left == 0 or f"{left} of " in said, said
     ended(given, 0)
     same(everything(where), everything(whole))
 
 
 def test_a_refused_policy_is_told_and_the_rest_is_there():
+    """All are told before any world is asked; a refused one takes away who has it alone, if that is wanted."""
     bad = user(A, "eve", document(statement(effect="allow")))
-    # Worlds of 8 requests have two principals at most: dan stands with ann, and eve with the role.
     where, some = folder(), exports([user(A, "dan"), bad])
-    _, said = ended(words(where, some, "--cells", "8"), 1)
-    fault = f"iamsim refuses a policy: {bad['Arn']} inline p0: statement 0: the Effect is neither Allow nor Deny (fault 8 BadEffect); of {bad['Arn']}"
-    assert fault in said and said.count("\n") == 1, said
+    some[1]["RoleDetailList"].append(role(B, "shut", document(statement(action="sts:AssumeRole"))))
+    where, given = folder(), words(folder(), some, "--cells", "8")[2:]
+    _, said = ended(["estate", where, *given], 1)
+    shut = f"arn:aws:iam::{B}:role/shut"
+    told = [
+        f"iamsim refuses a policy: {shut} trust policy: statement 0: a resource's policy has to name a Principal "
+        f"(fault 12 PrincipalMissing); of {shut}",
+        f"iamsim refuses a policy: {bad['Arn']} inline p0: statement 0: the Effect is neither Allow nor Deny "
+        f"(fault 8 BadEffect); of {bad['Arn']}",
+        "2 policies are refused, of 2 principals and resources, and nothing was asked: mend them, or leave out who has them "
+        "by --leave-out",
+    ]
+    same(said.splitlines(), [f"iamsim-aws: {it}" for it in told])
+    base = ["--database", os.path.join(where, "access.db")]
+    assert "it is no database of an estate" in aws("who-can", "*", "*", *base, status=1)[1]
+    _, said = ended(["estate", where, *given, "--leave-out"], 0)
+    left = f"iamsim-aws: left out, since a policy is refused: {shut}, {bad['Arn']}"
+    same(said.splitlines(), [*(f"iamsim-aws: {it}" for it in told[:2]), left])
     same(allowed(where), sorted(WANTED))
     for question in (["who-can"], ["can", "ann"]):
-        _, said = ended([*question, "iam:PassRole", "*/own", "--database", os.path.join(where, "access.db")], 0)
-        assert said.count(fault) == 1 and "what they would allow is missing" in said, said
+        _, said = ended([*question, "iam:PassRole", "*/own", *base], 0)
+        same(said.splitlines(), [left])
     ended(words(where, exports(), "--cells", "8", "--afresh"), 0)
     _, said = aws("who-can", "s3:GetObject", "*", "--database", os.path.join(where, "access.db"))
     same(said, "")
@@ -395,7 +413,7 @@ def test_reports_of_other_machines():
     where = folder()
     given = words(
         where,
-        exports([user(A, "dan"), user(A, "eve", document(statement(effect="allow")))]),
+        exports([user(A, "dan"), user(A, "e ve")]),
         "--cells",
         "8",
         "--moment",
@@ -414,7 +432,7 @@ def test_reports_of_other_machines():
     _, said = ended([*given, "--jobs", "1"], 1)
     assert "world 3 is not loaded: the report of world 3 cannot be read" in said, said
     _, said = ended(given, 1)
-    assert "(fault 8 BadEffect)" in said, said
+    assert f"fault 2 World: 3 BadRequester at principals/0 (arn:aws:iam::{A}:user/e ve)" in said, said
     same((allowed(where), os.listdir(os.path.join(where, "reports"))), (sorted(WANTED), []))
 
 
@@ -530,7 +548,7 @@ def test_reports_that_are_not_the_worlds():
 
 
 def test_a_program_that_is_killed():
-    where, text = folder(), f"#!/bin/sh\n[ \"$*\" != --version ] || exec {IAMSIM} --version\nprintf '[{{'\nkill -9 $$\n"
+    where, text = folder(), f"#!/bin/sh\n[ $1 = matrix ] || exec {IAMSIM} \"$@\"\nprintf '[{{'\nkill -9 $$\n"
     given, killed = words(where, exports()), file(text)
     os.chmod(killed, 0o755)
     _, said = run(["env", f"IAMSIM={killed}", AWS, *given], status=1)
@@ -593,6 +611,41 @@ def test_words_of_answers():
     ):
         _, said = aws(*question, *base, status=1)
         assert why in said, said
+
+
+def test_a_part_of_an_estate():
+    """What no world that is loaded has asked for is unknown, and never 'not allowed'."""
+    where = folder()
+    ended(words(where, exports(), "--cells", "8"), 0)
+    path = os.path.join(where, "access.db")
+    base, whole = ["--database", path], len(rows(where, "SELECT * FROM worlds"))
+    assert whole > 4
+    asked = ["cy", "s3:GetObject", OBJECT, *base]
+    aws("can", *asked)
+    [(n,)] = rows(where, f"SELECT world FROM worlds, principals p WHERE name = '{CY}' AND p.principal >= first_principal AND "
+                  "p.principal < end_principal AND first_action = 0 AND end_resource = 4")
+    there = rows(where, f"SELECT (end_principal - first_principal) * (end_action - first_action) * "
+                        f"(end_resource - first_resource) FROM worlds WHERE world = {n}")[0][0]
+    change = sqlite3.connect(path)
+    change.execute(f"UPDATE worlds SET ended = 'waiting' WHERE world = {n}")
+    change.execute("DELETE FROM access WHERE principal = (SELECT principal FROM principals WHERE name = ?)", (CY,))
+    change.commit()
+    out, said = aws("can", *asked, status=6)
+    assert out.startswith(f"unknown, since its world is not loaded or it was not asked for: {CY} s3:GetObject {OBJECT}\n"), out
+    assert f"1 of {whole} worlds of the estate are not loaded" in said, said
+    [found] = json.loads(aws("can", *asked, "--format", "json", status=6)[0])
+    same((found["decision"], found["statements"]), ("unknown", []))
+    out, _ = aws("can", *asked, "--format", "csv", status=6)
+    same([it[3] for it in csv.reader(io.StringIO(out))], ["decision", "unknown"])
+    # Of others all is known as before.
+    aws("can", "bob", "s3:GetObject", OBJECT, *base, status=3)
+    aws("can", "ann", "s3:GetObject", OBJECT, *base)
+    missing = f"of {there} of 80 requests nothing is known: their worlds are not loaded or they were not asked for"
+    out, _ = aws("who-can", "*", "*", *base, status=6)
+    assert out.splitlines()[0].endswith(f" of 80 requests; {missing}"), out
+    for kind in ("json", "csv"):
+        assert missing in aws("who-can", "*", "*", *base, "--format", kind, status=6)[1]
+    aws("who-can", "s3:GetObject", KEY, *base, status=6 if there == 16 else 0)
 
 
 def decided(it):

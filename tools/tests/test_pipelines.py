@@ -59,9 +59,44 @@ def test_no_answer_leaves_no_report_of_an_earlier_run():
     suite = xml.etree.ElementTree.parse(os.path.join(folder, "r.xml")).getroot()
     same([suite.get(it) for it in ("tests", "failures", "errors")], ["1", "0", "0"])
     [ran] = load(os.path.join(folder, "r.sarif"))["runs"]
-    same((ran["results"], ran["invocations"]), ([], [{"executionSuccessful": True}]))
+    same((ran["results"], ran["invocations"][0]["executionSuccessful"]), ([], True))
     said = rules("rules.txt", EXPORT, "--junit", "no/such/folder", status=1, folder=folder)
     same(said, "iamsim-aws: no/such/folder: No such file or directory\n")
+
+
+def test_what_is_told_is_in_both_reports():
+    """What is told of a rule stands with it, the rest beside all; and what was not asked fails there, with its reason."""
+    folder, names = room(), "arn:aws:sts::999988887777:federated-user/x"
+    deleted, short = "AIDAEXAMPLEEXAMPLE00", "alice"
+    linked = "arn:aws:iam::111122223333:role/aws-service-role/support.amazonaws.com/AWSServiceRoleForSupport"
+    grant = document(
+        *({"Effect": "Allow", "Principal": {"AWS": it}, "Action": "s3:*"} for it in (names, deleted, deleted, short, linked))
+    )
+    resources = file([{"arn": "arn:aws:s3:::b", "account": "111122223333", "policy": grant}])
+    written(folder, "rules.txt", "never chain s3:PutObjekt arn:aws:s3:::b\nalways alice s3:GetObject arn:aws:s3:::b\n")
+    given = ["rules.txt", EXPORT, "--resources", resources, "--junit", "r.xml", "--sarif", "r.sarif"]
+    said = rules(*given, status=0, folder=folder)
+    slip = next(line for line in said.splitlines() if "is it a slip?" in line)[len("iamsim-aws: ") :]
+    unasked = [
+        f"arn:aws:s3:::b policy names {names}, for whom nobody is asked",
+        f"arn:aws:s3:::b policy names {linked}, a service-linked role, for whom nobody is asked",
+    ]
+    others = [
+        f"arn:aws:s3:::b policy names {deleted}, the id of who is deleted: it means nobody",
+        f"arn:aws:s3:::b policy names {short}, which is no ARN and no account: it means nobody",
+    ]
+    for line in unasked + others:
+        same(said.count(line), 1, line)
+    suite = xml.etree.ElementTree.parse(os.path.join(folder, "r.xml")).getroot()
+    same([suite.get(it) for it in ("tests", "failures", "errors")], ["4", "2", "0"])
+    first, second, *rest = suite.findall("testcase")
+    same([[one.tag for one in it] for it in (first, second)], [["system-err"], []])
+    same((first[0].text, suite.find("system-err").text.splitlines()), (slip, others))
+    same([(it[0].tag, it[0].get("type"), it[0].text) for it in rest], [("failure", "unasked", it) for it in unasked])
+    [ran] = load(os.path.join(folder, "r.sarif"))["runs"]
+    found = [(it["ruleId"], it["level"], it["message"]["text"].rpartition("slip?")[0] != "") for it in ran["results"]]
+    same(found, [("note", "note", True), ("unasked", "error", False), ("unasked", "error", False)])
+    same([it["message"]["text"] for it in ran["invocations"][0]["toolExecutionNotifications"]], others)
 
 
 def test_files_are_named_from_the_top():
@@ -105,6 +140,7 @@ def test_rules_that_are_likely_a_slip():
         ("never chain s3:Putt* hoems/*", "s3:Putt*", "hoems/*"),
         ("never chain sts:AssumeRole *:role/app/d*", None, None),
         ("never chain iam:PassRole *:role/work*", "iam:PassRole", None),
+        ("never chain s3:GetObjct arn:aws:s3:::homes/*", "s3:GetObjct", None),
     ]
     for rule, action, resource in cases:
         found = slips(rule)
@@ -113,10 +149,13 @@ def test_rules_that_are_likely_a_slip():
         assert all(line.startswith(it) for line, it in zip(found, wanted)), f"{rule}: {found}"
     [line] = slips("never chain iam:* *")
     assert line.endswith(": is it a slip? If not, give its actions by --actions FILE or --services FOLDER"), line
-    [line] = slips("never chain sts:AssumeRole *:role/worker/*")
-    assert "means, but policies for all" in line, line
-    [line] = slips("never chain sts:AssumeRole *:role/people?/worker*")
-    assert f"means (near is {ROLES}worker), but policies for all" in line, line
+    # Only an action's own name counts as known: that s3:Get* fits it says nothing.
+    [line] = slips("never chain s3:GetObjct arn:aws:s3:::homes/*")
+    assert "s3:GetObjct means, but by a pattern (near is s3:GetObject): is it a slip?" in line, line
+    # A role that is not there is asked for by no rule.
+    for pattern, hint in (("*:role/worker/*", ""), ("*:role/people?/worker*", f" (near is {ROLES}worker)")):
+        out, _ = aws("rules", file(f"never chain sts:AssumeRole {pattern}\n"), EXPORT, status=4)
+        assert f"no resource matches {pattern}{hint}: name its ARN" in out, out
     # What a list of actions or the service reference has is no slip, nor is a rule that is broken or empty.
     same(slips("never chain kms:* *", EXPORT, "--services", data("kms.json")), [])
     same(slips("never chain kms:De* *", EXPORT, "--actions", file("kms:Decrypt\n")), [])

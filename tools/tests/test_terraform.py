@@ -45,6 +45,7 @@ def configured(address, **references):
     }
 
 
+ATTACH = ": --attach NAME=FILE@PRINCIPAL gives it to somebody"
 RESOURCES = file([{"arn": OBJECT, "account": "111122223333"}])
 
 
@@ -561,14 +562,14 @@ def test_a_managed_policy_that_the_export_does_not_hold():
     assert f"allowed by {arn}, statement 0 (identity policy)" in out, out
     # Without a plan nobody has it; the same of a policy of the export that nobody has.
     _, said = aws("changes", EXPORT, "--put", f"{arn}={draft}", status=1)
-    same(said, f"iamsim-aws: --put {arn}: nobody has this policy, so the draft changes nothing\n")
+    same(said, f"iamsim-aws: --put {arn}: nobody has this policy, so the draft changes nothing{ATTACH}\n")
     export = load(EXPORT)
     export["Policies"].append(
         {**export["Policies"][1], "PolicyName": "Unused", "Arn": f"{ACCOUNT}policy/limits/Unused"}
     )
     for name in ("Unused", f"{ACCOUNT}policy/limits/Unused"):
         _, said = aws("changes", file(export), "--put", f"{name}={draft}", status=1)
-        same(said, f"iamsim-aws: --put {name}: nobody has this policy, so the draft changes nothing\n")
+        same(said, f"iamsim-aws: --put {name}: nobody has this policy, so the draft changes nothing{ATTACH}\n")
     _, said = aws("changes", EXPORT, "--put", f"{arn.replace('policy/', '')}={draft}", status=1)
     assert "no policy and no resource is called so" in said, said
 

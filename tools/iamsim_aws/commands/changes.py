@@ -13,7 +13,7 @@ from ..paging import data, page
 from ..questions import Question, Scope
 from ..slips import slips
 from ..sources import ASSUME, Source, add_source
-from .parsers import add
+from .parsers import add, add_verbose
 
 
 def add_all(commands: Any) -> None:
@@ -30,6 +30,7 @@ def add_all(commands: Any) -> None:
     help_of_resource = "only resources whose ARN matches; an ARN that nothing names is asked for all the same"
     parser.add_argument("--resource", default="*", metavar="PATTERN", help=help_of_resource)
     parser.add_argument("--format", choices=["text", "csv", "markdown", "page"], default="text")
+    add_verbose(parser)
     help_of_status = "status 3 where anything changes, 4 where no request is of --action and --resource"
     parser.add_argument("--exit-status", action="store_true", help=help_of_status)
     help_of_fail_on = "status 3 where such a request is told, 4 where no request is of --action and --resource"
@@ -45,7 +46,7 @@ def run(options: argparse.Namespace) -> int:
     tell_actions(after, patterns)
     plain = [it for it in found if not it.given]
     tell_strangers(after, [world for it in plain for world in changed(it)])
-    lines = [line for it in found for line in reviews.lines_of(it)]
+    lines = [line for it in found for line in reviews.lines_of(it, options.verbose)]
     requests, left = sum(it.requests for it in plain), sum(it.left for it in plain)
     if left:
         tell(f"{left} requests that change are left out, since no service has them (--services)")

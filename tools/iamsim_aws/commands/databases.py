@@ -2,7 +2,7 @@
 
 import argparse
 import sqlite3
-from typing import Iterator, List
+from typing import Iterator, Set
 
 from .. import files
 from ..estates import schema
@@ -12,7 +12,7 @@ from ..reports import csv_text
 
 HEADER = ["principal", "action", "resource", "decision", "policies"]
 OTHERS = ["exports", "world", "names", "actions", "resources", "organization", "context", "moment", "services"]
-OTHERS += ["kinds", "policy", "sealed", "account", "chains"]
+OTHERS += ["kinds", "policy", "sealed", "account", "chains", "put", "attach", "terraform"]
 
 
 def opened(options: argparse.Namespace) -> Database:
@@ -21,7 +21,7 @@ def opened(options: argparse.Namespace) -> Database:
         if getattr(options, it, None):
             raise Fault(f"--database answers alone: leave {'exports' if it == 'exports' else f'--{it}'} out")
     found = Database(options.database)
-    for line in schema.unfinished(found.base):
+    for line in [*schema.unfinished(found.base), *schema.left_out(found.base)]:
         tell(line)
     return found
 
@@ -43,13 +43,15 @@ def write(options: argparse.Namespace, base: Database, some: Iterator[Request], 
     files.write("]\n")
 
 
+STATUSES = {"allowed": 0, "notAllowed": 3, "unknown": 6}
+
+
 def can(options: argparse.Namespace) -> int:
-    lacking: List[Request] = []
+    decisions: Set[str] = set()
 
     def noted(some: Iterator[Request]) -> Iterator[Request]:
         for it in some:
-            if it.reason is None and not lacking:
-                lacking.append(it)
+            decisions.add(it.decision)
             yield it
 
     try:
@@ -58,18 +60,23 @@ def can(options: argparse.Namespace) -> int:
         write(options, base, noted(base.every()), True)
     except sqlite3.Error as error:
         raise Fault(f"{options.database}: {error}") from None
-    return 3 if lacking else 0
+    return max(STATUSES[it] for it in decisions)
 
 
 def who_can(options: argparse.Namespace) -> int:
     try:
         base = opened(options)
         people, actions, resources = base.choice("*", options.action, options.resource)
+        cells, unknown = people * actions * resources, base.unknown()
+        why = "their worlds are not loaded or they were not asked for"
+        missing = f"of {unknown} of {cells} requests nothing is known: {why}"
         if options.format == "text":
             who, count = base.counted()
-            cells = people * actions * resources
-            files.write(f"{who} of {people} principals are allowed, by {count} of {cells} requests\n")
+            more = f"; {missing}" if unknown else ""
+            files.write(f"{who} of {people} principals are allowed, by {count} of {cells} requests{more}\n")
+        elif unknown:
+            tell(missing)
         write(options, base, base.allowed(), False)
     except sqlite3.Error as error:
         raise Fault(f"{options.database}: {error}") from None
-    return 0
+    return STATUSES["unknown"] if unknown else 0

@@ -12,7 +12,7 @@ from typing import Any, Dict, List, Tuple
 from .. import files, program
 from ..estates import running, schema
 from ..estates.planning import Plan
-from ..faults import Fault, tell
+from ..faults import Fault, line_of, tell
 from ..references import References
 from ..sources import ASSUME, add_options, estate_of, read_actions, refuse_unknown
 from ..splitting import CELLS
@@ -33,6 +33,8 @@ def add_all(commands: Any) -> None:
     parser.add_argument("--jobs", metavar="N", help="so many worlds side by side, as 'parallel --jobs' reads it")
     parser.add_argument("--sshlogin", action="append", default=[], metavar="LOGIN", help="as 'parallel --sshlogin'")
     parser.add_argument("--slurm", action="store_true", help="makes the worlds and a Slurm array job, and asks nothing")
+    help_of_left = "leaves out principals and resources with a policy that is refused, which is told"
+    parser.add_argument("--leave-out", action="store_true", help=help_of_left)
     parser.add_argument("--afresh", action="store_true", help="begins anew where the folder holds another estate")
 
 
@@ -57,6 +59,7 @@ def sums(options: argparse.Namespace) -> List[Tuple[str, str, str]]:
 def key_of(options: argparse.Namespace, found: List[Tuple[str, str, str]]) -> str:
     """What tells one estate from another; the names of the files do not matter."""
     parts = [sorted((kind, of) for _, kind, of in found), options.session, options.cells]
+    parts += ["leave out"] if options.leave_out else []
     return hashlib.sha256(json.dumps(parts).encode()).hexdigest()
 
 
@@ -66,6 +69,22 @@ def commit() -> str:
         return ""
     ran = subprocess.run(["git", "-C", program.TOP, "rev-parse", "HEAD"], capture_output=True, text=True)
     return ran.stdout.strip() if ran.returncode == 0 else ""
+
+
+def refuse(made: Plan, leaves_out: bool) -> None:
+    """All policies that are refused are told before any world is asked."""
+    for line in made.refused:
+        tell(f"iamsim refuses a policy: {line}")
+    if any(it.startswith("account ") for it in made.left_out):
+        why = "a policy of the organisation is refused, and binds all principals of its account"
+        raise Fault(f"{why}: nothing was asked")
+    if made.refused and not leaves_out:
+        count = f"{len(made.refused)} policies are refused, of {len(made.left_out)} principals and resources"
+        raise Fault(f"{count}, and nothing was asked: mend them, or leave out who has them by --leave-out")
+
+
+def version() -> str:
+    return program.run(["--version"], b"").decode().strip()
 
 
 def plan(options: argparse.Namespace, base: sqlite3.Connection, key: str, found: List[Tuple[str, str, str]]) -> None:
@@ -81,11 +100,12 @@ def plan(options: argparse.Namespace, base: sqlite3.Connection, key: str, found:
     schema.create(base)
     made = Plan(base, options.folder, estate, actions, options.cells)
     made.make(options.exports)
+    refuse(made, options.leave_out)
     accounts = {path: account for account, paths in made.parts.items() for path in paths}
     schema.fill(base, "files", [(*it, accounts.get(it[0]) if it[1] == "export" else None) for it in found])
-    version = program.run(["--version"], b"").decode().strip()
-    said: Dict[str, Any] = {"key": key, "program": version, "commit": commit(), "moment": estate.moment}
-    schema.fill(base, "asked", [(name, str(it)) for name, it in {**said, "session": options.session}.items()])
+    said: Dict[str, Any] = {"key": key, "program": version(), "commit": commit(), "moment": estate.moment}
+    said.update({"session": options.session, "left out": "\n".join(map(line_of, made.left_out))})
+    schema.fill(base, "asked", [(name, str(it)) for name, it in said.items()])
     base.execute("COMMIT")
 
 
@@ -105,6 +125,10 @@ def begin(options: argparse.Namespace) -> sqlite3.Connection:
     is_later = options.moment is not None and str(options.moment) != schema.asked(base, "moment")
     if schema.asked(base, "key") != key or is_later:
         raise Fault(f"{path}: it is of other files or options: name another folder, or begin anew by --afresh")
+    if schema.asked(base, "program") != version():
+        was = schema.asked(base, "program")
+        what = f"it was begun with {was}, and this is {version()}"
+        raise Fault(f"{path}: {what}: begin anew by --afresh, or use that one")
     # What failed for want of memory, say, is tried again.
     base.execute("UPDATE worlds SET ended = 'waiting', fault = NULL WHERE ended = 'failed'")
     return base
@@ -112,7 +136,7 @@ def begin(options: argparse.Namespace) -> sqlite3.Connection:
 
 def estate(options: argparse.Namespace) -> int:
     try:
-        os.makedirs(options.folder, exist_ok=True)
+        running.claim(options.folder)
         lock = running.locked(options.folder)
         if not options.slurm:
             running.parallel()
@@ -146,7 +170,7 @@ def ask(options: argparse.Namespace, base: sqlite3.Connection, lock: Any) -> int
 def told(base: sqlite3.Connection, count: int) -> int:
     cells, allowed = base.execute("SELECT sum(cells), sum(allowed) FROM worlds WHERE ended = 'done'").fetchone()
     lines = schema.unfinished(base)
-    for line in lines:
+    for line in [*lines, *schema.left_out(base)]:
         tell(line)
     files.write(f"{count} worlds, {cells or 0} requests asked for, {allowed or 0} allowed\n")
     return 1 if lines else 0

@@ -24,6 +24,8 @@ def add_all(commands: Any) -> None:
 
 def world_for(source: Source) -> World:
     """The one world of the source; of exports by default who may assume which role."""
+    if source.estate is None:
+        return source.world(source.actions)
     found = source.worlds(source.actions or [ASSUME])
     if len(found) > 1:
         raise Fault("a trust policy decides on sts: actions and on no iam: action: make a page of each")

@@ -33,6 +33,11 @@ def add(
     return parser
 
 
+def add_verbose(parser: argparse.ArgumentParser) -> None:
+    what = "also tell the policies of limits that allow everything, as FullAWSAccess"
+    parser.add_argument("--verbose", action="store_true", help=what)
+
+
 def whole(text: str) -> int:
     """A whole number of at least 1."""
     if not text.isascii() or not text.isdigit() or int(text) < 1:

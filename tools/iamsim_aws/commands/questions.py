@@ -3,20 +3,20 @@
 import argparse
 from typing import Any, Dict, List, NamedTuple, Set
 
-from .. import chains, files, hanging
+from .. import chains, drafts, files, hanging
 from ..asking import ask
 from ..covering import tell_strangers
 from ..exports import policy
 from ..faults import Fault, line_of, tell
 from ..hanging import Turn
 from ..kinds import made_up, stand_words
-from ..questions import Asked, Question, Scope, missing, worlds
+from ..questions import Asked, Question, Scope, account_words, missing, worlds
 from ..reports import Answers, csv_text
 from ..sources import add_source, source_of
 from ..strangers import is_stranger
 from ..telling import HEADER, as_fields, as_json, told
 from . import databases
-from .parsers import add, whole
+from .parsers import add, add_verbose, whole
 
 
 class Found(NamedTuple):
@@ -55,7 +55,8 @@ def add_question(parser: argparse.ArgumentParser) -> None:
     parser.add_argument(
         "--sealed", action="store_true", help="that policy must grant in the same account too, as a KMS key's"
     )
-    parser.add_argument("--account", metavar="ID", help="the account of a resource whose ARN names none")
+    drafts.add_options(parser)
+    add_verbose(parser)
     parser.add_argument("--format", choices=["text", "json", "csv"], default="text")
     parser.add_argument("--database", metavar="FILE", help="ask the database of 'iamsim-aws estate', and nothing else")
 
@@ -63,7 +64,10 @@ def add_question(parser: argparse.ArgumentParser) -> None:
 def scope_of(options: argparse.Namespace) -> Scope:
     path = options.policy
     own = policy(files.name_of(path), files.read_json(path)) if path else None
-    return Scope(source_of(options), options.kinds, own, options.account, options.sealed)
+    source = source_of(options)
+    if drafts.is_changed(options):
+        source = drafts.before_and_after(source, options)[1]
+    return Scope(source, options.kinds, own, options.account, options.sealed)
 
 
 def answered(scope: Scope, question: Question) -> List[Found]:
@@ -81,12 +85,16 @@ def notes(found: List[Found]) -> List[str]:
     """What the answers cover, and which keys could turn them."""
     lines = []
     for asked, answers, turns in found:
-        lines += [f"{arn} is not in the world: it is asked for {policy_words(asked, arn)}" for arn in asked.added]
+        for arn in asked.added:
+            whose = account_words(asked.world, arn)
+            lines.append(f"{arn} is not in the world: it is asked for {policy_words(asked, arn)}{whose}")
         lines += stand_lines(asked, answers, turns)
         if asked.without:
             lines.append(
                 f"no text stands for these patterns, whose account or variables nothing gives: {', '.join(asked.without)}"
             )
+        if asked.absent:
+            lines.append(f"no export has these roles, so nobody may assume them: {', '.join(asked.absent)}")
         lines += key_notes(asked, turns)
     if any(it.asked.witnesses for it in found):
         lines.append(
@@ -150,7 +158,7 @@ def can(options: argparse.Namespace) -> int:
     lines = []
     for it in found:
         for cell in range(len(it.answers.numbers)):
-            lines += told(it.answers, cell, it.turns.get(cell, []), True)
+            lines += told(it.answers, cell, it.turns.get(cell, []), True, options.verbose)
     write(options, found, lines)
     return 0 if all(it.decision == "allowed" for of in found for it in of.answers.table) else 3
 
@@ -162,7 +170,7 @@ def who_can(options: argparse.Namespace) -> int:
     found = answered(scope, Question("*", options.action, options.resource))
     lines: List[str] = []
     for it in found:
-        lines += who_lines(it)
+        lines += who_lines(it, options.verbose)
     if options.chains:
         lines += chain_lines(scope, found, options.depth)
     write(options, found, lines)
@@ -170,7 +178,7 @@ def who_can(options: argparse.Namespace) -> int:
     return 0
 
 
-def who_lines(found: Found) -> List[str]:
+def who_lines(found: Found, is_verbose: bool) -> List[str]:
     """Who is allowed, and who would be with one key more; then the same of who is outside."""
     answers = found.answers
     outside = [is_stranger(it) for it in answers.world["principals"]]
@@ -178,24 +186,24 @@ def who_lines(found: Found) -> List[str]:
     some = [it for it in answers.allowed() if not outside[answers.place(it)[0]]]
     who, cells = len({answers.place(it)[0] for it in some}), people * answers.shape[1] * answers.shape[2]
     lines = [f"{who} of {people} principals are allowed, by {len(some)} of {cells} requests"]
-    lines += lines_for(found, some, [it for it in sorted(found.turns) if not outside[answers.place(it)[0]]])
+    lines += lines_for(found, some, [it for it in sorted(found.turns) if not outside[answers.place(it)[0]]], is_verbose)
     if any(outside):
         some = [it for it in answers.allowed() if outside[answers.place(it)[0]]]
         who = len({answers.place(it)[0] for it in some})
         what = "stand-ins for who is outside the exports are allowed, where their own accounts let them"
         lines.append(f"{who} of {sum(outside)} {what}")
-        lines += lines_for(found, some, [it for it in sorted(found.turns) if outside[answers.place(it)[0]]])
+        lines += lines_for(found, some, [it for it in sorted(found.turns) if outside[answers.place(it)[0]]], is_verbose)
     return lines
 
 
-def lines_for(found: Found, allowed: List[int], turned: List[int]) -> List[str]:
+def lines_for(found: Found, allowed: List[int], turned: List[int], is_verbose: bool) -> List[str]:
     _, answers, turns = found
     some = set(allowed)
-    lines = [line for it in allowed for line in told(answers, it, turns.get(it, []), False)]
+    lines = [line for it in allowed for line in told(answers, it, turns.get(it, []), False, is_verbose)]
     more = [it for it in turned if it not in some]
     if more:
         lines.append(f"{len(more)} more would be, with a key that nothing gives:")
-    return lines + [line for it in more for line in told(answers, it, turns[it], False)]
+    return lines + [line for it in more for line in told(answers, it, turns[it], False, is_verbose)]
 
 
 def chain_lines(scope: Scope, found: List[Found], depth: int) -> List[str]:

@@ -4,7 +4,6 @@ import argparse
 import csv
 import io
 import re
-import sys
 from typing import Any, Iterator
 
 from .. import files
@@ -77,7 +76,7 @@ def few(kept: References, rows: Iterator[Any]) -> Any:
 
 def split(options: argparse.Namespace) -> int:
     for it in parts(read_world(options.world), options.cells):
-        sys.stdout.buffer.write(world_bytes(it.world) + b"\n")
+        files.write_bytes(world_bytes(it.world) + b"\n")
     return 0
 
 
@@ -90,11 +89,13 @@ def matrices(options: argparse.Namespace) -> int:
         for word in (f"--{name}", str(getattr(options, name)))
     ]
     worlds = [it for it in files.read_bytes("-").splitlines() if it.strip()]
+    if not worlds:
+        raise Fault("standard input is empty: was there a fault?")
     answers = side_by_side(words, worlds, len(worlds))
     for number in range(len(worlds)):
         try:
             report = ROW.sub(rb"\1", next(answers))
         except Fault as fault:
             raise Fault(f"world {number}: {fault}") from None
-        sys.stdout.buffer.write(report if number == 0 else report[report.index(b"\n") + 1 :])
+        files.write_bytes(report if number == 0 else report[report.index(b"\n") + 1 :])
     return 0

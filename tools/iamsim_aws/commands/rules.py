@@ -2,19 +2,19 @@
 
 import argparse
 import time
-from typing import Any, List, Set
+from typing import Any, List, Sequence, Set, Tuple
 
 from .. import drafts, files
 from ..covering import tell_actions, tell_strangers
-from ..faults import Fault, line_of, tell
+from ..faults import TOLD, Fault, line_of, tell
 from ..kinds import stand_words
 from ..pipelines import Case, fault, junit, sarif
-from ..questions import Scope
+from ..questions import Scope, account_words
 from ..ruling import Break, Outcome, check, read_rules
 from ..slips import slips
 from ..sources import add_source, source_of
-from ..telling import BY, LACKS, causes
-from .parsers import add, whole
+from ..telling import BY, LACKS, deciding
+from .parsers import add, add_verbose, whole
 
 STATUSES = {"kept": 0, "broken": 3, "empty": 4}
 
@@ -31,12 +31,14 @@ def add_all(commands: Any) -> None:
     parser.add_argument(
         "--most", type=whole, default=20, metavar="N", help="tell so many requests of a broken rule (default: 20)"
     )
+    add_verbose(parser)
     parser.add_argument("--junit", metavar="FILE", help="writes a report for a pipeline")
     parser.add_argument("--sarif", metavar="FILE", help="writes a report for code scanning")
 
 
 def run(options: argparse.Namespace) -> int:
     """The status; where there is no answer, the reports for pipelines say so and none of an earlier run is left."""
+    files.refuse_taken([options.junit, options.sarif], inputs(options))
     report(options, [fault(files.name_of(options.rules), "it came to no answer")])
     try:
         return checked(options)
@@ -45,10 +47,33 @@ def run(options: argparse.Namespace) -> int:
         raise
 
 
-def report(options: argparse.Namespace, cases: List[Case]) -> None:
+def inputs(options: argparse.Namespace) -> List[str]:
+    """The files that are read."""
+    drafts_of = [it.rpartition("=")[2] for it in options.put]
+    drafts_of += [it.partition("=")[2].partition("@")[0] for it in options.attach]
+    named = [options.rules, options.world, options.names, options.actions, options.organization, options.terraform]
+    return [*filter(None, named), *options.exports, *options.resources, *options.context, *drafts_of]
+
+
+def report(options: argparse.Namespace, cases: List[Case], notes: Sequence[str] = ()) -> None:
     for path, write in ((options.junit, junit), (options.sarif, sarif)):
         if path:
-            files.write_file(path, write(cases))
+            files.write_file(path, write(cases, notes))
+
+
+def cases_of(options: argparse.Namespace, outcomes: List[Outcome], fails: Set[str]) -> Tuple[List[Case], List[str]]:
+    """The outcomes as reports for pipelines have them, and what was told that is of no rule. What was not asked fails there."""
+    every = list(dict.fromkeys(TOLD))
+    of_rules = {it.rule.name: [line for line in every if line.startswith(f"{it.rule.name}: ")] for it in outcomes}
+    cases = [case_of(it, options, fails, of_rules[it.rule.name]) for it in outcomes]
+    rest = [line for line in every if not any(line in of for of in of_rules.values())]
+    file = files.name_of(options.rules)
+    unasked = [Case(file, 1, "what was not asked", "unasked", [it], [it]) for it in filter(is_unasked, rest)]
+    return cases + unasked, [it for it in rest if not is_unasked(it)]
+
+
+def is_unasked(line: str) -> bool:
+    return any(it in line for it in ("not asked", "nobody is asked", "no text stands"))
 
 
 def checked(options: argparse.Namespace) -> int:
@@ -62,11 +87,11 @@ def checked(options: argparse.Namespace) -> int:
     scope = Scope(source, account=options.account)
     outcomes = check(scope, rules, options.as_given, before)
     notes(scope, outcomes)
-    files.write("".join(f"{line_of(line)}\n" for it in outcomes for line in lines_of(it, options.most)))
+    files.write("".join(f"{line_of(line)}\n" for it in outcomes for line in lines_of(it, options)))
     counts = {state: sum(it.state == state for it in outcomes) for state in STATUSES}
     files.write(f"{len(outcomes)} rules: " + ", ".join(f"{n} {state}" for state, n in counts.items()) + "\n")
     fails = {"broken"} if options.allow_empty else {"broken", "empty"}
-    report(options, [case_of(it, options.most, fails) for it in outcomes])
+    report(options, *cases_of(options, outcomes, fails))
     found = [STATUSES[state] for state in ("broken", "empty") if counts[state] and state in fails]
     return found[0] if found else 0
 
@@ -78,9 +103,13 @@ def notes(scope: Scope, outcomes: List[Outcome]) -> None:
     for it in outcomes:
         for line in slips(scope, it.rule.question) if it.rule.kind == "never" and it.state == "kept" else ():
             tell(f"{it.rule.name}: {line}")
-    added = {arn for it in outcomes for asked in it.asked for arn in asked.added}
-    for arn in sorted(added):
-        tell(f"{arn} is not in the world: it is asked for without a policy of its own, but its bucket's")
+    added = {arn: asked.world for it in outcomes for asked in it.asked for arn in asked.added}
+    for arn, world in sorted(added.items(), key=lambda it: it[0]):
+        whose = account_words(world, arn)
+        tell(f"{arn} is not in the world: it is asked for without a policy of its own, but its bucket's{whose}")
+    absent = {arn for it in outcomes for asked in it.asked for arn in asked.absent}
+    if absent:
+        tell(f"no export has these roles, so nobody may assume them: {', '.join(sorted(absent))}")
     without = {pattern for it in outcomes for asked in it.asked for pattern in asked.without}
     if without:
         tell(
@@ -88,31 +117,39 @@ def notes(scope: Scope, outcomes: List[Outcome]) -> None:
         )
 
 
-def message(broken: Break, giver: str) -> str:
+def message(broken: Break, giver: str, is_verbose: bool) -> str:
     """Why a request is decided as it is."""
     row, turn = broken.answers.row(broken.cell), broken.turn
-    why = [f"{BY[row.answer.decision]} {it.words()}" for it in causes(broken.answers, broken.cell)]
+    why = [f"{BY[row.answer.decision]} {it.words()}" for it in deciding(broken.answers, broken.cell, is_verbose)]
     why += [f"lacks {it}: {LACKS[it]}" for it in row.answer.lacks]
-    why += [f"was {BY['allowed']} {it.words()}" for it in (causes(*broken.before) if broken.before else [])]
+    before = deciding(*broken.before, is_verbose) if broken.before else []
+    why += [f"was {BY['allowed']} {it.words()}" for it in before]
     why += stand_words(broken.stand, row.action, row.resource)
     may = "may" if row.answer.decision == "allowed" else "may not"
     given = f" if `{turn.key}` is `{turn.value}`, which nothing gives ({giver} gives it)" if turn else ""
     return f"{row.principal} {may} {row.action} {row.resource}{given}: {'; '.join(why) or 'no statement speaks of it'}"
 
 
-def lines_of(outcome: Outcome, most: int) -> List[str]:
+def messages(outcome: Outcome, options: argparse.Namespace) -> List[str]:
+    return [message(it, outcome.giver, options.verbose) for it in outcome.broken[: options.most]]
+
+
+def lines_of(outcome: Outcome, options: argparse.Namespace) -> List[str]:
     rule = outcome.rule
     if outcome.state == "empty":
         return [f"empty: {rule.name}: {rule.text}: {outcome.empty}"]
     lines = [f"{outcome.state}: {rule.name}: {rule.text} ({outcome.requests} requests)"]
-    lines += [f"  {message(it, outcome.giver)}" for it in outcome.broken[:most]]
-    more = len(outcome.broken) - most
+    lines += [f"  {it}" for it in messages(outcome, options)]
+    more = len(outcome.broken) - options.most
     return [*lines, f"  and {more} more"] if more > 0 else lines
 
 
-def case_of(outcome: Outcome, most: int, fails: Set[str]) -> Case:
-    """An outcome as reports for pipelines have it."""
-    rule, passes = outcome.rule, outcome.state not in fails
-    reasons = [message(it, outcome.giver) for it in outcome.broken[:most]] or [outcome.empty]
-    lines = lines_of(outcome, most)
-    return Case(rule.file, rule.line, rule.text, outcome.state, [] if passes else lines, [] if passes else reasons)
+def case_of(outcome: Outcome, options: argparse.Namespace, fails: Set[str], notes: List[str]) -> Case:
+    """An outcome as reports for pipelines have it, with what was told of it."""
+    rule, unasked = outcome.rule, [it for it in notes if is_unasked(it)]
+    rest = [it for it in notes if it not in unasked]
+    if outcome.state not in fails:
+        return Case(rule.file, rule.line, rule.text, "unasked" if unasked else outcome.state, unasked, unasked, rest)
+    reasons = messages(outcome, options) or [outcome.empty]
+    lines = lines_of(outcome, options) + unasked
+    return Case(rule.file, rule.line, rule.text, outcome.state, lines, reasons + unasked, rest)

@@ -1,5 +1,6 @@
 """Questions to the database of an estate: what is allowed, and by which statements."""
 
+import bisect
 import json
 from typing import Any, Dict, Iterator, List, NamedTuple, Tuple
 
@@ -12,19 +13,37 @@ from . import schema
 NOTE = (
     "the database has what is allowed alone: not who is outside the exports, nor what hangs on keys that nothing gives"
 )
+WORDS = {
+    "allowed": "allowed",
+    "notAllowed": "not allowed",
+    "unknown": "unknown, since its world is not loaded or it was not asked for",
+}
 
 
 class Request(NamedTuple):
-    """A request, and the number of what allows it; none where it is not allowed."""
+    """A request, and the number of what allows it; none where it is not allowed, or not known, as of a world that is not
+    loaded."""
 
     principal: str
     action: str
     resource: str
     reason: Any
+    is_known: bool = True
 
     @property
     def decision(self) -> str:
-        return "notAllowed" if self.reason is None else "allowed"
+        return "allowed" if self.reason is not None else "notAllowed" if self.is_known else "unknown"
+
+
+class World(NamedTuple):
+    """A world that is loaded: the first and the end of its principals, actions and resources."""
+
+    p: int
+    end_p: int
+    a: int
+    end_a: int
+    r: int
+    end_r: int
 
 
 class Cause(NamedTuple):
@@ -44,6 +63,8 @@ class Database:
         self.base = schema.opened(path)
         self.base.execute("PRAGMA temp_store = MEMORY")
         self.known: Dict[int, List[Cause]] = {}
+        ranges = "first_principal, end_principal, first_action, end_action, first_resource, end_resource"
+        self.done = [World(*it) for it in self.base.execute(f"SELECT {ranges} FROM worlds WHERE ended = 'done'")]
 
     def choose(self, table: str, rows: List[int]) -> None:
         self.base.execute(f"CREATE TEMP TABLE {table} (n INTEGER PRIMARY KEY)")
@@ -85,11 +106,33 @@ class Database:
 
     def every(self) -> Iterator[Request]:
         """All chosen requests, in order."""
-        command = """SELECT p.name, a.name, r.arn, x.reason FROM some_principals sp CROSS JOIN some_actions sa CROSS JOIN some_resources sr
+        command = """SELECT p.name, a.name, r.arn, x.reason, sp.n, sa.n, sr.n
+          FROM some_principals sp CROSS JOIN some_actions sa CROSS JOIN some_resources sr
           LEFT JOIN access x ON x.principal = sp.n AND x.action = sa.n AND x.resource = sr.n
           JOIN principals p ON p.principal = sp.n JOIN actions a ON a.action = sa.n JOIN resources r ON r.resource = sr.n
           ORDER BY sp.n, sa.n, sr.n"""
-        return (Request(*it) for it in self.base.execute(command))
+        last: Tuple[int, int] = (-1, -1)
+        asked: List[World] = []
+        for *request, p, a, r in self.base.execute(command):
+            if (p, a) != last:
+                last, asked = (p, a), [it for it in self.done if it.p <= p < it.end_p and it.a <= a < it.end_a]
+            yield Request(*request, any(it.r <= r < it.end_r for it in asked))
+
+    def unknown(self) -> int:
+        """How many of the chosen requests of all principals no world that is loaded has asked for."""
+        people, actions, resources = map(self.rows_of, ("principals", "actions", "resources"))
+
+        def within(rows: List[int], first: int, end: int) -> int:
+            return bisect.bisect_left(rows, end) - bisect.bisect_left(rows, first)
+
+        known = sum(
+            within(people, it.p, it.end_p) * within(actions, it.a, it.end_a) * within(resources, it.r, it.end_r)
+            for it in self.done
+        )
+        return len(people) * len(actions) * len(resources) - known
+
+    def rows_of(self, name: str) -> List[int]:
+        return [it[0] for it in self.base.execute(f"SELECT n FROM some_{name} ORDER BY n")]
 
     def causes(self, it: Request) -> List[Cause]:
         """The statements that allow a request, none where it is not allowed; one that stands at several levels once."""
@@ -105,8 +148,7 @@ class Database:
 
     def told(self, it: Request, is_long: bool) -> List[str]:
         """An answer in lines."""
-        word = "not allowed" if it.reason is None else "allowed"
-        lines = [f"{word}: {it.principal} {it.action} {it.resource}"]
+        lines = [f"{WORDS[it.decision]}: {it.principal} {it.action} {it.resource}"]
         for cause in self.causes(it):
             lines.append(f"  allowed by {cause.words()}")
             if is_long:

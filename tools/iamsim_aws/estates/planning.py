@@ -7,6 +7,8 @@ from typing import Any, Dict, Iterable, Iterator, List, NamedTuple, Sequence, Se
 
 from .. import decimals, files
 from ..arns import principal_arn, principal_text
+from ..asking import whole
+from ..checking import holder_of, lines, refused_documents
 from ..documents import MEMBERS, Policy, bare, changed, statements_of
 from ..exports import Account, account_in, read_exports
 from ..faults import Fault, tell
@@ -91,6 +93,8 @@ class Plan:
         self.people = self.known = self.worlds = 0
         self.runs: List[Run] = []
         self.waiting: List[Item] = []
+        self.refused: Dict[str, None] = {}  # a line for each policy that iamsim refuses, and who has it
+        self.left_out: Dict[str, None] = {}
         self.owners: Dict[str, Item] = {}
         self.room = 200 + len(files.encoded(files.compact([estate.context or {}, self.groups])))
         self.statements, self.size = 0, self.room
@@ -101,7 +105,11 @@ class Plan:
         for account in sorted(self.parts):
             one = self.estate._replace(accounts=read_exports(self.parts[account]))
             self.seen = {}
-            for value in principals_of(one, []):
+            if self.refused_in("accounts", [self.estate.organization.account(account)]):
+                continue
+            people = principals_of(one, [])
+            out = self.refused_in("principals", people)
+            for value in (it for n, it in enumerate(people) if n not in out):
                 self.take_principal(account, value)
             self.flush()
         self.write_worlds()
@@ -113,6 +121,14 @@ class Plan:
         ]
         self.keep("accounts", rows)
         self.flush()
+
+    def refused_in(self, axis: str, values: List[Dict[str, Any]]) -> Set[int]:
+        """The numbers of those that have a policy which iamsim refuses; each such policy is kept in a line, with its holders."""
+        world = whole({"accounts": [], "principals": [], "resources": [], axis: values})
+        found = refused_documents(world)
+        self.refused.update(dict.fromkeys(lines(world, found)))
+        self.left_out.update((holder_of(world, it.path), None) for it in found)
+        return {int(it.path.split("/")[1]) for it in found}
 
     def keep(self, table: str, rows: Sequence[Tuple[Any, ...]]) -> None:
         self.rows.setdefault(table, []).extend(rows)
@@ -137,15 +153,19 @@ class Plan:
             tell(line)
         return whole
 
-    def take_resources(self, whole: Estate) -> None:
+    def take_resources(self, every_role: Estate) -> None:
         """Roles have their trust policy for sts: alone; they stand first, so that each resource has one number."""
         assumed, passed = has_service(self.groups[0], "sts"), bool(self.groups[1])
         kinds = [["sts:AssumeRole"] if assumed else [], ["iam:PassRole"] if passed else []]
-        lists = [[item_of("resources", it) for it in resources_of(whole, kind, [])] for kind in kinds]
+        given = [resources_of(every_role, kind, []) for kind in kinds]
+        # Who is left out for one kind of actions is so for the other, so that each resource keeps one number.
+        out = {of[n]["arn"] for of in given for n in self.refused_in("resources", of)}
+        lists = [[item_of("resources", it) for it in of if it["arn"] not in out] for of in given]
+        further = sum(it["arn"] not in out for it in every_role.further)
         every = lists[0] if len(lists[0]) >= len(lists[1]) else lists[1]
         if not every:
             raise Fault("the estate has no resources: see --resources, or ask for sts:AssumeRole")
-        refuse_doubles([it.value["arn"] for it in every[: len(every) - len(whole.further)]])
+        refuse_doubles([it.value["arn"] for it in every[: len(every) - further]])
         for n, it in enumerate(every):
             fields = (n, it.value["arn"], self.account(it.value["account"]), int(it.value.get("sealed") is True))
             self.keep("resources", [fields])

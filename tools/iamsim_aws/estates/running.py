@@ -4,13 +4,16 @@ import fcntl
 import os
 import shlex
 import shutil
+import signal
 import sqlite3
 import subprocess
 import sys
-from typing import IO, List, Optional
+import tempfile
+import time
+from typing import IO, Dict, List, Optional
 
 from .. import files
-from ..faults import Fault
+from ..faults import Fault, tell
 from ..program import processors, program
 from . import schema
 from .reading import kept
@@ -51,19 +54,45 @@ done
 exit "$status"
 """
 TASKS = 1000  # Slurm takes no more in an array unless it is told to
+MARKER = "iamsim-estate"
+# The job of a world here. Nothing is taken from the folder that it runs in or from who starts it (-I), and the standard
+# library is all that it wants (-S). Names come by the environment: GNU parallel replaces braces in a command.
+JOB = (
+    "import os, sys; sys.path.append(os.environ['IAMSIM_AWS_TOOLS']); "
+    "from iamsim_aws.estates.__main__ import main; sys.exit(main())"
+)
+COMMAND = f'"$IAMSIM_AWS_PYTHON" -I -S -c "{JOB}" "$IAMSIM_AWS_FOLDER" "$IAMSIM_AWS_WORKERS" {{}}'
+ENDING = 1.5  # the seconds that GNU parallel has to end by itself
+MINUTE = 60.0
+
+
+def claim(folder: str) -> None:
+    """Takes a folder that is empty, or an estate's already: what stands in another one is somebody else's."""
+    os.makedirs(folder, exist_ok=True)
+    marker = os.path.join(folder, MARKER)
+    if os.path.exists(marker):
+        return
+    if set(os.listdir(folder)) - {"lock"}:
+        what = f"it is neither empty nor the folder of an estate, which has the file {MARKER}"
+        raise Fault(f"{folder}: {what}: name another one")
+    files.write_file(marker, "This folder is made by 'iamsim-aws estate', which may remove all that stands here.\n")
 
 
 def locked(folder: str) -> IO[bytes]:
     """Holds the folder until this run and all of its jobs have ended."""
-    path = os.path.join(folder, "lock")
-    try:
-        it = open(path, "ab")
-        fcntl.flock(it, fcntl.LOCK_EX | fcntl.LOCK_NB)
-    except BlockingIOError:
-        raise Fault(f"{folder}: another run of 'iamsim-aws estate' works on it") from None
-    except OSError as error:
-        raise Fault(f"{path}: {error.strerror or error}") from None
-    return it
+    path, end = os.path.join(folder, "lock"), time.monotonic() + 2 * ENDING
+    while True:
+        try:
+            it = open(path, "ab")
+            fcntl.flock(it, fcntl.LOCK_EX | fcntl.LOCK_NB)
+            return it
+        except BlockingIOError:
+            # What a run has started that was killed ends soon after it.
+            if time.monotonic() > end:
+                raise Fault(f"{folder}: another run of 'iamsim-aws estate' works on it") from None
+            time.sleep(0.05)
+        except OSError as error:
+            raise Fault(f"{path}: {error.strerror or error}") from None
 
 
 def parallel() -> str:
@@ -92,16 +121,59 @@ def log_of(base: sqlite3.Connection, folder: str) -> str:
     return path
 
 
-def run(words: List[str], numbers: List[int], folder: str, lock: IO[bytes]) -> int:
-    """GNU parallel with these words, a number a job; it and its jobs hold the folder's lock too."""
-    given = "".join(f"{it}\n" for it in numbers)
-    bar = ["--bar"] if sys.stderr.isatty() else []
+def run(
+    base: sqlite3.Connection, words: List[str], numbers: List[int], where: str, more: Dict[str, str], lock: IO[bytes]
+) -> int:
+    """GNU parallel with these words, a number a job; it and its jobs hold the folder's lock too. However this run ends, its
+    jobs end too: they watch a pipe whose other end it alone has."""
+    bar = ["--bar"] if sys.stderr is not None and sys.stderr.isatty() else []
     command = [parallel(), *bar, "--halt", "soon,fail=1", *words]
+    watched, held = os.pipe()
+    with tempfile.TemporaryFile("w+") as given:
+        given.write("".join(f"{it}\n" for it in numbers))
+        given.seek(0)
+        room = {"IAMSIM_AWS_WATCHED": str(watched), "TMPDIR": tempfile.gettempdir(), **more}
+        try:
+            ran = subprocess.Popen(
+                command,
+                stdin=given,
+                cwd=where,
+                env={**os.environ, **room},
+                pass_fds=[lock.fileno(), watched],
+                start_new_session=True,
+            )
+        except OSError as error:
+            raise Fault(f"GNU parallel cannot be run: {error.strerror or error}") from None
+        finally:
+            os.close(watched)
+        try:
+            return ended(ran, base, bool(bar))
+        finally:
+            os.close(held)
+            end(ran)
+
+
+def ended(ran: "subprocess.Popen[bytes]", base: sqlite3.Connection, is_shown: bool) -> int:
+    """Waits for the status of GNU parallel; a line a minute tells how far it is where it does not show that itself."""
+    while True:
+        try:
+            return ran.wait(MINUTE)
+        except subprocess.TimeoutExpired:
+            if not is_shown:
+                count = schema.count_of_worlds(base)
+                tell(f"{count - len(waiting(base))} of {count} worlds are asked")
+
+
+def end(ran: "subprocess.Popen[bytes]") -> None:
+    """Ends GNU parallel and what it has started, where it has not ended by itself."""
+    if ran.poll() is not None:
+        return
+    ran.terminate()
     try:
-        ran = subprocess.run(command, input=given, text=True, cwd=folder, pass_fds=[lock.fileno()])
-    except OSError as error:
-        raise Fault(f"GNU parallel cannot be run: {error.strerror or error}") from None
-    return ran.returncode
+        ran.wait(ENDING)
+    except subprocess.TimeoutExpired:
+        os.killpg(ran.pid, signal.SIGKILL)
+        ran.wait()
 
 
 def named_program() -> str:
@@ -143,7 +215,7 @@ def ask_elsewhere(
         "worlds/{}.json",
     ]
     words += ["--return", kept("", "{}"), "--cleanup", f"{named_program()} sh ask.sh {{}}".strip()]
-    if run(words, left, folder, lock) != 0:
+    if run(base, words, left, folder, {}, lock) != 0:
         raise Fault("a job on another machine did not end well: run the command again, which goes on from here")
 
 
@@ -152,12 +224,13 @@ def ask_here(base: sqlite3.Connection, folder: str, jobs: Optional[str], lock: I
     left = waiting(base)
     if not left:
         return True
-    count = schema.count_of_worlds(base)
-    workers = max(1, processors() // len(left))
-    package = os.path.dirname(os.path.dirname(os.path.abspath(__file__)))
-    command = ["env", f"PYTHONPATH={os.path.dirname(package)}", f"IAMSIM={os.path.abspath(program())}"]
-    # The standard library is all that a job wants (-S), and each of them begins anew.
-    command += [sys.executable, "-S", "-m", "iamsim_aws.estates", os.path.abspath(folder), str(workers)]
-    words = [*(["--jobs", jobs] if jobs else []), "--joblog", log_of(base, folder), "--resume-failed"]
-    words.append(" ".join(map(shlex.quote, command)) + " {}")
-    return run(words, list(range(count)), folder, lock) == 0
+    tools = os.path.dirname(os.path.dirname(os.path.dirname(os.path.abspath(__file__))))
+    room = {
+        "IAMSIM": os.path.abspath(program()),
+        "IAMSIM_AWS_TOOLS": tools,
+        "IAMSIM_AWS_PYTHON": sys.executable,
+        "IAMSIM_AWS_FOLDER": os.path.abspath(folder),
+        "IAMSIM_AWS_WORKERS": str(max(1, processors() // len(left))),
+    }
+    words = [*(["--jobs", jobs] if jobs else []), "--joblog", log_of(base, folder), "--resume-failed", COMMAND]
+    return run(base, words, list(range(schema.count_of_worlds(base))), "/", room, lock) == 0

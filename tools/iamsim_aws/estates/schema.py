@@ -115,3 +115,10 @@ def unfinished(base: sqlite3.Connection) -> List[str]:
     if waiting:
         lines.append(f"{waiting} of {worlds} worlds of the estate are not loaded: run 'iamsim-aws estate' again")
     return lines
+
+
+def left_out(base: sqlite3.Connection) -> List[str]:
+    """Who is not in the database, since a policy was refused."""
+    found = [it for it in asked(base, "left out").splitlines() if it]
+    some = ", ".join(found[:3]) + (f" and {len(found) - 3} more" if len(found) > 3 else "")
+    return [f"left out, since a policy is refused: {some}"] if found else []

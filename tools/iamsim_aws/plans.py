@@ -1,0 +1,278 @@
+"""Reading a plan of Terraform ('terraform show -json PLAN'): what changes, and what follows from references within it."""
+
+import re
+from typing import Any, Dict, Iterator, List, NamedTuple, Optional, Tuple
+
+from . import files
+from .exports import document
+from .faults import Fault
+
+Values = Dict[str, Any]
+INDEX = re.compile(r"\[[^\]]*\]")
+DATA_DOCUMENT = "aws_iam_policy_document"
+# Attributes that are documents, which a document may be taken from as a whole.
+DOCUMENTS = ("policy", "json", "assume_role_policy", "content", "inline_policy")
+
+# What gets another name only by being made anew.
+RENAMED = ("aws_iam_role", "aws_iam_policy")
+
+
+class Where(NamedTuple):
+    """The account and partition that ARNs are of; an empty account is not known."""
+
+    account: str
+    partition: str
+
+
+class Change(NamedTuple):
+    """A resource of the plan: what it is before and after, each None where it is not."""
+
+    address: str
+    kind: str
+    before: Optional[Values]
+    after: Optional[Values]
+    unknown: Values
+    is_replaced: bool = False
+
+    @property
+    def values(self) -> Values:
+        return self.after or self.before or {}
+
+    def is_changed(self) -> bool:
+        return self.before != self.after or any_true(self.unknown)
+
+
+def any_true(value: Any) -> bool:
+    if isinstance(value, (dict, list)):
+        return any(map(any_true, value.values() if isinstance(value, dict) else value))
+    return value is True
+
+
+def object_or_none(value: Any) -> Optional[Values]:
+    if value is not None and not isinstance(value, dict):
+        raise TypeError
+    return value
+
+
+def change_of(it: Any) -> Change:
+    of, unknown = it["change"], it["change"].get("after_unknown")
+    before, after = object_or_none(of.get("before")), object_or_none(of.get("after"))
+    is_renamed = it["type"] in RENAMED and before and after and before.get("name") != after.get("name")
+    is_replaced = bool(is_renamed) or {"delete", "create"} <= set(of.get("actions") or [])
+    known = unknown if isinstance(unknown, dict) else {}
+    return Change(str(it["address"]), str(it["type"]), before, after, known, is_replaced)
+
+
+def configured(module: Any, path: str) -> Iterator[Tuple[str, str, Values]]:
+    """(address, its module's path, expressions) of each resource of a configuration."""
+    for it in module.get("resources", []):
+        yield path + it["address"], path, it.get("expressions", {})
+    for name, call in module.get("module_calls", {}).items():
+        yield from configured(call.get("module", {}), f"{path}module.{name}.")
+
+
+def doubts(given: Any) -> List[str]:
+    """Why a plan does not tell all that will be."""
+    found = {
+        "it is of a run that failed (errored)": given.get("errored") is True,
+        "it is not complete (complete)": given.get("complete") is False,
+        "some changes are deferred (deferred_changes)": bool(given.get("deferred_changes")),
+    }
+    return [why for why, is_so in found.items() if is_so]
+
+
+class Plan:
+    def __init__(self, path: str):
+        self.path = files.name_of(path)
+        given = files.read_json(path)
+        try:
+            if "resource_changes" not in given and "format_version" not in given:
+                raise TypeError
+            every = [(change_of(it), it.get("mode")) for it in given.get("resource_changes", [])]
+            configuration = given.get("configuration", {})
+            root = configuration.get("root_module", {})
+            self.expressions = {address: (way, of) for address, way, of in configured(root, "")}
+            self.doubts = doubts(given)
+            self.region = region_of(configuration)
+        except (KeyError, TypeError, AttributeError):
+            raise Fault(f"{self.path}: it is no plan of 'terraform show -json'") from None
+        self.changes = [it for it, mode in every if mode == "managed"]
+        self.read = [it for it, mode in every if mode == "data" and it.kind == DATA_DOCUMENT]
+        # What only the apply tells, and what of it is taken to be any resource.
+        self.unknown: List[str] = []
+        self.opened: List[str] = []
+        self.notes: List[str] = []
+
+    def configured(self, change: Change) -> Tuple[str, Values]:
+        """The path of the module of a resource, and its expressions."""
+        way, of = self.expressions.get(INDEX.sub("", change.address), ("", {}))
+        return way, of if isinstance(of, dict) else {}
+
+    def is_configured(self, change: Change, name: str) -> bool:
+        """Whether the configuration gives an attribute; one that it does not give is left to AWS."""
+        address = INDEX.sub("", change.address)
+        return address not in self.expressions or name in self.configured(change)[1]
+
+    def target(self, way: str, expression: Any) -> Optional[Tuple[Change, str]]:
+        """The one resource of the plan to which an expression refers, and its attribute. Of several nobody knows which
+        counts, as in element([..], 1)."""
+        found = full_references(expression)
+        name, _, attribute = found[0].rpartition(".") if len(found) == 1 else ("", "", "")
+        every = [it for it in [*self.changes, *self.read] if INDEX.sub("", it.address) == way + INDEX.sub("", name)]
+        exact = [it for it in every if it.address == way + name] or every
+        return (exact[0], attribute) if len(exact) == 1 else None
+
+    def referred(self, change: Change, name: str, where: Where) -> Optional[str]:
+        """The value of an attribute that refers to one of another resource of the plan."""
+        way, expressions = self.configured(change)
+        found = self.target(way, expressions.get(name))
+        return derived(*found, where) if found else None
+
+    def text(self, change: Change, name: str, where: Where) -> Optional[str]:
+        """A text of the resource after the change; None where there is none, or only the apply tells it."""
+        found = (change.after or {}).get(name)
+        if found is None and change.unknown.get(name):
+            found = self.referred(change, name, where)
+            if found is None:
+                self.lacks(change, name)
+        if found is not None and not isinstance(found, str):
+            raise Fault(f"{change.address}: {name} is no text")
+        return found
+
+    def lacks(self, change: Change, name: str) -> None:
+        self.unknown.append(f"{change.address}.{name}")
+
+    def document(self, change: Change, name: str, where: Where) -> Any:
+        """The document of an attribute; None where there is none, or only the apply tells it."""
+        found = (change.after or {}).get(name)
+        if found:
+            return document(found, f"{change.address}.{name}")
+        if not change.unknown.get(name):
+            return None
+        way, expressions = self.configured(change)
+        target = self.target(way, expressions.get(name))
+        if target and target[0].kind == DATA_DOCUMENT:
+            made = self.data_document(target[0], where)
+        else:
+            text = derived(*target, where) if target and target[1] in DOCUMENTS else None
+            made = document(text, f"{change.address}.{name}") if text else None
+        if made is None:
+            self.lacks(change, name)
+        return made
+
+    def data_document(self, change: Change, where: Where) -> Any:
+        """The document of data.aws_iam_policy_document that is read when the plan is applied."""
+        values = change.after or {}
+        of, unknown = values.get("statement") or [], change.unknown.get("statement") or []
+        others = ("source_policy_documents", "override_policy_documents", "source_json", "override_json")
+        is_joined = any(values.get(it) or any_true(change.unknown.get(it)) for it in others)
+        if is_joined or not isinstance(of, list) or not isinstance(unknown, list):
+            return None
+        made = []
+        for n, it in enumerate(of):
+            one = Statement(self, change, n, it, unknown[n] if n < len(unknown) else {}, where).made()
+            if one is None:
+                return None
+            made += [one] if one else []
+        return {"Version": values.get("version") or "2012-10-17", "Statement": made}
+
+
+def region_of(configuration: Any) -> str:
+    """The region of the provider, where the configuration gives it as a text."""
+    provider = (configuration.get("provider_config") or {}).get("aws") or {}
+    found = (provider.get("expressions") or {}).get("region") or {}
+    return str(found.get("constant_value") or "")
+
+
+def full_references(expression: Any) -> List[str]:
+    """What an expression refers to; each reference stands there with all that it begins with."""
+    given = expression.get("references") if isinstance(expression, dict) else None
+    some = list(dict.fromkeys(it for it in given or [] if isinstance(it, str)))
+    return [it for it in some if not any(other.startswith((f"{it}.", f"{it}[")) for other in some)]
+
+
+def derived(change: Change, name: str, where: Where) -> Optional[str]:
+    """An attribute of a resource, also where it follows from others."""
+    values = change.values
+    if values.get(name) is not None:
+        return str(values[name])
+    own = {"aws_iam_user": "user", "aws_iam_role": "role", "aws_iam_group": "group", "aws_iam_policy": "policy"}
+    if change.kind in own and values.get("name"):
+        if name in ("arn", "id") and (name == "arn" or change.kind == "aws_iam_policy"):
+            return iam_arn(own[change.kind], values, where) if values.get("arn") or where.account else None
+        return str(values["name"]) if name == "id" else None
+    if change.kind == "aws_s3_bucket" and values.get("bucket") and name in ("id", "arn"):
+        return str(values["bucket"]) if name == "id" else f"arn:{where.partition}:s3:::{values['bucket']}"
+    return change.address if change.kind == "aws_organizations_policy" and name == "id" else None
+
+
+def iam_arn(kind: str, values: Values, where: Where) -> str:
+    made = f"arn:{where.partition}:iam::{where.account}:{kind}{values.get('path') or '/'}{values.get('name')}"
+    return str(values.get("arn") or made)
+
+
+class Statement(NamedTuple):
+    """A statement of data.aws_iam_policy_document, of which the apply tells a part."""
+
+    plan: Plan
+    change: Change
+    number: int
+    given: Any
+    unknown: Any
+    where: Where
+
+    def made(self) -> Optional[Values]:
+        """The statement: without what it does not say, empty where it is left out, None where nothing stands for it."""
+        if not isinstance(self.given, dict) or not isinstance(self.unknown, dict):
+            return None
+        whole = ("actions", "not_actions", "not_resources", "condition", "effect", "principals", "not_principals")
+        if any(any_true(self.unknown.get(it)) for it in whole):
+            return None
+        effect = self.given.get("effect") or "Allow"
+        made: Values = {"Sid": self.given.get("sid"), "Effect": effect}
+        made.update({"Action": self.given.get("actions"), "NotAction": self.given.get("not_actions")})
+        resources = self.resources(effect)
+        if resources is None:
+            return {}
+        made.update({"Resource": resources, "NotResource": self.given.get("not_resources")})
+        made.update({"Principal": self.people("principals"), "NotPrincipal": self.people("not_principals")})
+        made["Condition"] = conditions(self.given.get("condition") or [])
+        return {key: value for key, value in made.items() if value}
+
+    def resources(self, effect: str) -> Optional[List[str]]:
+        """None where the statement is left out: a deny on what nobody knows yet would hide what others allow."""
+        known = [it for it in self.given.get("resources") or [] if isinstance(it, str)]
+        if not any_true(self.unknown.get("resources")):
+            return known
+        place = f"{self.change.address}.statement.{self.number}.resources"
+        if effect != "Allow":
+            self.plan.notes.append(f"{place} is known only after the apply: this deny is left out")
+            return None
+        found = self.referred("resources")
+        if found is None:
+            self.plan.opened.append(place)
+            return ["*"]
+        self.plan.notes.append(f"{place} is known only after the apply: taken to be {found} and all below it")
+        return [*known, found, f"{found}/*"]
+
+    def referred(self, name: str) -> Optional[str]:
+        """The ARN to which an element of the statement refers."""
+        way, expressions = self.plan.configured(self.change)
+        blocks = expressions.get("statement")
+        block = blocks[self.number] if isinstance(blocks, list) and self.number < len(blocks) else {}
+        found = self.plan.target(way, block.get(name) if isinstance(block, dict) else None)
+        text = derived(*found, self.where) if found else None
+        return text if text and text.startswith("arn:") else None
+
+    def people(self, name: str) -> Any:
+        found: Dict[str, List[str]] = {}
+        for it in self.given.get(name) or []:
+            found.setdefault(str(it.get("type")), []).extend(it.get("identifiers") or [])
+        return "*" if found.get("*") == ["*"] else found
+
+
+def conditions(given: Any) -> Values:
+    made: Values = {}
+    for it in given:
+        made.setdefault(str(it.get("test")), {}).setdefault(str(it.get("variable")), []).extend(it.get("values") or [])
+    return made
