@@ -1,0 +1,12 @@
+pub mod Members
+pub mod ListLemmas
+pub mod PlaceLemmas
+pub mod StepLemmas
+pub mod MatchLemmas
+pub mod LetterLemmas
+pub mod GrammarLemmas
+pub mod NodeLemmas
+pub mod SetLemmas
+pub mod StateLemmas
+pub mod GoLemmas
+pub mod AnswerLemmas

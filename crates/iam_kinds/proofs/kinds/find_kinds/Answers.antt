@@ -1,0 +1,32 @@
+use Rattle.std.proofs.Common.{◌≡◌, ◌+◌, ◌∙◌, ap, drop, length, map, refl, sym}
+use Rattle.std.proofs.lemmas.List.{length-map}
+use Rattle.iam_glob.specs.Signs.{signs_in}
+use Rattle.iam_kinds.specs.Answers.{question_of}
+use Rattle.iam_kinds.proofs.AnswerLemmas.{are_kinds, both_added, is_question, is_ready}
+use Rattle.iam_kinds.proofs.kinds.find_kinds.Goals as goal
+
+pub find_texts-requires : goal.find_texts-requires
+find_texts-requires c =
+    let q = question_of c.args.grammar c.args.within.now c.args.groups.now c.args.named.now in
+    let many : length c.args.within.now ≡ length q.within = sym (length-map c.args.within.now signs_in) in
+    let groups : length c.args.groups.now ≡ length q.groups = sym (length-map c.args.groups.now (λ g. map signs_in g.items)) in
+    let pairs = both_added c.new-patterns.result.items c.add_within.new.listed.items c.add_groups.new.listed.items q.within q.groups (length c.args.within.now)
+    c.new-patterns.ensures.items c.in_ok-add_within.ensures c.in_ok-add_groups.ensures many in
+    let table = c.in_ok-table.ensures in
+    is_ready _ table.0 c.add_groups.new.listed.items q.within q.groups table.1 table.2 pairs
+    (ap (λ n. n + length c.args.groups.now) many ∙ ap (λ n. length q.within + n) groups)
+
+pub returns-in-Some : goal.returns-in-Some
+returns-in-Some c =
+    let q = question_of c.args.grammar c.args.within.now c.args.groups.now c.args.named.now in
+    let many : length c.args.within.now ≡ length q.within = sym (length-map c.args.within.now signs_in) in
+    let pairs = both_added c.new-patterns.result.items c.add_within.new.listed.items c.add_groups.new.listed.items q.within q.groups (length c.args.within.now)
+    c.new-patterns.ensures.items c.in_ok-add_within.ensures c.in_ok-add_groups.ensures many in
+    let table = c.in_ok-table.ensures in
+    let named = ap (λ l. map (λ t. t.items) l) c.deref.ensures.value ∙ c.in_ok-named.ensures in
+    let patterns = c.add_groups.new.listed.items in
+    let count = length c.args.within.now + length c.args.groups.now in
+    let texts = map (λ t. t.items) c.deref.result.now in
+    are_kinds q (record { patterns = drop count c.in_ok-table.table.patterns.items; within = length c.args.within.now; grammar = c.args.grammar; named = texts })
+    _ (is_question q c.in_ok-table.table.patterns.items table.0 patterns count (length c.args.within.now) c.args.grammar texts table.1 table.2 pairs many refl named)
+    (rw c.in-Some.is at c.in_ok-found.ensures)

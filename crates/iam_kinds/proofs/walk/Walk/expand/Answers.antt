@@ -1,0 +1,49 @@
+use Rattle.std.proofs.Common.{◌++◌, [], ◌∷◌, ◌∙◌, ap, arith, refl, sym, subst, take}
+use Rattle.std.proofs.lemmas.List.{take_all, take_more}
+use Rattle.iam_kinds.specs.Walk.{IsTried}
+use Rattle.iam_kinds.proofs.GoLemmas.{grown_length, grows_none, grows_on, tried_all, tried_both, tried_more, tried_nothing}
+use Rattle.iam_kinds.proofs.walk.Walk.expand.Goals as goal
+
+pub loop-letter-init : goal.loop-letter-init
+loop-letter-init c = record {
+  walk = c.requires.walk;
+  seen = c.requires.seen;
+  grows = grows_none c.args.self.now c.args.self.now refl;
+  tried = tried_nothing c.args.asked.now c.args.self.now c.args.head;
+}
+
+pub go-requires : goal.go-requires
+go-requires c = record {
+  ready = c.requires.ready;
+  walk = c.loop-letter.invariant.walk;
+  seen = c.loop-letter.invariant.seen;
+  head = (let g = grown_length c.args.self.now c.loop-letter.self c.loop-letter.invariant.grows in let h = c.requires.head in omega (arith, g, h));
+}
+
+pub loop-letter-preserved : goal.loop-letter-preserved
+loop-letter-preserved c =
+    let old = c.loop-letter.self in
+    let new = c.go.new.self in
+    let items = c.deref-letter-items.result.now in
+    let i = c.loop-letter.letter-index in
+    let letter = c.letter-item.result in
+    let grows = rw c.if-not-branch.false at c.in_ok-go.ensures.grows in
+    let longer = grown_length c.args.self.now old c.loop-letter.invariant.grows in
+    let head = c.requires.head in
+    let more = take_more items i letter c.loop-letter-test.true ∙ ap (λ x. take i items ++ (x ∷ [])) (sym c.letter-item.is) in record {
+      walk = rw c.if-not-branch.false at c.in_ok-go.ensures.walk;
+      seen = rw c.if-not-branch.false at c.in_ok-go.ensures.seen;
+      grows = grows_on c.args.self.now old new c.loop-letter.invariant.grows grows;
+      tried =
+          subst (IsTried c.args.asked.now new c.args.head) (sym more)
+          (tried_both c.args.asked.now new c.args.head (take i items) letter
+          (tried_more c.args.asked.now old new c.args.head (take i items) (omega (arith, longer, head)) grows c.loop-letter.invariant.tried)
+          (rw c.if-not-branch.false at c.in_ok-go.ensures.tried));
+    }
+
+pub returns-clause-expanded : goal.returns-clause-expanded
+returns-clause-expanded c =
+    tried_all c.args.asked.now c.args.self.now c.loop-letter.self c.in_ok-letters.letters.items c.args.head c.requires.head c.loop-letter.invariant.grows
+    c.in_ok-letters.ensures
+    (subst (IsTried c.args.asked.now c.loop-letter.self c.args.head)
+    (take_all c.loop-letter.letter-index c.deref-letter-items.result.now c.loop-letter-test.false ∙ c.deref-letter-items.ensures.value) c.loop-letter.invariant.tried)

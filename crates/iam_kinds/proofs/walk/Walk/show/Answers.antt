@@ -1,0 +1,29 @@
+use Rattle.std.proofs.Common.{◌++◌, [], ◌∷◌, ◌∙◌, ap, refl, map, List, ℕ}
+use Rattle.std.proofs.lemmas.List.{map-append}
+use Rattle.iam_kinds.specs.Walk.{shown_in}
+use Rattle.iam_kinds.proofs.GoLemmas.{shown_before, shown_now}
+use Rattle.iam_kinds.proofs.walk.Walk.show.Goals as goal
+
+pub returns-then-not-branch-clause-walk : goal.returns-then-not-branch-clause-walk
+returns-then-not-branch-clause-walk c =
+    (shown_before c.args.asked.now c.args.self.now (record c.args.self.now { kinds = c.add.new.self }) c.args.text.now c.args.numbers.items c.requires.walk
+    (rw c.if-not-branch.true at c.in_ok-add.ensures.0) c.requires.described refl refl c.in_ok-add.ensures.1).0
+
+pub returns-then-not-branch-clause-covered : goal.returns-then-not-branch-clause-covered
+returns-then-not-branch-clause-covered c =
+    (shown_before c.args.asked.now c.args.self.now (record c.args.self.now { kinds = c.add.new.self }) c.args.text.now c.args.numbers.items c.requires.walk
+    (rw c.if-not-branch.true at c.in_ok-add.ensures.0) c.requires.described refl refl c.in_ok-add.ensures.1).1
+
+pub returns-clause-walk : goal.returns-clause-walk
+returns-clause-walk c =
+    let shown = ap (map (λ t. t.items)) c.in_ok-push.ensures.items ∙ map-append (λ t. t.items) c.args.self.now.shown.items (c.in_ok-shown.shown ∷ [])
+    ∙ ap (λ (t : List ℕ). shown_in c.args.self.now ++ (t ∷ [])) c.in_ok-shown.ensures.items in
+    (shown_now c.args.asked.now c.args.self.now (record c.args.self.now { kinds = c.add.new.self; shown = c.push.new.self }) c.args.text.now c.args.numbers.items
+    c.requires.walk (rw c.if-not-branch.false at c.in_ok-add.ensures.0) c.requires.described c.requires.sought refl shown c.in_ok-add.ensures.1).0
+
+pub returns-clause-covered : goal.returns-clause-covered
+returns-clause-covered c =
+    let shown = ap (map (λ t. t.items)) c.in_ok-push.ensures.items ∙ map-append (λ t. t.items) c.args.self.now.shown.items (c.in_ok-shown.shown ∷ [])
+    ∙ ap (λ (t : List ℕ). shown_in c.args.self.now ++ (t ∷ [])) c.in_ok-shown.ensures.items in
+    (shown_now c.args.asked.now c.args.self.now (record c.args.self.now { kinds = c.add.new.self; shown = c.push.new.self }) c.args.text.now c.args.numbers.items
+    c.requires.walk (rw c.if-not-branch.false at c.in_ok-add.ensures.0) c.requires.described c.requires.sought refl shown c.in_ok-add.ensures.1).1

@@ -1,0 +1,38 @@
+use Rattle.std.proofs.Common.{◌<◌, [], arith, subst, ℕ, length, below_more}
+use Rattle.iam_kinds.specs.Walk.{IsExpandedAt, IsMet}
+use Rattle.iam_kinds.proofs.GoLemmas.{are_texts, expanded_more, grown_length, met_more}
+use Rattle.iam_kinds.proofs.walk.find_texts.Goals as goal
+
+pub put-requires-clause-walk : goal.put-requires-clause-walk
+put-requires-clause-walk c = c.new-walk.ensures.walk c.args.asked.now
+
+pub loop-head-init : goal.loop-head-init
+loop-head-init c = record {
+  walk = rw c.if-not-branch.false at c.in_ok-put.ensures.walk;
+  seen = rw c.if-not-branch.false at c.in_ok-put.ensures.seen;
+  root = subst (IsMet c.args.asked.now c.put.new.self) c.in_ok-root.ensures.text (rw c.if-not-branch.false at c.in_ok-put.ensures.met);
+  below = omega arith;
+  expanded = λ i below. absurd (omega (arith, below));
+}
+
+pub loop-head-preserved : goal.loop-head-preserved
+loop-head-preserved c =
+    let old = c.loop-head.walk in
+    let new = c.expand.new.self in
+    let grows = rw c.if-not-branch-2.false at c.in_ok-expand.ensures.grows in
+    let longer = grown_length old new grows in
+    let within : c.loop-head.head < length old.nodes.items = omega arith in
+    let P : ℕ → Type 0 = λ i. IsExpandedAt c.args.asked.now new i in record {
+      walk = rw c.if-not-branch-2.false at c.in_ok-expand.ensures.walk;
+      seen = rw c.if-not-branch-2.false at c.in_ok-expand.ensures.seen;
+      root = met_more c.args.asked.now old new [] grows c.loop-head.invariant.root;
+      below = omega (arith, longer, within);
+      expanded = below_more P c.loop-head.head
+          (λ i below. expanded_more c.args.asked.now old new i (omega (arith, below, within)) grows (c.loop-head.invariant.expanded i below))
+          (rw c.if-not-branch-2.false at c.in_ok-expand.ensures.expanded);
+    }
+
+pub returns-then-head-len : goal.returns-then-head-len
+returns-then-head-len c =
+    are_texts c.args.asked.now c.loop-head.walk c.loop-head.invariant.walk c.loop-head.invariant.root
+    (λ i below. c.loop-head.invariant.expanded i (omega (arith, below)))

@@ -1,0 +1,156 @@
+-- How the walk works, beside the definitions that it meets (`Kinds`).
+use Rattle.std.specs.Prelude.{◌≡◌, ◌↔◌, ◌<◌, ◌+◌, ◌==◌, ◌&&◌, ℕ, Bool, true, false, List, [], ◌∷◌, length, map, drop, All, Contains, filter, Option, Some, None, if◌then◌else◌}
+use Rattle.std.specs.Option.{option_map_or}
+use Rattle.std.specs.List.{filter_map, flat_map, list_any, range_with_len, slice_get, slice_index_or}
+use Rattle.iam_glob.specs.Glob.{Matches}
+use Rattle.iam_glob.specs.declared.sign.Sign.{Sign}
+use Rattle.iam_glob.specs.declared.sign.Sign.TheVariants.{Given, One, Any}
+use Rattle.iam_kinds.specs.Kinds.{is_name_character, is_service_character}
+use Rattle.iam_kinds.specs.declared.grammar.Grammar.{Grammar}
+use Rattle.iam_kinds.specs.declared.grammar.Grammar.TheVariants.{AnyText, Action}
+use Rattle.iam_kinds.specs.declared.grammar.Stage.{Stage}
+use Rattle.iam_kinds.specs.declared.grammar.Stage.TheVariants.{Anywhere, Start, Service, Colon, Name}
+use Rattle.iam_kinds.specs.declared.table.Pattern.{Pattern}
+use Rattle.iam_kinds.specs.declared.table.Place.{Place}
+
+-- the stage before any character
+abbrev pub first_stage : Grammar → Stage
+first_stage AnyText = Anywhere
+first_stage Action = Start
+
+-- the stage behind one more character
+abbrev pub next_stage : Stage → ℕ → Option Stage
+next_stage Anywhere c = Some Anywhere
+next_stage Start c = if is_service_character c then Some Service else None
+next_stage Service c = if is_service_character c then Some Service else (if c == 58 then Some Colon else None)
+next_stage Colon c = if is_name_character c then Some Name else None
+next_stage Name c = if is_name_character c then Some Name else None
+
+-- whether the text is whole
+abbrev pub is_last_stage : Stage → Bool
+is_last_stage Anywhere = true
+is_last_stage Start = false
+is_last_stage Service = false
+is_last_stage Colon = false
+is_last_stage Name = true
+
+abbrev pub stage_number : Stage → ℕ
+stage_number Anywhere = 0
+stage_number Start = 1
+stage_number Service = 2
+stage_number Colon = 3
+stage_number Name = 4
+
+-- ---- patterns and places
+-- a place of a pattern
+abbrev pub place_at : ℕ → ℕ → Place
+place_at pattern at = record { pattern = pattern; at = at }
+
+-- the pattern of a place, what is left of it there, and its group
+abbrev pub rest_at : List Pattern → Place → List Sign
+rest_at patterns k = option_map_or (λ p. drop k.at p.signs.items) (slice_get patterns k.pattern) []
+
+abbrev pub group_at : List Pattern → Place → ℕ
+group_at patterns k = option_map_or (λ p. p.group) (slice_get patterns k.pattern) 0
+
+-- nothing but the last `Any` is left
+abbrev pub is_last_any : List Sign → Bool
+is_last_any [] = false
+is_last_any (Given c ∷ signs) = false
+is_last_any (One ∷ signs) = false
+is_last_any (Any ∷ []) = true
+is_last_any (Any ∷ (sign ∷ signs)) = false
+
+-- only `Any`s are left
+abbrev pub are_any : List Sign → Bool
+are_any [] = true
+are_any (Given c ∷ signs) = false
+are_any (One ∷ signs) = false
+are_any (Any ∷ signs) = are_any signs
+
+-- the character that is waited for
+abbrev pub waits_for : List Sign → Option ℕ
+waits_for [] = None
+waits_for (Given c ∷ signs) = Some c
+waits_for (One ∷ signs) = None
+waits_for (Any ∷ signs) = waits_for signs
+
+-- the places that a character leads to from a place at which these signs are left
+abbrev pub moves_from : ℕ → ℕ → List Sign → ℕ → List Place
+moves_from p at [] c = []
+moves_from p at (Given d ∷ signs) c = if d == c then place_at p (at + 1) ∷ [] else []
+moves_from p at (One ∷ signs) c = place_at p (at + 1) ∷ []
+moves_from p at (Any ∷ signs) c = place_at p at ∷ moves_from p (at + 1) signs c
+
+abbrev pub moves_of : List Pattern → ℕ → Place → List Place
+moves_of patterns c k = moves_from k.pattern k.at (rest_at patterns k) c
+
+-- the group has matched for good
+abbrev pub is_good : List Pattern → List Place → ℕ → Bool
+is_good patterns places g = list_any (λ k. is_last_any (rest_at patterns k) && (group_at patterns k == g)) places
+
+-- the groups that have
+abbrev pub good_groups : List Pattern → List Place → List ℕ
+good_groups patterns places = map (group_at patterns) (filter (λ k. is_last_any (rest_at patterns k)) places)
+
+-- the place that a place becomes where its group has matched for good
+abbrev pub settled_place : List Pattern → List Place → Place → Place
+settled_place patterns places k =
+    if is_good patterns places (group_at patterns k) then place_at (group_at patterns k) 0 else k
+
+abbrev pub settled_places : List Pattern → List Place → List Place
+settled_places patterns places = map (settled_place patterns places) places
+
+-- the same elements
+abbrev pub SameElements : {A : Type 0} → List A → List A → Type 0
+SameElements {A} xs ys = (x : A) → Contains xs x ↔ Contains ys x
+
+-- each place is one of a pattern
+abbrev pub AreIn : List Pattern → List Place → Type 0
+AreIn patterns places = All (λ k. k.pattern < length patterns) places
+
+-- the places behind one more character
+abbrev pub stepped : List Pattern → List Place → ℕ → List Place
+stepped patterns places c = settled_places patterns (flat_map (moves_of patterns c) places)
+
+-- the places where so many patterns begin, from this one on
+abbrev pub starts_from : ℕ → ℕ → List Place
+starts_from first count = map (λ i. place_at i 0) (range_with_len first count)
+
+-- the groups that match the text behind which these places are
+abbrev pub matched_groups : List Pattern → List Place → List ℕ
+matched_groups patterns places = map (group_at patterns) (filter (λ k. are_any (rest_at patterns k)) places)
+
+-- the characters that are waited for
+abbrev pub waited_at : List Pattern → List Place → List ℕ
+waited_at patterns places = filter_map (λ k. waits_for (rest_at patterns k)) places
+
+-- the group has a place
+abbrev pub has_group : List Pattern → List Place → ℕ → Bool
+has_group patterns places g = list_any (λ k. group_at patterns k == g) places
+
+-- a pattern `Any` of each group below this number
+pub record AreGoals (count : ℕ) (goals : List Pattern) : Type 0 where
+  pub many : length goals ≡ count
+  pub goal : (k : ℕ) (d : Pattern) → k < length goals → ((slice_index_or goals k d).group ≡ k) × ((slice_index_or goals k d).signs.items ≡ Any ∷ [])
+
+-- the group has a place where it stands once it has matched for good
+pub record HasGoal (patterns : List Pattern) (g : ℕ) : Type 0 where
+  pub within : g < length patterns
+  pub own : group_at patterns (place_at g 0) ≡ g
+  pub good : rest_at patterns (place_at g 0) ≡ Any ∷ []
+
+abbrev pub IsTable : List Pattern → Type 0
+IsTable patterns = (k : Place) → k.pattern < length patterns → HasGoal patterns (group_at patterns k)
+
+-- some place of the group is left from which the text is matched
+abbrev pub Leads : List Pattern → List Place → ℕ → List ℕ → Type 0
+Leads patterns places g text = (k : Place) × Contains places k × (group_at patterns k ≡ g) × Matches (rest_at patterns k) text
+
+-- the colon that the grammar waits for
+abbrev pub waited_in : Stage → List ℕ
+waited_in Anywhere = []
+waited_in Start = []
+waited_in Service = 58 ∷ []
+waited_in Colon = []
+waited_in Name = []

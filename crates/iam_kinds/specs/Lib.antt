@@ -1,0 +1,6 @@
+pub mod Answers
+pub mod Code
+pub mod Kinds
+pub mod Letters
+pub mod Lists
+pub mod Walk
