@@ -1,11 +1,10 @@
--- How a run of two worlds ends: by a fault of one of them, by a fault of both together, or with its report.
+-- How a run of two worlds ends without its report: by a fault of one of them, or of both together.
 use Rattle.std.proofs.Common.{◌≡◌, inl, inr, ℕ, List, Option, refl, sym, subst}
-use Rattle.std.specs.Io.KnownBytes.{Appends}
 use Rattle.iam_world.specs.World.{WorldValue}
 use Rattle.iam_selection.specs.Selection.{SelectionValue}
 use Rattle.iam_changes.specs.declared.change.Kinds.{Kinds}
 use Rattle.iam_options.specs.declared.changes.ChangesOptions.{ChangesOptions}
-use Rattle.iam_app.specs.Changes.{EndsChangesBy, HasBefore, HasSide, IsComparison, IsNoComparison, IsOfBefore, WritesChanges}
+use Rattle.iam_app.specs.Changes.{EndsChangesBy, HasBefore, HasSide, IsComparison, IsNoComparison, IsOfBefore}
 use Rattle.iam_app.specs.Code.Sides.{IsNoSide, IsNotWritten, of_before}
 use Rattle.iam_app.specs.declared.changes_fault.ChangesFault.{ChangesFault}
 use Rattle.iam_app.specs.declared.changes_fault.ChangesFault.TheVariants as c
@@ -54,7 +53,7 @@ not_compared options selection first second held before after NoSuchCell one two
 not_compared options selection first second held before after (Cut fault) one two h = (refl, (before, after, one, two, h))
 not_compared options selection first second held before after OutOfMemory one two h = refl
 
--- there is one, and the writer fails or there is no memory for it; or it is written
+-- there is one, and the writer fails or there is no memory for it
 pub not_written : (options : ChangesOptions) (selection : SelectionValue) (first second old new : Option (List ℕ)) (before after : WorldValue) (text : List ℕ)
     (kinds : Kinds) (fault : ChangesFault) → HasSide first before → HasSide second after → IsComparison options selection before after text kinds
     → IsNotWritten old new text fault → EndsChangesBy options selection first second old new fault
@@ -62,9 +61,3 @@ not_written options selection first second old new before after text kinds fault
     subst (EndsChangesBy options selection first second old new) (sym is) (bytes, more, all, all_more, (text, kinds, (before, after, one, two, h), begins))
 not_written options selection first second old new before after text kinds fault one two h (inr (is, kept)) =
     subst (EndsChangesBy options selection first second old new) (sym is) kept
-
-pub compared : (options : ChangesOptions) (selection : SelectionValue) (first second old new : Option (List ℕ)) (before after : WorldValue) (text : List ℕ)
-    (kinds told : Kinds) → told ≡ kinds → HasSide first before → HasSide second after → IsComparison options selection before after text kinds
-    → Appends old new text → WritesChanges options selection first second old new told
-compared options selection first second old new before after text kinds told is (bytes, all, one) (more, all_more, two) h appends =
-    subst (WritesChanges options selection first second old new) (sym is) (bytes, more, all, all_more, (text, (before, after, one, two, h), appends))

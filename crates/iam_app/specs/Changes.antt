@@ -1,5 +1,5 @@
 -- What a run of two worlds writes, and why it ends without its report. LOGIC 13.7.
-use Rattle.std.specs.Prelude.{◌≡◌, ◌≢◌, ◌⊎◌, ◌≤◌, ℕ, List, Option, ⊤, length}
+use Rattle.std.specs.Prelude.{◌≡◌, ◌≢◌, ◌⊎◌, ◌↔◌, ◌≤◌, ℕ, IsTrue, List, Option, ⊤, length}
 use Rattle.std.specs.Io.KnownBytes.{Appends}
 use Rattle.iam_world.specs.Reads.{IsWorld}
 use Rattle.iam_world.specs.World.{WorldValue}
@@ -12,7 +12,7 @@ use Rattle.iam_matrix.specs.Workers.{IsUnlawful}
 use Rattle.iam_matrix.specs.declared.cut.CutFault.{CutFault}
 use Rattle.iam_matrix.specs.declared.cut.CutFault.TheVariants as c
 use Rattle.iam_matrix.specs.declared.fault.MatrixFault.TheVariants as m
-use Rattle.iam_selection.specs.Selection.{SelectionValue}
+use Rattle.iam_selection.specs.Selection.{SelectionValue, SelectsSome}
 use Rattle.iam_requests.specs.Requests.{IsCount}
 use Rattle.iam_changes.specs.Report.{IsChangesReport}
 use Rattle.iam_requests.specs.Twice.{IsApart, IsFirstTwice}
@@ -21,6 +21,7 @@ use Rattle.iam_requests.specs.declared.twice.Twice.{Twice}
 use Rattle.iam_options.specs.declared.changes.ChangesOptions.{ChangesOptions}
 use Rattle.iam_app.specs.Output.{format_of, tile_or_default}
 use Rattle.iam_app.specs.Streams.{AllRemained, MoreRemained}
+use Rattle.iam_app.specs.declared.changes.Comparison.{Comparison}
 use Rattle.iam_app.specs.declared.changes_fault.ChangesFault.{ChangesFault}
 use Rattle.iam_app.specs.declared.changes_fault.ChangesFault.TheVariants as changes
 use Rattle.iam_app.specs.declared.changes_fault.Side.TheVariants as side
@@ -87,6 +88,17 @@ abbrev pub WritesChanges : ChangesOptions → SelectionValue → Option (List �
 WritesChanges options selection first second old new kinds =
     (bytes : List ℕ) × (more : List ℕ) × AllRemained first bytes × AllRemained second more
     × ((text : List ℕ) × IsChangesOutput options selection bytes more text kinds × Appends old new text)
+
+-- some request of the two worlds is selected
+abbrev pub SelectsOneOf : SelectionValue → WorldValue → WorldValue → Type 0
+SelectsOneOf selection before after = SelectsSome selection before ⊎ SelectsSome selection after
+
+-- all of both inputs are such worlds, the writer gained their report, and it is told whether some request is selected
+abbrev pub TellsChanges : ChangesOptions → SelectionValue → Option (List ℕ) → Option (List ℕ) → Option (List ℕ) → Option (List ℕ) → Comparison → Type 0
+TellsChanges options selection first second old new compared =
+    (before : WorldValue) × (after : WorldValue) × HasSide first before × HasSide second after
+    × ((text : List ℕ) × IsComparison options selection before after text compared.kinds × Appends old new text)
+    × (IsTrue compared.some ↔ SelectsOneOf selection before after)
 
 abbrev pub BeginsChanges : ChangesOptions → SelectionValue → Option (List ℕ) → Option (List ℕ) → Option (List ℕ) → Option (List ℕ) → Type 0
 BeginsChanges options selection first second old new =

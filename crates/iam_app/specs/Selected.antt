@@ -1,6 +1,6 @@
 -- What a run with a selection writes, and why it ends without its report: as a run without one, but for what is asked of
 -- the report. LOGIC 13.6.
-use Rattle.std.specs.Prelude.{◌≡◌, ℕ, List, Option, String, map, string_bytes}
+use Rattle.std.specs.Prelude.{◌≡◌, ◌↔◌, ℕ, Bool, IsTrue, List, Option, String, ⊤, map, string_bytes}
 use Rattle.std.specs.Global.{Global}
 use Rattle.std.specs.List.{AllZip}
 use Rattle.iam_glob.specs.declared.sign.Sign.{Sign}
@@ -9,7 +9,7 @@ use Rattle.iam_world.specs.Reads.{IsWorld}
 use Rattle.iam_world.specs.World.{WorldValue}
 use Rattle.iam_report.specs.Streams.{AppendsBeginning}
 use Rattle.iam_selection.specs.Report.{IsFirstSelectedReport, IsSelectedReport}
-use Rattle.iam_selection.specs.Selection.{SelectionValue, pattern_of}
+use Rattle.iam_selection.specs.Selection.{SelectionValue, SelectsSome, pattern_of}
 use Rattle.iam_row.specs.Words.{decision_word}
 use Rattle.iam_options.specs.declared.command.Asked.{Asked}
 use Rattle.iam_options.specs.declared.options.Options.{Options}
@@ -57,3 +57,21 @@ HasSelectedOutput options selection input P =
 abbrev pub EndsSelectedBy : Options → SelectionValue → Option (List ℕ) → Option (List ℕ) → Option (List ℕ) → RunFault → Type 0
 EndsSelectedBy options selection input old new Write = HasSelectedOutput options selection input (AppendsBeginning old new)
 EndsSelectedBy options selection input old new fault = EndsBy options input old new fault
+
+-- some request is asked about: a command about all cells asks about those that are selected, another about what it names
+abbrev pub AsksSome : Task → SelectionValue → WorldValue → Type 0
+AsksSome t.Check selection world = ⊤
+AsksSome (t.Decide p a r) selection world = ⊤
+AsksSome t.Matrix selection world = SelectsSome selection world
+AsksSome t.First selection world = SelectsSome selection world
+
+-- the bytes are a world, this is what is asked of it, and whether some request was asked about
+abbrev pub IsToldOutput : Options → SelectionValue → List ℕ → List ℕ → Bool → Type 0
+IsToldOutput options selection bytes text some =
+    (world : WorldValue) × IsWorld bytes world × IsSelectedOf options.task options selection world text
+    × (IsTrue some ↔ AsksSome options.task selection world)
+
+-- all input is these bytes, P holds of what is asked of them, and it is told whether some request was asked about
+abbrev pub HasToldOutput : Options → SelectionValue → Option (List ℕ) → (List ℕ → Type 0) → Bool → Type 0
+HasToldOutput options selection input P some =
+    (bytes : List ℕ) × AllRemained input bytes × ((text : List ℕ) × IsToldOutput options selection bytes text some × P text)

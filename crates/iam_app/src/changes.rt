@@ -1,9 +1,9 @@
 // A run of two worlds: what has changed from one to the other.
-ghost use Rattle.std.specs.Prelude.{◌≡◌, ◌≢◌, IfErr, IfOk, MatchResult, OnOk, if◌then◌else◌, sum};
+ghost use Rattle.std.specs.Prelude.{◌≡◌, ◌≢◌, ◌↔◌, IfErr, IfOk, IsTrue, MatchResult, OnOk, if◌then◌else◌, sum};
 ghost use Rattle.std.specs.Io.KnownBytes.{Appends};
 ghost use Rattle.iam_matrix.specs.declared.cut.CutFault.TheVariants as c;
 ghost use Rattle.iam_changes.specs.Code.Pieces.{report_text};
-ghost use Rattle.iam_app.specs.Changes.{CanCompare, EndsChangesBy, HasCutOf, HasNoCutOf, HasSide, IsAskedChanges, IsNoComparison, IsOfBefore, WritesChanges};
+ghost use Rattle.iam_app.specs.Changes.{CanCompare, EndsChangesBy, HasCutOf, HasNoCutOf, HasSide, IsAskedChanges, IsNoComparison, IsOfBefore, SelectsOneOf, TellsChanges, WritesChanges};
 ghost use Rattle.iam_app.specs.ChangesFault.{fails_on};
 ghost use Rattle.iam_app.specs.Code.Sides.{IsNoSide, IsNotWritten, of_before};
 ghost use Rattle.iam_app.specs.Streams.{ConsumesAtMost};
@@ -21,7 +21,7 @@ use iam_matrix::{Cut, CutFault, Open};
 use iam_options::{ChangesOptions, FailOn};
 use iam_report::buffer;
 use iam_requests::{Requests, first_twice};
-use iam_selection::Selection;
+use iam_selection::{Selection, selects_some};
 use std::alloc::Global;
 use std::io::{Read, Write};
 use std::mem;
@@ -55,6 +55,30 @@ fn of_before(fault: ChangesFault) -> ChangesFault
         ChangesFault::Run(RunFault::World(fault)) => ChangesFault::Before(fault),
         fault => fault,
     }
+}
+
+/// What came of a run of two worlds.
+#[derive(Clone, Copy, Debug, PartialEq, Eq)]
+pub struct Comparison {
+    /// The kinds of changes that were written.
+    pub kinds: Kinds,
+    /// Whether some request was asked about.
+    pub some: bool,
+}
+
+/// Whether some request of two worlds is selected.
+fn selects_one_of(
+    alloc: Global,
+    selection: &Selection,
+    before: &World,
+    after: &World,
+) -> Result<bool, OutOfMemory>
+    ensures { IfOk result (λ some. IsTrue some ↔ SelectsOneOf selection.now before.now after.now) }
+{
+    if selects_some(alloc, before, selection)? {
+        return Ok(true);
+    }
+    selects_some(alloc, after, selection)
 }
 
 /// The requests of two worlds in tiles of the asked length.
@@ -137,16 +161,40 @@ pub fn run_changes<T: Threads + Sync, R: Read, S: Read, W: Write>(
     ensures fault { IfErr result (λ fault. EndsChangesBy options.now selection.now (R.remaining before.old) (S.remaining after.old) (W.contents writer.old) (W.contents writer.new) fault) }
     ensures unread { IfErr result (λ fault. IsOfBefore fault → S.remaining after.new ≡ S.remaining after.old) }
 {
+    match tell_changes(rt, alloc, options, selection, before, after, writer) {
+        Ok(compared) => Ok(compared.kinds),
+        Err(fault) => Err(fault),
+    }
+}
+
+/// Runs as [`run_changes`] does, and tells also whether some request was asked about.
+pub fn tell_changes<T: Threads + Sync, R: Read, S: Read, W: Write>(
+    rt: &T,
+    alloc: Global,
+    options: &ChangesOptions,
+    selection: &Selection,
+    before: &mut R,
+    after: &mut S,
+    writer: &mut W,
+) -> Result<Comparison, ChangesFault>
+    ensures most_before { ConsumesAtMost (R.remaining before.old) (R.remaining before.new) 8388609 }
+    ensures most_after { ConsumesAtMost (S.remaining after.old) (S.remaining after.new) 8388609 }
+    ensures done { IfOk result (TellsChanges options.now selection.now (R.remaining before.old) (S.remaining after.old) (W.contents writer.old) (W.contents writer.new)) }
+    ensures fault { IfErr result (λ fault. EndsChangesBy options.now selection.now (R.remaining before.old) (S.remaining after.old) (W.contents writer.old) (W.contents writer.new) fault) }
+    ensures unread { IfErr result (λ fault. IsOfBefore fault → S.remaining after.new ≡ S.remaining after.old) }
+{
     let before = match read_side(alloc, before, Side::Before) {
         Ok(world) => world,
         Err(fault) => return Err(of_before(fault)),
     };
     let after = read_side(alloc, after, Side::After)?;
+    let some = selects_one_of(alloc, selection, &before, &after)?;
     let report = compare(rt, alloc, options, selection, &before, &after);
     // The run ends soon, as one of a single world.
     mem::forget(before);
     mem::forget(after);
-    write_changes(alloc, report?, writer)
+    let kinds = write_changes(alloc, report?, writer)?;
+    Ok(Comparison { kinds, some })
 }
 
 /// Writes the whole report, and flushes behind its last byte; the kinds of changes that it has.
@@ -165,7 +213,7 @@ fn write_changes<W: Write>(
 }
 
 /// Whether changes of these kinds end a run with a status of its own.
-fn fails_on(fail_on: Option<FailOn>, kinds: Kinds) -> bool
+pub fn fails_on(fail_on: Option<FailOn>, kinds: Kinds) -> bool
     ensures { result ≡ fails_on fail_on kinds }
 {
     match fail_on {

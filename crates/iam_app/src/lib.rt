@@ -12,9 +12,9 @@ mod output;
 mod program;
 mod selected;
 
-pub use changes::{changes_status, run_changes};
+pub use changes::{Comparison, changes_status, run_changes};
 pub use changes_fault::{ChangesFault, Side, changes_fault_line};
-pub use command::{run_changes_command, run_command};
+pub use command::{changes_command_status, command_status, run_changes_command, run_command};
 pub use fault::{RunFault, fault_line, status};
 pub use iam_changes::Kinds;
 pub use iam_layers::WorldFault;

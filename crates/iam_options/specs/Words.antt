@@ -88,6 +88,11 @@ file_named (Some word) = if bytes_eq word (codes "-") then None else Some word
 abbrev pub IsFileAt : ArgMatches → List ℕ → Option (String Global) → Type 0
 IsFileAt matches name file = option_map string_bytes file ≡ file_named (first_value (found_of matches) name)
 
+-- neither name has a file: both inputs would be standard input
+abbrev pub NamesNeither : ArgMatches → List ℕ → List ℕ → Type 0
+NamesNeither matches one other =
+    (file_named (first_value (found_of matches) one) ≡ None) × (file_named (first_value (found_of matches) other) ≡ None)
+
 -- what is asked for is what stands under each name
 pub record HasAsked (matches : ArgMatches) (asked : Asked) : Type 0 where
   pub principals : map string_bytes asked.principals.items ≡ texts_at matches (codes "principal")

@@ -1,8 +1,9 @@
 // The command line of `changes`.
-ghost use Rattle.std.specs.Prelude.{◌≡◌, IfOk, None, Some, codes};
+ghost use Rattle.std.specs.Prelude.{◌≡◌, ◌≢◌, IfErr, IfOk, None, Some, codes};
 ghost use Rattle.clap.specs.Matches.{first_value, found_of};
-ghost use Rattle.iam_options.specs.Words.{HasAsked, HasRun, IsFailOn, IsFileAt, IsFlag, fail_on_word};
+ghost use Rattle.iam_options.specs.Words.{HasAsked, HasRun, IsFailOn, IsFileAt, IsFlag, NamesNeither, fail_on_word};
 ghost use Rattle.iam_options.specs.declared.changes.FailOn.{FailOn};
+ghost use Rattle.iam_options.specs.declared.options.Usage.TheVariants as u;
 
 use crate::arguments::{brief, format, run};
 use crate::command::{Asked, asked_in, file, file_at, with_patterns};
@@ -38,6 +39,8 @@ pub struct ChangesCommand {
     pub options: ChangesOptions,
     /// Which rows end the run with a status of its own.
     pub fail_on: Option<FailOn>,
+    /// Whether a run in which no request is selected is done too.
+    pub allow_empty: bool,
 }
 
 /// How a report of changes is made.
@@ -75,6 +78,9 @@ pub fn changes_in(alloc: Global, command: &ArgMatches<'_>) -> Result<ChangesComm
         HasRun command.now read.options.workers read.options.tile read.options.json read.options.brief) }
     ensures all { IfOk result (λ read. IsFlag command.now (codes "all") read.options.all) }
     ensures fail_on { IfOk result (λ read. IsFailOn command.now read.fail_on) }
+    ensures empty { IfOk result (λ read. IsFlag command.now (codes "allow-empty") read.allow_empty) }
+    ensures one { IfOk result (λ read. ¬ ((read.before ≡ None) × (read.after ≡ None))) }
+    ensures refused { IfErr result (λ usage. usage ≢ u.OutOfMemory → NamesNeither command.now (codes "BEFORE") (codes "AFTER")) }
 {
     let before = file_at(alloc, command, "BEFORE")?;
     let after = file_at(alloc, command, "AFTER")?;
@@ -87,6 +93,7 @@ pub fn changes_in(alloc: Global, command: &ArgMatches<'_>) -> Result<ChangesComm
         asked: asked_in(alloc, command)?,
         options: options_at(command),
         fail_on: fail_on_of(command),
+        allow_empty: command.get_flag("allow-empty"),
     })
 }
 

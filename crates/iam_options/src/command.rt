@@ -1,6 +1,6 @@
 // The whole command line: the options, the file of the world, and what is asked for.
 ghost use Rattle.std.specs.Prelude.{◌≡◌, ◌↔◌, IsTrue, IfOk, codes, length, map, string_bytes};
-ghost use Rattle.iam_options.specs.Words.{HasAsked, IsFileAt, texts_at};
+ghost use Rattle.iam_options.specs.Words.{HasAsked, IsFileAt, IsFlag, texts_at};
 
 use crate::arguments::{check, decide, first, matrix, named, with};
 use crate::changes::{ChangesCommand, changes, changes_in};
@@ -44,6 +44,8 @@ pub struct WorldCommand {
     pub world: Option<String>,
     /// Which rows are asked for.
     pub asked: Asked,
+    /// Whether a run in which no request is selected is done too.
+    pub allow_empty: bool,
 }
 
 /// What stands behind `--principal`, `--action`, `--resource` and `--decision`, each in its order. An empty list says nothing.
@@ -104,11 +106,13 @@ fn world_in(
     ensures options { IfOk result (λ read. read.options ≡ options) }
     ensures world { IfOk result (λ read. IsFileAt command.now (codes "WORLD") read.world) }
     ensures asked { IfOk result (λ read. HasAsked command.now read.asked) }
+    ensures empty { IfOk result (λ read. IsFlag command.now (codes "allow-empty") read.allow_empty) }
 {
     Ok(WorldCommand {
         options,
         world: file_at(alloc, command, "WORLD")?,
         asked: asked_in(alloc, command)?,
+        allow_empty: command.get_flag("allow-empty"),
     })
 }
 
@@ -201,7 +205,15 @@ pub fn with_patterns<'a>(alloc: Global, command: Parser<'a>) -> Result<Parser<'a
             "action",
             "Only requests for actions that match, in any case of letters",
         ))?
-        .arg(pattern(alloc, "resource", "Only requests on resources that match"))
+        .arg(pattern(alloc, "resource", "Only requests on resources that match"))?
+        .arg(allow_empty(alloc))
+}
+
+fn allow_empty<'a>(alloc: Global) -> Arg<'a> {
+    Arg::new(alloc, "allow-empty")
+        .long("allow-empty")
+        .action(ArgAction::SetTrue)
+        .help("End with status 0, not 4, where no request matches")
 }
 
 /// A command for some rows.

@@ -5,8 +5,8 @@
 use crate::input::{input_of, number_at, text_at};
 use crate::problem::Problem;
 use iam_app::{
-    ChangesCommand, Command, Usage, WorldCommand, changes_fault_line, changes_status, command_of,
-    fault_line, run_changes_command, run_command, status,
+    ChangesCommand, Command, Usage, WorldCommand, changes_command_status, changes_fault_line,
+    command_of, command_status, fault_line, run_changes_command, run_command,
 };
 use serde_json::Value;
 use std::alloc::Global;
@@ -161,11 +161,11 @@ fn world_answer<R: AllocGlobal + Threads + Sync>(
     let mut output = Vec::new(alloc);
     let outcome = run_command(rt, alloc, command, &mut reader, &mut output);
     let fault = match &outcome {
-        Ok(()) => String::new(alloc),
+        Ok(_) => String::new(alloc),
         Err(fault) => fault_line(alloc, fault)?,
     };
     Ok(Answer {
-        status: u64::from(status(&outcome)),
+        status: u64::from(command_status(&outcome, command.allow_empty)),
         output,
         fault,
     })
@@ -187,7 +187,7 @@ fn changes_answer<R: AllocGlobal + Threads + Sync>(
         Err(fault) => changes_fault_line(alloc, fault)?,
     };
     Ok(Answer {
-        status: u64::from(changes_status(&outcome, command.fail_on)),
+        status: u64::from(changes_command_status(&outcome, command.fail_on, command.allow_empty)),
         output,
         fault,
     })

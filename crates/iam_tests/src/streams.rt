@@ -1,7 +1,7 @@
 // Readers and writers that fail, at each of their calls, for all commands.
 use iam_app::{
-    Command, changes_fault_line, changes_status, command_of, fault_line, run_changes_command,
-    run_command, status,
+    Command, changes_command_status, changes_fault_line, command_of, command_status, fault_line,
+    run_changes_command, run_command,
 };
 use std::io;
 use std::io::{ErrorKind, Read, Write};
@@ -135,10 +135,10 @@ fn end_of<R: Read, S: Read, W: Write>(
         Command::World(asked) => {
             let outcome = run_command(rt, alloc, asked, after, writer);
             let line = match &outcome {
-                Ok(()) => String::new(alloc),
+                Ok(_) => String::new(alloc),
                 Err(fault) => fault_line(alloc, fault)?,
             };
-            Ok((status(&outcome), line))
+            Ok((command_status(&outcome, asked.allow_empty), line))
         }
         Command::Changes(asked) => {
             let outcome = run_changes_command(rt, alloc, asked, before, after, writer);
@@ -146,7 +146,10 @@ fn end_of<R: Read, S: Read, W: Write>(
                 Ok(_) => String::new(alloc),
                 Err(fault) => changes_fault_line(alloc, fault)?,
             };
-            Ok((changes_status(&outcome, asked.fail_on), line))
+            Ok((
+                changes_command_status(&outcome, asked.fail_on, asked.allow_empty),
+                line,
+            ))
         }
     }
 }

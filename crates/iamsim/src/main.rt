@@ -4,8 +4,8 @@
 mod source;
 
 use iam_app::{
-    ChangesCommand, Command, OutOfMemory, Usage, WorldCommand, changes_fault_line, changes_status,
-    command_of, fault_line, run_changes_command, run_command, status,
+    ChangesCommand, Command, OutOfMemory, Usage, WorldCommand, changes_command_status,
+    changes_fault_line, command_of, command_status, fault_line, run_changes_command, run_command,
 };
 use source::{Input, NotRead, Source, line_of_file};
 use std::alloc::Global;
@@ -66,7 +66,7 @@ fn world<'a, T: Threads + Sync + Files + Eprint, R: Read, W: Write>(
     if let Err(fault) = &outcome {
         tell_fault(rt, alloc, fault_line(alloc, fault), not_read);
     }
-    status(&outcome)
+    command_status(&outcome, command.allow_empty)
 }
 
 /// Answers what has changed from one world to another; the exit status.
@@ -84,7 +84,7 @@ fn changes<T: Threads + Sync + Files + Eprint, R: Read + Drop, W: Write>(
         let not_read = before.not_read().or(after.not_read());
         tell_fault(rt, alloc, changes_fault_line(alloc, fault), not_read);
     }
-    changes_status(&outcome, command.fail_on)
+    changes_command_status(&outcome, command.fail_on, command.allow_empty)
 }
 
 /// Prints what a command line without options is answered, and gives the exit status.

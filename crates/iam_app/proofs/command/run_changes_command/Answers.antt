@@ -10,10 +10,10 @@ returns-in_err-selection-clause-fault g c =
 
 pub returns-clause-done : goal.returns-clause-done
 returns-clause-done g c =
-    IfOk-weaker c.run_changes.result _ _ (λ kinds h. (c.in_ok-selection.selection, c.in_ok-selection.ensures, h))
-    c.run_changes.ensures.done
+    IfOk-weaker c.tell_changes.result _ _ (λ comparison h. (c.in_ok-selection.selection, c.in_ok-selection.ensures, h))
+    c.tell_changes.ensures.done
 
 pub returns-clause-fault : goal.returns-clause-fault
 returns-clause-fault g c =
-    IfErr-weaker c.run_changes.result _ _ (λ fault h. (c.in_ok-selection.selection, c.in_ok-selection.ensures, h))
-    c.run_changes.ensures.fault
+    IfErr-weaker c.tell_changes.result _ _ (λ fault h. (c.in_ok-selection.selection, c.in_ok-selection.ensures, h))
+    c.tell_changes.ensures.fault
