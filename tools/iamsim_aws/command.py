@@ -56,9 +56,10 @@ def heed_signals() -> None:
 
 
 def main(words: Optional[List[str]] = None) -> int:
-    """Runs the command of these words; every fault is told in one line."""
+    """Runs the command of these words, or of the process; every fault is told in one line."""
     options = parsed(words)
-    heed_signals()
+    if words is None:
+        heed_signals()
     # What a command reads it keeps to its end: looking for garbage among it would take a third of the time.
     gc.disable()
     TOLD.clear()
