@@ -10,7 +10,7 @@ from .. import files
 from ..faults import Fault
 from ..program import Refused
 
-COMMAND = ["matrix", "--decision", "allowed", "--format", "json"]
+COMMAND = ["matrix", "--decision", "allowed", "--allow-empty", "--format", "json"]
 # What stands around the names. A quote within a name is escaped, so no name has CELL.
 FRONT, CELL, BACK, END = b'},{"action":', b',"cell":', b',"statements":', b"}]\n"
 MIDDLE, BEHIND = b',"decision":"allowed","lacks":[],"principal":', b',"resource":'

@@ -28,7 +28,7 @@ part=$(mktemp "reports/$1.XXXXXX")
 trap 'rm -f "$part" "$part.said" "$part.gz"' EXIT
 trap 'exit 1' HUP INT TERM
 status=0
-"${IAMSIM:-iamsim}" matrix --decision allowed --format json --workers "${WORKERS:-1}" "worlds/$1.json" > "$part" 2> "$part.said" || status=$?
+"${IAMSIM:-iamsim}" matrix --decision allowed --allow-empty --format json --workers "${WORKERS:-1}" "worlds/$1.json" > "$part" 2> "$part.said" || status=$?
 # A program that is missing, or was killed, says nothing of the world.
 if [ "$status" -gt 1 ]; then
     cat "$part.said" >&2
