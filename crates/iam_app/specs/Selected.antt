@@ -1,5 +1,5 @@
 -- What a run with a selection writes, and why it ends without its report: as a run without one, but for what is asked of
--- the report. LOGIC 13.6.
+-- the report. LOGIC 13.4 and 13.6.
 use Rattle.std.specs.Prelude.{◌≡◌, ◌↔◌, ℕ, Bool, IsTrue, List, Option, String, ⊤, map, string_bytes}
 use Rattle.std.specs.Global.{Global}
 use Rattle.std.specs.List.{AllZip}

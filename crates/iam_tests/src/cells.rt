@@ -3,8 +3,10 @@ ghost use Rattle.std.specs.Prelude.{◌≤◌};
 
 use crate::engine::{Decides, EACH, Way, answers_all};
 use crate::matrix::HOME;
+use iam_context::{ContextFault, KeyName, Part, Values};
 use iam_engine::{Engine, Index};
 use iam_layers::{Decision, Verdict, World};
+use iam_text::Text;
 use std::alloc::Global;
 use std::test::Fail;
 
@@ -194,5 +196,79 @@ fn cells_in_any_order_with_a_cache_of_one(rt: HostRuntime) -> Result<(), Fail> {
 #[test]
 fn cells_asked_again(rt: HostRuntime) -> Result<(), Fail> {
     assert!(rt; answers(rt.alloc(), Way::Both, &EACH)?);
+    Ok(())
+}
+
+/// What a request of ann to read the first resource of the office comes to, in full and in brief, where it gives this key itself, and
+/// afterwards as its cell, which gives none.
+fn own_decisions(alloc: Global, key: &str, value: &str) -> Result<[Decision; 3], Fail> {
+    let world = World::read(alloc, OFFICE.as_bytes())?;
+    let index = Index::build(alloc, &world)?;
+    if world.cells() != 36 {
+        return Err("the office has other cells".into());
+    }
+    own_decisions_by(alloc, &index, key, value)
+}
+
+fn own_decisions_by(
+    alloc: Global,
+    index: &Index<'_>,
+    key: &str,
+    value: &str,
+) -> Result<[Decision; 3], Fail> {
+    let world = index.world();
+    if world.cells() == 0 {
+        return Err("no cells".into());
+    }
+    let (p, a, r) = world.triple(0);
+    let own = one_key(alloc, key, value)?;
+    world.check_own(alloc, p, r, &own)?;
+    let mut engine = Engine::new(alloc, world, index, 1024)?;
+    let brief = engine.decide_own_brief(alloc, p, a, r, &own)?;
+    let full = engine.decide_own(alloc, p, a, r, &own)?.decision;
+    let cell = engine.decide_brief(alloc, 0)?;
+    Ok([full, brief, cell])
+}
+
+fn one_key(alloc: Global, key: &str, value: &str) -> Result<Part, Fail> {
+    let mut own: Part = Vec::new(alloc);
+    own.push((
+        KeyName::given(Text::read(alloc, key)?),
+        Values::one(Text::read(alloc, value)?),
+    ))?;
+    Ok(own)
+}
+
+#[test]
+fn requests_that_give_keys_of_their_own(rt: HostRuntime) -> Result<(), Fail> {
+    let denied = [
+        Decision::ExplicitDeny,
+        Decision::ExplicitDeny,
+        Decision::Allowed,
+    ];
+    assert!(rt; own_decisions(rt.alloc(), "CLOSED", "true")? == denied);
+    let open = [Decision::Allowed, Decision::Allowed, Decision::Allowed];
+    assert!(rt; own_decisions(rt.alloc(), "closed", "false")? == open);
+    Ok(())
+}
+
+#[test]
+fn keys_that_are_given_already_or_follow(rt: HostRuntime) -> Result<(), Fail> {
+    let alloc = rt.alloc();
+    let world = World::read(alloc, OFFICE.as_bytes())?;
+    let rows = [
+        ("Office", Err(ContextFault::KeyTwice)),
+        ("TEAM", Err(ContextFault::KeyTwice)),
+        ("aws:UserName", Err(ContextFault::DerivedKeyGiven)),
+        ("closed", Ok(())),
+    ];
+    for (key, want) in rows {
+        let own = one_key(alloc, key, "north")?;
+        if world.cells() != 36 {
+            return Err("the office has other cells".into());
+        }
+        let (p, _, r) = world.triple(0);
+        assert_eq!(rt; world.check_own(alloc, p, r, &own), want, "at {key}");
+    }
     Ok(())
 }
