@@ -260,7 +260,7 @@ are_texts asked walk is root all = record {
 -- the letters of a node of the walk
 pub tries_node : (asked : Asked) (walk : Walk) (head : ℕ) (node : Node) (kept waited : List ℕ) (tails : List (Bor (List ℕ))) (letters : List ℕ) → IsWalk asked walk
     → head < length walk.nodes.items → get_or walk.nodes.items head node ≡ node
-    → SameElements kept (waited_at asked.table.now.patterns.items node.places.items ++ waited_in node.stage) → waited ≡ kept → tails ≡ node.tails.items
+    → SameElements kept (waited_at asked.table.now.patterns.items node.places.items ++ waited_in node.stage.part) → waited ≡ kept → tails ≡ node.tails.items
     → ((c : ℕ) → IsScalar c → is_some (next_stage node.stage c) ≡ true → Stands node.stage waited (map (λ t. t.now) tails) letters c)
     → TriesAll asked walk letters head
 tries_node asked walk head node kept waited tails letters is below here same kept_is tails_is stands = λ other at c rest scalar fits.

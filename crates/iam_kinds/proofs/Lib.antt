@@ -10,3 +10,4 @@ pub mod SetLemmas
 pub mod StateLemmas
 pub mod GoLemmas
 pub mod AnswerLemmas
+pub mod FoldLemmas

@@ -1,5 +1,5 @@
 -- What a node tells of its text, and which nodes stand for others.
-use Rattle.std.proofs.Common.{◌≡◌, ◌↔◌, inl, inr, ℕ, ◌<◌, Bool, true, false, ◌==◌, not, List, [], ◌∷◌, ◌++◌, filter, refl, sym, ap, ◌∙◌, subst, arith, append-nil, append_assoc, Option, Some, None, is_some}
+use Rattle.std.proofs.Common.{◌≡◌, ◌↔◌, inl, inr, ℕ, ◌<◌, Bool, true, false, ◌==◌, not, List, [], ◌∷◌, ◌++◌, filter, refl, sym, ap, ◌∙◌, subst, append-nil, append_assoc, Option, Some, None, is_some}
 use Rattle.std.specs.Char.{IsScalar}
 use Rattle.std.specs.List.{Contains, filter_map, list_any}
 use Rattle.std.specs.List.Sorted.{IsStrictlyIncreasing}
@@ -14,11 +14,10 @@ use Rattle.iam_kinds.specs.Walk.{Describes, Fits, Has, IsAt, IsSought, StandsFor
 use Rattle.iam_kinds.specs.declared.asked.Asked.{Asked}
 use Rattle.iam_kinds.specs.declared.asked.Node.{Node}
 use Rattle.iam_kinds.specs.declared.grammar.Stage.{Stage}
-use Rattle.iam_kinds.specs.declared.grammar.Stage.TheVariants.{Anywhere, Start, Service, Colon, Name}
 use Rattle.iam_kinds.specs.declared.table.Pattern.{Pattern}
 use Rattle.iam_kinds.specs.declared.table.Place.{Place}
 use Rattle.std.proofs.lemmas.Bool.{eqb-true, eq-eqb}
-use Rattle.iam_kinds.proofs.GrammarLemmas.{same_stage}
+use Rattle.iam_kinds.proofs.GrammarLemmas.{same_number, same_part}
 use Rattle.iam_kinds.proofs.MatchLemmas.{any_more, any_off, any_skip, anys_end, end_anys, given_off, nothing_left, one_off, one_on}
 use Rattle.iam_kinds.proofs.Members.{In, in_of, of_in, from_any, in_any, in_map, from_map, not_in_any, in_left, in_right}
 use Rattle.iam_kinds.proofs.PlaceLemmas.{both}
@@ -103,33 +102,6 @@ same_places (x ∷ xs) (y ∷ ys) e =
     let rest : place_numbers xs ≡ place_numbers ys = cc in
     let first : x ≡ y = ap (λ n. Rattle.iam_kinds.specs.Code.place_at n x.at) p ∙ ap (λ n. Rattle.iam_kinds.specs.Code.place_at y.pattern n) a in
     ap (λ z. z ∷ xs) first ∙ ap (λ l. y ∷ l) (same_places xs ys rest)
-
-pub same_number : (one other : Stage) → stage_number one ≡ stage_number other → one ≡ other
-same_number Anywhere Anywhere e = refl
-same_number Anywhere Start e = absurd (omega arith)
-same_number Anywhere Service e = absurd (omega arith)
-same_number Anywhere Colon e = absurd (omega arith)
-same_number Anywhere Name e = absurd (omega arith)
-same_number Start Anywhere e = absurd (omega arith)
-same_number Start Start e = refl
-same_number Start Service e = absurd (omega arith)
-same_number Start Colon e = absurd (omega arith)
-same_number Start Name e = absurd (omega arith)
-same_number Service Anywhere e = absurd (omega arith)
-same_number Service Start e = absurd (omega arith)
-same_number Service Service e = refl
-same_number Service Colon e = absurd (omega arith)
-same_number Service Name e = absurd (omega arith)
-same_number Colon Anywhere e = absurd (omega arith)
-same_number Colon Start e = absurd (omega arith)
-same_number Colon Service e = absurd (omega arith)
-same_number Colon Colon e = refl
-same_number Colon Name e = absurd (omega arith)
-same_number Name Anywhere e = absurd (omega arith)
-same_number Name Start e = absurd (omega arith)
-same_number Name Service e = absurd (omega arith)
-same_number Name Colon e = absurd (omega arith)
-same_number Name Name e = refl
 
 pub same_state : (asked : Asked) (one other : Node) → IsAt asked one → IsAt asked other → key_of one ≡ key_of other → tails_at one ≡ []
     → StandsFor (query_of asked) one.text.items other.text.items
@@ -226,7 +198,7 @@ free_unnamed tails o w none h =
 
 -- a letter is tried, or one in its place leads to the same, behind which nothing is named
 pub tries : (asked : Asked) (node : Node) (waited letters : List ℕ) → IsAt asked node
-    → ((d : ℕ) → In d (waited_at asked.table.now.patterns.items node.places.items ++ waited_in node.stage) → In d waited)
+    → ((d : ℕ) → In d (waited_at asked.table.now.patterns.items node.places.items ++ waited_in node.stage.part) → In d waited)
     → ((c : ℕ) → IsScalar c → is_some (next_stage node.stage c) ≡ true → Stands node.stage waited (tails_at node) letters c)
     → (c : ℕ) (w : List ℕ) → IsScalar c → Fits (query_of asked) (node.text.items ++ (c ∷ w))
     → (o : ℕ) × Contains letters o × Fits (query_of asked) (node.text.items ++ (o ∷ w))
@@ -243,7 +215,7 @@ tries asked node waited letters at has stands c w scalar fits =
     ]
   where
     instead : (asked : Asked) (node : Node) (waited : List ℕ) (c o : ℕ) → IsAt asked node
-        → ((d : ℕ) → In d (waited_at asked.table.now.patterns.items node.places.items ++ waited_in node.stage) → In d waited)
+        → ((d : ℕ) → In d (waited_at asked.table.now.patterns.items node.places.items ++ waited_in node.stage.part) → In d waited)
         → is_some (next_stage node.stage c) ≡ true → is_some (next_stage node.stage o) ≡ true → is_waited waited c ≡ false → is_waited waited o ≡ false
         → goes_on (tails_at node) o ≡ false → (letters w : List ℕ) → Contains letters o → Fits (query_of asked) (node.text.items ++ (c ∷ w))
         → (o : ℕ) × Contains letters o × Fits (query_of asked) (node.text.items ++ (o ∷ w))
@@ -252,10 +224,10 @@ tries asked node waited letters at has stands c w scalar fits =
         let t = asked.table.now.patterns.items in
         let u = node.text.items in
         let places = waited_at t node.places.items in
-        let at_places : (d : ℕ) → In d places → In d waited = λ d k. has d (in_left places (waited_in node.stage) d k) in
-        let not_waited : (x : ℕ) → is_waited waited x ≡ false → is_waited (waited_in node.stage) x ≡ false =
-        λ x none. unwaited_part (waited_in node.stage) waited x (λ d k. has d (in_right places (waited_in node.stage) d k)) none in
-        let stage = same_stage node.stage c o gc go (not_waited c wc) (not_waited o wo) in
+        let at_places : (d : ℕ) → In d places → In d waited = λ d k. has d (in_left places (waited_in node.stage.part) d k) in
+        let not_waited : (x : ℕ) → is_waited waited x ≡ false → is_waited (waited_in node.stage.part) x ≡ false =
+        λ x none. unwaited_part (waited_in node.stage.part) waited x (λ d k. has d (in_right places (waited_in node.stage.part) d k)) none in
+        let stage = same_part node.stage.part node.stage.fold c o gc go (not_waited c wc) (not_waited o wo) in
         let on : (v : List ℕ) → completes (c ∷ v) node.stage ≡ completes (o ∷ v) node.stage = λ v. ap (λ s. option_map_or (completes v) s false) stage in
         let grammar : (v : List ℕ) → IsIn asked.grammar (u ++ (c ∷ v)) ↔ IsIn asked.grammar (u ++ (o ∷ v)) =
         λ v. (

@@ -5,41 +5,57 @@ use Rattle.std.specs.List.{filter_map, flat_map, list_any, range_with_len, slice
 use Rattle.iam_glob.specs.Glob.{Matches}
 use Rattle.iam_glob.specs.declared.sign.Sign.{Sign}
 use Rattle.iam_glob.specs.declared.sign.Sign.TheVariants.{Given, One, Any}
-use Rattle.iam_kinds.specs.Kinds.{is_name_character, is_service_character}
+use Rattle.iam_kinds.specs.Kinds.{is_any_in, is_name_in, is_service_in}
 use Rattle.iam_kinds.specs.declared.grammar.Grammar.{Grammar}
-use Rattle.iam_kinds.specs.declared.grammar.Grammar.TheVariants.{AnyText, Action}
+use Rattle.iam_kinds.specs.declared.grammar.Grammar.TheVariants.{AnyText, Action, FoldedText, FoldedAction}
 use Rattle.iam_kinds.specs.declared.grammar.Stage.{Stage}
-use Rattle.iam_kinds.specs.declared.grammar.Stage.TheVariants.{Anywhere, Start, Service, Colon, Name}
+use Rattle.iam_kinds.specs.declared.grammar.Part.{Part}
+use Rattle.iam_kinds.specs.declared.grammar.Part.TheVariants.{Anywhere, Start, Service, Colon, Name}
 use Rattle.iam_kinds.specs.declared.table.Pattern.{Pattern}
 use Rattle.iam_kinds.specs.declared.table.Place.{Place}
 
+-- the stage at a part
+abbrev pub stage_at : Part → Bool → Stage
+stage_at part fold = record { part = part; fold = fold }
+
 -- the stage before any character
 abbrev pub first_stage : Grammar → Stage
-first_stage AnyText = Anywhere
-first_stage Action = Start
+first_stage AnyText = stage_at Anywhere false
+first_stage Action = stage_at Start false
+first_stage FoldedText = stage_at Anywhere true
+first_stage FoldedAction = stage_at Start true
 
 -- the stage behind one more character
+abbrev pub next_part : Part → Bool → ℕ → Option Stage
+next_part Anywhere fold c = if is_any_in fold c then Some (stage_at Anywhere fold) else None
+next_part Start fold c = if is_service_in fold c then Some (stage_at Service fold) else None
+next_part Service fold c = if is_service_in fold c then Some (stage_at Service fold) else (if c == 58 then Some (stage_at Colon fold) else None)
+next_part Colon fold c = if is_name_in fold c then Some (stage_at Name fold) else None
+next_part Name fold c = if is_name_in fold c then Some (stage_at Name fold) else None
+
 abbrev pub next_stage : Stage → ℕ → Option Stage
-next_stage Anywhere c = Some Anywhere
-next_stage Start c = if is_service_character c then Some Service else None
-next_stage Service c = if is_service_character c then Some Service else (if c == 58 then Some Colon else None)
-next_stage Colon c = if is_name_character c then Some Name else None
-next_stage Name c = if is_name_character c then Some Name else None
+next_stage stage c = next_part stage.part stage.fold c
 
 -- whether the text is whole
+abbrev pub is_last_part : Part → Bool
+is_last_part Anywhere = true
+is_last_part Start = false
+is_last_part Service = false
+is_last_part Colon = false
+is_last_part Name = true
+
 abbrev pub is_last_stage : Stage → Bool
-is_last_stage Anywhere = true
-is_last_stage Start = false
-is_last_stage Service = false
-is_last_stage Colon = false
-is_last_stage Name = true
+is_last_stage stage = is_last_part stage.part
+
+abbrev pub part_number : Part → ℕ
+part_number Anywhere = 0
+part_number Start = 1
+part_number Service = 2
+part_number Colon = 3
+part_number Name = 4
 
 abbrev pub stage_number : Stage → ℕ
-stage_number Anywhere = 0
-stage_number Start = 1
-stage_number Service = 2
-stage_number Colon = 3
-stage_number Name = 4
+stage_number stage = if stage.fold then part_number stage.part + 5 else part_number stage.part
 
 -- ---- patterns and places
 -- a place of a pattern
@@ -148,7 +164,7 @@ abbrev pub Leads : List Pattern → List Place → ℕ → List ℕ → Type 0
 Leads patterns places g text = (k : Place) × Contains places k × (group_at patterns k ≡ g) × Matches (rest_at patterns k) text
 
 -- the colon that the grammar waits for
-abbrev pub waited_in : Stage → List ℕ
+abbrev pub waited_in : Part → List ℕ
 waited_in Anywhere = []
 waited_in Start = []
 waited_in Service = 58 ∷ []

@@ -1,12 +1,12 @@
 -- The kinds of texts that patterns tell apart: AWS IAM User Guide, "IAM JSON policy elements reference", the elements `Action` and
 -- `Resource`, which read a text by patterns alone. A text is the list of its characters. LOGIC 2.1, 2.2 and 12.4.
-use Rattle.std.specs.Prelude.{◌≡◌, ◌↔◌, ◌<◌, ◌==◌, ◌||◌, ℕ, Bool, List, ◌∷◌, ◌++◌, ⊤, length, IsTrue, AllPairs, Contains}
+use Rattle.std.specs.Prelude.{◌≡◌, ◌↔◌, ◌<◌, ◌==◌, ◌||◌, ◌&&◌, ℕ, Bool, true, false, map, List, ◌∷◌, ◌++◌, ⊤, length, IsTrue, AllPairs, Contains}
 use Rattle.std.specs.Char.{IsScalar, is_ascii_alphanumeric}
 use Rattle.std.specs.List.{list_all}
-use Rattle.iam_glob.specs.Glob.{Matches}
+use Rattle.iam_glob.specs.Glob.{Matches, MatchesFold, folded}
 use Rattle.iam_glob.specs.declared.sign.Sign.{Sign}
 use Rattle.iam_kinds.specs.declared.grammar.Grammar.{Grammar}
-use Rattle.iam_kinds.specs.declared.grammar.Grammar.TheVariants.{AnyText, Action}
+use Rattle.iam_kinds.specs.declared.grammar.Grammar.TheVariants.{AnyText, Action, FoldedText, FoldedAction}
 
 -- what is asked: the grammar of the texts, patterns that all have to match, groups of patterns, and texts that are left out
 pub record Question : Type 0 where
@@ -23,16 +23,42 @@ is_service_character c = is_ascii_alphanumeric c || (c == 45)
 abbrev pub is_name_character : ℕ → Bool
 is_name_character c = is_service_character c || ((c == 95) || (c == 46))
 
+-- folding leaves the character
+abbrev pub is_folded : ℕ → Bool
+is_folded c = folded c == c
+
+-- such characters, of which folding leaves each where `fold` says so
+abbrev pub is_any_in : Bool → ℕ → Bool
+is_any_in false c = true
+is_any_in true c = is_folded c
+
+abbrev pub is_service_in : Bool → ℕ → Bool
+is_service_in false c = is_service_character c
+is_service_in true c = is_service_character c && is_folded c
+
+abbrev pub is_name_in : Bool → ℕ → Bool
+is_name_in false c = is_name_character c
+is_name_in true c = is_name_character c && is_folded c
+
 -- an action: one or more characters, a colon, one or more characters
-abbrev pub IsAction : List ℕ → Type 0
-IsAction text =
+abbrev pub IsAction : Bool → List ℕ → Type 0
+IsAction fold text =
     (service name : List ℕ) × (text ≡ service ++ (58 ∷ name)) × (0 < length service) × (0 < length name)
-    × IsTrue (list_all is_service_character service) × IsTrue (list_all is_name_character name)
+    × IsTrue (list_all (is_service_in fold) service) × IsTrue (list_all (is_name_in fold) name)
 
 -- the grammar has the text
 abbrev pub IsIn : Grammar → List ℕ → Type 0
 IsIn AnyText text = ⊤
-IsIn Action text = IsAction text
+IsIn Action text = IsAction false text
+IsIn FoldedText text = IsTrue (list_all is_folded text)
+IsIn FoldedAction text = IsAction true text
+
+-- the grammar of the texts that folding leaves
+abbrev pub folded_grammar : Grammar → Grammar
+folded_grammar AnyText = FoldedText
+folded_grammar Action = FoldedAction
+folded_grammar FoldedText = FoldedText
+folded_grammar FoldedAction = FoldedAction
 
 -- characters are Unicode scalar values
 abbrev pub IsText : List ℕ → Type 0
@@ -58,3 +84,24 @@ pub record AreKinds (question : Question) (texts : List (List ℕ)) : Type 0 whe
   pub meant : (text : List ℕ) → Contains texts text → IsMeant question text
   pub whole : (text : List ℕ) → IsText text → IsMeant question text → (shown : List ℕ) × Contains texts shown × Agree question shown text
   pub apart : AllPairs (λ one other. ¬ Agree question one other) texts
+
+-- ---- without regard to case
+pub record IsMeantFold (question : Question) (text : List ℕ) : Type 0 where
+  pub grammar : IsIn question.grammar text
+  pub within : (pattern : List Sign) → Contains question.within pattern → MatchesFold pattern text
+  pub unnamed : ¬ Contains (map (λ name. map folded name) question.named) (map folded text)
+
+abbrev pub GroupMatchesFold : List (List Sign) → List ℕ → Type 0
+GroupMatchesFold group text = (pattern : List Sign) × Contains group pattern × MatchesFold pattern text
+
+abbrev pub AgreeFold : Question → List ℕ → List ℕ → Type 0
+AgreeFold question one other =
+    (group : List (List Sign)) → Contains question.groups group → GroupMatchesFold group one ↔ GroupMatchesFold group other
+
+-- the same without regard to case, by texts that folding leaves
+pub record AreKindsFold (question : Question) (texts : List (List ℕ)) : Type 0 where
+  pub folds : (text : List ℕ) → Contains texts text → map folded text ≡ text
+  pub meant : (text : List ℕ) → Contains texts text → IsMeantFold question text
+  pub whole : (text : List ℕ) → IsText text → IsMeantFold question text
+      → (shown : List ℕ) × Contains texts shown × AgreeFold question shown text
+  pub apart : AllPairs (λ one other. ¬ AgreeFold question one other) texts

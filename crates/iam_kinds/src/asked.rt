@@ -4,7 +4,7 @@ ghost use Rattle.iam_kinds.specs.Code.{SameElements, waited_at, waited_in};
 ghost use Rattle.iam_kinds.specs.Walk.{Fits, IsAt, IsReady, key_of, query_of, tails_at};
 
 use crate::OutOfMemory;
-use crate::grammar::{Grammar, Stage};
+use crate::grammar::{Grammar, Part, Stage};
 use crate::letters::{sorted_letters, tails_behind};
 use crate::table::{Place, Table};
 use std::alloc::Global;
@@ -96,10 +96,10 @@ impl<'a> Asked<'a> {
     /// The characters that the patterns wait for behind a node, or the grammar.
     pub fn waited(&self, alloc: Global, node: &Node<'a>) -> Result<Vec<char>, OutOfMemory>
         requires { IsAt self.now node.now }
-        ensures { IfOk result (λ v. SameElements v.items (waited_at self.now.table.now.patterns.items node.now.places.items ++ waited_in node.now.stage)) }
+        ensures { IfOk result (λ v. SameElements v.items (waited_at self.now.table.now.patterns.items node.now.places.items ++ waited_in node.now.stage.part)) }
     {
         let mut waited = self.table.waited(alloc, &node.places)?;
-        if let Stage::Service = node.stage {
+        if let Part::Service = node.stage.part {
             waited.push(':')?;
         }
         Ok(sorted_letters(waited))

@@ -1,8 +1,9 @@
 // One text of each kind.
-ghost use Rattle.std.specs.Prelude.{◌≡◌, ◌+◌, ◌++◌, ◌∷◌, [], IfOk, OnOk, ◌<◌, ◌^◌, length, map};
+ghost use Rattle.std.specs.Prelude.{false, ◌≡◌, ◌+◌, ◌++◌, ◌∷◌, [], IfOk, OnOk, ◌<◌, ◌^◌, length, map};
 ghost use Rattle.std.specs.Str.{chars};
+ghost use Rattle.iam_glob.specs.Glob.{folded, sign_by};
 ghost use Rattle.iam_glob.specs.Signs.{signs_in};
-ghost use Rattle.iam_kinds.specs.Answers.{IsAnswer, numbered_groups, numbered_within, pairs_of, question_of, with_number};
+ghost use Rattle.iam_kinds.specs.Answers.{IsAnswer, IsAnswerFold, characters_in, numbered_groups, numbered_within, pairs_of, question_in, signs_of, with_number};
 ghost use Rattle.iam_kinds.specs.Walk.{IsReady};
 
 use crate::OutOfMemory;
@@ -31,12 +32,39 @@ pub fn find_kinds(
     groups: &[Vec<Signs<'_>>],
     named: &[&str],
 ) -> Result<Kinds, OutOfMemory>
-    ensures { IfOk result (IsAnswer (question_of grammar within.now groups.now named.now)) }
+    ensures { IfOk result (IsAnswer (question_in false grammar within.now groups.now named.now)) }
+{
+    found(alloc, grammar, within, groups, named, false)
+}
+
+/// The same without regard to case, by texts that have none of the letters A to Z.
+pub fn find_kinds_fold(
+    alloc: Global,
+    grammar: Grammar,
+    within: &[Signs<'_>],
+    groups: &[Vec<Signs<'_>>],
+    named: &[&str],
+) -> Result<Kinds, OutOfMemory>
+    ensures { IfOk result (IsAnswerFold (question_in false grammar within.now groups.now named.now)) }
+{
+    found(alloc, grammar.folded(), within, groups, named, true)
+}
+
+/// One text of each kind by patterns and named texts that are folded where `fold` says so.
+fn found(
+    alloc: Global,
+    grammar: Grammar,
+    within: &[Signs<'_>],
+    groups: &[Vec<Signs<'_>>],
+    named: &[&str],
+    fold: bool,
+) -> Result<Kinds, OutOfMemory>
+    ensures { IfOk result (IsAnswer (question_in fold grammar within.now groups.now named.now)) }
 {
     let mut patterns = Vec::new(alloc);
-    add_within(alloc, &mut patterns, within)?;
-    add_groups(alloc, &mut patterns, groups, within.len())?;
-    let named = characters(alloc, named)?;
+    add_within(alloc, &mut patterns, within, fold)?;
+    add_groups(alloc, &mut patterns, groups, within.len(), fold)?;
+    let named = characters(alloc, named, fold)?;
     let count = within.len() + groups.len();
     let table = Table::of(alloc, count, patterns)?;
     let asked = Asked {
@@ -58,12 +86,13 @@ fn add_within(
     alloc: Global,
     listed: &mut Vec<Pattern>,
     within: &[Signs<'_>],
+    fold: bool,
 ) -> Result<(), OutOfMemory>
-    ensures { OnOk result (pairs_of listed.new.items ≡ pairs_of listed.old.items ++ numbered_within 0 (map signs_in within.now)) }
+    ensures { OnOk result (pairs_of listed.new.items ≡ pairs_of listed.old.items ++ numbered_within 0 (map (signs_of fold) within.now)) }
 {
     let mut group = 0usize;
     for &signs in within {
-        add_pattern(alloc, listed, group, signs)?;
+        add_pattern(alloc, listed, group, signs, fold)?;
         group += 1;
     }
     Ok(())
@@ -75,13 +104,14 @@ fn add_groups(
     listed: &mut Vec<Pattern>,
     groups: &[Vec<Signs<'_>>],
     first: usize,
+    fold: bool,
 ) -> Result<(), OutOfMemory>
     requires { first + length groups.now < 2 ^ 64 }
-    ensures { OnOk result (pairs_of listed.new.items ≡ pairs_of listed.old.items ++ numbered_groups first (map (λ g. map signs_in g.items) groups.now)) }
+    ensures { OnOk result (pairs_of listed.new.items ≡ pairs_of listed.old.items ++ numbered_groups first (map (λ g. map (signs_of fold) g.items) groups.now)) }
 {
     let mut number = first;
     for group in groups {
-        add_group(alloc, listed, number, group)?;
+        add_group(alloc, listed, number, group, fold)?;
         number += 1;
     }
     Ok(())
@@ -93,11 +123,12 @@ fn add_group(
     listed: &mut Vec<Pattern>,
     group: usize,
     patterns: &[Signs<'_>],
+    fold: bool,
 ) -> Result<(), OutOfMemory>
-    ensures { OnOk result (pairs_of listed.new.items ≡ pairs_of listed.old.items ++ with_number group (map signs_in patterns.now)) }
+    ensures { OnOk result (pairs_of listed.new.items ≡ pairs_of listed.old.items ++ with_number group (map (signs_of fold) patterns.now)) }
 {
     for &signs in patterns {
-        add_pattern(alloc, listed, group, signs)?;
+        add_pattern(alloc, listed, group, signs, fold)?;
     }
     Ok(())
 }
@@ -108,15 +139,27 @@ fn add_pattern(
     listed: &mut Vec<Pattern>,
     group: usize,
     signs: Signs<'_>,
+    fold: bool,
 ) -> Result<(), OutOfMemory>
-    ensures { OnOk result (pairs_of listed.new.items ≡ pairs_of listed.old.items ++ ((group, signs_in signs.entry) ∷ [])) }
+    ensures { OnOk result (pairs_of listed.new.items ≡ pairs_of listed.old.items ++ ((group, signs_of fold signs.entry) ∷ [])) }
 {
-    let signs = copied(alloc, signs)?;
+    let signs = signs_of(alloc, signs, fold)?;
     listed.push(Pattern { group, signs })?;
     Ok(())
 }
 
-fn copied(alloc: Global, signs: Signs<'_>) -> Result<Vec<Sign>, OutOfMemory>
+/// The signs, folded where `fold` says so.
+fn signs_of(alloc: Global, signs: Signs<'_>, fold: bool) -> Result<Vec<Sign>, OutOfMemory>
+    ensures { IfOk result (λ v. v.items ≡ signs_of fold signs.entry) }
+{
+    if fold {
+        folded_signs(alloc, signs)
+    } else {
+        copied_signs(alloc, signs)
+    }
+}
+
+fn copied_signs(alloc: Global, signs: Signs<'_>) -> Result<Vec<Sign>, OutOfMemory>
     ensures { IfOk result (λ v. v.items ≡ signs_in signs.entry) }
 {
     let mut copied = Vec::with_capacity(alloc, signs.len())?;
@@ -126,19 +169,57 @@ fn copied(alloc: Global, signs: Signs<'_>) -> Result<Vec<Sign>, OutOfMemory>
     Ok(copied)
 }
 
-/// The characters of texts.
-fn characters(alloc: Global, texts: &[&str]) -> Result<Vec<Vec<char>>, OutOfMemory>
-    ensures { IfOk result (λ v. map (λ t. t.items) v.items ≡ map (λ t. chars t.now) texts.now) }
+fn folded_signs(alloc: Global, signs: Signs<'_>) -> Result<Vec<Sign>, OutOfMemory>
+    ensures { IfOk result (λ v. v.items ≡ map (sign_by folded) (signs_in signs.entry)) }
+{
+    let mut copied = Vec::with_capacity(alloc, signs.len())?;
+    for i in 0..signs.len() {
+        copied.push(folded_sign(signs.at(i)))?;
+    }
+    Ok(copied)
+}
+
+fn folded_sign(sign: Sign) -> Sign
+    ensures { result ≡ sign_by folded sign }
+{
+    match sign {
+        Sign::Given(character) => Sign::Given(character.to_ascii_lowercase()),
+        Sign::One => Sign::One,
+        Sign::Any => Sign::Any,
+    }
+}
+
+/// The characters of texts, folded where `fold` says so.
+fn characters(alloc: Global, texts: &[&str], fold: bool) -> Result<Vec<Vec<char>>, OutOfMemory>
+    ensures { IfOk result (λ v. map (λ t. t.items) v.items ≡ map (λ t. characters_in fold (chars t.now)) texts.now) }
 {
     let mut listed = Vec::new(alloc);
     for &text in texts {
-        listed.push(characters_of(alloc, text)?)?;
+        listed.push(characters_of(alloc, text, fold)?)?;
     }
     Ok(listed)
 }
 
-fn characters_of(alloc: Global, text: &str) -> Result<Vec<char>, OutOfMemory>
+fn characters_of(alloc: Global, text: &str, fold: bool) -> Result<Vec<char>, OutOfMemory>
+    ensures { IfOk result (λ v. v.items ≡ characters_in fold (chars text.now)) }
+{
+    if fold {
+        folded_characters(alloc, text)
+    } else {
+        copied_characters(alloc, text)
+    }
+}
+
+fn copied_characters(alloc: Global, text: &str) -> Result<Vec<char>, OutOfMemory>
     ensures { IfOk result (λ v. v.items ≡ chars text.now) }
 {
     text.chars().collect(alloc)
+}
+
+fn folded_characters(alloc: Global, text: &str) -> Result<Vec<char>, OutOfMemory>
+    ensures { IfOk result (λ v. v.items ≡ map folded (chars text.now)) }
+{
+    text.chars()
+        .map(|character| character.to_ascii_lowercase())
+        .collect(alloc)
 }

@@ -12,4 +12,4 @@ mod walk;
 
 pub use grammar::Grammar;
 pub use iam_glob::{OutOfMemory, Sign, Signs};
-pub use kinds::{Kinds, find_kinds};
+pub use kinds::{Kinds, find_kinds, find_kinds_fold};

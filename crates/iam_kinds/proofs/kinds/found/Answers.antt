@@ -1,15 +1,14 @@
 use Rattle.std.proofs.Common.{◌≡◌, ◌+◌, ◌∙◌, ap, drop, length, map, refl, sym}
 use Rattle.std.proofs.lemmas.List.{length-map}
-use Rattle.iam_glob.specs.Signs.{signs_in}
-use Rattle.iam_kinds.specs.Answers.{question_of}
+use Rattle.iam_kinds.specs.Answers.{question_in, signs_of}
 use Rattle.iam_kinds.proofs.AnswerLemmas.{are_kinds, both_added, is_question, is_ready}
-use Rattle.iam_kinds.proofs.kinds.find_kinds.Goals as goal
+use Rattle.iam_kinds.proofs.kinds.found.Goals as goal
 
 pub find_texts-requires : goal.find_texts-requires
 find_texts-requires c =
-    let q = question_of c.args.grammar c.args.within.now c.args.groups.now c.args.named.now in
-    let many : length c.args.within.now ≡ length q.within = sym (length-map c.args.within.now signs_in) in
-    let groups : length c.args.groups.now ≡ length q.groups = sym (length-map c.args.groups.now (λ g. map signs_in g.items)) in
+    let q = question_in c.args.fold c.args.grammar c.args.within.now c.args.groups.now c.args.named.now in
+    let many : length c.args.within.now ≡ length q.within = sym (length-map c.args.within.now (signs_of c.args.fold)) in
+    let groups : length c.args.groups.now ≡ length q.groups = sym (length-map c.args.groups.now (λ g. map (signs_of c.args.fold) g.items)) in
     let pairs = both_added c.new-patterns.result.items c.add_within.new.listed.items c.add_groups.new.listed.items q.within q.groups (length c.args.within.now)
     c.new-patterns.ensures.items c.in_ok-add_within.ensures c.in_ok-add_groups.ensures many in
     let table = c.in_ok-table.ensures in
@@ -18,8 +17,8 @@ find_texts-requires c =
 
 pub returns-in-Some : goal.returns-in-Some
 returns-in-Some c =
-    let q = question_of c.args.grammar c.args.within.now c.args.groups.now c.args.named.now in
-    let many : length c.args.within.now ≡ length q.within = sym (length-map c.args.within.now signs_in) in
+    let q = question_in c.args.fold c.args.grammar c.args.within.now c.args.groups.now c.args.named.now in
+    let many : length c.args.within.now ≡ length q.within = sym (length-map c.args.within.now (signs_of c.args.fold)) in
     let pairs = both_added c.new-patterns.result.items c.add_within.new.listed.items c.add_groups.new.listed.items q.within q.groups (length c.args.within.now)
     c.new-patterns.ensures.items c.in_ok-add_within.ensures c.in_ok-add_groups.ensures many in
     let table = c.in_ok-table.ensures in

@@ -1,0 +1,252 @@
+-- Without regard to case.
+use Rattle.std.proofs.Common.{◌≡◌, ◌↔◌, ◌⊎◌, inl, inr, ℕ, ◌≤◌, ◌+◌, Bool, true, false, ◌==◌, ◌&&◌, ◌||◌, List, [], ◌∷◌, ◌++◌, map, get_or, refl, sym, ap, ◌∙◌, subst, arith}
+use Rattle.std.proofs.lemmas.Bool.{eq-eqb, eqb-true}
+use Rattle.std.proofs.lemmas.Bool.Decides.{nat_tests}
+use Rattle.std.proofs.lemmas.List.{length-map, map-append}
+use Rattle.std.proofs.lemmas.List.Elements.{Contains-get_or}
+use Rattle.std.proofs.lemmas.Str.Ascii.{lowercase-lowercase, lowercase_is}
+use Rattle.std.proofs.Math.Utf8.{low_scalar}
+use Rattle.std.specs.Borrow.{Bor}
+use Rattle.std.specs.Char.{IsScalar}
+use Rattle.std.specs.Global.{Vec}
+use Rattle.std.specs.Int.{is_in_range}
+use Rattle.std.specs.List.{Contains, list_all}
+use Rattle.std.specs.Str.{chars}
+use Rattle.iam_glob.specs.Glob.{Matches, folded, sign_by}
+use Rattle.iam_glob.specs.declared.sign.Sign.{Sign}
+use Rattle.iam_glob.specs.declared.signs.Signs.{Signs}
+use Rattle.iam_kinds.specs.Answers.{IsAnswer, IsAnswerFold, characters_in, question_in, signs_of}
+use Rattle.iam_kinds.specs.declared.kinds.Kinds.{Kinds}
+use Rattle.iam_kinds.specs.declared.kinds.Kinds.TheVariants.{Shown, NotShown}
+use Rattle.iam_kinds.specs.Kinds.{Agree, AgreeFold, AreKinds, AreKindsFold, GroupMatches, GroupMatchesFold, IsAction, IsIn, IsMeant, IsMeantFold, IsText, Question, folded_grammar, is_folded, is_name_character, is_name_in, is_service_character, is_service_in}
+use Rattle.iam_kinds.specs.declared.grammar.Grammar.{Grammar}
+use Rattle.iam_kinds.specs.declared.grammar.Grammar.TheVariants.{AnyText, Action, FoldedText, FoldedAction}
+use Rattle.iam_kinds.proofs.Members.{from_map, in_map, in_of, of_in}
+use Rattle.iam_kinds.proofs.PlaceLemmas.{both, le_cases}
+
+-- ---- characters
+pub all_both : (p q : ℕ → Bool) (text : List ℕ) → list_all (λ c. p c && q c) text ≡ true → (list_all p text ≡ true) × (list_all q text ≡ true)
+all_both p q [] e = (refl, refl)
+all_both p q (c ∷ text) e =
+    let r = both (p c && q c) (list_all (λ c. p c && q c) text) e in
+    let s = both (p c) (q c) r.0 in
+    let t = all_both p q text r.1 in
+    ((let h : p c ≡ true = s.0 in rw h t.0), (let h : q c ≡ true = s.1 in rw h t.1))
+
+pub folds_all : (text : List ℕ) → list_all is_folded text ≡ true → map folded text ≡ text
+folds_all [] e = refl
+folds_all (c ∷ text) e =
+    let r = both (is_folded c) (list_all is_folded text) e in
+    ap (λ d. d ∷ map folded text) (eqb-true (folded c) c r.0) ∙ ap (λ t. c ∷ t) (folds_all text r.1)
+
+pub folded_folds : (c : ℕ) → is_folded (folded c) ≡ true
+folded_folds c = eq-eqb (folded (folded c)) (folded c) (lowercase-lowercase c)
+
+pub all_folded : (text : List ℕ) → list_all is_folded (map folded text) ≡ true
+all_folded [] = refl
+all_folded (c ∷ text) = let h : is_folded (folded c) ≡ true = folded_folds c in rw h (all_folded text)
+
+-- a property of characters that folding keeps
+abbrev pub IsKept : (ℕ → Bool) → Type 0
+IsKept p = (c : ℕ) → p c ≡ true → p (folded c) ≡ true
+
+pub all_kept : (p : ℕ → Bool) → IsKept p → (text : List ℕ) → list_all p text ≡ true → list_all (λ c. p c && is_folded c) (map folded text) ≡ true
+all_kept p kept [] e = refl
+all_kept p kept (c ∷ text) e =
+    let r = both (p c) (list_all p text) e in
+    let h : p (folded c) ≡ true = kept c r.0 in
+    let f : is_folded (folded c) ≡ true = folded_folds c in
+    rw (h, f) (all_kept p kept text r.1)
+
+pub small_letter : (c : ℕ) → 65 ≤ c → c ≤ 90 → is_in_range 97 122 (c + 32) ≡ true
+small_letter c low high = grind (arith, nat_tests)
+
+-- a character stays as it is, or folding makes a small letter of it
+pub folded_cases : (c : ℕ) → (folded c ≡ c) ⊎ ((folded c ≡ c + 32) × (65 ≤ c) × (c ≤ 90))
+folded_cases c = elim (le_cases c 65) [
+  | inl below ↦ inl ((lowercase_is c).1 below)
+  | inr low ↦ elim (le_cases 90 c) [
+    | inl above ↦ inl ((lowercase_is c).2 above)
+    | inr high ↦ inr ((lowercase_is c).0 (low, high), low, high)
+  ]
+]
+
+pub or_third : (a b : Bool) → ((a || true) || b) ≡ true
+or_third true b = refl
+or_third false b = refl
+
+pub or_fourth : (a b d : Bool) → (((a || true) || b) || d) ≡ true
+or_fourth true b d = refl
+or_fourth false b d = refl
+
+pub service_kept : IsKept is_service_character
+service_kept c e = elim (folded_cases c) [
+  | inl same ↦ ap is_service_character same ∙ e
+  | inr r ↦ ap is_service_character r.0 ∙ small c r.1 r.2
+]
+  where
+    small : (c : ℕ) → 65 ≤ c → c ≤ 90 → is_service_character (c + 32) ≡ true
+    small c low high = let h : is_in_range 97 122 (c + 32) ≡ true = small_letter c low high in rw h (or_third (is_in_range 48 57 (c + 32) || is_in_range 65 90 (c + 32)) ((c + 32) == 45))
+
+pub name_kept : IsKept is_name_character
+name_kept c e = elim (folded_cases c) [
+  | inl same ↦ ap is_name_character same ∙ e
+  | inr r ↦ ap is_name_character r.0 ∙ small c r.1 r.2
+]
+  where
+    small : (c : ℕ) → 65 ≤ c → c ≤ 90 → is_name_character (c + 32) ≡ true
+    small c low high = let h : is_in_range 97 122 (c + 32) ≡ true = small_letter c low high in
+        rw h (or_fourth (is_in_range 48 57 (c + 32) || is_in_range 65 90 (c + 32)) ((c + 32) == 45) (((c + 32) == 95) || ((c + 32) == 46)))
+
+pub scalar_folded : (c : ℕ) → IsScalar c → IsScalar (folded c)
+scalar_folded c s = elim (folded_cases c) [
+  | inl same ↦ subst IsScalar (sym same) s
+  | inr r ↦ subst IsScalar (sym r.0) (let high : c ≤ 90 = r.2 in low_scalar (c + 32) (omega arith))
+]
+
+pub text_folded : (text : List ℕ) → IsText text → IsText (map folded text)
+text_folded text scalars = λ c h.
+    let r = from_map folded text c (in_of _ c h) in subst IsScalar r.2 (scalar_folded r.0 (scalars r.0 (of_in text r.0 r.1)))
+
+-- ---- the grammar
+pub action_folded : (fold : Bool) (text : List ℕ) → ((c : ℕ) → is_service_in fold c ≡ true → is_service_character c ≡ true)
+    → ((c : ℕ) → is_name_in fold c ≡ true → is_name_character c ≡ true) → IsAction fold text → IsAction true (map folded text)
+action_folded fold text service_is name_is (service, name, e, some, more, s, n) = (
+  map folded service,
+  map folded name,
+  ap (map folded) e ∙ map-append folded service (58 ∷ name),
+  (let same = length-map service folded in omega (arith, same)),
+  (let same = length-map name folded in omega (arith, same)),
+  all_kept is_service_character service_kept service (all_weaker (is_service_in fold) is_service_character service_is service s),
+  all_kept is_name_character name_kept name (all_weaker (is_name_in fold) is_name_character name_is name n),
+)
+  where
+    all_weaker : (p q : ℕ → Bool) → ((c : ℕ) → p c ≡ true → q c ≡ true) → (text : List ℕ) → list_all p text ≡ true → list_all q text ≡ true
+    all_weaker p q is [] e = refl
+    all_weaker p q is (c ∷ text) e =
+        let r = both (p c) (list_all p text) e in let h : q c ≡ true = is c r.0 in rw h (all_weaker p q is text r.1)
+
+pub in_folded : (grammar : Grammar) (text : List ℕ) → IsIn grammar text → IsIn (folded_grammar grammar) (map folded text)
+in_folded AnyText text h = all_folded text
+in_folded Action text h = action_folded false text (λ c e. e) (λ c e. e) h
+in_folded FoldedText text h = all_folded text
+in_folded FoldedAction text h =
+    action_folded true text (λ c e. (both (is_service_character c) (is_folded c) e).0) (λ c e. (both (is_name_character c) (is_folded c) e).0) h
+
+pub action_folds : (text : List ℕ) → IsAction true text → map folded text ≡ text
+action_folds text (service, name, e, some, more, s, n) =
+    let first = folds_all service (all_both is_service_character is_folded service s).1 in
+    let second = folds_all name (all_both is_name_character is_folded name n).1 in
+    ap (map folded) e ∙ map-append folded service (58 ∷ name) ∙ ap (λ t. t ++ (58 ∷ map folded name)) first ∙ ap (λ t. service ++ (58 ∷ t)) second ∙ sym e
+
+pub in_folds : (grammar : Grammar) (text : List ℕ) → IsIn (folded_grammar grammar) text → map folded text ≡ text
+in_folds AnyText text h = folds_all text h
+in_folds Action text h = action_folds text h
+in_folds FoldedText text h = folds_all text h
+in_folds FoldedAction text h = action_folds text h
+
+pub from_folded : (grammar : Grammar) (text : List ℕ) → IsIn (folded_grammar grammar) text → IsIn grammar text
+from_folded AnyText text h = tt
+from_folded Action text (service, name, e, some, more, s, n) =
+    (service, name, e, some, more, (all_both is_service_character is_folded service s).0, (all_both is_name_character is_folded name n).0)
+from_folded FoldedText text h = h
+from_folded FoldedAction text h = h
+
+-- ---- the question
+abbrev pub folded_question : Question → Question
+folded_question question = record {
+  grammar = folded_grammar question.grammar;
+  within = map (map (sign_by folded)) question.within;
+  groups = map (map (map (sign_by folded))) question.groups;
+  named = map (map folded) question.named;
+}
+
+pub group_fold : (group : List (List Sign)) (text : List ℕ) → GroupMatches (map (map (sign_by folded)) group) (map folded text) ↔ GroupMatchesFold group text
+group_fold group text = (
+  λ (p, h, m).
+      let r = from_map (map (sign_by folded)) group p (in_of _ p h) in
+      (r.0, of_in group r.0 r.1, subst (λ (s : List Sign). Matches s (map folded text)) (sym r.2) m),
+  λ (p, h, m). (map (sign_by folded) p, of_in _ _ (in_map (map (sign_by folded)) group p (in_of group p h)), m),
+)
+
+pub agree_fold : (question : Question) (one other : List ℕ) → Agree (folded_question question) (map folded one) (map folded other) → AgreeFold question one other
+agree_fold question one other agrees = λ group h.
+    let a = agrees (map (map (sign_by folded)) group) (of_in _ _ (in_map (map (map (sign_by folded))) question.groups group (in_of _ group h))) in (
+      λ m. (group_fold group other).0 (a.0 ((group_fold group one).1 m)),
+      λ m. (group_fold group one).0 (a.1 ((group_fold group other).1 m)),
+    )
+
+pub fold_agree : (question : Question) (one other : List ℕ) → AgreeFold question one other → Agree (folded_question question) (map folded one) (map folded other)
+fold_agree question one other agrees = λ folded_group h.
+    let r = from_map (map (map (sign_by folded))) question.groups folded_group (in_of _ folded_group h) in
+    let a = agrees r.0 (of_in _ r.0 r.1) in
+    subst (λ (g : List (List Sign)). GroupMatches g (map folded one) ↔ GroupMatches g (map folded other)) r.2 (
+      (λ m. (group_fold r.0 other).1 (a.0 ((group_fold r.0 one).0 m))),
+      (λ m. (group_fold r.0 one).1 (a.1 ((group_fold r.0 other).0 m))),
+    )
+
+pub meant_fold : (question : Question) (text : List ℕ) → IsMeant (folded_question question) text → IsMeantFold question text
+meant_fold question text m =
+    let same = in_folds question.grammar text m.grammar in record {
+      grammar = from_folded question.grammar text m.grammar;
+      within = λ p h. subst (λ t. Matches (map (sign_by folded) p) t) (sym same)
+          (m.within (map (sign_by folded) p) (of_in _ _ (in_map (map (sign_by folded)) question.within p (in_of _ p h))));
+      unnamed = λ h. m.unnamed (subst (λ t. Contains (map (map folded) question.named) t) same h);
+    }
+
+pub fold_meant : (question : Question) (text : List ℕ) → IsMeantFold question text → IsMeant (folded_question question) (map folded text)
+fold_meant question text m = record {
+  grammar = in_folded question.grammar text m.grammar;
+  within = λ p h.
+      let r = from_map (map (sign_by folded)) question.within p (in_of _ p h) in
+      subst (λ (s : List Sign). Matches s (map folded text)) r.2 (m.within r.0 (of_in _ r.0 r.1));
+  unnamed = m.unnamed;
+}
+
+pub kinds_fold : (question : Question) (texts : List (List ℕ)) → AreKinds (folded_question question) texts → AreKindsFold question texts
+kinds_fold question texts are =
+    let folds : (text : List ℕ) → Contains texts text → map folded text ≡ text = λ text h. in_folds question.grammar text (are.meant text h).grammar in record {
+      folds = folds;
+      meant = λ text h. meant_fold question text (are.meant text h);
+      whole = λ text scalars m.
+          let r = are.whole (map folded text) (text_folded text scalars) (fold_meant question text m) in
+          (r.0, r.1, agree_fold question r.0 text (subst (λ t. Agree (folded_question question) t (map folded text)) (sym (folds r.0 r.1)) r.2));
+      apart = λ i j d less below agrees.
+          let first = folds _ (Contains-get_or texts i d (omega (arith, less, below))) in
+          let second = folds _ (Contains-get_or texts j d below) in
+          are.apart i j d less below
+          (subst (λ t. Agree (folded_question question) t (get_or texts j d)) first
+          (subst (λ t. Agree (folded_question question) (map folded (get_or texts i d)) t) second (fold_agree question _ _ agrees)));
+    }
+
+-- the question as it is asked
+pub map_twice : {A B C : Type 0} (f : B → C) (g : A → B) (xs : List A) → map f (map g xs) ≡ map (λ x. f (g x)) xs
+map_twice f g [] = refl
+map_twice f g (x ∷ xs) = ap (λ l. f (g x) ∷ l) (map_twice f g xs)
+
+pub groups_twice : (groups : List (Vec Signs))
+    → map (map (map (sign_by folded))) (map (λ g. map (signs_of false) g.items) groups) ≡ map (λ g. map (signs_of true) g.items) groups
+groups_twice [] = refl
+groups_twice (g ∷ groups) =
+    ap (λ x. x ∷ map (map (map (sign_by folded))) (map (λ g. map (signs_of false) g.items) groups)) (map_twice (map (sign_by folded)) (signs_of false) g.items)
+    ∙ ap (λ l. map (signs_of true) g.items ∷ l) (groups_twice groups)
+
+pub asked_folded : (grammar : Grammar) (within : List Signs) (groups : List (Vec Signs)) (named : List (Bor (List ℕ))) (texts : List (List ℕ))
+    → AreKinds (question_in true (folded_grammar grammar) within groups named) texts → AreKindsFold (question_in false grammar within groups named) texts
+asked_folded grammar within groups named texts are =
+    let q = question_in false grammar within groups named in
+    let w : map (map (sign_by folded)) q.within ≡ map (signs_of true) within = map_twice (map (sign_by folded)) (signs_of false) within in
+    let g = groups_twice groups in
+    let n : map (map folded) q.named ≡ map (λ t. characters_in true (chars t.now)) named = map_twice (map folded) (λ (t : Bor (List ℕ)). chars t.now) named in
+    kinds_fold q texts
+    (subst (λ l. AreKinds (record { grammar = folded_grammar grammar; within = l; groups = (folded_question q).groups; named = (folded_question q).named }) texts) (sym w)
+    (subst (λ l. AreKinds (record { grammar = folded_grammar grammar; within = map (signs_of true) within; groups = l; named = (folded_question q).named }) texts) (sym g)
+    (subst (λ l. AreKinds (record { grammar = folded_grammar grammar; within = map (signs_of true) within; groups = map (λ g. map (signs_of true) g.items) groups; named = l }) texts)
+    (sym n) are)))
+
+pub answer_folded : (grammar other : Grammar) (within : List Signs) (groups : List (Vec Signs)) (named : List (Bor (List ℕ))) (kinds : Kinds)
+    → other ≡ folded_grammar grammar → IsAnswer (question_in true other within groups named) kinds → IsAnswerFold (question_in false grammar within groups named) kinds
+answer_folded grammar other within groups named (Shown texts) e a =
+    let all = map (λ text. text.items) texts.items in
+    asked_folded grammar within groups named all (subst (λ g. AreKinds (question_in true g within groups named) all) e a)
+answer_folded grammar other within groups named NotShown e a = tt
