@@ -1,4 +1,4 @@
--- What the answer says (`Kinds`) of patterns and texts as they are passed.
+-- What the answer says (`Kinds`) of patterns and texts as they are passed. LOGIC 2.1 and 2.2.
 use Rattle.std.specs.Prelude.{◌+◌, ◌++◌, ℕ, Bool, true, false, List, [], ◌∷◌, ⊤, map}
 use Rattle.std.specs.Borrow.{Bor}
 use Rattle.std.specs.Global.{Vec}

@@ -1,4 +1,5 @@
--- Which letters a walk tries behind a text, by how far the grammar is read, what the patterns wait for, and how the named texts go on.
+-- Which letters a walk tries behind a text, by how far the grammar is read, what the patterns wait for, and how the named texts
+-- go on. LOGIC 2.2.
 use Rattle.std.specs.Prelude.{◌≡◌, ◌==◌, ◌&&◌, ◌⊎◌, ℕ, Bool, true, false, List, [], ◌∷◌, Contains, is_some, not, if◌then◌else◌}
 use Rattle.std.specs.List.{list_any}
 use Rattle.iam_kinds.specs.Code.{next_stage}

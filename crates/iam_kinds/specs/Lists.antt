@@ -1,4 +1,4 @@
--- Sets of lists of numbers, by the lists that they have.
+-- Sets of lists of numbers, by the lists that they have. LOGIC 2.2.
 use Rattle.std.specs.Prelude.{ℕ, List, map}
 use Rattle.iam_kinds.specs.declared.lists.Lists.{Lists}
 

@@ -1,5 +1,5 @@
 -- What a walk keeps, beside the definitions that it meets (`Kinds`): the patterns have the numbers of their groups, and the first
--- groups are the patterns that have to match.
+-- groups are the patterns that have to match. LOGIC 2.2.
 use Rattle.std.specs.Prelude.{◌≡◌, ◌↔◌, ◌<◌, ◌≤◌, ◌⊎◌, ◌++◌, ℕ, Bool, false, List, [], ◌∷◌, length, map, drop, IsTrue, AllPairs, Contains, Some}
 use Rattle.std.specs.Char.{IsScalar}
 use Rattle.std.specs.List.{slice_get}
