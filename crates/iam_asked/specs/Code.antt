@@ -1,0 +1,4 @@
+pub mod Found
+pub mod Lent
+pub mod Reading
+pub mod Unread

@@ -1,0 +1,116 @@
+// Reading requests, a line at a time.
+ghost use Rattle.std.specs.Prelude.{◌≡◌, ◌≢◌, ◌<◌, ◌∷◌, ◌++◌, [], IfErr, IfOk, OnErr, OnOk, length};
+ghost use Rattle.iam_asked.specs.Code.Reading.{IsOwnFault, asked_with, with_asked};
+ghost use Rattle.iam_asked.specs.Fault.{IsLineFault};
+ghost use Rattle.iam_asked.specs.Request.{AskedValue, IsRequest, IsWithin, RequestsValue};
+ghost use Rattle.iam_asked.specs.Size.{asked_size};
+ghost use Rattle.iam_asked.specs.declared.fault.LineFault.TheVariants as l;
+
+use crate::asked::Asked;
+use crate::fault::LineFault;
+use crate::finder::Finder;
+use crate::own::hash_of;
+use crate::requests::{MOST_REQUESTS, Requests};
+use crate::said::{parse, read_said};
+use iam_context::Part;
+use iam_layers::World;
+use iam_text::OutOfMemory;
+use iam_world_context::read_part;
+use std::alloc::Global;
+use std::collections::HashMap;
+use std::marker::Model;
+
+/// Requests that are read from lines, with what is needed to read further ones. A contract sees the world and the requests.
+#[derive(Drop)]
+pub struct Reading<'a> {
+    finder: Finder<'a>,
+    requests: Requests<'a>,
+    // Where keys are kept, by a hash of them; a number that is wrong is only of no use.
+    places: HashMap<u64, usize>,
+}
+
+impl<'a> Model for Reading<'a> {
+    ghost Value = { RequestsValue };
+
+    ghost view = { λ reading. reading.requests };
+
+    ghost invariant = { λ reading. reading.finder ≡ reading.requests.world };
+}
+
+impl<'a> Reading<'a> {
+    /// Begins to read requests for a world. `OutOfMemory` comes where there is no memory for the places of its texts.
+    pub fn of(alloc: Global, world: &'a World) -> Result<Reading<'a>, OutOfMemory>
+        ensures { IfOk result (λ reading. reading ≡ record { world = world.entry.now; asked = [] }) }
+    {
+        Ok(Reading {
+            finder: Finder::of(alloc, world)?,
+            requests: Requests::new(alloc, world),
+            places: HashMap::new(alloc),
+        })
+    }
+
+    /// Adds the request of a line, without its line feed, or answers its least fault, and then adds none.
+    pub fn add_line(&mut self, alloc: Global, line: &[u8]) -> Result<(), LineFault>
+        ensures ok { OnOk result ((asked : AskedValue) × IsRequest self.old.world line.now asked × (self.new ≡ with_asked self.old asked)) }
+        ensures fault { IfErr result (λ fault. fault ≢ l.OutOfMemory → IsLineFault self.old line.now fault) }
+        ensures same { OnErr result (self.new ≡ self.old) }
+    {
+        if self.requests.count() == MOST_REQUESTS {
+            return Err(LineFault::TooMany);
+        }
+        let value = parse(alloc, line)?;
+        let Some(said) = read_said(&value) else {
+            return Err(LineFault::BadShape);
+        };
+        let asked = self.finder.find(alloc, &said)?;
+        let own = read_part(alloc, said.context)?;
+        self.add(alloc, asked, own)
+    }
+
+    /// Adds a request that gives these keys, after it has tested them.
+    fn add(&mut self, alloc: Global, asked: Asked, own: Part) -> Result<(), LineFault>
+        requires principal { asked.principal < length self.old.world.principals }
+        requires action { asked.action < length self.old.world.actions }
+        requires resource { asked.resource < length self.old.world.resources }
+        requires few { length self.old.asked < 16777216 }
+        ensures ok { OnOk result (self.new ≡ with_asked self.old (asked_with asked own.items)) }
+        ensures within { OnOk result (IsWithin self.old.world (asked_with asked own.items)) }
+        ensures fault { IfErr result (λ fault. fault ≢ l.OutOfMemory → IsOwnFault self.old (asked_with asked own.items) fault) }
+        ensures same { OnErr result (self.new ≡ self.old) }
+    {
+        if own.is_empty() {
+            self.requests.add(asked)?;
+            return Ok(());
+        }
+        let world = self.finder.world();
+        world.check_own(alloc, asked.principal, asked.resource, &own)?;
+        self.keep(asked, own)
+    }
+
+    /// Adds a request whose keys are clean.
+    fn keep(&mut self, asked: Asked, own: Part) -> Result<(), LineFault>
+        requires within { IsWithin self.old.world (asked_with asked own.items) }
+        requires some { 0 < length own.items }
+        requires few { length self.old.asked < 16777216 }
+        ensures ok { OnOk result (self.new ≡ with_asked self.old (asked_with asked own.items)) }
+        ensures fault { IfErr result (λ fault. fault ≢ l.OutOfMemory
+            → (fault ≡ l.ContextsTooLarge) × (67108864 < asked_size (self.old.asked ++ asked_with asked own.items ∷ []))) }
+        ensures same { OnErr result (self.new ≡ self.old) }
+    {
+        let hash = hash_of(&own);
+        if let Some(&number) = self.places.get(&hash) {
+            if self.requests.add_same(asked, &own, number)? {
+                return Ok(());
+            }
+        }
+        self.places.insert(hash, self.requests.contexts())?;
+        self.requests.add_new(asked, own)
+    }
+
+    /// The requests that were read.
+    pub fn into_requests(self) -> Requests<'a>
+        ensures { result ≡ self }
+    {
+        self.requests
+    }
+}
