@@ -1,8 +1,8 @@
 // The numbers of principals, actions and resources by their texts.
-ghost use Rattle.std.specs.Prelude.{◌≡◌, ◌≢◌, ◌⊎◌, IfErr, IfOk, map};
-ghost use Rattle.iam_asked.specs.Code.Found.{HasNumbers, HasPlaces, IsSaidFault};
+ghost use Rattle.std.specs.Prelude.{◌≡◌, ◌≢◌, IfErr, IfOk, map};
+ghost use Rattle.iam_asked.specs.Code.Found.{HasNumbers, HasPlaces, IsPlaceOf, IsSaidFault};
 ghost use Rattle.iam_asked.specs.Code.Lent.{said_of};
-ghost use Rattle.iam_asked.specs.Texts.{IsActionAt, IsNoAction};
+ghost use Rattle.iam_asked.specs.Texts.{IsActionAt, IsNoAction, folded};
 ghost use Rattle.iam_asked.specs.declared.fault.LineFault.TheVariants as l;
 ghost use Rattle.iam_world.specs.World.{WorldValue};
 
@@ -58,6 +58,14 @@ impl<'a> Finder<'a> {
         self.world
     }
 
+    /// The place of a text among the actions without regard to case.
+    fn folded_place(&self, alloc: Global, text: &str) -> Result<Option<Place>, OutOfMemory>
+        ensures { IfOk result (IsPlaceOf (map folded self.now.actions) (folded text.now)) }
+    {
+        let folded = folded(alloc, text)?;
+        Ok(self.folded.get(folded.as_str()).copied())
+    }
+
     /// The action that a text names, letter by letter, or else without regard to case.
     fn find_action(&self, alloc: Global, text: &str) -> Result<u64, LineFault>
         ensures ok { IfOk result (IsActionAt self.now.actions text.now) }
@@ -66,8 +74,7 @@ impl<'a> Finder<'a> {
         if let Some(place) = self.actions.get(text) {
             return Ok(place.first);
         }
-        let folded = folded(alloc, text)?;
-        match self.folded.get(folded.as_str()) {
+        match self.folded_place(alloc, text)? {
             Some(place) => Ok(place.first),
             None => Err(LineFault::NoAction),
         }

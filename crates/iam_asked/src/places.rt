@@ -1,5 +1,5 @@
 // Maps from texts to the places where they stand.
-ghost use Rattle.std.specs.Prelude.{◌≡◌, ◌∷◌, ◌++◌, [], ℕ, List, IfOk, MatchResult, OnOk, length, map};
+ghost use Rattle.std.specs.Prelude.{◌≡◌, ◌∷◌, ◌++◌, [], ℕ, List, IfOk, MatchResult, OnOk, length, map, string_bytes};
 ghost use Rattle.std.specs.Option.{option_copied};
 ghost use Rattle.iam_asked.specs.Code.Found.{AreOwnedPlaces, ArePlaces, IsOnlyOr, IsPlaceOf, place_behind};
 ghost use Rattle.iam_asked.specs.Texts.{IsOnlyAt, folded, principal_texts, resource_texts};

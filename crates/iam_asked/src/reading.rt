@@ -109,7 +109,7 @@ impl<'a> Reading<'a> {
 
     /// The requests that were read.
     pub fn into_requests(self) -> Requests<'a>
-        ensures { result ≡ self }
+        ensures { result ≡ self.entry }
     {
         self.requests
     }
