@@ -1,17 +1,13 @@
 -- The least fault of a line, and that a line has at most one meaning.
-use Rattle.std.proofs.Common.{◌≡◌, ◌≢◌, ◌⊎◌, ℕ, ◌+◌, ◌<◌, ◌≤◌, length, map, inl, inr, List, [], ◌∷◌, ◌++◌, Option, Some, None, refl, sym, ap, subst, ◌∙◌, ⊎_elim, arith}
-use Rattle.std.specs.List.{slice_get}
+use Rattle.std.proofs.Common.{ℕ, ◌<◌, ◌≤◌, map, inl, inr, List, sym, ap, subst, ◌∙◌, ⊎_elim, arith}
 use Rattle.std.proofs.lemmas.Bool.{cases_lt}
 use Rattle.std.proofs.lemmas.Option.{slice_get-map}
 use Rattle.std.specs.Option.{option_map}
-use Rattle.serde_json.specs.Data.{Data}
 use Rattle.iam_world.specs.World.{WorldValue}
-use Rattle.iam_world.specs.WorldFault.{IsJson}
-use Rattle.iam_asked.specs.Code.Found.{HasNumbers, IsOnlyOr, IsSaidFault}
-use Rattle.iam_asked.specs.Fault.{IsLineFault, LineHasFault, SaidHasFault, fault_rank, line_number_of}
-use Rattle.iam_asked.specs.Request.{AskedValue, IsMeant, IsRequest, RequestsValue}
-use Rattle.iam_asked.specs.Said.{IsSaid, SaidValue, Says}
-use Rattle.iam_asked.specs.Texts.{IsActionAt, IsAt, IsFirstAt, IsNoAction, IsNowhere, IsOnlyAt, IsTwice, folded, principal_texts, resource_texts}
+use Rattle.iam_asked.specs.Code.Found.{IsOnlyOr, IsSaidFault}
+use Rattle.iam_asked.specs.Fault.{SaidHasFault, line_number_of}
+use Rattle.iam_asked.specs.Said.{SaidValue}
+use Rattle.iam_asked.specs.Texts.{IsActionAt, IsAt, IsNoAction, IsNowhere, IsOnlyAt, IsTwice, folded, principal_texts, resource_texts}
 use Rattle.iam_asked.specs.declared.fault.LineFault.{LineFault}
 use Rattle.iam_asked.specs.declared.fault.LineFault.TheVariants.{NotJson, BadShape, NoPrincipal, SeveralPrincipals, NoAction, NoResource, SeveralResources, Context, TooMany, ContextsTooLarge, OutOfMemory}
 

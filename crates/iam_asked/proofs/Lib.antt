@@ -1,3 +1,4 @@
 pub mod Faults
 pub mod Kept
+pub mod Meanings
 pub mod TextPlaces

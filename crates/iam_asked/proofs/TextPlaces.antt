@@ -6,7 +6,7 @@ use Rattle.std.proofs.lemmas.List.{map_more, take_more}
 use Rattle.std.proofs.lemmas.Option.{get_or_from_slice_get, slice_get_within}
 use Rattle.std.proofs.lemmas.Slice.Eq.{bytes_eq-Decides}
 use Rattle.iam_asked.specs.Code.Found.{IsPlaceOf, place_behind}
-use Rattle.iam_asked.specs.Texts.{IsAt, IsFirstAt, IsNowhere, IsOnlyAt, IsTwice}
+use Rattle.iam_asked.specs.Texts.{IsAt, IsOnlyAt, IsTwice}
 use Rattle.iam_asked.specs.declared.places.Place.{Place}
 
 -- ---- texts and one more

@@ -1,5 +1,5 @@
 -- The faults of a line of a file of requests, as a set, and its least fault. LOGIC 13.8.
-use Rattle.std.specs.Prelude.{◌≡◌, ◌≢◌, ◌⊎◌, ◌<◌, ◌≤◌, ℕ, List, [], ◌∷◌, ◌++◌, codes, decimal, length}
+use Rattle.std.specs.Prelude.{◌≢◌, ◌⊎◌, ◌<◌, ◌≤◌, ℕ, List, [], ◌∷◌, ◌++◌, codes, decimal, length}
 use Rattle.serde_json.specs.Data.{Data}
 use Rattle.iam_context.specs.ContextFault.{context_text}
 use Rattle.iam_layers.specs.Own.{IsFaultAt}

@@ -1,5 +1,5 @@
 -- How large the keys are that requests give themselves. LOGIC 13.8 and 15.
-use Rattle.std.specs.Prelude.{ℕ, ◌+◌, List, length, sum}
+use Rattle.std.specs.Prelude.{ℕ, ◌+◌, List, length}
 use Rattle.std.specs.List.{sum_by}
 use Rattle.iam_context.specs.Context.{ContextValue}
 use Rattle.iam_asked.specs.Request.{AskedValue}

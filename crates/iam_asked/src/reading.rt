@@ -1,6 +1,7 @@
 // Reading requests, a line at a time.
 ghost use Rattle.std.specs.Prelude.{◌≡◌, ◌≢◌, ◌<◌, ◌∷◌, ◌++◌, [], IfErr, IfOk, OnErr, OnOk, length};
-ghost use Rattle.iam_asked.specs.Code.Reading.{IsOwnFault, asked_with, with_asked};
+ghost use Rattle.serde_json.specs.View.{view};
+ghost use Rattle.iam_asked.specs.Code.Reading.{IsFoundIn, IsFoundOf, IsOwnFault, IsUnfound, asked_with, with_asked};
 ghost use Rattle.iam_asked.specs.Fault.{IsLineFault};
 ghost use Rattle.iam_asked.specs.Request.{AskedValue, IsRequest, IsWithin, RequestsValue};
 ghost use Rattle.iam_asked.specs.Size.{asked_size};
@@ -16,6 +17,7 @@ use iam_context::Part;
 use iam_layers::World;
 use iam_text::OutOfMemory;
 use iam_world_context::read_part;
+use serde_json::Value;
 use std::alloc::Global;
 use std::collections::HashMap;
 use std::marker::Model;
@@ -35,6 +37,19 @@ impl<'a> Model for Reading<'a> {
     ghost view = { λ reading. reading.requests };
 
     ghost invariant = { λ reading. reading.finder ≡ reading.requests.world };
+}
+
+/// The numbers of what the JSON value of a line says, and the keys that it gives.
+fn find_said(alloc: Global, finder: &Finder<'_>, value: &Value) -> Result<(Asked, Part), LineFault>
+    ensures ok { IfOk result (λ found. IsFoundOf finder.now (view value.now) found.0 found.1.items) }
+    ensures fault { IfErr result (λ fault. fault ≢ l.OutOfMemory → IsUnfound finder.now (view value.now) fault) }
+{
+    let Some(said) = read_said(value) else {
+        return Err(LineFault::BadShape);
+    };
+    let asked = finder.find(alloc, &said)?;
+    let own = read_part(alloc, said.context)?;
+    Ok((asked, own))
 }
 
 impl<'a> Reading<'a> {
@@ -58,13 +73,18 @@ impl<'a> Reading<'a> {
         if self.requests.count() == MOST_REQUESTS {
             return Err(LineFault::TooMany);
         }
-        let value = parse(alloc, line)?;
-        let Some(said) = read_said(&value) else {
-            return Err(LineFault::BadShape);
-        };
-        let asked = self.finder.find(alloc, &said)?;
-        let own = read_part(alloc, said.context)?;
+        let (asked, own) = self.find(alloc, line)?;
         self.add(alloc, asked, own)
+    }
+
+    /// The numbers of a line, and the keys that it gives.
+    fn find(&self, alloc: Global, line: &[u8]) -> Result<(Asked, Part), LineFault>
+        ensures ok { IfOk result (λ found. IsFoundIn self.now.world line.now found.0 found.1.items) }
+        ensures fault { IfErr result (λ fault. fault ≢ l.OutOfMemory
+            → length self.now.asked < 16777216 → IsLineFault self.now line.now fault) }
+    {
+        let value = parse(alloc, line)?;
+        find_said(alloc, &self.finder, &value)
     }
 
     /// Adds a request that gives these keys, after it has tested them.

@@ -1,7 +1,7 @@
 // The requests that are asked of a world, as they are kept.
 ghost use Rattle.std.specs.Prelude.{◌≡◌, ◌≢◌, ◌≤◌, ◌<◌, ◌∷◌, ◌++◌, [], ℕ, List, IfErr, IfOk, IsTrue, MatchOption, OnErr, OnOk, false, length, map, true};
 ghost use Rattle.iam_layers.specs.Own.{IsCleanAt};
-ghost use Rattle.iam_asked.specs.Code.Reading.{AreKept, asked_of, asked_with, with_asked};
+ghost use Rattle.iam_asked.specs.Code.Reading.{AreKept, asked_with, contexts_of, requests_of, with_asked};
 ghost use Rattle.iam_asked.specs.Request.{IsAsked, IsWithin, RequestsValue};
 ghost use Rattle.iam_asked.specs.Size.{asked_size};
 ghost use Rattle.iam_asked.specs.declared.fault.LineFault.TheVariants as l;
@@ -36,13 +36,27 @@ pub struct Requests<'a> {
 impl<'a> Model for Requests<'a> {
     ghost Value = { RequestsValue };
 
-    ghost view = { λ requests. record {
-      world = requests.world.now;
-      asked = map (asked_of (map (λ part. part.items) requests.contexts.items)) requests.entries.items;
-    } };
+    ghost view = { λ requests. requests_of requests.world.now requests.entries.items (contexts_of requests.contexts.items) };
 
     ghost invariant = { λ requests.
-        AreKept requests.world.now requests.entries.items (map (λ part. part.items) requests.contexts.items) requests.size };
+        AreKept requests.world.now requests.entries.items (contexts_of requests.contexts.items) requests.size };
+}
+
+/// An entry with these numbers, each below that of its kind.
+fn entry_of(world: &World, asked: Asked, context: u32) -> Entry
+    requires principal { asked.principal < length world.now.principals }
+    requires action { asked.action < length world.now.actions }
+    requires resource { asked.resource < length world.now.resources }
+    ensures { result ≡ record { principal = asked.principal; action = asked.action; resource = asked.resource; context = context } }
+{
+    // There are at most 16,777,216 cells, so at most as many of each kind.
+    let _cells = world.cells();
+    Entry {
+        principal: asked.principal as u32,
+        action: asked.action as u32,
+        resource: asked.resource as u32,
+        context,
+    }
 }
 
 impl<'a> Requests<'a> {
@@ -102,24 +116,6 @@ impl<'a> Requests<'a> {
         Some(&self.contexts[entry.context as usize - 1])
     }
 
-    /// An entry with these numbers, each below that of its kind.
-    fn entry(&self, asked: Asked, context: u32) -> Entry
-        requires principal { asked.principal < length self.now.world.principals }
-        requires action { asked.action < length self.now.world.actions }
-        requires resource { asked.resource < length self.now.world.resources }
-        ensures numbers { (result.principal ≡ asked.principal) × (result.action ≡ asked.action) × (result.resource ≡ asked.resource) }
-        ensures context { result.context ≡ context }
-    {
-        // There are at most 16,777,216 cells, so at most as many of each kind.
-        let _cells = self.world.cells();
-        Entry {
-            principal: asked.principal as u32,
-            action: asked.action as u32,
-            resource: asked.resource as u32,
-            context,
-        }
-    }
-
     /// Adds a request that gives no keys.
     pub fn add(&mut self, asked: Asked) -> Result<(), OutOfMemory>
         requires within { IsWithin self.old.world (asked_with asked []) }
@@ -127,7 +123,7 @@ impl<'a> Requests<'a> {
         ensures ok { OnOk result (self.new ≡ with_asked self.old (asked_with asked [])) }
         ensures same { OnErr result (self.new ≡ self.old) }
     {
-        let entry = self.entry(asked, 0);
+        let entry = entry_of(self.world, asked, 0);
         self.entries.push(entry)?;
         Ok(())
     }
@@ -146,7 +142,7 @@ impl<'a> Requests<'a> {
         if !is_same_own(own.as_slice(), known.as_slice()) {
             return Ok(false);
         }
-        let entry = self.entry(asked, number as u32 + 1);
+        let entry = entry_of(self.world, asked, number as u32 + 1);
         self.entries.push(entry)?;
         Ok(true)
     }
@@ -165,9 +161,9 @@ impl<'a> Requests<'a> {
         let Some(left) = behind_own(&own, MOST_SIZE - self.size) else {
             return Err(LineFault::ContextsTooLarge);
         };
+        let entry = entry_of(self.world, asked, self.contexts.len() as u32 + 1);
         self.entries.reserve(1)?;
         self.contexts.push(own)?;
-        let entry = self.entry(asked, self.contexts.len() as u32);
         self.entries.push_reserved(entry);
         self.size = MOST_SIZE - left;
         Ok(())

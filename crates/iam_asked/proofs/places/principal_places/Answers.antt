@@ -1,11 +1,9 @@
-use Rattle.std.proofs.Common.{◌≡◌, ◌∙◌, List, ℕ, ap, arith, length, map, string_bytes, subst, sym, take}
+use Rattle.std.proofs.Common.{arith, map, subst, take}
 use Rattle.std.proofs.lemmas.List.{length-map, length-take, take_all}
 use Rattle.std.proofs.lemmas.Option.{slice_get_within}
 use Rattle.iam_layers.specs.Cell.{principal_text}
-use Rattle.iam_world.specs.World.{ResourceValue}
-use Rattle.iam_asked.specs.Code.Found.{AreOwnedPlaces, ArePlaces}
-use Rattle.iam_asked.specs.Texts.{folded}
-use Rattle.iam_asked.proofs.TextPlaces.{next_image, next_text}
+use Rattle.iam_asked.specs.Code.Found.{ArePlaces}
+use Rattle.iam_asked.proofs.TextPlaces.{next_image}
 use Rattle.iam_asked.proofs.places.principal_places.Goals as goal
 
 pub loop-p-preserved : goal.loop-p-preserved

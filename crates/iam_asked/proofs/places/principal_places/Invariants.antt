@@ -1,6 +1,5 @@
 use Rattle.std.proofs.Common.{take, map}
-use Rattle.iam_asked.specs.Code.Found.{AreOwnedPlaces, ArePlaces}
-use Rattle.iam_asked.specs.Texts.{folded}
+use Rattle.iam_asked.specs.Code.Found.{ArePlaces}
 use Rattle.iam_layers.specs.Cell.{principal_text}
 use Rattle.iam_asked.proofs.places.principal_places.Given as goal
 

@@ -1,7 +1,5 @@
 use Rattle.std.proofs.Common.{take, map}
-use Rattle.iam_asked.specs.Code.Found.{AreOwnedPlaces, ArePlaces}
-use Rattle.iam_asked.specs.Texts.{folded}
-use Rattle.iam_layers.specs.Cell.{principal_text}
+use Rattle.iam_asked.specs.Code.Found.{ArePlaces}
 use Rattle.iam_asked.proofs.places.resource_places.Given as goal
 
 -- the map has the texts so far

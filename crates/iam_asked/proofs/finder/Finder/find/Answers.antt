@@ -1,11 +1,10 @@
-use Rattle.std.proofs.Common.{◌≡◌, Option, ap, subst, sym}
+use Rattle.std.proofs.Common.{subst, sym}
 use Rattle.std.specs.Option.{option_copied}
 use Rattle.std.proofs.lemmas.Result.{err_from_is_err_and}
 use Rattle.iam_world.specs.World.{WorldValue}
-use Rattle.iam_asked.specs.Code.Found.{HasNumbers, IsPlaceOf, IsSaidFault}
+use Rattle.iam_asked.specs.Code.Found.{IsPlaceOf, IsSaidFault}
 use Rattle.iam_asked.specs.Code.Lent.{said_of}
-use Rattle.iam_asked.specs.Texts.{IsActionAt, IsNoAction, IsOnlyAt, principal_texts, resource_texts}
-use Rattle.iam_asked.specs.declared.places.Place.{Place}
+use Rattle.iam_asked.specs.Texts.{IsActionAt, IsOnlyAt, principal_texts, resource_texts}
 use Rattle.iam_asked.proofs.Faults.{action_fault, principal_fault, resource_fault}
 use Rattle.iam_asked.proofs.finder.Finder.find.Goals as goal
 

@@ -1,4 +1,4 @@
-use Rattle.std.proofs.Common.{◌≡◌, inl, inr, List, ℕ, Option, Some, None, map, subst, sym}
+use Rattle.std.proofs.Common.{inl, inr, Some, None, map, subst, sym}
 use Rattle.iam_world.specs.World.{WorldValue}
 use Rattle.iam_asked.specs.Code.Found.{IsPlaceOf}
 use Rattle.iam_asked.specs.Texts.{IsActionAt, folded}

@@ -1,4 +1,4 @@
-use Rattle.std.proofs.Common.{◌≡◌, ◌∙◌, List, ℕ, ap, map, string_bytes, subst, sym}
+use Rattle.std.proofs.Common.{◌≡◌, ◌∙◌, ap, map, subst, sym}
 use Rattle.std.specs.HashMap.{get_by_text}
 use Rattle.iam_world.specs.World.{WorldValue}
 use Rattle.iam_asked.specs.Code.Found.{IsPlaceOf}
