@@ -1,3 +1,4 @@
+pub mod Cut
 pub mod Found
 pub mod Lent
 pub mod Reading

@@ -4,6 +4,8 @@ use Rattle.std.specs.List.{AllZip, slice_get}
 use Rattle.iam_world.specs.World.{WorldValue}
 use Rattle.iam_asked.specs.Fault.{IsLineFault}
 use Rattle.iam_asked.specs.Request.{AskedValue, IsRequest, RequestsValue}
+use Rattle.iam_asked.specs.declared.fault.AskFault.{AskFault}
+use Rattle.iam_asked.specs.declared.fault.AskFault.TheVariants.{Read, Line, OutOfMemory}
 use Rattle.iam_asked.specs.declared.fault.FaultyLine.{FaultyLine}
 
 -- lines that begin with this byte: the first line gets it
@@ -27,6 +29,12 @@ pub record IsFirstFaulty (world : WorldValue) (lines : List (List ℕ)) (faulty 
   pub at : slice_get lines faulty.line ≡ Some line
   pub requests : AreRequests (take faulty.line lines) (record { world = world; asked = before })
   pub is : IsLineFault (record { world = world; asked = before }) line faulty.fault
+
+-- why the requests of these bytes are not read. Nothing is said of a reader that fails
+abbrev pub IsFileFault : WorldValue → List ℕ → AskFault → Type 0
+IsFileFault world bytes Read = ⊤
+IsFileFault world bytes (Line faulty) = IsFirstFaulty world (lines_of bytes) faulty
+IsFileFault world bytes OutOfMemory = ⊤
 
 -- P holds of the bytes, where a reader says which bytes are left; where it does not, nothing is claimed
 abbrev pub OfBytes : Option (List ℕ) → (List ℕ → Type 0) → Type 0

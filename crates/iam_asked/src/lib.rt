@@ -1,6 +1,6 @@
 //! Requests that a file asks of a world, one a line.
 //!
-//! `Reading` (`reading.rt`) reads them line by line: `said.rt` has what a line says, `finder.rt` finds what it names, by the maps of
+//! `read_requests` (`read.rt`) reads a file in blocks, and `Reading` (`reading.rt`) a line: `said.rt` has what a line says, `finder.rt` finds what it names, by the maps of
 //! `places.rt`, and `requests.rt` keeps the requests, by numbers, with the keys that they give themselves (`own.rt`). `fault.rt`
 //! says why a line is no request.
 #![tactic(auto)]
@@ -12,6 +12,7 @@ mod finder;
 mod laws;
 mod own;
 mod places;
+mod read;
 mod reading;
 mod requests;
 mod said;
@@ -22,5 +23,6 @@ pub use iam_context::{ContextFault, Part};
 pub use iam_layers::World;
 pub use iam_text::OutOfMemory;
 pub use laws::{no_fault_of_request, one_asked};
+pub use read::read_requests;
 pub use reading::Reading;
 pub use requests::Requests;

@@ -19,7 +19,7 @@ use serde_json::Value;
 use std::alloc::Global;
 
 /// The most bytes that a line may have.
-const MOST_BYTES: usize = 8_388_608;
+pub const MOST_BYTES: usize = 8_388_608;
 
 /// What a line says, lent from its JSON value.
 #[derive(Clone, Copy)]
