@@ -1,6 +1,7 @@
 -- Lines that come in blocks, and the requests that they are.
-use Rattle.std.proofs.Common.{◌≡◌, ◌≢◌, ◌∙◌, ◌==◌, ℕ, zero, suc, ◌+◌, ◌<◌, ◌≤◌, Bool, true, false, List, [], ◌∷◌, ◌++◌, Some, if◌then◌else◌, ap, append_assoc, arith, length, refl, subst, sym, take}
-use Rattle.std.specs.List.{AllByRecursion, AllZip, slice_get}
+use Rattle.std.proofs.Common.{◌≡◌, ◌≢◌, ◌∙◌, ◌==◌, ℕ, zero, suc, ◌≤◌, false, List, [], ◌∷◌, ◌++◌, Option, Some, None, if◌then◌else◌, ap, append_assoc, arith, length, refl, subst, sym, take}
+use Rattle.std.specs.List.{slice_get}
+use Rattle.std.specs.Io.KnownBytes.{Consumes}
 use Rattle.std.proofs.Math.Seq.{take-append_seam}
 use Rattle.std.proofs.lemmas.List.{append-nil}
 use Rattle.std.proofs.lemmas.Slice.Zip.{AllZip-long, all_zipped_more}
@@ -8,13 +9,12 @@ use Rattle.iam_world.specs.World.{WorldValue}
 use Rattle.iam_asked.specs.Code.Cut.{HasRead, IsFaultOf, IsUnbroken}
 use Rattle.iam_asked.specs.Code.Reading.{with_asked}
 use Rattle.iam_asked.specs.Fault.{IsLineFault}
-use Rattle.iam_asked.specs.File.{AreRequests, IsFileFault, IsFirstFaulty, begin_with, lines_of}
+use Rattle.iam_asked.specs.File.{AreRequests, IsFileFault, IsFirstFaulty, OfBytes, begin_with, lines_of}
 use Rattle.iam_asked.specs.Request.{AskedValue, IsRequest, RequestsValue}
 use Rattle.iam_asked.specs.Said.{IsShort}
 use Rattle.iam_asked.specs.declared.fault.AskFault.{AskFault}
 use Rattle.iam_asked.specs.declared.fault.AskFault.TheVariants.{Read, Line, OutOfMemory}
 use Rattle.iam_asked.specs.declared.fault.FaultyLine.{FaultyLine}
-use Rattle.iam_asked.specs.declared.fault.LineFault.{LineFault}
 
 -- ---- lines
 
@@ -163,3 +163,9 @@ line_and_more line behind more = sym (append_assoc line (10 ∷ behind) more)
 pub block_less : (done line behind left block : List ℕ) → block ≡ done ++ left → left ≡ line ++ 10 ∷ behind → block ≡ (done ++ (line ++ 10 ∷ [])) ++ behind
 block_less done line behind left block is cut =
     is ∙ ap (λ it. done ++ it) (cut ∙ sym (append_assoc line (10 ∷ []) behind)) ∙ sym (append_assoc done (line ++ 10 ∷ []) behind)
+
+-- what holds of the bytes that were read and whatever comes behind them holds of those that a reader had
+pub of_consumed : (old new : Option (List ℕ)) (bytes : List ℕ) (P : List ℕ → Type 0) → Consumes old new bytes → ((more : List ℕ) → P (bytes ++ more)) → OfBytes old P
+of_consumed None new bytes P lost all = tt
+of_consumed (Some xs) None bytes P lost all = absurd lost
+of_consumed (Some xs) (Some ys) bytes P lost all = subst P (sym lost) (all ys)

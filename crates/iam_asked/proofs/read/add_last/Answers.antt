@@ -1,4 +1,4 @@
-use Rattle.std.proofs.Common.{◌≡◌, ◌≢◌, ◌==◌, ◌∙◌, [], ap, length, subst, sym}
+use Rattle.std.proofs.Common.{◌≢◌, ◌==◌, ◌∙◌, [], ap, length, subst, sym}
 use Rattle.std.proofs.lemmas.Result.{MatchResult-weaker}
 use Rattle.iam_asked.specs.File.{AreRequests, lines_of}
 use Rattle.iam_asked.proofs.Cutting.{end_last, fault_of_last}

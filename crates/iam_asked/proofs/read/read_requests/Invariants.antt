@@ -4,7 +4,7 @@ use Rattle.iam_asked.specs.Code.Cut.{HasRead}
 use Rattle.iam_asked.proofs.read.read_requests.Given as goal
 
 -- what the reader lost was read
-abbrev pub invariant-loop-0 : goal.invariant-loop-0
-invariant-loop-0 g l =
+abbrev pub invariant-loop : goal.invariant-loop
+invariant-loop g l =
     (bytes : List ℕ) × Consumes (g.R.Read.remaining l.initial.reader) (g.R.Read.remaining l.reader) bytes × HasRead bytes l.lines.rest.items l.lines.reading
     × (l.lines.reading.world ≡ l.world)

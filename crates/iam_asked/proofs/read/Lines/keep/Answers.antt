@@ -1,4 +1,4 @@
-use Rattle.std.proofs.Common.{◌≡◌, ◌++◌, ap, arith, length}
+use Rattle.std.proofs.Common.{◌++◌, ap, arith, length}
 use Rattle.iam_asked.specs.Said.{IsShort}
 use Rattle.iam_asked.proofs.Cutting.{fault_of_long, read_tail}
 use Rattle.iam_asked.proofs.read.Lines.keep.Goals as goal
