@@ -7,10 +7,9 @@ use Rattle.std.proofs.lemmas.List.{append-nil}
 use Rattle.std.proofs.lemmas.Slice.Zip.{AllZip-long, all_zipped_more}
 use Rattle.iam_world.specs.World.{WorldValue}
 use Rattle.iam_asked.specs.Code.Cut.{HasRead, IsFaultOf, IsUnbroken}
-use Rattle.iam_asked.specs.Code.Reading.{with_asked}
 use Rattle.iam_asked.specs.Fault.{IsLineFault}
 use Rattle.iam_asked.specs.File.{AreRequests, IsFileFault, IsFirstFaulty, OfBytes, begin_with, lines_of}
-use Rattle.iam_asked.specs.Request.{AskedValue, IsRequest, RequestsValue}
+use Rattle.iam_asked.specs.Request.{AskedValue, IsRequest, RequestsValue, with_asked}
 use Rattle.iam_asked.specs.Said.{IsShort}
 use Rattle.iam_asked.specs.declared.fault.AskFault.{AskFault}
 use Rattle.iam_asked.specs.declared.fault.AskFault.TheVariants.{Read, Line, OutOfMemory}

@@ -8,8 +8,8 @@ use Rattle.std.proofs.lemmas.List.Sums.{sum_by-append, sum_by-cons}
 use Rattle.std.proofs.lemmas.Option.{get_or_from_slice_get, slice_get-get_or, slice_get-map}
 use Rattle.iam_context.specs.Context.{ContextValue}
 use Rattle.iam_world.specs.World.{WorldValue}
-use Rattle.iam_asked.specs.Code.Reading.{AreKept, asked_of, asked_with, own_of, requests_of, with_asked}
-use Rattle.iam_asked.specs.Request.{AskedValue, IsWithin, RequestsValue}
+use Rattle.iam_asked.specs.Code.Reading.{AreKept, asked_of, own_of, requests_of}
+use Rattle.iam_asked.specs.Request.{AskedValue, IsWithin, RequestsValue, asked_with, with_asked}
 use Rattle.iam_asked.specs.Size.{asked_size, own_size, text_size}
 use Rattle.iam_asked.specs.declared.asked.Asked.{Asked}
 use Rattle.iam_asked.specs.declared.entry.Entry.{Entry}

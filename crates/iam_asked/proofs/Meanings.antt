@@ -9,10 +9,10 @@ use Rattle.iam_layers.specs.Own.{IsCleanAt, IsFaultAt, given_with}
 use Rattle.iam_world.specs.World.{PrincipalValue, ResourceValue, WorldValue}
 use Rattle.iam_world.specs.WorldFault.{IsJson}
 use Rattle.iam_asked.specs.Code.Found.{HasNumbers, IsSaidFault}
-use Rattle.iam_asked.specs.Code.Reading.{IsOwnFault, IsUnfound, asked_with}
+use Rattle.iam_asked.specs.Code.Reading.{IsOwnFault, IsUnfound}
 use Rattle.iam_asked.specs.Code.Unread.{IsUnread}
 use Rattle.iam_asked.specs.Fault.{IsLineFault, LineHasFault, SaidHasFault, fault_rank, line_number_of}
-use Rattle.iam_asked.specs.Request.{AskedValue, IsMeant, IsRequest, IsWithin, RequestsValue}
+use Rattle.iam_asked.specs.Request.{AskedValue, IsMeant, IsRequest, IsWithin, RequestsValue, asked_with}
 use Rattle.iam_asked.specs.Said.{IsSaid, IsShort, SaidValue, Says}
 use Rattle.iam_asked.specs.Size.{asked_size}
 use Rattle.iam_asked.specs.declared.asked.Asked.{Asked}

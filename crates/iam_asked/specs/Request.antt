@@ -1,9 +1,10 @@
 -- Requests that a file asks of a world, by the numbers of principal, action and resource. LOGIC 13.8.
-use Rattle.std.specs.Prelude.{◌≡◌, ◌≢◌, ◌<◌, ℕ, List, [], Some, length}
+use Rattle.std.specs.Prelude.{◌≡◌, ◌≢◌, ◌<◌, ℕ, List, [], ◌∷◌, ◌++◌, Some, length}
 use Rattle.std.specs.List.{slice_get}
 use Rattle.iam_context.specs.Context.{ContextValue}
 use Rattle.iam_layers.specs.Own.{IsCleanAt}
 use Rattle.iam_world.specs.World.{WorldValue}
+use Rattle.iam_asked.specs.declared.asked.Asked.{Asked}
 use Rattle.iam_asked.specs.Said.{SaidValue, Says}
 use Rattle.iam_asked.specs.Texts.{IsActionAt, IsOnlyAt, principal_texts, resource_texts}
 
@@ -18,6 +19,19 @@ pub record AskedValue : Type 0 where
 pub record RequestsValue : Type 0 where
   pub world : WorldValue
   pub asked : List AskedValue
+
+-- the request with these numbers that gives these keys
+abbrev pub asked_with : Asked → ContextValue → AskedValue
+asked_with asked own = record {
+  principal = asked.principal;
+  action = asked.action;
+  resource = asked.resource;
+  own = own;
+}
+
+-- one more request
+abbrev pub with_asked : RequestsValue → AskedValue → RequestsValue
+with_asked requests asked = record requests { asked = requests.asked ++ asked ∷ [] }
 
 -- request n is there, and P holds of it
 abbrev pub IsAsked : RequestsValue → ℕ → (AskedValue → Type 0) → Type 0

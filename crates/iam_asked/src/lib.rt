@@ -1,8 +1,8 @@
 //! Requests that a file asks of a world, one a line.
 //!
-//! `read_requests` (`read.rt`) reads a file in blocks, and `Reading` (`reading.rt`) a line: `said.rt` has what a line says, `finder.rt` finds what it names, by the maps of
-//! `places.rt`, and `requests.rt` keeps the requests, by numbers, with the keys that they give themselves (`own.rt`). `fault.rt`
-//! says why a line is no request.
+//! `read_requests` (`read.rt`) reads a file in blocks, and `Reading` (`reading.rt`) a line: `said.rt` has what a line says,
+//! `finder.rt` finds what it names, by the maps of `places.rt`, and `requests.rt` keeps the requests, by numbers, with the keys that
+//! they give themselves (`own.rt`). `fault.rt` says why a line is no request.
 #![tactic(auto)]
 
 mod asked;

@@ -1,9 +1,8 @@
 // Reading a file of requests in blocks: a line may begin in one block and end in a later one.
 ghost use Rattle.std.specs.Prelude.{◌≡◌, ◌≢◌, ◌∷◌, ◌++◌, [], ℕ, List, IfErr, IfOk, MatchOption, OnErr, OnOk};
 ghost use Rattle.iam_asked.specs.Code.Cut.{HasRead, IsFaultOf, IsUnbroken};
-ghost use Rattle.iam_asked.specs.Code.Reading.{with_asked};
 ghost use Rattle.iam_asked.specs.File.{AreRequests, IsFileFault, OfBytes, lines_of};
-ghost use Rattle.iam_asked.specs.Request.{AskedValue, IsRequest};
+ghost use Rattle.iam_asked.specs.Request.{AskedValue, IsRequest, with_asked};
 
 use crate::fault::{AskFault, FaultyLine, LineFault};
 use crate::reading::Reading;

@@ -1,9 +1,9 @@
 // Reading requests, a line at a time.
 ghost use Rattle.std.specs.Prelude.{◌≡◌, ◌≢◌, ◌<◌, ◌∷◌, ◌++◌, [], ℕ, List, IfErr, IfOk, OnErr, OnOk, length};
 ghost use Rattle.serde_json.specs.View.{view};
-ghost use Rattle.iam_asked.specs.Code.Reading.{IsFoundIn, IsFoundOf, IsOwnFault, IsUnfound, asked_with, with_asked};
+ghost use Rattle.iam_asked.specs.Code.Reading.{IsFoundIn, IsFoundOf, IsOwnFault, IsUnfound};
 ghost use Rattle.iam_asked.specs.Fault.{IsLineFault};
-ghost use Rattle.iam_asked.specs.Request.{AskedValue, IsRequest, IsWithin, RequestsValue};
+ghost use Rattle.iam_asked.specs.Request.{AskedValue, IsRequest, IsWithin, RequestsValue, asked_with, with_asked};
 ghost use Rattle.iam_asked.specs.Said.{IsShort};
 ghost use Rattle.iam_asked.specs.Size.{asked_size};
 ghost use Rattle.iam_asked.specs.declared.fault.LineFault.TheVariants as l;
@@ -86,7 +86,7 @@ impl<'a> Reading<'a> {
     }
 
     /// The least fault of a further line of over 8,388,608 bytes.
-    pub fn fault_of_long(&self) -> LineFault
+    pub(crate) fn fault_of_long(&self) -> LineFault
         ensures { (line : List ℕ) → ¬ IsShort line → IsLineFault self.now line result }
     {
         if self.requests.count() == MOST_REQUESTS {

@@ -1,8 +1,8 @@
 // The requests that are asked of a world, as they are kept.
 ghost use Rattle.std.specs.Prelude.{◌≡◌, ◌≢◌, ◌≤◌, ◌<◌, ◌∷◌, ◌++◌, [], ℕ, List, IfErr, IfOk, IsTrue, MatchOption, OnErr, OnOk, false, length, map, true};
 ghost use Rattle.iam_layers.specs.Own.{IsCleanAt};
-ghost use Rattle.iam_asked.specs.Code.Reading.{AreKept, asked_with, contexts_of, requests_of, with_asked};
-ghost use Rattle.iam_asked.specs.Request.{IsAsked, IsWithin, RequestsValue};
+ghost use Rattle.iam_asked.specs.Code.Reading.{AreKept, contexts_of, requests_of};
+ghost use Rattle.iam_asked.specs.Request.{IsAsked, IsWithin, RequestsValue, asked_with, with_asked};
 ghost use Rattle.iam_asked.specs.Size.{asked_size};
 ghost use Rattle.iam_asked.specs.declared.fault.LineFault.TheVariants as l;
 
@@ -61,7 +61,7 @@ fn entry_of(world: &World, asked: Asked, context: u32) -> Entry
 
 impl<'a> Requests<'a> {
     /// No requests.
-    pub fn new(alloc: Global, world: &'a World) -> Requests<'a>
+    pub(crate) fn new(alloc: Global, world: &'a World) -> Requests<'a>
         ensures { result ≡ record { world = world.entry.now; asked = [] } }
     {
         Requests {
@@ -117,7 +117,7 @@ impl<'a> Requests<'a> {
     }
 
     /// Adds a request that gives no keys.
-    pub fn add(&mut self, asked: Asked) -> Result<(), OutOfMemory>
+    pub(crate) fn add(&mut self, asked: Asked) -> Result<(), OutOfMemory>
         requires within { IsWithin self.old.world (asked_with asked []) }
         requires few { length self.old.asked < 16777216 }
         ensures ok { OnOk result (self.new ≡ with_asked self.old (asked_with asked [])) }
@@ -129,7 +129,12 @@ impl<'a> Requests<'a> {
     }
 
     /// Adds a request that gives these keys where they are the context with this number, from 0 on; whether they are.
-    pub fn add_same(&mut self, asked: Asked, own: &Part, number: usize) -> Result<bool, OutOfMemory>
+    pub(crate) fn add_same(
+        &mut self,
+        asked: Asked,
+        own: &Part,
+        number: usize,
+    ) -> Result<bool, OutOfMemory>
         requires within { IsWithin self.old.world (asked_with asked own.now.items) }
         requires few { length self.old.asked < 16777216 }
         ensures added { IfOk result (λ is. IsTrue is → self.new ≡ with_asked self.old (asked_with asked own.now.items)) }
@@ -149,7 +154,7 @@ impl<'a> Requests<'a> {
 
     /// Adds a request that gives these keys, one at least, which join those that are kept. `ContextsTooLarge` where these become
     /// too large with them.
-    pub fn add_new(&mut self, asked: Asked, own: Part) -> Result<(), LineFault>
+    pub(crate) fn add_new(&mut self, asked: Asked, own: Part) -> Result<(), LineFault>
         requires within { IsWithin self.old.world (asked_with asked own.items) }
         requires some { 0 < length own.items }
         requires few { length self.old.asked < 16777216 }
@@ -170,7 +175,7 @@ impl<'a> Requests<'a> {
     }
 
     /// How many contexts are kept: the number of the next one.
-    pub fn contexts(&self) -> usize {
+    pub(crate) fn contexts(&self) -> usize {
         self.contexts.len()
     }
 }

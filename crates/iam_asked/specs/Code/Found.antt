@@ -14,6 +14,13 @@ use Rattle.iam_asked.specs.declared.fault.LineFault.{LineFault}
 use Rattle.iam_asked.specs.declared.asked.Asked.{Asked}
 use Rattle.iam_asked.specs.declared.places.Place.{Place}
 
+-- maps to places, from texts that are lent, and from texts of their own
+abbrev pub Places : Type 0
+Places = HashMap (Bor (List ℕ)) Place (BuildHasherDefault FoldHasher)
+
+abbrev pub OwnedPlaces : Type 0
+OwnedPlaces = HashMap (String Global) Place (BuildHasherDefault FoldHasher)
+
 -- the place of a text among others, or that it is none of them
 abbrev pub IsPlaceOf : List (List ℕ) → List ℕ → Option Place → Type 0
 IsPlaceOf texts text None = IsNowhere texts text
@@ -25,12 +32,19 @@ abbrev pub place_behind : Option Place → ℕ → Place
 place_behind None n = record { first = n; again = false }
 place_behind (Some place) n = record place { again = true }
 
--- a map has the places of these texts, by texts that are lent, and by texts of its own
-abbrev pub ArePlaces : List (List ℕ) → HashMap (Bor (List ℕ)) Place (BuildHasherDefault FoldHasher) → Type 0
+-- a map has the places of these texts
+abbrev pub ArePlaces : List (List ℕ) → Places → Type 0
 ArePlaces texts places = (text : List ℕ) → IsPlaceOf texts text (get_by (λ k. bytes_eq text k.now) places)
 
-abbrev pub AreOwnedPlaces : List (List ℕ) → HashMap (String Global) Place (BuildHasherDefault FoldHasher) → Type 0
+abbrev pub AreOwnedPlaces : List (List ℕ) → OwnedPlaces → Type 0
 AreOwnedPlaces texts places = (text : List ℕ) → IsPlaceOf texts text (get_by_text places text)
+
+-- the maps that a finder keeps
+pub record HasPlaces (world : WorldValue) (principals actions : Places) (folds : OwnedPlaces) (resources : Places) : Type 0 where
+  pub principals_are : ArePlaces (principal_texts world) principals
+  pub actions_are : ArePlaces world.actions actions
+  pub folds_are : AreOwnedPlaces (map folded world.actions) folds
+  pub resources_are : ArePlaces (resource_texts world) resources
 
 -- the only place, or one of two faults
 abbrev pub IsOnlyOr : LineFault → LineFault → List (List ℕ) → List ℕ → LineFault → Type 0
@@ -46,10 +60,3 @@ pub record HasNumbers (world : WorldValue) (said : SaidValue) (asked : Asked) : 
 pub record IsSaidFault (world : WorldValue) (said : SaidValue) (fault : LineFault) : Type 0 where
   pub holds : SaidHasFault world said fault
   pub least : (other : LineFault) → SaidHasFault world said other → line_number_of fault ≤ line_number_of other
-
--- the maps that a finder keeps
-pub record HasPlaces (world : WorldValue) (principals actions : HashMap (Bor (List ℕ)) Place (BuildHasherDefault FoldHasher)) (folds : HashMap (String Global) Place (BuildHasherDefault FoldHasher)) (resources : HashMap (Bor (List ℕ)) Place (BuildHasherDefault FoldHasher)) : Type 0 where
-  pub principals_are : ArePlaces (principal_texts world) principals
-  pub actions_are : ArePlaces world.actions actions
-  pub folds_are : AreOwnedPlaces (map folded world.actions) folds
-  pub resources_are : ArePlaces (resource_texts world) resources

@@ -36,19 +36,6 @@ asked_of contexts entry = record {
   own = own_of contexts entry.context;
 }
 
--- the request with these numbers that gives these keys
-abbrev pub asked_with : Asked → ContextValue → AskedValue
-asked_with asked own = record {
-  principal = asked.principal;
-  action = asked.action;
-  resource = asked.resource;
-  own = own;
-}
-
--- one more request
-abbrev pub with_asked : RequestsValue → AskedValue → RequestsValue
-with_asked requests asked = record requests { asked = requests.asked ++ asked ∷ [] }
-
 -- the requests of entries
 abbrev pub requests_of : WorldValue → List Entry → List ContextValue → RequestsValue
 requests_of world entries contexts = record { world = world; asked = map (asked_of contexts) entries }

@@ -2,9 +2,8 @@ use Rattle.std.proofs.Common.{◌≡◌, ◌∙◌, ◌++◌, ◌∷◌, [], ap,
 use Rattle.std.proofs.lemmas.List.{append-nil}
 use Rattle.std.proofs.lemmas.Result.{MatchResult-weaker, err_from_is_err_and}
 use Rattle.iam_asked.specs.Code.Cut.{HasRead}
-use Rattle.iam_asked.specs.Code.Reading.{with_asked}
 use Rattle.iam_asked.specs.File.{IsFileFault}
-use Rattle.iam_asked.specs.Request.{RequestsValue}
+use Rattle.iam_asked.specs.Request.{RequestsValue, with_asked}
 use Rattle.iam_asked.proofs.Cutting.{block_and_more, block_less, block_read, fault_of_line, line_and_more, read_line, read_tail}
 use Rattle.iam_asked.proofs.read.Lines.add_block.Goals as goal
 

@@ -1,8 +1,8 @@
 use Rattle.std.proofs.Common.{◌≡◌, ◌≢◌, ◌∙◌, ◌+◌, ◌-◌, ◌<◌, ◌≤◌, ◌++◌, ◌∷◌, [], Global, List, ℕ, suc, Vec, ap, length, subst, sym, arith}
 use Rattle.std.proofs.lemmas.List.{length-map, map-append}
 use Rattle.iam_context.specs.Context.{ContextValue}
-use Rattle.iam_asked.specs.Code.Reading.{AreKept, asked_of, asked_with, contexts_of, own_of, requests_of, with_asked}
-use Rattle.iam_asked.specs.Request.{IsWithin, RequestsValue}
+use Rattle.iam_asked.specs.Code.Reading.{AreKept, asked_of, contexts_of, own_of, requests_of}
+use Rattle.iam_asked.specs.Request.{IsWithin, RequestsValue, asked_with, with_asked}
 use Rattle.iam_asked.specs.Size.{own_size}
 use Rattle.iam_asked.specs.declared.entry.Entry.{Entry}
 use Rattle.iam_asked.proofs.Kept.{asked_known, few_contexts, keep_new, own_last, requests_new}

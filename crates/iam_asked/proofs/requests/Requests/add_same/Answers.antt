@@ -4,8 +4,8 @@ use Rattle.std.specs.Option.{option_map}
 use Rattle.std.proofs.lemmas.List.{length-map}
 use Rattle.std.proofs.lemmas.Option.{slice_get-get_or, slice_get-map, slice_get_within}
 use Rattle.iam_context.specs.Context.{ContextValue}
-use Rattle.iam_asked.specs.Code.Reading.{AreKept, asked_of, asked_with, contexts_of, requests_of, with_asked}
-use Rattle.iam_asked.specs.Request.{IsWithin, RequestsValue}
+use Rattle.iam_asked.specs.Code.Reading.{AreKept, asked_of, contexts_of, requests_of}
+use Rattle.iam_asked.specs.Request.{IsWithin, RequestsValue, asked_with, with_asked}
 use Rattle.iam_asked.specs.declared.entry.Entry.{Entry}
 use Rattle.iam_asked.proofs.Kept.{asked_known, few_contexts, keep_more, own_at, requests_more}
 use Rattle.iam_asked.proofs.requests.Requests.add_same.Goals as goal

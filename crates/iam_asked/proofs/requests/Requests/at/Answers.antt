@@ -1,6 +1,6 @@
 use Rattle.std.proofs.Common.{◌≡◌, ◌<◌, ap, length, map, refl, subst, arith}
-use Rattle.iam_asked.specs.Code.Reading.{asked_of, asked_with, contexts_of}
-use Rattle.iam_asked.specs.Request.{IsAsked, IsWithin, RequestsValue}
+use Rattle.iam_asked.specs.Code.Reading.{asked_of, contexts_of}
+use Rattle.iam_asked.specs.Request.{IsAsked, IsWithin, RequestsValue, asked_with}
 use Rattle.iam_asked.proofs.Kept.{asked_at, within_at}
 use Rattle.iam_asked.proofs.requests.Requests.at.Goals as goal
 
