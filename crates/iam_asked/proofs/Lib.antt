@@ -1,0 +1,5 @@
+pub mod Cutting
+pub mod Faults
+pub mod Kept
+pub mod Meanings
+pub mod TextPlaces

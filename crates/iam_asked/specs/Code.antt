@@ -1,0 +1,5 @@
+pub mod Cut
+pub mod Found
+pub mod Lent
+pub mod Reading
+pub mod Unread
