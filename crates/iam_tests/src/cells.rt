@@ -199,37 +199,7 @@ fn cells_asked_again(rt: HostRuntime) -> Result<(), Fail> {
     Ok(())
 }
 
-/// What a request of ann to read the first resource of the office comes to, in full and in brief, where it gives this key itself, and
-/// afterwards as its cell, which gives none.
-fn own_decisions(alloc: Global, key: &str, value: &str) -> Result<[Decision; 3], Fail> {
-    let world = World::read(alloc, OFFICE.as_bytes())?;
-    let index = Index::build(alloc, &world)?;
-    if world.cells() != 36 {
-        return Err("the office has other cells".into());
-    }
-    own_decisions_by(alloc, &index, key, value)
-}
-
-fn own_decisions_by(
-    alloc: Global,
-    index: &Index<'_>,
-    key: &str,
-    value: &str,
-) -> Result<[Decision; 3], Fail> {
-    let world = index.world();
-    if world.cells() == 0 {
-        return Err("no cells".into());
-    }
-    let (p, a, r) = world.triple(0);
-    let own = one_key(alloc, key, value)?;
-    world.check_own(alloc, p, r, &own)?;
-    let mut engine = Engine::new(alloc, world, index, 1024)?;
-    let brief = engine.decide_own_brief(alloc, p, a, r, &own)?;
-    let full = engine.decide_own(alloc, p, a, r, &own)?.decision;
-    let cell = engine.decide_brief(alloc, 0)?;
-    Ok([full, brief, cell])
-}
-
+/// A key with one value.
 fn one_key(alloc: Global, key: &str, value: &str) -> Result<Part, Fail> {
     let mut own: Part = Vec::new(alloc);
     own.push((
@@ -237,19 +207,6 @@ fn one_key(alloc: Global, key: &str, value: &str) -> Result<Part, Fail> {
         Values::one(Text::read(alloc, value)?),
     ))?;
     Ok(own)
-}
-
-#[test]
-fn requests_that_give_keys_of_their_own(rt: HostRuntime) -> Result<(), Fail> {
-    let denied = [
-        Decision::ExplicitDeny,
-        Decision::ExplicitDeny,
-        Decision::Allowed,
-    ];
-    assert!(rt; own_decisions(rt.alloc(), "CLOSED", "true")? == denied);
-    let open = [Decision::Allowed, Decision::Allowed, Decision::Allowed];
-    assert!(rt; own_decisions(rt.alloc(), "closed", "false")? == open);
-    Ok(())
 }
 
 #[test]
