@@ -39,28 +39,28 @@ ROWS = [
 ]
 ALL = list(range(12))
 
-# What is asked for, and the cells whose rows come.
+# What is asked for, and the cells whose rows come; None where the patterns select no request, which is status 4.
 SELECTIONS = [
     (f"--principal {ANN}", [0, 1, 2, 3, 4, 5]),
     ("--principal *:user/bob", [6, 7, 8, 9, 10, 11]),
     ("--principal *b*", [6, 7, 8, 9, 10, 11]),
     ("--principal *:user/???", ALL),
-    ("--principal *:user/??", []),
-    ("--principal *ANN", []),
-    ("--principal ann", []),
+    ("--principal *:user/??", None),
+    ("--principal *ANN", None),
+    ("--principal ann", None),
     ("--principal *", ALL),
     ("--action s3:GetObject", [0, 1, 6, 7]),
     ("--action S3:GETOBJECT", [0, 1, 6, 7]),
     ("--action s3:putobject", [2, 3, 8, 9]),
     ("--action ?3:*object", [0, 1, 2, 3, 6, 7, 8, 9]),
     ("--action KMS:*", [4, 5, 10, 11]),
-    ("--action s3:", []),
+    ("--action s3:", None),
     ("--action *:*", ALL),
     (f"--resource {K}", [0, 2, 4, 6, 8, 10]),
     ("--resource arn:aws:s3:::b/?", ALL),
-    ("--resource arn:aws:s3:::B/k", []),
+    ("--resource arn:aws:s3:::B/k", None),
     ("--resource *q", [1, 3, 5, 7, 9, 11]),
-    ("--resource ?", []),
+    ("--resource ?", None),
     ("--resource **", ALL),
     ("--decision allowed", [0, 1, 3, 6]),
     ("--decision explicitDeny", [2]),
@@ -83,22 +83,22 @@ SELECTIONS = [
     ("--principal *ann --action s3:* --resource *k --decision implicitDeny", []),
     ("--principal *bob --decision allowed", [6]),
     ("--principal *bob --decision explicitDeny", []),
-    ("--principal nobody --decision allowed", []),
+    ("--principal nobody --decision allowed", None),
 ]
 
-# What is asked for, and the first cell of those that is allowed.
+# What is asked for, and the first cell of those that is allowed, in a list; None as above.
 FIRSTS = [
-    ("--principal *", 0),
-    ("--principal *bob", 6),
-    ("--action *:put*", 3),
-    ("--action kms:*", None),
-    ("--resource *q", 1),
-    ("--resource *q --action s3:p*", 3),
-    ("--principal *bob --resource *q", None),
+    ("--principal *", [0]),
+    ("--principal *bob", [6]),
+    ("--action *:put*", [3]),
+    ("--action kms:*", []),
+    ("--resource *q", [1]),
+    ("--resource *q --action s3:p*", [3]),
+    ("--principal *bob --resource *q", []),
     ("--principal nobody", None),
-    ("--principal *bob --principal *ann", 0),
-    (f"--principal {BOB} --action S3:getOBJECT --resource {K}", 6),
-    (f"--principal {ANN} --action {PUT} --resource {K}", None),
+    ("--principal *bob --principal *ann", [0]),
+    (f"--principal {BOB} --action S3:getOBJECT --resource {K}", [6]),
+    (f"--principal {ANN} --action {PUT} --resource {K}", []),
 ]
 
 
@@ -113,16 +113,20 @@ def made(row, is_brief):
     return value if is_brief else {**value, "statements": statements.split(), "lacks": lacks.split()}
 
 
+def status_of(cells):
+    return 4 if cells is None else 0
+
+
 def reports(cells):
-    """The reports of these cells, under the words that ask for each."""
-    rows = [ROWS[cell] for cell in cells]
+    """The reports of these cells, under the words that ask for each, with the status."""
+    rows = [ROWS[cell] for cell in cells or []]
     texts = {
         "": HEADER + "".join(line(row, 7) for row in rows),
         "--brief": BRIEF_HEADER + "".join(line(row, 5) for row in rows),
     }
     for words, is_brief in (("--format json", False), ("--format json --brief", True)):
         texts[words] = json.dumps([made(row, is_brief) for row in rows], separators=(",", ":"), sort_keys=True) + "\n"
-    return {words: (0, text.encode(), b"") for words, text in texts.items()}
+    return {words: (status_of(cells), text.encode(), b"") for words, text in texts.items()}
 
 
 def test_the_whole_matrix():
@@ -152,10 +156,11 @@ def test_workers_and_tiles_change_no_byte():
 
 def test_the_first_of_those_that_are_asked_for():
     path = file(TEXT)
-    for asked, cell in FIRSTS:
-        text = BRIEF_HEADER + ("" if cell is None else line(ROWS[cell], 5))
+    for asked, cells in FIRSTS:
+        text = BRIEF_HEADER + "".join(line(ROWS[cell], 5) for cell in cells or [])
         for more in ([], [path], ["--workers", "1"], ["--workers", "64", "--tile", "1"], ["--tile", "5"]):
-            same(answer(["first", *more, *asked.split()], TEXT), (0, text.encode(), b""), f"{asked} {more}")
+            done = (status_of(cells), text.encode(), b"")
+            same(answer(["first", *more, *asked.split()], TEXT), done, f"{asked} {more}")
 
 
 def test_nothing_is_asked_for():
@@ -163,18 +168,18 @@ def test_nothing_is_asked_for():
     same(answer(["matrix", "--principal=*", "--brief"], TEXT), reports(ALL)["--brief"])
     same(answer(["matrix", "--decision=allowed", "--workers=1", "--principal=*bob"], TEXT), reports([6])[""])
     # A pattern that begins with a hyphen stands behind the sign; none of these actions does.
-    same(answer(["matrix", "--action=-*"], TEXT), reports([])[""])
+    same(answer(["matrix", "--action=-*"], TEXT), reports(None)[""])
     # A comma and a space are signs of a pattern.
-    same(answer(["matrix", "--action", "s3:GetObject,kms:Decrypt"], TEXT), reports([])[""])
-    same(answer(["matrix", "--action", " kms:Decrypt"], TEXT), reports([])[""])
+    same(answer(["matrix", "--action", "s3:GetObject,kms:Decrypt"], TEXT), reports(None)[""])
+    same(answer(["matrix", "--action", " kms:Decrypt"], TEXT), reports(None)[""])
 
 
 def test_a_world_without_cells():
     for axis in ("principals", "actions", "resources"):
         text = json.dumps({**WORLD, axis: []}).encode()
-        for words, wanted in reports([]).items():
+        for words, wanted in reports(None).items():
             same(answer(["matrix", *words.split(), "--principal", "*", "--decision", "allowed"], text), wanted, axis)
-        same(answer(["first", "--action", "*"], text), (0, BRIEF_HEADER.encode(), b""), axis)
+        same(answer(["first", "--action", "*"], text), (4, BRIEF_HEADER.encode(), b""), axis)
 
 
 def test_texts_with_signs_of_patterns_and_of_csv():
@@ -196,10 +201,11 @@ def test_texts_with_signs_of_patterns_and_of_csv():
         ("*,*", [2]),
         ("*${aws:username}", [3]),
         ("*:::?", [4]),
-        ("*\\*", []),
+        ("*\\*", None),
     ):
-        lines = "".join(f"{cell},{BOB},{GET},{fields[cell]},implicitDeny,,identity\n" for cell in cells)
-        same(answer(["matrix", "--resource", pattern], text), (0, (HEADER + lines).encode(), b""), pattern)
+        lines = "".join(f"{cell},{BOB},{GET},{fields[cell]},implicitDeny,,identity\n" for cell in cells or [])
+        done = (status_of(cells), (HEADER + lines).encode(), b"")
+        same(answer(["matrix", "--resource", pattern], text), done, pattern)
 
 
 def test_a_session_is_asked_for_by_its_own_name():
@@ -212,7 +218,7 @@ def test_a_session_is_asked_for_by_its_own_name():
         answer(["matrix", "--brief", roles, "--principal", "*:assumed-role/build/*"]),
         (0, (BRIEF_HEADER + "".join(rows)).encode(), b""),
     )
-    same(answer(["matrix", "--brief", roles, "--principal", "*:role/build"]), (0, BRIEF_HEADER.encode(), b""))
+    same(answer(["matrix", "--brief", roles, "--principal", "*:role/build"]), (4, BRIEF_HEADER.encode(), b""))
 
 
 def test_many_cells():
