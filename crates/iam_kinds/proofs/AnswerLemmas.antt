@@ -1,17 +1,20 @@
 -- From patterns with the numbers of their groups to the groups themselves.
-use Rattle.std.proofs.Common.{◌≡◌, ◌↔◌, ◌⊎◌, inl, inr, ℕ, zero, suc, ◌<◌, ◌+◌, List, [], ◌∷◌, ◌++◌, length, drop, get_or, refl, sym, ap, ◌∙◌, subst, arith, Some, length-append}
-use Rattle.std.specs.List.{Contains, slice_get}
+use Rattle.std.proofs.Common.{◌≡◌, ◌↔◌, ◌⊎◌, inl, inr, ℕ, zero, suc, ◌<◌, ◌+◌, List, [], ◌∷◌, ◌++◌, length, drop, get_or, map, refl, sym, ap, ◌∙◌, subst, arith, Some, length-append}
+use Rattle.std.specs.List.{Contains, range_with_len, slice_get}
 use Rattle.std.specs.Option.{option_map_or}
 use Rattle.std.proofs.lemmas.List.Elements.{Contains-get_or}
 use Rattle.iam_glob.specs.Glob.{Matches}
 use Rattle.iam_glob.specs.declared.sign.Sign.{Sign}
-use Rattle.iam_kinds.specs.Answers.{numbered_groups, numbered_within, pairs_of, with_number}
+use Rattle.iam_glob.specs.declared.sign.Sign.TheVariants.{Any}
+use Rattle.iam_kinds.specs.Answers.{pairs_of}
+use Rattle.iam_kinds.specs.States.{GoesOn, HasManyKinds, HasManyStates, Machine, PassesLimit, goal_of, group_count, machine_of, numbered_groups, numbered_within, pattern_of, with_number}
 use Rattle.iam_kinds.specs.Code.{AreGoals, HasGoal, IsTable, group_at}
 use Rattle.iam_kinds.specs.Kinds.{Agree, AreKinds, GroupMatches, IsIn, IsMeant, Question}
-use Rattle.iam_kinds.specs.Walk.{Alike, AreTexts, Has, IsReady, IsSought, Query}
+use Rattle.iam_kinds.specs.Walk.{Alike, AreTexts, Has, HasManyTexts, IsCounted, IsReady, IsSought, Query}
 use Rattle.iam_kinds.specs.declared.asked.Asked.{Asked}
 use Rattle.iam_kinds.specs.declared.grammar.Grammar.{Grammar}
 use Rattle.iam_kinds.specs.declared.table.Pattern.{Pattern}
+use Rattle.iam_kinds.proofs.FewerLemmas.{pairs_weaker}
 use Rattle.iam_kinds.proofs.GoLemmas.{slice_at, slice_below, slice_in, slice_more}
 use Rattle.iam_kinds.proofs.Members.{In, from_map, in_append, in_left, in_map, in_of, in_right, of_in}
 use Rattle.iam_kinds.proofs.NodeLemmas.{element}
@@ -42,7 +45,7 @@ is_table count goals patterns are below = λ k within.
         let facts = are.goal g p.0 within in record {
           within = omega (arith, length-append goals patterns);
           own = ap (λ o. option_map_or (λ (q : Pattern). q.group) o 0) at ∙ ap (λ (q : Pattern). q.group) (sym here) ∙ facts.0;
-          good = ap (λ o. option_map_or (λ (q : Pattern). q.signs.items) o []) at ∙ ap (λ (q : Pattern). q.signs.items) (sym here) ∙ facts.1;
+          good = ap (λ o. option_map_or (λ (q : Pattern). q.signs) o []) at ∙ ap (λ (q : Pattern). q.signs) (sym here) ∙ facts.1;
         }
 
 pub behind_goals : (goals patterns : List Pattern) → drop (length goals) (goals ++ patterns) ≡ patterns
@@ -100,9 +103,9 @@ pub record IsQuestion (question : Question) (query : Query) : Type 0 where
 pub has_pair : (query : Query) (g : ℕ) (text : List ℕ) → Has query g text ↔ ((p : List Sign) × In (g, p) (pairs_of query.patterns) × Matches p text)
 has_pair query g text = (
   λ (p, h, own, m).
-      (p.signs.items, subst (λ n. In (n, p.signs.items) (pairs_of query.patterns)) own (in_map (λ (q : Pattern). (q.group, q.signs.items)) query.patterns p (in_of _ p h)), m),
+      (p.signs, subst (λ n. In (n, p.signs) (pairs_of query.patterns)) own (in_map (λ (q : Pattern). (q.group, q.signs)) query.patterns p (in_of _ p h)), m),
   λ (p, h, m).
-      let r = from_map (λ (q : Pattern). (q.group, q.signs.items)) query.patterns (g, p) h in
+      let r = from_map (λ (q : Pattern). (q.group, q.signs)) query.patterns (g, p) h in
       (r.0, of_in _ r.0 r.1, ap (λ (x : ℕ × List Sign). x.0) r.2, subst (λ (s : List Sign). Matches s text) (sym (ap (λ (x : ℕ × List Sign). x.1) r.2)) m),
 )
 
@@ -214,24 +217,38 @@ are_kinds question query texts is are = record {
 pub below_pairs : (within : List (List Sign)) (groups : List (List (List Sign))) (patterns : List Pattern) (count : ℕ)
     → pairs_of patterns ≡ numbered_within 0 within ++ numbered_groups (length within) groups → count ≡ length within + length groups → AreBelow count patterns
 below_pairs within groups patterns count pairs many = λ p h.
-    let listed = subst (In (p.group, p.signs.items)) pairs (in_map (λ (q : Pattern). (q.group, q.signs.items)) patterns p h) in
-    elim (in_append (numbered_within 0 within) (numbered_groups (length within) groups) (p.group, p.signs.items) listed) [
+    let listed = subst (In (p.group, p.signs)) pairs (in_map (λ (q : Pattern). (q.group, q.signs)) patterns p h) in
+    elim (in_append (numbered_within 0 within) (numbered_groups (length within) groups) (p.group, p.signs) listed) [
       | inl w ↦
-          let s = from_within 0 within p.group p.signs.items w in
+          let s = from_within 0 within p.group p.signs w in
           let n : p.group ≡ 0 + s.0 = s.1 in
-          let b = slice_below within s.0 p.signs.items s.2 in omega (arith, n, b, many)
+          let b = slice_below within s.0 p.signs s.2 in omega (arith, n, b, many)
       | inr l ↦
-          let s = from_groups (length within) groups p.group p.signs.items l in
+          let s = from_groups (length within) groups p.group p.signs l in
           let n : p.group ≡ length within + s.0 = s.2 in
           let b = slice_below groups s.0 s.1 s.3 in omega (arith, n, b, many)
     ]
 
+-- the patterns behind those where groups stand
+pub queried : (table goals patterns : List Pattern) (count : ℕ) → table ≡ goals ++ patterns → AreGoals count goals → drop count table ≡ patterns
+queried table goals patterns count is are =
+    ap (drop count) is ∙ ap (λ n. drop n (goals ++ patterns)) (sym are.many) ∙ behind_goals goals patterns
+
 pub is_ready : (asked : Asked) (goals patterns : List Pattern) (within : List (List Sign)) (groups : List (List (List Sign)))
     → asked.table.now.patterns.items ≡ goals ++ patterns → AreGoals asked.count goals
-    → pairs_of patterns ≡ numbered_within 0 within ++ numbered_groups (length within) groups → asked.count ≡ length within + length groups → IsReady asked
-is_ready asked goals patterns within groups table are pairs many = record {
+    → pairs_of patterns ≡ numbered_within 0 within ++ numbered_groups (length within) groups → asked.count ≡ length within + length groups
+    → asked.within ≡ length within → IsReady asked
+is_ready asked goals patterns within groups table are pairs many first = record {
   table = subst IsTable (sym table) (is_table asked.count goals patterns are (below_pairs within groups patterns asked.count pairs many));
   count = omega (arith, ap length table, length-append goals patterns, are.many);
+  within = λ g below.
+      let e = element within g (omega (arith, below, first)) in
+      let n : 0 + g ≡ g = omega arith in
+      let here = subst (λ k. In (k, e.0) (numbered_within 0 within)) n (in_within 0 within g e.0 e.1) in
+      let listed = subst (In (g, e.0)) (sym pairs) (in_left (numbered_within 0 within) (numbered_groups (length within) groups) (g, e.0) here) in
+      let r = from_map (λ (q : Pattern). (q.group, q.signs)) patterns (g, e.0) listed in
+      let behind = queried asked.table.now.patterns.items goals patterns asked.count table are in
+      (r.0, subst (λ (l : List Pattern). Contains l r.0) (sym behind) (of_in patterns r.0 r.1), ap (λ (x : ℕ × List Sign). x.0) r.2);
 }
 
 pub is_question : (question : Question) (table goals patterns : List Pattern) (count within : ℕ) (grammar : Grammar) (named : List (List ℕ))
@@ -240,8 +257,7 @@ pub is_question : (question : Question) (table goals patterns : List Pattern) (c
     → within ≡ length question.within → grammar ≡ question.grammar → named ≡ question.named
     → IsQuestion question (record { patterns = drop count table; within = within; grammar = grammar; named = named })
 is_question question table goals patterns count within grammar named is are pairs many same all =
-    let behind : drop count table ≡ patterns =
-    ap (drop count) is ∙ ap (λ n. drop n (goals ++ patterns)) (sym are.many) ∙ behind_goals goals patterns in record {
+    let behind = queried table goals patterns count is are in record {
       grammar = same;
       named = all;
       within = many;
@@ -254,3 +270,118 @@ pub both_added : (first second third : List Pattern) (within : List (List Sign))
 both_added first second third within groups count none one two many =
     two ∙ ap (λ l. l ++ numbered_groups count groups) (one ∙ ap (λ (l : List Pattern). pairs_of l ++ numbered_within 0 within) none)
     ∙ ap (λ n. numbered_within 0 within ++ numbered_groups n groups) many
+
+-- ---- what is counted
+-- the patterns where groups stand
+pub goals_listed : (first : ℕ) (goals : List Pattern)
+    → ((k : ℕ) (d : Pattern) → k < length goals → ((get_or goals k d).group ≡ first + k) × ((get_or goals k d).signs ≡ Any ∷ []))
+    → goals ≡ map goal_of (range_with_len first (length goals))
+goals_listed first [] are = refl
+goals_listed first (g ∷ goals) are =
+    let r = are 0 g (omega arith) in
+    let zero_more : first + 0 ≡ first = omega arith in
+    let here : g ≡ goal_of first = ap (λ n. pattern_of (n, g.signs)) (r.0 ∙ zero_more) ∙ ap (λ l. pattern_of (first, l)) r.1 in
+    let rest = goals_listed (first + 1) goals (λ k d below.
+    let s = are (suc k) d (omega (arith, below)) in
+    let n : first + suc k ≡ first + 1 + k = omega arith in (s.0 ∙ n, s.1)) in
+    ap (λ x. x ∷ goals) here ∙ ap (λ l. goal_of first ∷ l) rest
+
+pub paired : (patterns : List Pattern) → patterns ≡ map pattern_of (pairs_of patterns)
+paired [] = refl
+paired (p ∷ patterns) = ap (λ l. p ∷ l) (paired patterns)
+
+abbrev pub machine_with : Grammar → List Pattern → ℕ → Machine
+machine_with grammar patterns count = record { grammar = grammar; patterns = patterns; count = count }
+
+pub is_machine : (question : Question) (table goals patterns : List Pattern) (count : ℕ) (grammar : Grammar) → table ≡ goals ++ patterns → AreGoals count goals
+    → pairs_of patterns ≡ numbered_within 0 question.within ++ numbered_groups (length question.within) question.groups
+    → count ≡ group_count question → grammar ≡ question.grammar
+    → machine_with grammar table count ≡ machine_of question
+is_machine question table goals patterns count grammar is are pairs many same =
+    let listed = numbered_within 0 question.within ++ numbered_groups (length question.within) question.groups in
+    let first : goals ≡ map goal_of (range_with_len 0 (group_count question)) =
+    goals_listed 0 goals (λ k d below. let r = are.goal k d below in let n : k ≡ 0 + k = omega arith in (r.0 ∙ n, r.1))
+    ∙ ap (λ n. map goal_of (range_with_len 0 n)) (are.many ∙ many) in
+    let second : patterns ≡ map pattern_of listed = paired patterns ∙ ap (map pattern_of) pairs in
+    let all : table ≡ map goal_of (range_with_len 0 (group_count question)) ++ map pattern_of listed =
+    is ∙ ap (λ l. l ++ patterns) first ∙ ap (λ l. map goal_of (range_with_len 0 (group_count question)) ++ l) second in
+    machine_at_once grammar question.grammar table _ count (group_count question) same all many
+  where
+    machine_at_once : (grammar other : Grammar) (patterns others : List Pattern) (count many : ℕ) → grammar ≡ other → patterns ≡ others → count ≡ many
+        → machine_with grammar patterns count ≡ machine_with other others many
+    machine_at_once grammar other patterns others count many g p c =
+        ap (λ x. machine_with x patterns count) g ∙ ap (λ x. machine_with other x count) p ∙ ap (λ x. machine_with other others x) c
+
+-- a text is gone on with
+pub goes_on : (question : Question) (query : Query) → IsQuestion question query → (text : List ℕ) → IsCounted query text → GoesOn question text
+goes_on question query is text (characters, live, free) = record {
+  characters = characters;
+  grammar = (let (rest, h) = live.grammar in (rest, subst (λ g. IsIn g (text ++ rest)) is.grammar h));
+  within = λ p h.
+      let i = at_slice question.within p h in
+      let below : i.0 < query.within = (let b = slice_below question.within i.0 p i.1 in omega (arith, b, is.within)) in
+      let (rest, has) = live.within i.0 below in (
+        rest,
+        elim (has_cases question query is i.0 (text ++ rest) has) [
+          | inl r ↦ subst (λ (q : List Sign). Matches q (text ++ rest)) (let both : Some r.0 ≡ Some p = sym r.1 ∙ i.1 in let same : r.0 ≡ p = cc in same) r.2
+          | inr r ↦ absurd (let n : i.0 ≡ length question.within + r.0 = r.2 in let b = slice_below question.within i.0 p i.1 in omega (arith, b))
+        ],
+      );
+  unnamed = λ rest h. free rest (subst (λ (l : List (List ℕ)). Contains l (text ++ rest)) (sym is.named) h);
+}
+
+pub counted : (question : Question) (query : Query) → IsQuestion question query → (text : List ℕ) → GoesOn question text → IsCounted query text
+counted question query is text goes = (
+  goes.characters,
+  record {
+    grammar = (let (rest, h) = goes.grammar in (rest, subst (λ g. IsIn g (text ++ rest)) (sym is.grammar) h));
+    within = λ g below.
+        let p = element question.within g (omega (arith, below, is.within)) in
+        let (rest, m) = goes.within p.0 (slice_in question.within g p.0 p.1) in
+        (rest, within_has question query is g p.0 (text ++ rest) p.1 m);
+  },
+  λ rest h. goes.unnamed rest (subst (λ (l : List (List ℕ)). Contains l (text ++ rest)) is.named h),
+)
+
+pub states_as : (one other : List ℕ → Type 0) (machine : Machine) → ((text : List ℕ) → one text → other text) → HasManyStates one machine → HasManyStates other machine
+states_as one other machine to (states, are, many) =
+    (states, record { behind = λ s h. (let b = are.behind s h in (b.0, to b.0 b.1, b.2)); apart = are.apart }, many)
+
+pub kinds_of : (question : Question) (query : Query) → IsQuestion question query → HasManyTexts query → HasManyKinds question
+kinds_of question query is (texts, are, many) = (
+  texts,
+  record {
+    meant = λ text h. (let s = are.sought text h in (s.0, meant question query is text s.1));
+    apart =
+        pairs_weaker (λ one other. ¬ Alike query one other) (λ one other. ¬ Agree question one other) texts (λ x y h k differ agrees.
+        differ (alike question query is x y (meant question query is x (are.sought x (of_in texts x h)).1)
+        (meant question query is y (are.sought y (of_in texts y k)).1) agrees)) are.apart;
+  },
+  many,
+)
+
+pub texts_of : (question : Question) (query : Query) → IsQuestion question query → HasManyKinds question → HasManyTexts query
+texts_of question query is (texts, are, many) = (
+  texts,
+  record {
+    sought = λ text h. (let s = are.meant text h in (s.0, sought question query is text s.1));
+    apart =
+        pairs_weaker (λ one other. ¬ Agree question one other) (λ one other. ¬ Alike query one other) texts (λ x y h k differ same.
+        differ (agree question query is x y same)) are.apart;
+  },
+  many,
+)
+
+-- a walk passes a limit just where the question says so
+pub passes : (question : Question) (query : Query) (machine : Machine) → IsQuestion question query → machine ≡ machine_of question
+    → (HasManyStates (IsCounted query) machine ⊎ HasManyTexts query) ↔ PassesLimit question
+passes question query machine is same = (
+  λ over. elim over [
+    | inl m ↦ inl (subst (HasManyStates (GoesOn question)) same (states_as (IsCounted query) (GoesOn question) machine (goes_on question query is) m))
+    | inr m ↦ inr (kinds_of question query is m)
+  ],
+  λ past. elim past [
+    | inl m ↦ inl (states_as (GoesOn question) (IsCounted query) machine (counted question query is) (subst (HasManyStates (GoesOn question)) (sym same) m))
+    | inr m ↦ inr (texts_of question query is m)
+  ],
+)

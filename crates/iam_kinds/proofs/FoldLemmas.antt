@@ -18,7 +18,7 @@ use Rattle.iam_glob.specs.declared.signs.Signs.{Signs}
 use Rattle.iam_kinds.specs.Answers.{IsAnswer, IsAnswerFold, characters_in, question_in, signs_of}
 use Rattle.iam_kinds.specs.declared.kinds.Kinds.{Kinds}
 use Rattle.iam_kinds.specs.declared.kinds.Kinds.TheVariants.{Shown, NotShown}
-use Rattle.iam_kinds.specs.Kinds.{Agree, AgreeFold, AreKinds, AreKindsFold, GroupMatches, GroupMatchesFold, IsAction, IsIn, IsMeant, IsMeantFold, IsText, Question, folded_grammar, is_folded, is_name_character, is_name_in, is_service_character, is_service_in}
+use Rattle.iam_kinds.specs.Kinds.{Agree, AgreeFold, AreKinds, AreKindsFold, GroupMatches, GroupMatchesFold, IsAction, IsIn, IsMeant, IsMeantFold, IsText, Question, folded_grammar, folded_question, is_folded, is_name_character, is_name_in, is_service_character, is_service_in}
 use Rattle.iam_kinds.specs.declared.grammar.Grammar.{Grammar}
 use Rattle.iam_kinds.specs.declared.grammar.Grammar.TheVariants.{AnyText, Action, FoldedText, FoldedAction}
 use Rattle.iam_kinds.proofs.Members.{from_map, in_map, in_of, of_in}
@@ -153,14 +153,6 @@ from_folded FoldedText text h = h
 from_folded FoldedAction text h = h
 
 -- ---- the question
-abbrev pub folded_question : Question → Question
-folded_question question = record {
-  grammar = folded_grammar question.grammar;
-  within = map (map (sign_by folded)) question.within;
-  groups = map (map (map (sign_by folded))) question.groups;
-  named = map (map folded) question.named;
-}
-
 pub group_fold : (group : List (List Sign)) (text : List ℕ) → GroupMatches (map (map (sign_by folded)) group) (map folded text) ↔ GroupMatchesFold group text
 group_fold group text = (
   λ (p, h, m).
@@ -220,6 +212,9 @@ kinds_fold question texts are =
     }
 
 -- the question as it is asked
+abbrev pub question_with : Grammar → List (List Sign) → List (List (List Sign)) → List (List ℕ) → Question
+question_with grammar within groups named = record { grammar = grammar; within = within; groups = groups; named = named }
+
 pub map_twice : {A B C : Type 0} (f : B → C) (g : A → B) (xs : List A) → map f (map g xs) ≡ map (λ x. f (g x)) xs
 map_twice f g [] = refl
 map_twice f g (x ∷ xs) = ap (λ l. f (g x) ∷ l) (map_twice f g xs)
@@ -231,22 +226,22 @@ groups_twice (g ∷ groups) =
     ap (λ x. x ∷ map (map (map (sign_by folded))) (map (λ g. map (signs_of false) g.items) groups)) (map_twice (map (sign_by folded)) (signs_of false) g.items)
     ∙ ap (λ l. map (signs_of true) g.items ∷ l) (groups_twice groups)
 
-pub asked_folded : (grammar : Grammar) (within : List Signs) (groups : List (Vec Signs)) (named : List (Bor (List ℕ))) (texts : List (List ℕ))
-    → AreKinds (question_in true (folded_grammar grammar) within groups named) texts → AreKindsFold (question_in false grammar within groups named) texts
-asked_folded grammar within groups named texts are =
+pub asked_folded : (grammar : Grammar) (within : List Signs) (groups : List (Vec Signs)) (named : List (Bor (List ℕ)))
+    → question_in true (folded_grammar grammar) within groups named ≡ folded_question (question_in false grammar within groups named)
+asked_folded grammar within groups named =
     let q = question_in false grammar within groups named in
     let w : map (map (sign_by folded)) q.within ≡ map (signs_of true) within = map_twice (map (sign_by folded)) (signs_of false) within in
-    let g = groups_twice groups in
     let n : map (map folded) q.named ≡ map (λ t. characters_in true (chars t.now)) named = map_twice (map folded) (λ (t : Bor (List ℕ)). chars t.now) named in
-    kinds_fold q texts
-    (subst (λ l. AreKinds (record { grammar = folded_grammar grammar; within = l; groups = (folded_question q).groups; named = (folded_question q).named }) texts) (sym w)
-    (subst (λ l. AreKinds (record { grammar = folded_grammar grammar; within = map (signs_of true) within; groups = l; named = (folded_question q).named }) texts) (sym g)
-    (subst (λ l. AreKinds (record { grammar = folded_grammar grammar; within = map (signs_of true) within; groups = map (λ g. map (signs_of true) g.items) groups; named = l }) texts)
-    (sym n) are)))
+    let p = question_in true (folded_grammar grammar) within groups named in
+    ap (λ l. question_with p.grammar l p.groups p.named) (sym w) ∙ ap (λ l. question_with p.grammar (folded_question q).within l p.named) (sym (groups_twice groups))
+    ∙ ap (λ l. question_with p.grammar (folded_question q).within (folded_question q).groups l) (sym n)
 
 pub answer_folded : (grammar other : Grammar) (within : List Signs) (groups : List (Vec Signs)) (named : List (Bor (List ℕ))) (kinds : Kinds)
     → other ≡ folded_grammar grammar → IsAnswer (question_in true other within groups named) kinds → IsAnswerFold (question_in false grammar within groups named) kinds
-answer_folded grammar other within groups named (Shown texts) e a =
-    let all = map (λ text. text.items) texts.items in
-    asked_folded grammar within groups named all (subst (λ g. AreKinds (question_in true g within groups named) all) e a)
-answer_folded grammar other within groups named NotShown e a = tt
+answer_folded grammar other within groups named kinds e a =
+    by_kinds (question_in false grammar within groups named) kinds
+    (subst (λ q. IsAnswer q kinds) (asked_folded grammar within groups named) (subst (λ g. IsAnswer (question_in true g within groups named) kinds) e a))
+  where
+    by_kinds : (question : Question) (kinds : Kinds) → IsAnswer (folded_question question) kinds → IsAnswerFold question kinds
+    by_kinds question (Shown texts) a = (kinds_fold question (map (λ text. text.items) texts.items) a.0, a.1)
+    by_kinds question NotShown a = a

@@ -6,7 +6,7 @@ use Rattle.std.proofs.lemmas.List.Elements.{Contains-append_left, Contains-get_o
 use Rattle.std.proofs.lemmas.List.Quantifiers.{all_pairs_push}
 use Rattle.iam_kinds.specs.Kinds.{IsIn, IsText}
 use Rattle.iam_kinds.specs.Lists.{lists_in}
-use Rattle.iam_kinds.specs.Walk.{Alike, AreTexts, Describes, Fits, Grows, Has, HasSeen, IsAt, IsCovered, IsExpandedAt, IsMet, IsSought, IsTried, IsWalk, StandsFor, TriesAll, key_of, query_of, shown_in, tails_at}
+use Rattle.iam_kinds.specs.Walk.{Alike, AreTexts, Describes, Fits, Grows, Has, IsAt, IsCovered, IsExpandedAt, IsLive, IsMet, IsReady, IsSought, IsTried, IsWalk, Query, StandsFor, TriesAll, machine_at, query_of, shown_in}
 use Rattle.iam_kinds.specs.declared.asked.Asked.{Asked}
 use Rattle.iam_kinds.specs.declared.asked.Node.{Node}
 use Rattle.iam_kinds.specs.declared.walk.Walk.{Walk}
@@ -17,9 +17,12 @@ use Rattle.std.specs.Bool.{OnTrue}
 use Rattle.std.specs.Result.{IfOk}
 use Rattle.std.specs.declared.result.Result.{Result}
 use Rattle.std.specs.declared.result.Result.TheVariants.{Ok, Err}
-use Rattle.iam_kinds.specs.Code.{SameElements, next_stage, waited_at, waited_in}
+use Rattle.std.specs.Option.{option_and_then}
+use Rattle.iam_kinds.specs.Code.{SameElements, first_stage, next_stage, waited_at, waited_in}
 use Rattle.iam_kinds.specs.Letters.{Stands}
-use Rattle.iam_kinds.proofs.StateLemmas.{same_state, stands_itself, tries}
+use Rattle.iam_kinds.proofs.NodeLemmas.{stage_more}
+use Rattle.iam_kinds.proofs.ReachLemmas.{places_on}
+use Rattle.iam_kinds.proofs.StateLemmas.{stands_itself, state_on, tries}
 
 pub slice_at : {A : Type 0} (xs : List A) (i : ℕ) (x d : A) → slice_get xs i ≡ Some x → get_or xs i d ≡ x
 slice_at [] i x d e = absurd (cc)
@@ -63,6 +66,7 @@ shown_before asked old new text numbers walk has d nodes shown lists =
         sought = λ x h. walk.sought x (back x h);
         covered = λ n h s. let r = walk.covered n (back_nodes n h) s in (r.0, keep r.0 r.1, r.2);
         apart = subst (AllPairs (λ one other. ¬ Alike (query_of asked) one other)) (sym shown) walk.apart;
+        few = subst (λ (l : List (List ℕ)). length l ≤ 4096) (sym shown) walk.few;
         kinds = λ list h.
             let k = walk.kinds list (elim ((lists list).0 h) [
               | inl o ↦ o
@@ -74,30 +78,34 @@ shown_before asked old new text numbers walk has d nodes shown lists =
       (let k = walk.kinds numbers has in (k.0, keep k.0 k.1, described_alike asked numbers k.0 text k.2 d)),
     )
 
+-- a text with other numbers is unlike those that are shown
+pub unlike : (asked : Asked) (old : Walk) (text numbers : List ℕ) → IsWalk asked old → (¬ Contains (lists_in old.kinds) numbers)
+    → Describes (query_of asked) numbers text → (k : ℕ) (e : List ℕ) → k < length (shown_in old) → ¬ Alike (query_of asked) (get_or (shown_in old) k e) text
+unlike asked old text numbers walk lacks d = λ k e below alike.
+    let r = walk.described (get_or (shown_in old) k e) (Contains-get_or (shown_in old) k e below) in
+    let same = alike_described asked r.0 numbers (get_or (shown_in old) k e) text r.2 d alike in
+    lacks (subst (λ (l : List ℕ). Contains (lists_in old.kinds) l) same r.1)
+
 pub shown_now : (asked : Asked) (old new : Walk) (text numbers : List ℕ) → IsWalk asked old → (¬ Contains (lists_in old.kinds) numbers)
-    → Describes (query_of asked) numbers text → IsSought (query_of asked) text → new.nodes.items ≡ old.nodes.items → shown_in new ≡ shown_in old ++ (text ∷ [])
+    → Describes (query_of asked) numbers text → IsText text × IsSought (query_of asked) text → length (shown_in old) < 4096 → new.nodes.items ≡ old.nodes.items → shown_in new ≡ shown_in old ++ (text ∷ [])
     → ((list : List ℕ) → Contains (lists_in new.kinds) list ↔ (Contains (lists_in old.kinds) list ⊎ (list ≡ numbers)))
     → IsWalk asked new × IsCovered asked new text
-shown_now asked old new text numbers walk lacks d s nodes shown lists =
+shown_now asked old new text numbers walk lacks d s room nodes shown lists =
     let q = query_of asked in
     let keep : (x : List ℕ) → Contains (shown_in old) x → Contains (shown_in new) x =
     λ x h. subst (λ (l : List (List ℕ)). Contains l x) (sym shown) (Contains-append_left (shown_in old) (text ∷ []) x h) in
     let here : Contains (shown_in new) text = subst (λ (l : List (List ℕ)). Contains l text) (sym shown) (Contains-push (shown_in old) text) in
     let back : (x : List ℕ) → Contains (shown_in new) x → Contains (shown_in old) x ⊎ (text ≡ x) =
     λ x h. Contains-push_cases (shown_in old) text x (subst (λ (l : List (List ℕ)). Contains l x) shown h) in
-    let back_nodes : (x : Node) → Contains new.nodes.items x → Contains old.nodes.items x = λ x h. subst (λ (l : List Node). Contains l x) nodes h in
-    let unlike : (k : ℕ) (e : List ℕ) → k < length (shown_in old) → ¬ Alike q (get_or (shown_in old) k e) text =
-    λ k e below alike.
-    let r = walk.described (get_or (shown_in old) k e) (Contains-get_or (shown_in old) k e below) in
-    let same = alike_described asked r.0 numbers (get_or (shown_in old) k e) text r.2 d alike in
-    lacks (subst (λ (l : List ℕ). Contains (lists_in old.kinds) l) same r.1) in (
+    let back_nodes : (x : Node) → Contains new.nodes.items x → Contains old.nodes.items x = λ x h. subst (λ (l : List Node). Contains l x) nodes h in (
       record {
         nodes = λ n h. walk.nodes n (back_nodes n h);
-        sought = λ x h. elim (back x h) [ inl o ↦ walk.sought x o | inr e ↦ subst (IsSought q) e s ];
+        sought = λ x h. elim (back x h) [ inl o ↦ walk.sought x o | inr e ↦ subst (λ (x : List ℕ). IsText x × IsSought q x) e s ];
+        few = omega (arith, room, ap length shown, length-append (shown_in old) (text ∷ []));
         covered = λ n h s. let r = walk.covered n (back_nodes n h) s in (r.0, keep r.0 r.1, r.2);
         apart =
             subst (AllPairs (λ one other. ¬ Alike q one other)) (sym shown)
-            (all_pairs_push (λ one other. ¬ Alike q one other) (shown_in old) text walk.apart unlike);
+            (all_pairs_push (λ one other. ¬ Alike q one other) (shown_in old) text walk.apart (unlike asked old text numbers walk lacks d));
         kinds = λ list h. elim ((lists list).0 h) [
           | inl o ↦ let r = walk.kinds list o in (r.0, keep r.0 r.1, r.2)
           | inr e ↦ (text, here, subst (λ (l : List ℕ). Describes q l text) (sym e) d)
@@ -128,6 +136,7 @@ node_more asked old new node walk at covers nodes shown lists =
             (r.0, keep r.0 r.1, subst (λ (n : Node). Alike (query_of asked) r.0 n.text.items) e r.2)
       ];
       apart = subst (AllPairs (λ one other. ¬ Alike (query_of asked) one other)) (sym shown) walk.apart;
+      few = subst (λ (l : List (List ℕ)). length l ≤ 4096) (sym shown) walk.few;
       kinds = λ list h. let r = walk.kinds list (subst (λ (l : List (List ℕ)). Contains l list) lists h) in (r.0, keep r.0 r.1, r.2);
       described = λ x h. let r = walk.described x (back x h) in (r.0, subst (λ (l : List (List ℕ)). Contains l r.0) (sym lists) r.1, r.2);
     }
@@ -138,23 +147,6 @@ grown old new (more, e) node h = subst (λ (l : List Node). Contains l node) (sy
 pub met_more : (asked : Asked) (old new : Walk) (text : List ℕ) → Grows old new → IsMet asked old text → IsMet asked new text
 met_more asked old new text grows (node, h, s) = (node, grown old new grows node h, s)
 
-pub seen_more : (old new : Walk) → Grows old new → lists_in new.seen ≡ lists_in old.seen → HasSeen old → HasSeen new
-seen_more old new grows same seen = λ key h.
-    let r = seen key (subst (λ (l : List (List ℕ)). Contains l key) same h) in (r.0, grown old new grows r.0 r.1, r.2, r.3)
-
-pub seen_now : (old new : Walk) (node : Node) (key : List ℕ) → Grows old new → Contains new.nodes.items node → key ≡ key_of node → tails_at node ≡ []
-    → ((list : List ℕ) → Contains (lists_in new.seen) list → Contains (lists_in old.seen) list ⊎ (list ≡ key)) → HasSeen old → HasSeen new
-seen_now old new node key grows here is free lists seen = λ list h. elim (lists list h) [
-  | inl o ↦ let r = seen list o in (r.0, grown old new grows r.0 r.1, r.2, r.3)
-  | inr e ↦ (node, here, e ∙ is, free)
-]
-
--- the state of a node was seen
-pub met_before : (asked : Asked) (walk : Walk) (node : Node) (key : List ℕ) → IsWalk asked walk → HasSeen walk → IsAt asked node → key ≡ key_of node
-    → Contains (lists_in walk.seen) key → IsMet asked walk node.text.items
-met_before asked walk node key is seen at same h =
-    let r = seen key h in (r.0, r.1, same_state asked r.0 node (is.nodes r.0 r.1) at (sym r.2 ∙ same) r.3)
-
 pub met_now : (asked : Asked) (old new : Walk) (node : Node) → new.nodes.items ≡ old.nodes.items ++ (node ∷ []) → IsMet asked new node.text.items
 met_now asked old new node e =
     (node, subst (λ (l : List Node). Contains l node) (sym e) (Contains-push old.nodes.items node), stands_itself asked node.text.items)
@@ -162,25 +154,25 @@ met_now asked old new node e =
 -- ---- going on
 pub tried_more : (asked : Asked) (old new : Walk) (head : ℕ) (letters : List ℕ) → head < length old.nodes.items → Grows old new
     → IsTried asked old head letters → IsTried asked new head letters
-tried_more asked old new head letters below grows tried = λ node at c h rest fits.
+tried_more asked old new head letters below grows tried = λ node at c h live.
     let same : slice_get new.nodes.items head ≡ slice_get old.nodes.items head =
     ap (λ l. slice_get l head) grows.1 ∙ slice_more old.nodes.items grows.0 head below in
-    met_more asked old new (node.text.items ++ (c ∷ [])) grows (tried node (sym same ∙ at) c h rest fits)
+    met_more asked old new (node.text.items ++ (c ∷ [])) grows (tried node (sym same ∙ at) c h live)
 
 pub expanded_more : (asked : Asked) (old new : Walk) (head : ℕ) → head < length old.nodes.items → Grows old new
     → IsExpandedAt asked old head → IsExpandedAt asked new head
-expanded_more asked old new head below grows expanded = λ node at c rest scalar fits.
+expanded_more asked old new head below grows expanded = λ node at c scalar live.
     let same : slice_get new.nodes.items head ≡ slice_get old.nodes.items head =
     ap (λ l. slice_get l head) grows.1 ∙ slice_more old.nodes.items grows.0 head below in
-    met_more asked old new (node.text.items ++ (c ∷ [])) grows (expanded node (sym same ∙ at) c rest scalar fits)
+    met_more asked old new (node.text.items ++ (c ∷ [])) grows (expanded node (sym same ∙ at) c scalar live)
 
 pub tried_all : (asked : Asked) (old new : Walk) (letters : List ℕ) (head : ℕ) → head < length old.nodes.items → Grows old new
     → TriesAll asked old letters head → IsTried asked new head letters → IsExpandedAt asked new head
-tried_all asked old new letters head below grows all tried = λ node at c rest scalar fits.
+tried_all asked old new letters head below grows all tried = λ node at c scalar live.
     let same : slice_get new.nodes.items head ≡ slice_get old.nodes.items head =
     ap (λ l. slice_get l head) grows.1 ∙ slice_more old.nodes.items grows.0 head below in
-    let r = all node (sym same ∙ at) c rest scalar fits in
-    let m = tried node at r.0 r.1 rest r.2 in
+    let r = all node (sym same ∙ at) c scalar live in
+    let m = tried node at r.0 r.1 r.2 in
     (m.0, m.1, r.3 m.0.text.items m.2)
 
 pub grows_on : (one two three : Walk) → Grows one two → Grows two three → Grows one three
@@ -190,10 +182,11 @@ pub grows_none : (old new : Walk) → new.nodes.items ≡ old.nodes.items → Gr
 grows_none old new e = ([], e ∙ sym (append-nil old.nodes.items))
 
 -- ---- the end
-pub stands_on : (asked : Asked) (one two text : List ℕ) (c : ℕ) → StandsFor (query_of asked) one text → StandsFor (query_of asked) two (one ++ (c ∷ []))
-    → StandsFor (query_of asked) two (text ++ (c ∷ []))
-stands_on asked one two text c s r =
+pub stands_on : (asked : Asked) (node : Node) (two text : List ℕ) (c : ℕ) → IsReady asked → IsAt asked node → StandsFor asked node.text.items text
+    → StandsFor asked two (node.text.items ++ (c ∷ [])) → StandsFor asked two (text ++ (c ∷ []))
+stands_on asked node two text c ready at s r =
     let q = query_of asked in
+    let one = node.text.items in
     let on : (u w : List ℕ) → (u ++ (c ∷ [])) ++ w ≡ u ++ (c ∷ w) = λ u w. append_assoc u (c ∷ []) w in record {
       grammar = λ w. (
         λ h. (r.grammar w).0 (subst (IsIn asked.grammar) (sym (on one w)) ((s.grammar (c ∷ w)).0 (subst (IsIn asked.grammar) (on text w) h))),
@@ -211,37 +204,71 @@ stands_on asked one two text c s r =
           | inr this ↦ inr (same ∙ ap (λ u. u ++ (c ∷ [])) this)
         ]
       ];
+      state = state_on (machine_at asked) two (one ++ (c ∷ [])) (text ++ (c ∷ [])) r.state (record {
+        stage =
+            stage_more text c (first_stage asked.grammar) ∙ ap (option_and_then (λ s. next_stage s c)) s.state.stage ∙ sym (stage_more one c (first_stage asked.grammar));
+        places = places_on (machine_at asked) one text node.places.items c ready.table at.places_in at.placed s.state.places;
+      });
     }
 
-pub stands_fits : (asked : Asked) (one text w : List ℕ) → StandsFor (query_of asked) one text → Fits (query_of asked) (text ++ w) → Fits (query_of asked) (one ++ w)
-stands_fits asked one text w s fits = record { grammar = (s.grammar w).0 fits.grammar; within = λ g below. (s.groups g w).0 (fits.within g below) }
+pub stands_live : (asked : Asked) (one text w : List ℕ) → StandsFor asked one text → IsLive (query_of asked) (text ++ w) → IsLive (query_of asked) (one ++ w)
+stands_live asked one text w s live =
+    let q = query_of asked in record {
+      grammar =
+          let (v, h) = live.grammar in
+          (v, subst (IsIn asked.grammar) (sym (append_assoc one w v)) ((s.grammar (w ++ v)).0 (subst (IsIn asked.grammar) (append_assoc text w v) h)));
+      within = λ g below.
+          let (v, h) = live.within g below in
+          (v, subst (Has q g) (sym (append_assoc one w v)) ((s.groups g (w ++ v)).0 (subst (Has q g) (append_assoc text w v) h)));
+    }
 
-pub reaches : (asked : Asked) (walk : Walk) → ((i : ℕ) → i < length walk.nodes.items → IsExpandedAt asked walk i)
-    → (w text : List ℕ) → IsText w → IsMet asked walk text → Fits (query_of asked) (text ++ w) → IsMet asked walk (text ++ w)
-reaches asked walk all [] text scalars (node, h, s) fits = (node, h, subst (StandsFor (query_of asked) node.text.items) (sym (append-nil text)) s)
-reaches asked walk all (c ∷ w) text scalars (node, h, s) fits =
+-- what begins a text that is gone on with is gone on with
+pub live_before : (query : Query) (text w : List ℕ) → IsLive query (text ++ w) → IsLive query text
+live_before query text w live = record {
+  grammar = (let (v, h) = live.grammar in (w ++ v, subst (IsIn query.grammar) (append_assoc text w v) h));
+  within = λ g below. (let (v, h) = live.within g below in (w ++ v, subst (Has query g) (append_assoc text w v) h));
+}
+
+pub fits_live : (query : Query) (text : List ℕ) → Fits query text → IsLive query text
+fits_live query text fits = record {
+  grammar = ([], subst (IsIn query.grammar) (sym (append-nil text)) fits.grammar);
+  within = λ g below. ([], subst (Has query g) (sym (append-nil text)) (fits.within g below));
+}
+
+-- the end of a walk: each node is expanded
+abbrev pub AllExpanded : Asked → Walk → Type 0
+AllExpanded asked walk = (i : ℕ) → i < length walk.nodes.items → IsExpandedAt asked walk i
+
+pub reaches : (asked : Asked) (walk : Walk) → IsReady asked → IsWalk asked walk → AllExpanded asked walk
+    → (w text : List ℕ) → IsText w → IsMet asked walk text → IsLive (query_of asked) (text ++ w) → IsMet asked walk (text ++ w)
+reaches asked walk ready is all [] text scalars (node, h, s) live = (node, h, subst (StandsFor asked node.text.items) (sym (append-nil text)) s)
+reaches asked walk ready is all (c ∷ w) text scalars (node, h, s) live =
     let at : slice_get walk.nodes.items h.0 ≡ Some node = at_slice walk.nodes.items h.0 node h.1 h.2 in
-    let next = all h.0 h.1 node at c w (scalars c (of_in (c ∷ w) c (inl refl))) (stands_fits asked node.text.items text (c ∷ w) s fits) in
     let longer : (text ++ (c ∷ [])) ++ w ≡ text ++ (c ∷ w) = append_assoc text (c ∷ []) w in
+    let on = subst (IsLive (query_of asked)) (sym longer) live in
+    let next = all h.0 h.1 node at c (scalars c (of_in (c ∷ w) c (inl refl)))
+    (stands_live asked node.text.items text (c ∷ []) s (live_before (query_of asked) (text ++ (c ∷ [])) w on)) in
     subst (IsMet asked walk) longer
-    (reaches asked walk all w (text ++ (c ∷ [])) (λ d k. scalars d (of_in (c ∷ w) d (inr (in_of w d k))))
-    (next.0, next.1, stands_on asked node.text.items next.0.text.items text c s next.2) (subst (Fits (query_of asked)) (sym longer) fits))
+    (reaches asked walk ready is all w (text ++ (c ∷ [])) (λ d k. scalars d (of_in (c ∷ w) d (inr (in_of w d k))))
+    (next.0, next.1, stands_on asked node next.0.text.items text c ready (is.nodes node h) s next.2) on)
   where
     at_slice : (xs : List Node) (i : ℕ) (x : Node) → i < length xs → get_or xs i x ≡ x → slice_get xs i ≡ Some x
     at_slice [] i x below e = absurd (omega arith)
     at_slice (y ∷ xs) zero x below e = ap Some e
     at_slice (y ∷ xs) (suc i) x below e = at_slice xs i x (omega arith) e
 
-pub are_texts : (asked : Asked) (walk : Walk) → IsWalk asked walk → IsMet asked walk [] → ((i : ℕ) → i < length walk.nodes.items → IsExpandedAt asked walk i)
+pub are_texts : (asked : Asked) (walk : Walk) → IsReady asked → IsWalk asked walk → IsMet asked walk [] → AllExpanded asked walk
     → AreTexts (query_of asked) (shown_in walk)
-are_texts asked walk is root all = record {
-  sought = is.sought;
+are_texts asked walk ready is root all = record {
+  sought = λ text h. (is.sought text h).1;
   whole = λ text scalars s.
       let q = query_of asked in
-      let r = reaches asked walk all text [] scalars root s.fits in
+      let r = reaches asked walk ready is all text [] scalars root (fits_live q text s.fits) in
       let same : (x : List ℕ) → x ++ [] ≡ x = λ x. append-nil x in
-      let fits : Fits q r.0.text.items = subst (Fits q) (same r.0.text.items)
-      (stands_fits asked r.0.text.items text [] r.2 (subst (Fits q) (sym (same text)) s.fits)) in
+      let fits : Fits q r.0.text.items = record {
+        grammar = subst (IsIn asked.grammar) (same r.0.text.items) ((r.2.grammar []).0 (subst (IsIn asked.grammar) (sym (same text)) s.fits.grammar));
+        within = λ g below. subst (Has q g) (same r.0.text.items) ((r.2.groups g []).0 (subst (Has q g) (sym (same text)) (s.fits.within g below)));
+      } in
       let unnamed : ¬ Contains q.named r.0.text.items = elim r.2.named [
         | inl free ↦ (λ h. free [] (subst (λ (x : List ℕ). Contains q.named x) (sym (same r.0.text.items)) h))
         | inr e ↦ (λ h. s.unnamed (subst (λ (x : List ℕ). Contains q.named x) e h))
@@ -258,19 +285,19 @@ are_texts asked walk is root all = record {
 }
 
 -- the letters of a node of the walk
-pub tries_node : (asked : Asked) (walk : Walk) (head : ℕ) (node : Node) (kept waited : List ℕ) (tails : List (Bor (List ℕ))) (letters : List ℕ) → IsWalk asked walk
+pub tries_node : (asked : Asked) (walk : Walk) (head : ℕ) (node : Node) (kept waited : List ℕ) (tails : List (Bor (List ℕ))) (letters : List ℕ) → IsReady asked → IsWalk asked walk
     → head < length walk.nodes.items → get_or walk.nodes.items head node ≡ node
     → SameElements kept (waited_at asked.table.now.patterns.items node.places.items ++ waited_in node.stage.part) → waited ≡ kept → tails ≡ node.tails.items
     → ((c : ℕ) → IsScalar c → is_some (next_stage node.stage c) ≡ true → Stands node.stage waited (map (λ t. t.now) tails) letters c)
     → TriesAll asked walk letters head
-tries_node asked walk head node kept waited tails letters is below here same kept_is tails_is stands = λ other at c rest scalar fits.
+tries_node asked walk head node kept waited tails letters ready is below here same kept_is tails_is stands = λ other at c scalar live.
     let e : node ≡ other = sym here ∙ slice_at walk.nodes.items head other node at in
-    let back : Fits (query_of asked) (node.text.items ++ (c ∷ rest)) = subst (λ (n : Node). Fits (query_of asked) (n.text.items ++ (c ∷ rest))) (sym e) fits in
-    subst (λ (n : Node). (o : ℕ) × Contains letters o × Fits (query_of asked) (n.text.items ++ (o ∷ rest))
-    × ((other : List ℕ) → StandsFor (query_of asked) other (n.text.items ++ (o ∷ [])) → StandsFor (query_of asked) other (n.text.items ++ (c ∷ [])))) e
-    (tries asked node waited letters (is.nodes node (head, below, here))
+    let back : IsLive (query_of asked) (node.text.items ++ (c ∷ [])) = subst (λ (n : Node). IsLive (query_of asked) (n.text.items ++ (c ∷ []))) (sym e) live in
+    subst (λ (n : Node). (o : ℕ) × Contains letters o × IsLive (query_of asked) (n.text.items ++ (o ∷ []))
+    × ((other : List ℕ) → StandsFor asked other (n.text.items ++ (o ∷ [])) → StandsFor asked other (n.text.items ++ (c ∷ [])))) e
+    (tries asked node waited letters ready (is.nodes node (head, below, here))
     (λ d h. in_of waited d (subst (λ (l : List ℕ). Contains l d) (sym kept_is) ((same d).1 (of_in _ d h))))
-    (λ c scalar goes. subst (λ l. Stands node.stage waited (map (λ (t : Bor (List ℕ)). t.now) l) letters c) tails_is (stands c scalar goes)) c rest scalar back)
+    (λ c scalar goes. subst (λ l. Stands node.stage waited (map (λ (t : Bor (List ℕ)). t.now) l) letters c) tails_is (stands c scalar goes)) c scalar back)
 
 -- what follows of an answer that all fits
 pub if_fits : {E A C : Type 0} (r : Result Bool E) → (A → C) → IfOk r (λ f. OnTrue f A) → IfOk r (λ f. OnTrue f C)
@@ -283,11 +310,17 @@ if_both_fit (Ok true) go a b = go a b
 if_both_fit (Ok false) go a b = tt
 if_both_fit (Err e) go a b = tt
 
+pub if_four_fit : {E A B C D R : Type 0} (r : Result Bool E) → (A → B → C → D → R) → IfOk r (λ f. OnTrue f A) → IfOk r (λ f. OnTrue f B)
+    → IfOk r (λ f. OnTrue f C) → IfOk r (λ f. OnTrue f D) → IfOk r (λ f. OnTrue f R)
+if_four_fit (Ok true) go a b c d = go a b c d
+if_four_fit (Ok false) go a b c d = tt
+if_four_fit (Err e) go a b c d = tt
+
 -- a letter was tried at a node
 pub tried_one : (asked : Asked) (old new : Walk) (head : ℕ) (node child : Node) (letter : ℕ) → head < length old.nodes.items
     → get_or old.nodes.items head node ≡ node → child.text.items ≡ node.text.items ++ (letter ∷ []) → Grows old new → IsMet asked new child.text.items
     → IsTried asked new head (letter ∷ [])
-tried_one asked old new head node child letter below here text grows met = λ other at c h rest fits.
+tried_one asked old new head node child letter below here text grows met = λ other at c h live.
     let same : slice_get new.nodes.items head ≡ slice_get old.nodes.items head =
     ap (λ l. slice_get l head) grows.1 ∙ slice_more old.nodes.items grows.0 head below in
     let e : node ≡ other = sym here ∙ slice_at old.nodes.items head other node (sym same ∙ at) in
@@ -295,30 +328,23 @@ tried_one asked old new head node child letter below here text grows met = λ ot
     subst (IsMet asked new) (text ∙ ap (λ d. node.text.items ++ (d ∷ [])) l ∙ ap (λ (n : Node). n.text.items ++ (c ∷ [])) e) met
 
 pub tried_none : (asked : Asked) (walk : Walk) (head : ℕ) (node : Node) (letter : ℕ) → get_or walk.nodes.items head node ≡ node
-    → ((rest : List ℕ) → ¬ Fits (query_of asked) (node.text.items ++ (letter ∷ rest))) → IsTried asked walk head (letter ∷ [])
-tried_none asked walk head node letter here none = λ other at c h rest fits.
+    → ¬ IsLive (query_of asked) (node.text.items ++ (letter ∷ [])) → IsTried asked walk head (letter ∷ [])
+tried_none asked walk head node letter here none = λ other at c h live.
     let e : node ≡ other = sym here ∙ slice_at walk.nodes.items head other node at in
     let l : letter ≡ c = elim (in_of (letter ∷ []) c h) [ inl s ↦ s | inr no_more ↦ absurd no_more ] in
-    absurd (none rest (subst (λ d. Fits (query_of asked) (node.text.items ++ (d ∷ rest))) (sym l)
-    (subst (λ (n : Node). Fits (query_of asked) (n.text.items ++ (c ∷ rest))) (sym e) fits)))
+    absurd (none (subst (λ d. IsLive (query_of asked) (node.text.items ++ (d ∷ []))) (sym l)
+    (subst (λ (n : Node). IsLive (query_of asked) (n.text.items ++ (c ∷ []))) (sym e) live)))
 
 pub tried_both : (asked : Asked) (walk : Walk) (head : ℕ) (letters : List ℕ) (letter : ℕ) → IsTried asked walk head letters
     → IsTried asked walk head (letter ∷ []) → IsTried asked walk head (letters ++ (letter ∷ []))
-tried_both asked walk head letters letter some one = λ node at c h rest fits.
+tried_both asked walk head letters letter some one = λ node at c h live.
     elim (Contains-push_cases letters letter c h) [
-      | inl o ↦ some node at c o rest fits
-      | inr e ↦ one node at c (of_in (letter ∷ []) c (inl e)) rest fits
+      | inl o ↦ some node at c o live
+      | inr e ↦ one node at c (of_in (letter ∷ []) c (inl e)) live
     ]
 
 pub tried_nothing : (asked : Asked) (walk : Walk) (head : ℕ) → IsTried asked walk head []
-tried_nothing asked walk head = λ node at c h rest fits. absurd (in_of [] c h)
-
--- a state that was seen is added again
-pub seen_before : (old new : Walk) (key : List ℕ) → new.nodes.items ≡ old.nodes.items → Contains (lists_in old.seen) key
-    → ((list : List ℕ) → Contains (lists_in new.seen) list → Contains (lists_in old.seen) list ⊎ (list ≡ key)) → HasSeen old → HasSeen new
-seen_before old new key nodes has lists seen = λ list h.
-    let r = seen list (elim (lists list h) [ inl o ↦ o | inr e ↦ subst (λ (l : List ℕ). Contains (lists_in old.seen) l) (sym e) has ]) in
-    (r.0, subst (λ (l : List Node). Contains l r.0) (sym nodes) r.1, r.2, r.3)
+tried_nothing asked walk head = λ node at c h live. absurd (in_of [] c h)
 
 pub grown_length : (old new : Walk) → Grows old new → length old.nodes.items ≤ length new.nodes.items
 grown_length old new (more, e) = omega (arith, ap length e, length-append old.nodes.items more)

@@ -5,9 +5,12 @@ pub mod StepLemmas
 pub mod MatchLemmas
 pub mod LetterLemmas
 pub mod GrammarLemmas
+pub mod FewerLemmas
+pub mod ReachLemmas
 pub mod NodeLemmas
 pub mod SetLemmas
 pub mod StateLemmas
 pub mod GoLemmas
+pub mod LimitLemmas
 pub mod AnswerLemmas
 pub mod FoldLemmas

@@ -139,14 +139,14 @@ place_moves patterns c w k m = by_pattern patterns c w k (slice_get patterns k.p
     by_pattern : (patterns : List Pattern) (c : ℕ) (w : List ℕ) (k : Place) (o : Option Pattern) → slice_get patterns k.pattern ≡ o
         → Matches (rest_at patterns k) (c ∷ w) → (j : Place) × In j (moves_of patterns c k) × Matches (rest_at patterns j) w
     by_pattern patterns c w k None e m =
-        let r : Matches [] (c ∷ w) = subst (λ (o : Option Pattern). Matches (option_map_or (λ p. drop k.at p.signs.items) o []) (c ∷ w)) e m in
+        let r : Matches [] (c ∷ w) = subst (λ (o : Option Pattern). Matches (option_map_or (λ p. drop k.at p.signs) o []) (c ∷ w)) e m in
         absurd (nothing_left c w r)
     by_pattern patterns c w k (Some pat) e m =
-        let at_k : rest_at patterns k ≡ drop k.at pat.signs.items = ap (λ (o : Option Pattern). option_map_or (λ p. drop k.at p.signs.items) o []) e in
-        let r = match_moves pat.signs.items k.pattern k.at (rest_at patterns k) c w at_k m in
+        let at_k : rest_at patterns k ≡ drop k.at pat.signs = ap (λ (o : Option Pattern). option_map_or (λ p. drop k.at p.signs) o []) e in
+        let r = match_moves pat.signs k.pattern k.at (rest_at patterns k) c w at_k m in
         let own = moves_own k.pattern k.at (rest_at patterns k) c r.0 r.1 in
-        let there : rest_at patterns r.0 ≡ drop r.0.at pat.signs.items =
-        ap (λ n. option_map_or (λ p. drop r.0.at p.signs.items) (slice_get patterns n) []) own ∙ ap (λ (o : Option Pattern). option_map_or (λ p. drop r.0.at p.signs.items) o []) e in
+        let there : rest_at patterns r.0 ≡ drop r.0.at pat.signs =
+        ap (λ n. option_map_or (λ p. drop r.0.at p.signs) (slice_get patterns n) []) own ∙ ap (λ (o : Option Pattern). option_map_or (λ p. drop r.0.at p.signs) o []) e in
         (r.0, r.1, subst (λ (s : List Sign). Matches s w) (sym there) r.2)
 
 pub moves_place : (patterns : List Pattern) (c : ℕ) (w : List ℕ) (k j : Place) → In j (moves_of patterns c k) → Matches (rest_at patterns j) w
@@ -156,13 +156,13 @@ moves_place patterns c w k j h m = by_pattern patterns c w k j (slice_get patter
     by_pattern : (patterns : List Pattern) (c : ℕ) (w : List ℕ) (k j : Place) (o : Option Pattern) → slice_get patterns k.pattern ≡ o
         → In j (moves_of patterns c k) → Matches (rest_at patterns j) w → Matches (rest_at patterns k) (c ∷ w)
     by_pattern patterns c w k j None e h m =
-        absurd (subst (λ (o : Option Pattern). In j (moves_from k.pattern k.at (option_map_or (λ p. drop k.at p.signs.items) o []) c)) e h)
+        absurd (subst (λ (o : Option Pattern). In j (moves_from k.pattern k.at (option_map_or (λ p. drop k.at p.signs) o []) c)) e h)
     by_pattern patterns c w k j (Some pat) e h m =
-        let at_k : rest_at patterns k ≡ drop k.at pat.signs.items = ap (λ (o : Option Pattern). option_map_or (λ p. drop k.at p.signs.items) o []) e in
+        let at_k : rest_at patterns k ≡ drop k.at pat.signs = ap (λ (o : Option Pattern). option_map_or (λ p. drop k.at p.signs) o []) e in
         let own = moves_own k.pattern k.at (rest_at patterns k) c j h in
-        let there : rest_at patterns j ≡ drop j.at pat.signs.items =
-        ap (λ n. option_map_or (λ p. drop j.at p.signs.items) (slice_get patterns n) []) own ∙ ap (λ (o : Option Pattern). option_map_or (λ p. drop j.at p.signs.items) o []) e in
-        moves_match pat.signs.items k.pattern k.at (rest_at patterns k) c w j at_k h (subst (λ (s : List Sign). Matches s w) there m)
+        let there : rest_at patterns j ≡ drop j.at pat.signs =
+        ap (λ n. option_map_or (λ p. drop j.at p.signs) (slice_get patterns n) []) own ∙ ap (λ (o : Option Pattern). option_map_or (λ p. drop j.at p.signs) o []) e in
+        moves_match pat.signs k.pattern k.at (rest_at patterns k) c w j at_k h (subst (λ (s : List Sign). Matches s w) there m)
 
 pub group_own : (patterns : List Pattern) (j k : Place) → j.pattern ≡ k.pattern → group_at patterns j ≡ group_at patterns k
 group_own patterns j k e = ap (λ n. option_map_or (λ p. p.group) (slice_get patterns n) 0) e

@@ -1,14 +1,17 @@
 -- Places in their order, and those of groups that have matched for good.
 use Rattle.std.proofs.Common.{◌≡◌, ◌⊎◌, inl, inr, ℕ, zero, suc, ◌<◌, ◌≤◌, Bool, true, false, ◌&&◌, ◌==◌, List, [], ◌∷◌, length, get_or, refl, sym, ap, ◌∙◌, subst, arith, nat_cmp, nat_lt, ◌||◌}
 use Rattle.std.proofs.lemmas.Bool.Decides.{nat_tests}
-use Rattle.std.specs.Cmp.{IsEquivalence}
-use Rattle.std.specs.List.{Contains, list_any}
-use Rattle.std.specs.List.Sorted.{IsStrictlyIncreasing, IsBinarySearchResult, IsPermutation}
+use Rattle.std.specs.Cmp.{IsEquivalence, IsTotalOrder}
+use Rattle.std.specs.List.{Contains, dedup, list_any}
+use Rattle.std.specs.List.Sorted.{IsStrictlyIncreasing, IsBinarySearchResult, IsPermutation, IsSorted}
+use Rattle.std.specs.Ordering.{eq_by_cmp}
+use Rattle.std.proofs.lemmas.Cmp.{nat_cmp_total, on_total, then_total}
+use Rattle.iam_kinds.specs.Places.{IsRising, place_cmp}
 use Rattle.std.specs.List.Retain.{IsFiltered, DiffersFromLast}
 use Rattle.std.proofs.Math.Dec.{eqb}
 use Rattle.std.proofs.lemmas.Bool.{eqb-true, eq-eqb}
 use Rattle.std.proofs.lemmas.List.Filters.{dedup_is}
-use Rattle.std.proofs.lemmas.List.Kept.{Contains-dedup, Contains-from_dedup}
+use Rattle.std.proofs.lemmas.List.Kept.{Contains-dedup, Contains-from_dedup, IsStrictlySortedBy-dedup}
 use Rattle.std.proofs.lemmas.List.Sorted.{Contains-permutation, IsPermutation-sym, searched}
 use Rattle.std.proofs.lemmas.Map.Keys.{non_decreasing_from_sorted, sorted_from_strictly_increasing}
 use Rattle.std.specs.declared.result.Result.TheVariants.{Err}
@@ -133,3 +136,14 @@ good_is patterns places numbers g same =
             by_group patterns k ks g later true e h = inl (eqb-true (group_at patterns k) g e)
             by_group patterns k ks g later false e h = inr (later (rw e at h))
         by_test patterns k ks g later false e h = rw e (later (rw e at h))
+
+-- ---- the order of places
+pub place_total : IsTotalOrder place_cmp
+place_total = then_total (on_total (λ (k : Place). k.pattern) nat_cmp_total) (on_total (λ (k : Place). k.at) nat_cmp_total)
+
+pub place_ties : (x y : Place) → place_eq x y ≡ eq_by_cmp place_cmp x y
+place_ties x y = grind (arith, nat_tests)
+
+-- what a sort and a `dedup` leave is in order
+pub rises : (places : List Place) → IsSorted place_cmp places → IsRising (dedup place_eq places)
+rises places sorted = IsStrictlySortedBy-dedup place_total place_ties places sorted

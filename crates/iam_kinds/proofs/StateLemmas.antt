@@ -1,16 +1,17 @@
 -- What a node tells of its text, and which nodes stand for others.
-use Rattle.std.proofs.Common.{◌≡◌, ◌↔◌, inl, inr, ℕ, ◌<◌, Bool, true, false, ◌==◌, not, List, [], ◌∷◌, ◌++◌, filter, refl, sym, ap, ◌∙◌, subst, append-nil, append_assoc, Option, Some, None, is_some}
+use Rattle.std.proofs.Common.{◌≡◌, ◌↔◌, inl, inr, ℕ, ◌<◌, ◌+◌, Bool, true, false, ◌==◌, not, List, [], ◌∷◌, ◌++◌, filter, refl, sym, ap, ◌∙◌, subst, append-nil, append_assoc, Option, Some, None, is_some}
 use Rattle.std.specs.Char.{IsScalar}
-use Rattle.std.specs.List.{Contains, filter_map, list_any}
+use Rattle.std.specs.List.{Contains, filter_map, flat_map, list_any}
 use Rattle.std.specs.List.Sorted.{IsStrictlyIncreasing}
-use Rattle.std.specs.Option.{option_map_or}
+use Rattle.std.specs.Option.{option_and_then, option_map_or}
 use Rattle.iam_glob.specs.Glob.{Matches}
 use Rattle.iam_glob.specs.declared.sign.Sign.{Sign}
 use Rattle.iam_glob.specs.declared.sign.Sign.TheVariants.{Given, One, Any}
-use Rattle.iam_kinds.specs.Code.{Leads, SameElements, are_any, group_at, is_last_stage, matched_groups, next_stage, rest_at, stage_number, waited_at, waited_in, waits_for}
+use Rattle.iam_kinds.specs.Code.{Leads, SameElements, are_any, first_stage, group_at, is_last_stage, matched_groups, moves_from, moves_of, next_stage, place_at, rest_at, settled_places, stage_number, stepped, waited_at, waited_in, waits_for}
 use Rattle.iam_kinds.specs.Kinds.{IsIn}
 use Rattle.iam_kinds.specs.Letters.{Stands, begins_with, goes_on, is_other, is_waited}
-use Rattle.iam_kinds.specs.Walk.{Describes, Fits, Has, IsAt, IsSought, StandsFor, completes, key_of, place_numbers, query_of, tails_at}
+use Rattle.iam_kinds.specs.States.{Machine, stage_behind}
+use Rattle.iam_kinds.specs.Walk.{Describes, Has, HasState, IsAt, IsLive, IsReady, IsSought, StandsFor, completes, key_of, machine_at, place_numbers, query_of, tails_at}
 use Rattle.iam_kinds.specs.declared.asked.Asked.{Asked}
 use Rattle.iam_kinds.specs.declared.asked.Node.{Node}
 use Rattle.iam_kinds.specs.declared.grammar.Stage.{Stage}
@@ -20,7 +21,9 @@ use Rattle.std.proofs.lemmas.Bool.{eqb-true, eq-eqb}
 use Rattle.iam_kinds.proofs.GrammarLemmas.{same_number, same_part}
 use Rattle.iam_kinds.proofs.MatchLemmas.{any_more, any_off, any_skip, anys_end, end_anys, given_off, nothing_left, one_off, one_on}
 use Rattle.iam_kinds.proofs.Members.{In, in_of, of_in, from_any, in_any, in_map, from_map, not_in_any, in_left, in_right}
+use Rattle.iam_kinds.proofs.NodeLemmas.{stage_more}
 use Rattle.iam_kinds.proofs.PlaceLemmas.{both}
+use Rattle.iam_kinds.proofs.ReachLemmas.{stepped_exactly}
 
 pub in_filter : {A : Type 0} (p : A → Bool) (xs : List A) (x : A) → In x xs → p x ≡ true → In x (filter p xs)
 in_filter p [] x h e = absurd h
@@ -100,17 +103,22 @@ same_places (x ∷ xs) (y ∷ ys) e =
     let p : x.pattern ≡ y.pattern = cc in
     let a : x.at ≡ y.at = cc in
     let rest : place_numbers xs ≡ place_numbers ys = cc in
-    let first : x ≡ y = ap (λ n. Rattle.iam_kinds.specs.Code.place_at n x.at) p ∙ ap (λ n. Rattle.iam_kinds.specs.Code.place_at y.pattern n) a in
+    let first : x ≡ y = ap (λ n. place_at n x.at) p ∙ ap (λ n. place_at y.pattern n) a in
     ap (λ z. z ∷ xs) first ∙ ap (λ l. y ∷ l) (same_places xs ys rest)
 
-pub same_state : (asked : Asked) (one other : Node) → IsAt asked one → IsAt asked other → key_of one ≡ key_of other → tails_at one ≡ []
-    → StandsFor (query_of asked) one.text.items other.text.items
-same_state asked one other at at' key free =
-    let t = asked.table.now.patterns.items in
+pub same_key : (one other : Node) → key_of one ≡ key_of other → (one.stage ≡ other.stage) × (one.places.items ≡ other.places.items)
+same_key one other key =
     let number : stage_number one.stage ≡ stage_number other.stage = cc in
     let numbers : place_numbers one.places.items ≡ place_numbers other.places.items = cc in
-    let stage = same_number one.stage other.stage number in
-    let places = same_places one.places.items other.places.items numbers in record {
+    (same_number one.stage other.stage number, same_places one.places.items other.places.items numbers)
+
+pub same_state : (asked : Asked) (one other : Node) → IsAt asked one → IsAt asked other → key_of one ≡ key_of other → tails_at one ≡ []
+    → StandsFor asked one.text.items other.text.items
+same_state asked one other at at' key free =
+    let t = asked.table.now.patterns.items in
+    let same = same_key one other key in
+    let stage = same.0 in
+    let places = same.1 in record {
       grammar = λ w. (
         λ h. (at.stage w).1 (ap (completes w) stage ∙ (at'.stage w).0 h),
         λ h. (at'.stage w).1 (sym (ap (completes w) stage) ∙ (at.stage w).0 h),
@@ -120,10 +128,22 @@ same_state asked one other at at' key free =
         λ h. (at'.places g w).0 (subst (λ l. Leads t l g w) places ((at.places g w).1 h)),
       );
       named = inl (λ w h. in_of [] w (subst (λ (l : List (List ℕ)). Contains l w) free ((at.tails w).0 h)));
+      state = record {
+        stage = at'.read ∙ ap Some (sym stage) ∙ sym at.read;
+        places = λ k. (
+          λ p. (at.placed k).0 (subst (λ l. Contains l k) (sym places) ((at'.placed k).1 p)),
+          λ p. (at'.placed k).0 (subst (λ l. Contains l k) places ((at.placed k).1 p)),
+        );
+      };
     }
 
-pub stands_itself : (asked : Asked) (text : List ℕ) → StandsFor (query_of asked) text text
-stands_itself asked text = record { grammar = λ w. (λ h. h, λ h. h); groups = λ g w. (λ h. h, λ h. h); named = inr refl }
+pub stands_itself : (asked : Asked) (text : List ℕ) → StandsFor asked text text
+stands_itself asked text = record {
+  grammar = λ w. (λ h. h, λ h. h);
+  groups = λ g w. (λ h. h, λ h. h);
+  named = inr refl;
+  state = record { stage = refl; places = λ k. (λ p. p, λ p. p) };
+}
 
 -- ---- letters that lead to the same
 pub same_letter : (signs : List Sign) (c o : ℕ) (w : List ℕ) → ((d : ℕ) → waits_for signs ≡ Some d → d ≡ c → ⊥) → Matches signs (c ∷ w) → Matches signs (o ∷ w)
@@ -196,31 +216,91 @@ free_unnamed tails o w none h =
     let right : begins_with o (o ∷ w) ≡ true = eq-eqb o o refl in
     let wrong : true ≡ false = sym right ∙ here in cc
 
+-- a letter that nothing waits for leads where any other such letter does
+pub same_moves : (p at : ℕ) (signs : List Sign) (c o : ℕ) → ((d : ℕ) → waits_for signs ≡ Some d → d ≡ c → ⊥) → ((d : ℕ) → waits_for signs ≡ Some d → d ≡ o → ⊥)
+    → moves_from p at signs c ≡ moves_from p at signs o
+same_moves p at [] c o free other = refl
+same_moves p at (Given d ∷ signs) c o free other =
+    let one : (d == c) ≡ false = unequal d c (free d refl) in
+    let two : (d == o) ≡ false = unequal d o (other d refl) in rw (one, two) refl
+  where
+    unequal : (d c : ℕ) → (d ≡ c → ⊥) → (d == c) ≡ false
+    unequal d c differ = by_test d c differ (d == c) refl
+      where
+        by_test : (d c : ℕ) → (d ≡ c → ⊥) → (b : Bool) → (d == c) ≡ b → (d == c) ≡ false
+        by_test d c differ true e = absurd (differ (eqb-true d c e))
+        by_test d c differ false e = e
+same_moves p at (One ∷ signs) c o free other = refl
+same_moves p at (Any ∷ signs) c o free other = ap (λ l. place_at p at ∷ l) (same_moves p (at + 1) signs c o free other)
+
+pub same_stepped : (patterns : List Pattern) (places : List Place) (waited : List ℕ) (c o : ℕ) → ((d : ℕ) → In d (waited_at patterns places) → In d waited)
+    → is_waited waited c ≡ false → is_waited waited o ≡ false → stepped patterns places c ≡ stepped patterns places o
+same_stepped patterns places waited c o has wc wo =
+    ap (settled_places patterns) (moved patterns places c o (λ k h d waits same.
+    unwaited waited c d wc (has d (in_waited (λ k. waits_for (rest_at patterns k)) places k d h waits)) same) (λ k h d waits same.
+    unwaited waited o d wo (has d (in_waited (λ k. waits_for (rest_at patterns k)) places k d h waits)) same))
+  where
+    moved : (patterns : List Pattern) (places : List Place) (c o : ℕ)
+        → ((k : Place) → In k places → (d : ℕ) → waits_for (rest_at patterns k) ≡ Some d → d ≡ c → ⊥)
+        → ((k : Place) → In k places → (d : ℕ) → waits_for (rest_at patterns k) ≡ Some d → d ≡ o → ⊥)
+        → flat_map (moves_of patterns c) places ≡ flat_map (moves_of patterns o) places
+    moved patterns [] c o free other = refl
+    moved patterns (k ∷ places) c o free other =
+        ap (λ l. l ++ flat_map (moves_of patterns c) places) (same_moves k.pattern k.at (rest_at patterns k) c o (free k (inl refl)) (other k (inl refl)))
+        ∙ ap (λ l. moves_of patterns o k ++ l) (moved patterns places c o (λ k h. free k (inr h)) (λ k h. other k (inr h)))
+
+pub state_on : (machine : Machine) (one two three : List ℕ) → HasState machine one two → HasState machine two three → HasState machine one three
+state_on machine one two three s t = record {
+  stage = t.stage ∙ s.stage;
+  places = λ k. (λ p. (s.places k).0 ((t.places k).0 p), λ p. (t.places k).1 ((s.places k).1 p));
+}
+
+-- so the state behind the one is that behind the other
+pub other_state : (asked : Asked) (node : Node) (waited : List ℕ) (c o : ℕ) → IsReady asked → IsAt asked node
+    → ((d : ℕ) → In d (waited_at asked.table.now.patterns.items node.places.items) → In d waited) → is_waited waited c ≡ false → is_waited waited o ≡ false
+    → next_stage node.stage c ≡ next_stage node.stage o
+    → HasState (machine_at asked) (node.text.items ++ (o ∷ [])) (node.text.items ++ (c ∷ []))
+other_state asked node waited c o ready at has wc wo stage =
+    let t = asked.table.now.patterns.items in
+    let first = stepped_exactly (machine_at asked) node.text.items node.places.items c ready.table at.places_in at.placed in
+    let second = stepped_exactly (machine_at asked) node.text.items node.places.items o ready.table at.places_in at.placed in
+    let same = same_stepped t node.places.items waited c o has wc wo in
+    let read : (d : ℕ) → stage_behind (node.text.items ++ (d ∷ [])) (first_stage asked.grammar) ≡ next_stage node.stage d =
+    λ d. stage_more node.text.items d (first_stage asked.grammar) ∙ ap (option_and_then (λ s. next_stage s d)) at.read in record {
+      stage = read c ∙ stage ∙ sym (read o);
+      places = λ k. (
+        λ p. (second k).0 (subst (λ l. Contains l k) same ((first k).1 p)),
+        λ p. (first k).0 (subst (λ l. Contains l k) (sym same) ((second k).1 p)),
+      );
+    }
+
 -- a letter is tried, or one in its place leads to the same, behind which nothing is named
-pub tries : (asked : Asked) (node : Node) (waited letters : List ℕ) → IsAt asked node
+pub tries : (asked : Asked) (node : Node) (waited letters : List ℕ) → IsReady asked → IsAt asked node
     → ((d : ℕ) → In d (waited_at asked.table.now.patterns.items node.places.items ++ waited_in node.stage.part) → In d waited)
     → ((c : ℕ) → IsScalar c → is_some (next_stage node.stage c) ≡ true → Stands node.stage waited (tails_at node) letters c)
-    → (c : ℕ) (w : List ℕ) → IsScalar c → Fits (query_of asked) (node.text.items ++ (c ∷ w))
-    → (o : ℕ) × Contains letters o × Fits (query_of asked) (node.text.items ++ (o ∷ w))
-    × ((other : List ℕ) → StandsFor (query_of asked) other (node.text.items ++ (o ∷ [])) → StandsFor (query_of asked) other (node.text.items ++ (c ∷ [])))
-tries asked node waited letters at has stands c w scalar fits =
-    let goes = goes_some node.stage c w ((at.stage (c ∷ w)).0 fits.grammar) in
+    → (c : ℕ) → IsScalar c → IsLive (query_of asked) (node.text.items ++ (c ∷ []))
+    → (o : ℕ) × Contains letters o × IsLive (query_of asked) (node.text.items ++ (o ∷ []))
+    × ((other : List ℕ) → StandsFor asked other (node.text.items ++ (o ∷ [])) → StandsFor asked other (node.text.items ++ (c ∷ [])))
+tries asked node waited letters ready at has stands c scalar live =
+    let w = live.grammar.0 in
+    let fits = subst (IsIn asked.grammar) (append_assoc node.text.items (c ∷ []) w) live.grammar.1 in
+    let goes = goes_some node.stage c w ((at.stage (c ∷ w)).0 fits) in
     elim (stands c scalar goes) [
-      | inl h ↦ (c, h, fits, λ other s. s)
+      | inl h ↦ (c, h, live, λ other s. s)
       | inr r ↦
           let o = r.1.0 in
           let free = both (is_other node.stage waited o) (not (goes_on (tails_at node) o)) r.1.2 in
           let other = both (is_some (next_stage node.stage o)) (not (is_waited waited o)) free.0 in
-          instead asked node waited c o at has goes other.0 r.0 (true_not (is_waited waited o) other.1) (true_not (goes_on (tails_at node) o) free.1) letters w r.1.1 fits
+          instead asked node waited c o ready at has goes other.0 r.0 (true_not (is_waited waited o) other.1) (true_not (goes_on (tails_at node) o) free.1) letters r.1.1 live
     ]
   where
-    instead : (asked : Asked) (node : Node) (waited : List ℕ) (c o : ℕ) → IsAt asked node
+    instead : (asked : Asked) (node : Node) (waited : List ℕ) (c o : ℕ) → IsReady asked → IsAt asked node
         → ((d : ℕ) → In d (waited_at asked.table.now.patterns.items node.places.items ++ waited_in node.stage.part) → In d waited)
         → is_some (next_stage node.stage c) ≡ true → is_some (next_stage node.stage o) ≡ true → is_waited waited c ≡ false → is_waited waited o ≡ false
-        → goes_on (tails_at node) o ≡ false → (letters w : List ℕ) → Contains letters o → Fits (query_of asked) (node.text.items ++ (c ∷ w))
-        → (o : ℕ) × Contains letters o × Fits (query_of asked) (node.text.items ++ (o ∷ w))
-        × ((other : List ℕ) → StandsFor (query_of asked) other (node.text.items ++ (o ∷ [])) → StandsFor (query_of asked) other (node.text.items ++ (c ∷ [])))
-    instead asked node waited c o at has gc go wc wo free letters w h fits =
+        → goes_on (tails_at node) o ≡ false → (letters : List ℕ) → Contains letters o → IsLive (query_of asked) (node.text.items ++ (c ∷ []))
+        → (o : ℕ) × Contains letters o × IsLive (query_of asked) (node.text.items ++ (o ∷ []))
+        × ((other : List ℕ) → StandsFor asked other (node.text.items ++ (o ∷ [])) → StandsFor asked other (node.text.items ++ (c ∷ [])))
+    instead asked node waited c o ready at has gc go wc wo free letters h live =
         let t = asked.table.now.patterns.items in
         let u = node.text.items in
         let places = waited_at t node.places.items in
@@ -242,7 +322,14 @@ tries asked node waited letters at has stands c w scalar fits =
         let joined : (x : ℕ) (v : List ℕ) → (u ++ (x ∷ [])) ++ v ≡ u ++ (x ∷ v) = λ x v. append_assoc u (x ∷ []) v in (
           o,
           h,
-          record { grammar = (grammar w).0 fits.grammar; within = λ g below. (groups g w).0 (fits.within g below) },
+          record {
+            grammar =
+                let (w, k) = live.grammar in
+                (w, subst (IsIn asked.grammar) (sym (joined o w)) ((grammar w).0 (subst (IsIn asked.grammar) (joined c w) k)));
+            within = λ g below.
+                let (w, k) = live.within g below in
+                (w, subst (Has (query_of asked) g) (sym (joined o w)) ((groups g w).0 (subst (Has (query_of asked) g) (joined c w) k)));
+          },
           λ other s. record {
             grammar = λ v. (
               λ k. (s.grammar v).0 (subst (IsIn asked.grammar) (sym (joined o v)) ((grammar v).0 (subst (IsIn asked.grammar) (joined c v) k))),
@@ -259,5 +346,7 @@ tries asked node waited letters at has stands c w scalar fits =
                   (subst (λ (x : List ℕ). Contains (query_of asked).named x) (joined o v)
                   (subst (λ (x : List ℕ). Contains (query_of asked).named (x ++ v)) same k))))
             ]);
+            state = state_on (machine_at asked) other (u ++ (o ∷ [])) (u ++ (c ∷ [])) s.state
+                (other_state asked node waited c o ready at at_places wc wo stage);
           },
         )

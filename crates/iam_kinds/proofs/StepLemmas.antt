@@ -7,6 +7,7 @@ use Rattle.iam_kinds.specs.Code.{AreIn, moves_from, moves_of, rest_at, place_at,
 use Rattle.iam_kinds.specs.declared.table.Pattern.{Pattern}
 use Rattle.iam_kinds.specs.declared.table.Place.{Place}
 use Rattle.iam_kinds.proofs.Members.{In, from_flat, all_of, of_all}
+use Rattle.iam_kinds.proofs.PlaceLemmas.{le_cases}
 
 -- a place leads to places of its own pattern
 pub moves_own : (p at : ℕ) (signs : List Sign) (c : ℕ) (k : Place) → In k (moves_from p at signs c) → k.pattern ≡ p
@@ -49,3 +50,20 @@ starts_in patterns first count fits =
     below n first zero k fits h = absurd h
     below n first (suc count) k fits (inl s) = let e : first ≡ k.pattern = ap (λ (j : Place). j.pattern) s in omega arith
     below n first (suc count) k fits (inr h) = below n (first + 1) count k (omega arith) h
+
+pub from_starts : (first count : ℕ) (k : Place) → In k (starts_from first count) → (first ≤ k.pattern) × (k.pattern < first + count) × (k ≡ place_at k.pattern 0)
+from_starts first zero k h = absurd h
+from_starts first (suc count) k (inl e) =
+    let here : first ≡ k.pattern = ap (λ (j : Place). j.pattern) e in (omega arith, omega arith, sym e ∙ ap (λ i. place_at i 0) here)
+from_starts first (suc count) k (inr h) = let r = from_starts (first + 1) count k h in (
+  (let b : first + 1 ≤ k.pattern = r.0 in omega arith),
+  (let b : k.pattern < first + 1 + count = r.1 in omega arith),
+  r.2,
+)
+
+pub in_starts : (first count i : ℕ) → first ≤ i → i < first + count → In (place_at i 0) (starts_from first count)
+in_starts first zero i low high = absurd (omega arith)
+in_starts first (suc count) i low high = elim (le_cases first i) [
+  | inl below ↦ inr (in_starts (first + 1) count i (omega arith) (omega arith))
+  | inr above ↦ inl (let same : first ≡ i = omega arith in ap (λ n. place_at n 0) same)
+]

@@ -1,5 +1,5 @@
 -- What the answer says (`Kinds`) of patterns and texts as they are passed. LOGIC 2.1 and 2.2.
-use Rattle.std.specs.Prelude.{◌+◌, ◌++◌, ℕ, Bool, true, false, List, [], ◌∷◌, ⊤, map}
+use Rattle.std.specs.Prelude.{ℕ, Bool, true, false, List, map}
 use Rattle.std.specs.Borrow.{Bor}
 use Rattle.std.specs.Global.{Vec}
 use Rattle.std.specs.Str.{chars}
@@ -7,7 +7,8 @@ use Rattle.iam_glob.specs.Glob.{folded, sign_by}
 use Rattle.iam_glob.specs.Signs.{signs_in}
 use Rattle.iam_glob.specs.declared.sign.Sign.{Sign}
 use Rattle.iam_glob.specs.declared.signs.Signs.{Signs}
-use Rattle.iam_kinds.specs.Kinds.{AreKinds, AreKindsFold, Question}
+use Rattle.iam_kinds.specs.Kinds.{AreKinds, AreKindsFold, Question, folded_question}
+use Rattle.iam_kinds.specs.States.{PassesLimit}
 use Rattle.iam_kinds.specs.declared.grammar.Grammar.{Grammar}
 use Rattle.iam_kinds.specs.declared.kinds.Kinds.{Kinds}
 use Rattle.iam_kinds.specs.declared.kinds.Kinds.TheVariants.{Shown, NotShown}
@@ -30,27 +31,17 @@ question_in fold grammar within groups named = record {
   named = map (λ text. characters_in fold (chars text.now)) named;
 }
 
--- the texts that are shown are one of each kind
+-- the texts that are shown are one of each kind, and no limit is passed; or one is
 abbrev pub IsAnswer : Question → Kinds → Type 0
-IsAnswer question (Shown texts) = AreKinds question (map (λ text. text.items) texts.items)
-IsAnswer question NotShown = ⊤
+IsAnswer question (Shown texts) = AreKinds question (map (λ text. text.items) texts.items) × ¬ PassesLimit question
+IsAnswer question NotShown = PassesLimit question
 
--- the same without regard to case
+-- the same without regard to case: what is counted are the states and kinds of folded patterns
 abbrev pub IsAnswerFold : Question → Kinds → Type 0
-IsAnswerFold question (Shown texts) = AreKindsFold question (map (λ text. text.items) texts.items)
-IsAnswerFold question NotShown = ⊤
+IsAnswerFold question (Shown texts) =
+    AreKindsFold question (map (λ text. text.items) texts.items) × ¬ PassesLimit (folded_question question)
+IsAnswerFold question NotShown = PassesLimit (folded_question question)
 
 -- patterns with the numbers of their groups
 abbrev pub pairs_of : List Pattern → List (ℕ × List Sign)
-pairs_of patterns = map (λ p. (p.group, p.signs.items)) patterns
-
-abbrev pub with_number : ℕ → List (List Sign) → List (ℕ × List Sign)
-with_number g patterns = map (λ p. (g, p)) patterns
-
-abbrev pub numbered_within : ℕ → List (List Sign) → List (ℕ × List Sign)
-numbered_within g [] = []
-numbered_within g (p ∷ patterns) = (g, p) ∷ numbered_within (g + 1) patterns
-
-abbrev pub numbered_groups : ℕ → List (List (List Sign)) → List (ℕ × List Sign)
-numbered_groups g [] = []
-numbered_groups g (group ∷ groups) = with_number g group ++ numbered_groups (g + 1) groups
+pairs_of patterns = map (λ p. (p.group, p.signs)) patterns

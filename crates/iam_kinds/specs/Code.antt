@@ -64,7 +64,7 @@ place_at pattern at = record { pattern = pattern; at = at }
 
 -- the pattern of a place, what is left of it there, and its group
 abbrev pub rest_at : List Pattern → Place → List Sign
-rest_at patterns k = option_map_or (λ p. drop k.at p.signs.items) (slice_get patterns k.pattern) []
+rest_at patterns k = option_map_or (λ p. drop k.at p.signs) (slice_get patterns k.pattern) []
 
 abbrev pub group_at : List Pattern → Place → ℕ
 group_at patterns k = option_map_or (λ p. p.group) (slice_get patterns k.pattern) 0
@@ -148,7 +148,7 @@ has_group patterns places g = list_any (λ k. group_at patterns k == g) places
 -- a pattern `Any` of each group below this number
 pub record AreGoals (count : ℕ) (goals : List Pattern) : Type 0 where
   pub many : length goals ≡ count
-  pub goal : (k : ℕ) (d : Pattern) → k < length goals → ((slice_index_or goals k d).group ≡ k) × ((slice_index_or goals k d).signs.items ≡ Any ∷ [])
+  pub goal : (k : ℕ) (d : Pattern) → k < length goals → ((slice_index_or goals k d).group ≡ k) × ((slice_index_or goals k d).signs ≡ Any ∷ [])
 
 -- the group has a place where it stands once it has matched for good
 pub record HasGoal (patterns : List Pattern) (g : ℕ) : Type 0 where

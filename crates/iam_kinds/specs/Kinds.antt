@@ -3,7 +3,7 @@
 use Rattle.std.specs.Prelude.{◌≡◌, ◌↔◌, ◌<◌, ◌==◌, ◌||◌, ◌&&◌, ℕ, Bool, true, false, map, List, ◌∷◌, ◌++◌, ⊤, length, IsTrue, AllPairs, Contains}
 use Rattle.std.specs.Char.{IsScalar, is_ascii_alphanumeric}
 use Rattle.std.specs.List.{list_all}
-use Rattle.iam_glob.specs.Glob.{Matches, MatchesFold, folded}
+use Rattle.iam_glob.specs.Glob.{Matches, MatchesFold, folded, sign_by}
 use Rattle.iam_glob.specs.declared.sign.Sign.{Sign}
 use Rattle.iam_kinds.specs.declared.grammar.Grammar.{Grammar}
 use Rattle.iam_kinds.specs.declared.grammar.Grammar.TheVariants.{AnyText, Action, FoldedText, FoldedAction}
@@ -97,6 +97,15 @@ GroupMatchesFold group text = (pattern : List Sign) × Contains group pattern ×
 abbrev pub AgreeFold : Question → List ℕ → List ℕ → Type 0
 AgreeFold question one other =
     (group : List (List Sign)) → Contains question.groups group → GroupMatchesFold group one ↔ GroupMatchesFold group other
+
+-- the same question of patterns and texts that folding leaves
+abbrev pub folded_question : Question → Question
+folded_question question = record {
+  grammar = folded_grammar question.grammar;
+  within = map (map (sign_by folded)) question.within;
+  groups = map (map (map (sign_by folded))) question.groups;
+  named = map (map folded) question.named;
+}
 
 -- the same without regard to case, by texts that folding leaves
 pub record AreKindsFold (question : Question) (texts : List (List ℕ)) : Type 0 where

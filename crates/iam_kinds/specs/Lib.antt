@@ -3,4 +3,6 @@ pub mod Code
 pub mod Kinds
 pub mod Letters
 pub mod Lists
+pub mod Places
+pub mod States
 pub mod Walk

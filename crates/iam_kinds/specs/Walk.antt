@@ -1,14 +1,16 @@
 -- What a walk keeps, beside the definitions that it meets (`Kinds`): the patterns have the numbers of their groups, and the first
 -- groups are the patterns that have to match. LOGIC 2.2.
-use Rattle.std.specs.Prelude.{◌≡◌, ◌↔◌, ◌<◌, ◌≤◌, ◌⊎◌, ◌++◌, ℕ, Bool, false, List, [], ◌∷◌, length, map, drop, IsTrue, AllPairs, Contains, Some}
+use Rattle.std.specs.Prelude.{◌≡◌, ◌≢◌, ◌↔◌, ◌<◌, ◌≤◌, ◌⊎◌, ◌++◌, ℕ, Bool, false, List, [], ◌∷◌, length, map, drop, IsTrue, AllPairs, Contains, Some}
 use Rattle.std.specs.Char.{IsScalar}
-use Rattle.std.specs.List.{slice_get}
+use Rattle.std.specs.List.{slice_get, sum_by}
 use Rattle.std.specs.List.Sorted.{IsStrictlyIncreasing}
 use Rattle.std.specs.Option.{option_map_or}
 use Rattle.iam_glob.specs.Glob.{Matches}
-use Rattle.iam_kinds.specs.Code.{AreIn, IsTable, Leads, is_last_stage, next_stage, stage_number}
+use Rattle.iam_kinds.specs.Code.{AreIn, IsTable, Leads, first_stage, is_last_stage, next_stage, stage_number}
 use Rattle.iam_kinds.specs.Kinds.{IsIn, IsText}
 use Rattle.iam_kinds.specs.Lists.{lists_in}
+use Rattle.iam_kinds.specs.Places.{IsRising}
+use Rattle.iam_kinds.specs.States.{HasManyStates, IsPlace, Machine, State, stage_behind}
 use Rattle.iam_kinds.specs.declared.grammar.Grammar.{Grammar}
 use Rattle.iam_kinds.specs.declared.grammar.Stage.{Stage}
 use Rattle.iam_kinds.specs.declared.table.Pattern.{Pattern}
@@ -32,14 +34,18 @@ query_of asked = record {
   named = map (λ text. text.items) asked.named.now;
 }
 
--- its table has a place for each group that has matched for good
+abbrev pub machine_at : Asked → Machine
+machine_at asked = record { grammar = asked.grammar; patterns = asked.table.now.patterns.items; count = asked.count }
+
+-- its table has a place for each group that has matched for good, and a pattern of each group that has to match
 pub record IsReady (asked : Asked) : Type 0 where
   pub table : IsTable asked.table.now.patterns.items
   pub count : asked.count ≤ length asked.table.now.patterns.items
+  pub within : (g : ℕ) → g < asked.within → (p : Pattern) × Contains (query_of asked).patterns p × (p.group ≡ g)
 
 -- the group matches the text
 abbrev pub Has : Query → ℕ → List ℕ → Type 0
-Has query g text = (p : Pattern) × Contains query.patterns p × (p.group ≡ g) × Matches p.signs.items text
+Has query g text = (p : Pattern) × Contains query.patterns p × (p.group ≡ g) × Matches p.signs text
 
 -- the grammar has the text, and the first groups match it
 pub record Fits (query : Query) (text : List ℕ) : Type 0 where
@@ -50,6 +56,19 @@ pub record Fits (query : Query) (text : List ℕ) : Type 0 where
 pub record IsSought (query : Query) (text : List ℕ) : Type 0 where
   pub fits : Fits query text
   pub unnamed : ¬ Contains query.named text
+
+-- some text of the grammar begins with it, and for each of the first groups one that the group matches
+pub record IsLive (query : Query) (text : List ℕ) : Type 0 where
+  pub grammar : (rest : List ℕ) × IsIn query.grammar (text ++ rest)
+  pub within : (g : ℕ) → g < query.within → (rest : List ℕ) × Has query g (text ++ rest)
+
+-- no named text begins with the text
+abbrev pub IsFree : Query → List ℕ → Type 0
+IsFree query text = (rest : List ℕ) → ¬ Contains query.named (text ++ rest)
+
+-- it is gone on with, and its state is counted
+abbrev pub IsCounted : Query → List ℕ → Type 0
+IsCounted query text = IsText text × IsLive query text × IsFree query text
 
 abbrev pub Alike : Query → List ℕ → List ℕ → Type 0
 Alike query one other = (g : ℕ) → Has query g one ↔ Has query g other
@@ -73,6 +92,11 @@ pub record IsAt (asked : Asked) (node : Node) : Type 0 where
   pub places_in : AreIn asked.table.now.patterns.items node.places.items
   pub places : (g : ℕ) (text : List ℕ) → Leads asked.table.now.patterns.items node.places.items g text ↔ Has (query_of asked) g (node.text.items ++ text)
   pub tails : (text : List ℕ) → Contains (query_of asked).named (node.text.items ++ text) ↔ Contains (tails_at node) text
+  pub characters : IsText node.text.items
+  pub live : IsLive (query_of asked) node.text.items
+  pub read : stage_behind node.text.items (first_stage asked.grammar) ≡ Some node.stage
+  pub rising : IsRising node.places.items
+  pub placed : (k : Place) → Contains node.places.items k ↔ IsPlace (machine_at asked) node.text.items k
 
 -- the numbers of a state
 abbrev pub place_numbers : List Place → List ℕ
@@ -82,15 +106,17 @@ place_numbers (k ∷ places) = k.pattern ∷ (k.at ∷ place_numbers places)
 abbrev pub key_of : Node → List ℕ
 key_of node = stage_number node.stage ∷ place_numbers node.places.items
 
--- no named text begins with the text
-abbrev pub IsFree : Query → List ℕ → Type 0
-IsFree query text = (rest : List ℕ) → ¬ Contains query.named (text ++ rest)
+-- the state behind one text is that behind the other
+pub record HasState (machine : Machine) (other text : List ℕ) : Type 0 where
+  pub stage : stage_behind text (first_stage machine.grammar) ≡ stage_behind other (first_stage machine.grammar)
+  pub places : (k : Place) → IsPlace machine text k ↔ IsPlace machine other k
 
 -- whatever follows one text may follow the other, and none of those is named that follow the other, if it is not the same
-pub record StandsFor (query : Query) (other text : List ℕ) : Type 0 where
-  pub grammar : (rest : List ℕ) → IsIn query.grammar (text ++ rest) ↔ IsIn query.grammar (other ++ rest)
-  pub groups : (g : ℕ) (rest : List ℕ) → Has query g (text ++ rest) ↔ Has query g (other ++ rest)
-  pub named : IsFree query other ⊎ (other ≡ text)
+pub record StandsFor (asked : Asked) (other text : List ℕ) : Type 0 where
+  pub grammar : (rest : List ℕ) → IsIn asked.grammar (text ++ rest) ↔ IsIn asked.grammar (other ++ rest)
+  pub groups : (g : ℕ) (rest : List ℕ) → Has (query_of asked) g (text ++ rest) ↔ Has (query_of asked) g (other ++ rest)
+  pub named : IsFree (query_of asked) other ⊎ (other ≡ text)
+  pub state : HasState (machine_at asked) other text
 
 -- the numbers of the groups that match the text, in order
 pub record Describes (query : Query) (numbers text : List ℕ) : Type 0 where
@@ -106,7 +132,8 @@ IsCovered asked walk text = (shown : List ℕ) × Contains (shown_in walk) shown
 
 pub record IsWalk (asked : Asked) (walk : Walk) : Type 0 where
   pub nodes : (node : Node) → Contains walk.nodes.items node → IsAt asked node
-  pub sought : (text : List ℕ) → Contains (shown_in walk) text → IsSought (query_of asked) text
+  pub sought : (text : List ℕ) → Contains (shown_in walk) text → IsText text × IsSought (query_of asked) text
+  pub few : length (shown_in walk) ≤ 4096
   pub covered : (node : Node) → Contains walk.nodes.items node → IsSought (query_of asked) node.text.items → IsCovered asked walk node.text.items
   pub apart : AllPairs (λ one other. ¬ Alike (query_of asked) one other) (shown_in walk)
   pub kinds : (numbers : List ℕ) → Contains (lists_in walk.kinds) numbers
@@ -114,10 +141,35 @@ pub record IsWalk (asked : Asked) (walk : Walk) : Type 0 where
   pub described : (shown : List ℕ) → Contains (shown_in walk) shown
       → (numbers : List ℕ) × Contains (lists_in walk.kinds) numbers × Describes (query_of asked) numbers shown
 
--- each state that was seen is that of a node with which no named text begins
+abbrev pub state_of : Node → State
+state_of node = record { stage = node.stage; places = node.places.items }
+
+-- these nodes have the states that were seen, each another, and these are counted: they are those with which no named text begins
+pub record Counts (walk : Walk) (free : List Node) : Type 0 where
+  pub nodes : (node : Node) → Contains free node → Contains walk.nodes.items node × (tails_at node ≡ [])
+  pub all : (node : Node) → Contains walk.nodes.items node → tails_at node ≡ [] → Contains (lists_in walk.seen) (key_of node)
+  pub seen : (key : List ℕ) → Contains (lists_in walk.seen) key → (node : Node) × Contains free node × (key ≡ key_of node)
+  pub back : (node : Node) → Contains free node → Contains (lists_in walk.seen) (key_of node)
+  pub apart : AllPairs (λ one other. key_of one ≢ key_of other) free
+  pub states : walk.states ≡ length free
+  pub places : walk.places ≡ sum_by (λ node. length node.places.items) free
+  pub few : walk.states ≤ 65536
+  pub held : walk.places ≤ 4194304
+
 abbrev pub HasSeen : Walk → Type 0
-HasSeen walk =
-    (key : List ℕ) → Contains (lists_in walk.seen) key → (node : Node) × Contains walk.nodes.items node × (key ≡ key_of node) × (tails_at node ≡ [])
+HasSeen walk = (free : List Node) × Counts walk free
+
+-- texts that are asked about, of which no two are alike
+pub record AreUnlike (query : Query) (texts : List (List ℕ)) : Type 0 where
+  pub sought : (text : List ℕ) → Contains texts text → IsText text × IsSought query text
+  pub apart : AllPairs (λ one other. ¬ Alike query one other) texts
+
+abbrev pub HasManyTexts : Query → Type 0
+HasManyTexts query = (texts : List (List ℕ)) × AreUnlike query texts × (4096 < length texts)
+
+-- a walk passes one of its limits
+abbrev pub IsOver : Asked → Type 0
+IsOver asked = HasManyStates (IsCounted (query_of asked)) (machine_at asked) ⊎ HasManyTexts (query_of asked)
 
 -- some nodes came after those that were there
 abbrev pub Grows : Walk → Walk → Type 0
@@ -125,12 +177,12 @@ Grows old new = (more : List Node) × (new.nodes.items ≡ old.nodes.items ++ mo
 
 -- some node stands for the text
 abbrev pub IsMet : Asked → Walk → List ℕ → Type 0
-IsMet asked walk text = (node : Node) × Contains walk.nodes.items node × StandsFor (query_of asked) node.text.items text
+IsMet asked walk text = (node : Node) × Contains walk.nodes.items node × StandsFor asked node.text.items text
 
--- so it is for the text and each letter more that may follow
+-- so it is for the text and each letter more with which it is gone on with
 abbrev pub IsExpanded : Asked → Walk → List ℕ → Type 0
 IsExpanded asked walk text =
-    (c : ℕ) (rest : List ℕ) → IsScalar c → Fits (query_of asked) (text ++ (c ∷ rest)) → IsMet asked walk (text ++ (c ∷ []))
+    (c : ℕ) → IsScalar c → IsLive (query_of asked) (text ++ (c ∷ [])) → IsMet asked walk (text ++ (c ∷ []))
 
 abbrev pub IsExpandedAt : Asked → Walk → ℕ → Type 0
 IsExpandedAt asked walk head = (node : Node) → slice_get walk.nodes.items head ≡ Some node → IsExpanded asked walk node.text.items
@@ -138,13 +190,13 @@ IsExpandedAt asked walk head = (node : Node) → slice_get walk.nodes.items head
 -- once each of these letters is tried at a node, it is expanded
 abbrev pub TriesAll : Asked → Walk → List ℕ → ℕ → Type 0
 TriesAll asked walk letters head =
-    (node : Node) → slice_get walk.nodes.items head ≡ Some node → (c : ℕ) (rest : List ℕ) → IsScalar c
-    → Fits (query_of asked) (node.text.items ++ (c ∷ rest))
-    → (o : ℕ) × Contains letters o × Fits (query_of asked) (node.text.items ++ (o ∷ rest))
-    × ((other : List ℕ) → StandsFor (query_of asked) other (node.text.items ++ (o ∷ [])) → StandsFor (query_of asked) other (node.text.items ++ (c ∷ [])))
+    (node : Node) → slice_get walk.nodes.items head ≡ Some node → (c : ℕ) → IsScalar c
+    → IsLive (query_of asked) (node.text.items ++ (c ∷ []))
+    → (o : ℕ) × Contains letters o × IsLive (query_of asked) (node.text.items ++ (o ∷ []))
+    × ((other : List ℕ) → StandsFor asked other (node.text.items ++ (o ∷ [])) → StandsFor asked other (node.text.items ++ (c ∷ [])))
 
 -- each of these letters was tried at a node
 abbrev pub IsTried : Asked → Walk → ℕ → List ℕ → Type 0
 IsTried asked walk head letters =
-    (node : Node) → slice_get walk.nodes.items head ≡ Some node → (c : ℕ) → Contains letters c → (rest : List ℕ)
-    → Fits (query_of asked) (node.text.items ++ (c ∷ rest)) → IsMet asked walk (node.text.items ++ (c ∷ []))
+    (node : Node) → slice_get walk.nodes.items head ≡ Some node → (c : ℕ) → Contains letters c
+    → IsLive (query_of asked) (node.text.items ++ (c ∷ [])) → IsMet asked walk (node.text.items ++ (c ∷ []))

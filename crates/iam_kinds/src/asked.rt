@@ -1,7 +1,7 @@
 // What is asked, and the texts that a walk comes to.
 ghost use Rattle.std.specs.Prelude.{[], ◌∷◌, ◌++◌, ◌≡◌, ◌≤◌, IfOk, IfNone, IfSome, List, ℕ, map};
 ghost use Rattle.iam_kinds.specs.Code.{SameElements, waited_at, waited_in};
-ghost use Rattle.iam_kinds.specs.Walk.{Fits, IsAt, IsReady, key_of, query_of, tails_at};
+ghost use Rattle.iam_kinds.specs.Walk.{IsAt, IsLive, IsReady, key_of, query_of, tails_at};
 
 use crate::OutOfMemory;
 use crate::grammar::{Grammar, Part, Stage};
@@ -71,7 +71,7 @@ impl<'a> Asked<'a> {
     ) -> Result<Option<Node<'a>>, OutOfMemory>
         requires ready { IsReady self.now }
         requires at { IsAt self.now node.now }
-        ensures none { IfOk result (λ o. IfNone o ((rest : List ℕ) → ¬ Fits (query_of self.now) (node.now.text.items ++ (letter ∷ rest)))) }
+        ensures none { IfOk result (λ o. IfNone o (¬ IsLive (query_of self.now) (node.now.text.items ++ (letter ∷ [])))) }
         ensures at { IfOk result (λ o. IfSome o (λ child. IsAt self.now child)) }
         ensures text { IfOk result (λ o. IfSome o (λ child. child.text.items ≡ node.now.text.items ++ (letter ∷ []))) }
     {

@@ -3,13 +3,14 @@ ghost use Rattle.std.specs.Prelude.{false, ◌≡◌, ◌+◌, ◌++◌, ◌∷�
 ghost use Rattle.std.specs.Str.{chars};
 ghost use Rattle.iam_glob.specs.Glob.{folded, sign_by};
 ghost use Rattle.iam_glob.specs.Signs.{signs_in};
-ghost use Rattle.iam_kinds.specs.Answers.{IsAnswer, IsAnswerFold, characters_in, numbered_groups, numbered_within, pairs_of, question_in, signs_of, with_number};
+ghost use Rattle.iam_kinds.specs.Answers.{IsAnswer, IsAnswerFold, characters_in, pairs_of, question_in, signs_of};
+ghost use Rattle.iam_kinds.specs.States.{numbered_groups, numbered_within, with_number};
 ghost use Rattle.iam_kinds.specs.Walk.{IsReady};
 
 use crate::OutOfMemory;
 use crate::asked::Asked;
 use crate::grammar::Grammar;
-use crate::table::{Pattern, Table};
+use crate::table::{Pattern, SignList, Table};
 use crate::walk::find_texts;
 use iam_glob::{Sign, Signs};
 use std::alloc::Global;
@@ -143,7 +144,7 @@ fn add_pattern(
 ) -> Result<(), OutOfMemory>
     ensures { OnOk result (pairs_of listed.new.items ≡ pairs_of listed.old.items ++ ((group, signs_of fold signs.entry) ∷ [])) }
 {
-    let signs = signs_of(alloc, signs, fold)?;
+    let signs = SignList::of(signs_of(alloc, signs, fold)?);
     listed.push(Pattern { group, signs })?;
     Ok(())
 }

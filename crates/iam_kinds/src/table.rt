@@ -3,17 +3,48 @@ ghost use Rattle.std.specs.Prelude.{◌-◌, List, ◌≡◌, ◌↔◌, ◌<◌
 ghost use Rattle.std.specs.List.{flat_map, list_any, slice_get};
 ghost use Rattle.std.specs.List.Sorted.{IsStrictlyIncreasing};
 ghost use Rattle.iam_kinds.specs.declared.table.Pattern.{Pattern};
+ghost use Rattle.iam_kinds.specs.Places.{IsRising};
 ghost use Rattle.iam_kinds.specs.Code.{AreGoals, AreIn, IsTable, SameElements, are_any, group_at, has_group, is_good, is_last_any, moves_from, moves_of, place_at, matched_groups, rest_at, settled_places, starts_from, stepped, waited_at, waits_for};
 
 use crate::OutOfMemory;
 use iam_glob::Sign;
 use std::alloc::Global;
+use std::marker::Model;
+
+/// The signs of a pattern.
+#[derive(Drop)]
+pub struct SignList(Vec<Sign>);
+
+impl Model for SignList {
+    ghost use Rattle.std.specs.Prelude.{List};
+    ghost use Rattle.iam_glob.specs.declared.sign.Sign.{Sign};
+
+    ghost Value = { List Sign };
+
+    ghost view = { λ signs. signs.0.items };
+}
+
+impl SignList {
+    ghost use Rattle.std.specs.Prelude.{◌≡◌};
+
+    pub fn of(signs: Vec<Sign>) -> SignList
+        ensures { result ≡ signs.items }
+    {
+        SignList(signs)
+    }
+
+    fn as_slice(&self) -> &[Sign]
+        ensures { result.now ≡ self.now }
+    {
+        self.0.as_slice()
+    }
+}
 
 /// A pattern of a group.
 #[derive(Drop)]
 pub struct Pattern {
     pub group: usize,
-    pub signs: Vec<Sign>,
+    pub signs: SignList,
 }
 
 /// A place in a pattern: so many of its signs stand before it.
@@ -114,7 +145,8 @@ impl Table {
     pub fn starts(&self, alloc: Global, count: usize) -> Result<Vec<Place>, OutOfMemory>
         requires within { count ≤ length self.now.patterns.items }
         requires table { IsTable self.now.patterns.items }
-        ensures { IfOk result (λ v. SameElements v.items (settled_places self.now.patterns.items (starts_from count (length self.now.patterns.items - count)))) }
+        ensures rising { IfOk result (λ v. IsRising v.items) }
+        ensures same { IfOk result (λ v. SameElements v.items (settled_places self.now.patterns.items (starts_from count (length self.now.patterns.items - count)))) }
     {
         let mut starts = Vec::new(alloc);
         for pattern in count..self.patterns.len() {
@@ -132,7 +164,8 @@ impl Table {
     ) -> Result<Vec<Place>, OutOfMemory>
         requires places_in { AreIn self.now.patterns.items places.now }
         requires table { IsTable self.now.patterns.items }
-        ensures { IfOk result (λ v. SameElements v.items (stepped self.now.patterns.items places.now letter)) }
+        ensures rising { IfOk result (λ v. IsRising v.items) }
+        ensures same { IfOk result (λ v. SameElements v.items (stepped self.now.patterns.items places.now letter)) }
     {
         let moved = self.moved(alloc, places, letter)?;
         self.settled(alloc, &moved)
@@ -252,7 +285,8 @@ impl Table {
     /// The places in order, with one place alone for each group that has matched for good.
     fn settled(&self, alloc: Global, places: &[Place]) -> Result<Vec<Place>, OutOfMemory>
         requires { AreIn self.now.patterns.items places.now }
-        ensures { IfOk result (λ v. SameElements v.items (settled_places self.now.patterns.items places.now)) }
+        ensures rising { IfOk result (λ v. IsRising v.items) }
+        ensures same { IfOk result (λ v. SameElements v.items (settled_places self.now.patterns.items places.now)) }
     {
         let good = self.good_groups(alloc, places)?;
         let mut settled = Vec::with_capacity(alloc, places.len())?;
@@ -298,7 +332,8 @@ fn sorted_numbers(numbers: Vec<usize>) -> Vec<usize>
 
 /// The places in order, each once.
 fn sorted_places(places: Vec<Place>) -> Vec<Place>
-    ensures { SameElements result.items places.items }
+    ensures rising { IsRising result.items }
+    ensures same { SameElements result.items places.items }
 {
     let mut places = places;
     places.sort_unstable();
@@ -314,6 +349,7 @@ fn goals(alloc: Global, count: usize) -> Result<Vec<Pattern>, OutOfMemory>
     for group in 0..count {
         let mut signs = Vec::new(alloc);
         signs.push(Sign::Any)?;
+        let signs = SignList::of(signs);
         goals.push(Pattern { group, signs })?;
     }
     Ok(goals)

@@ -1,9 +1,10 @@
 // The walk over the states of the patterns, breadth first.
-ghost use Rattle.std.specs.Prelude.{[], ◌∷◌, ◌++◌, ◌≡◌, ◌↔◌, ◌<◌, ℕ, Contains, IfNone, IfOk, IfSome, IsTrue, length, map};
-ghost use Rattle.std.specs.Bool.{OnTrue};
+ghost use Rattle.std.specs.Prelude.{[], ◌∷◌, ◌++◌, ◌≡◌, ◌↔◌, ◌<◌, ◌≤◌, ◌+◌, ◌⊎◌, MatchBool, ℕ, Contains, IfNone, IfOk, IfSome, IsTrue, length, map};
+ghost use Rattle.std.specs.Bool.{OnFalse, OnTrue};
+ghost use Rattle.iam_kinds.specs.Kinds.{IsText};
 ghost use Rattle.iam_kinds.specs.Lists.{lists_in};
 ghost use Rattle.iam_kinds.specs.declared.asked.Asked.{Asked};
-ghost use Rattle.iam_kinds.specs.Walk.{AreTexts, Describes, Grows, HasSeen, IsAt, IsExpandedAt, IsMet, IsReady, IsSought, IsCovered, IsTried, IsWalk, TriesAll, query_of};
+ghost use Rattle.iam_kinds.specs.Walk.{AreTexts, Describes, Grows, HasSeen, IsAt, IsExpandedAt, IsMet, IsOver, IsReady, IsSought, IsCovered, IsTried, IsWalk, TriesAll, query_of};
 
 use crate::OutOfMemory;
 use crate::asked::{Asked, Node};
@@ -55,7 +56,7 @@ impl<'a> Walk<'a> {
     ) -> Result<Option<Vec<usize>>, OutOfMemory>
         requires { IsAt asked.now node.now }
         ensures described { IfOk result (λ o. IfSome o (λ v. Describes (query_of asked.now) v.items node.now.text.items)) }
-        ensures sought { IfOk result (λ o. IfSome o (λ v. IsSought (query_of asked.now) node.now.text.items)) }
+        ensures sought { IfOk result (λ o. IfSome o (λ v. IsText node.now.text.items × IsSought (query_of asked.now) node.now.text.items)) }
         ensures none { IfOk result (λ o. IfNone o (¬ IsSought (query_of asked.now) node.now.text.items)) }
     {
         if !node.stage.is_last() {
@@ -81,11 +82,14 @@ impl<'a> Walk<'a> {
     ) -> Result<bool, OutOfMemory>
         requires walk { IsWalk asked.now self.old }
         requires described { Describes (query_of asked.now) numbers.items text.now }
-        requires sought { IsSought (query_of asked.now) text.now }
+        requires sought { IsText text.now × IsSought (query_of asked.now) text.now }
         ensures walk { IfOk result (λ fits. OnTrue fits (IsWalk asked.now self.new)) }
         ensures covered { IfOk result (λ fits. OnTrue fits (IsCovered asked.now self.new text.now)) }
         ensures nodes { IfOk result (λ fits. OnTrue fits (self.new.nodes.items ≡ self.old.nodes.items)) }
         ensures seen { IfOk result (λ fits. OnTrue fits (lists_in self.new.seen ≡ lists_in self.old.seen)) }
+        ensures states { IfOk result (λ fits. OnTrue fits (self.new.states ≡ self.old.states)) }
+        ensures places { IfOk result (λ fits. OnTrue fits (self.new.places ≡ self.old.places)) }
+        ensures over { IfOk result (λ fits. OnFalse fits (IsOver asked.now)) }
     {
         if !self.kinds.add(numbers)? {
             return Ok(true);
@@ -105,6 +109,9 @@ impl<'a> Walk<'a> {
         ensures walk { IfOk result (λ fits. OnTrue fits (IsWalk asked.now self.new)) }
         ensures nodes { IfOk result (λ fits. OnTrue fits (self.new.nodes.items ≡ self.old.nodes.items ++ (node.entry ∷ []))) }
         ensures seen { IfOk result (λ fits. OnTrue fits (lists_in self.new.seen ≡ lists_in self.old.seen)) }
+        ensures states { IfOk result (λ fits. OnTrue fits (self.new.states ≡ self.old.states)) }
+        ensures places { IfOk result (λ fits. OnTrue fits (self.new.places ≡ self.old.places)) }
+        ensures over { IfOk result (λ fits. OnFalse fits (IsOver asked.now)) }
     {
         match Walk::numbers(alloc, asked, &node)? {
             Some(numbers) => {
@@ -130,6 +137,7 @@ impl<'a> Walk<'a> {
         ensures seen { IfOk result (λ fits. OnTrue fits (HasSeen self.new)) }
         ensures grows { IfOk result (λ fits. OnTrue fits (Grows self.old self.new)) }
         ensures met { IfOk result (λ fits. OnTrue fits (IsMet asked.now self.new node.entry.text.items)) }
+        ensures over { IfOk result (λ fits. OnFalse fits (IsOver asked.now)) }
     {
         if !node.tails.is_empty() {
             return self.add(alloc, asked, node);
@@ -139,14 +147,24 @@ impl<'a> Walk<'a> {
         if !is_new {
             return Ok(true);
         }
-        if self.states >= MOST_STATES
-            || node.places.len() > MOST_PLACES.saturating_sub(self.places)
-        {
+        if !self.has_room(node.places.len()) {
             return Ok(false);
         }
         self.states += 1;
-        self.places = self.places.saturating_add(node.places.len());
+        self.places += node.places.len();
         self.add(alloc, asked, node)
+    }
+
+    /// Whether one more state with so many places is within the limits.
+    fn has_room(&self, places: usize) -> bool
+        requires { self.now.places ≤ 4194304 }
+        ensures { MatchBool result ((self.now.states < 65536) × (self.now.places + places ≤ 4194304))
+            ((65536 ≤ self.now.states) ⊎ (4194304 < self.now.places + places)) }
+    {
+        if self.states >= MOST_STATES {
+            return false;
+        }
+        places <= MOST_PLACES - self.places
     }
 
     /// Goes on from a node by each of its letters; `false` where there are too many.
@@ -159,6 +177,7 @@ impl<'a> Walk<'a> {
         ensures seen { IfOk result (λ fits. OnTrue fits (HasSeen self.new)) }
         ensures grows { IfOk result (λ fits. OnTrue fits (Grows self.old self.new)) }
         ensures expanded { IfOk result (λ fits. OnTrue fits (IsExpandedAt asked.now self.new head)) }
+        ensures over { IfOk result (λ fits. OnFalse fits (IsOver asked.now)) }
     {
         let letters = self.letters(alloc, asked, head)?;
         for &letter in &letters {
@@ -185,6 +204,7 @@ impl<'a> Walk<'a> {
         ensures seen { IfOk result (λ fits. OnTrue fits (HasSeen self.new)) }
         ensures grows { IfOk result (λ fits. OnTrue fits (Grows self.old self.new)) }
         ensures tried { IfOk result (λ fits. OnTrue fits (IsTried asked.now self.new head (letter ∷ []))) }
+        ensures over { IfOk result (λ fits. OnFalse fits (IsOver asked.now)) }
     {
         match asked.child(alloc, &self.nodes[head], letter)? {
             Some(child) => self.put(alloc, asked, child),
@@ -199,6 +219,7 @@ impl<'a> Walk<'a> {
         asked: &Asked<'a>,
         head: usize,
     ) -> Result<Vec<char>, OutOfMemory>
+        requires ready { IsReady asked.now }
         requires walk { IsWalk asked.now self.now }
         requires head { head < length self.now.nodes.items }
         ensures { IfOk result (λ v. TriesAll asked.now self.now v.items head) }
@@ -229,7 +250,9 @@ fn has_below(numbers: &[usize], count: usize) -> bool
 /// One text of each kind; `None` where there are too many.
 pub fn find_texts(alloc: Global, asked: &Asked<'_>) -> Result<Option<Vec<Vec<char>>>, OutOfMemory>
     requires { IsReady asked.now }
-    ensures { IfOk result (λ o. IfSome o (λ texts. AreTexts (query_of asked.now) (map (λ text. text.items) texts.items))) }
+    ensures some { IfOk result (λ o. IfSome o (λ texts. AreTexts (query_of asked.now) (map (λ text. text.items) texts.items))) }
+    ensures within { IfOk result (λ o. IfSome o (λ texts. ¬ IsOver asked.now)) }
+    ensures none { IfOk result (λ o. IfNone o (IsOver asked.now)) }
 {
     let mut walk = Walk::new(alloc);
     if !walk.put(alloc, asked, asked.root(alloc)?)? {

@@ -1,5 +1,6 @@
 use Rattle.std.proofs.Common.{◌≡◌, ◌++◌, drop, map}
-use Rattle.iam_kinds.specs.Answers.{pairs_of, signs_of, with_number}
+use Rattle.iam_kinds.specs.Answers.{pairs_of, signs_of}
+use Rattle.iam_kinds.specs.States.{with_number}
 use Rattle.iam_kinds.proofs.kinds.add_group.Given as goal
 
 abbrev pub invariant-loop-signs : goal.invariant-loop-signs

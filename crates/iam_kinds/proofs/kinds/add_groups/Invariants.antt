@@ -1,5 +1,6 @@
 use Rattle.std.proofs.Common.{◌≡◌, ◌+◌, ◌++◌, drop, map}
-use Rattle.iam_kinds.specs.Answers.{numbered_groups, pairs_of, signs_of}
+use Rattle.iam_kinds.specs.Answers.{pairs_of, signs_of}
+use Rattle.iam_kinds.specs.States.{numbered_groups}
 use Rattle.iam_kinds.proofs.kinds.add_groups.Given as goal
 
 abbrev pub invariant-loop-group : goal.invariant-loop-group

@@ -1,5 +1,6 @@
 use Rattle.std.proofs.Common.{◌≡◌, ◌++◌, drop, map}
-use Rattle.iam_kinds.specs.Answers.{numbered_within, pairs_of, signs_of}
+use Rattle.iam_kinds.specs.Answers.{pairs_of, signs_of}
+use Rattle.iam_kinds.specs.States.{numbered_within}
 use Rattle.iam_kinds.proofs.kinds.add_within.Given as goal
 
 abbrev pub invariant-loop-signs : goal.invariant-loop-signs

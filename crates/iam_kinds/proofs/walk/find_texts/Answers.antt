@@ -1,6 +1,7 @@
 use Rattle.std.proofs.Common.{◌<◌, [], arith, subst, ℕ, length, below_more}
 use Rattle.iam_kinds.specs.Walk.{IsExpandedAt, IsMet}
-use Rattle.iam_kinds.proofs.GoLemmas.{are_texts, expanded_more, grown_length, met_more}
+use Rattle.iam_kinds.proofs.GoLemmas.{AllExpanded, are_texts, expanded_more, grown_length, met_more}
+use Rattle.iam_kinds.proofs.LimitLemmas.{not_over}
 use Rattle.iam_kinds.proofs.walk.find_texts.Goals as goal
 
 pub put-requires-clause-walk : goal.put-requires-clause-walk
@@ -32,7 +33,13 @@ loop-head-preserved c =
           (rw c.if-not-branch-2.false at c.in_ok-expand.ensures.expanded);
     }
 
-pub returns-then-head-len : goal.returns-then-head-len
-returns-then-head-len c =
-    are_texts c.args.asked.now c.loop-head.walk c.loop-head.invariant.walk c.loop-head.invariant.root
+pub returns-then-head-len-clause-some : goal.returns-then-head-len-clause-some
+returns-then-head-len-clause-some c =
+    are_texts c.args.asked.now c.loop-head.walk c.requires c.loop-head.invariant.walk c.loop-head.invariant.root
     (λ i below. c.loop-head.invariant.expanded i (omega (arith, below)))
+
+pub returns-then-head-len-clause-within : goal.returns-then-head-len-clause-within
+returns-then-head-len-clause-within c =
+    let all : AllExpanded c.args.asked.now c.loop-head.walk = λ i below. c.loop-head.invariant.expanded i (omega (arith, below)) in
+    not_over c.args.asked.now c.loop-head.walk c.requires c.loop-head.invariant.walk c.loop-head.invariant.seen c.loop-head.invariant.root all
+    (are_texts c.args.asked.now c.loop-head.walk c.requires c.loop-head.invariant.walk c.loop-head.invariant.root all)

@@ -11,7 +11,7 @@ pub has_below-requires : goal.has_below-requires
 has_below-requires c =
     let t = c.args.self.now.table.now.patterns.items in
     let P : List Place → Type 0 = λ l. SameElements c.in_ok-places.places.items (stepped t l c.args.letter) in
-    let same = subst P c.deref.ensures.value c.in_ok-places.ensures in
+    let same = subst P c.deref.ensures.value c.in_ok-places.ensures.same in
     subst (AreIn t) (sym c.deref-2.ensures.value)
     (in_same t _ _ same (settled_in t _ c.requires.ready.table (moves_in t c.args.node.now.places.items c.args.letter c.requires.at.places_in)))
 
@@ -19,7 +19,7 @@ pub returns-then-not-has_below-clause-none : goal.returns-then-not-has_below-cla
 returns-then-not-has_below-clause-none c =
     let t = c.args.self.now.table.now.patterns.items in
     let P : List Place → Type 0 = λ l. SameElements c.in_ok-places.places.items (stepped t l c.args.letter) in
-    let same = subst P c.deref.ensures.value c.in_ok-places.ensures in
+    let same = subst P c.deref.ensures.value c.in_ok-places.ensures.same in
     let Q : List Place → Type 0 = λ l. (g : ℕ) → g < c.args.self.now.within → has_group t l g ≡ true in
     no_place c.args.self.now c.args.node.now c.in_ok-places.places.items c.args.letter c.requires.ready c.requires.at same (λ all.
     let passed = c.has_below.ensures.1 (subst Q (sym c.deref-2.ensures.value) all) in
@@ -29,9 +29,11 @@ pub returns-clause-at : goal.returns-clause-at
 returns-clause-at c =
     let t = c.args.self.now.table.now.patterns.items in
     let P : List Place → Type 0 = λ l. SameElements c.in_ok-places.places.items (stepped t l c.args.letter) in
-    let same = subst P c.deref.ensures.value c.in_ok-places.ensures in
+    let same = subst P c.deref.ensures.value c.in_ok-places.ensures.same in
     let text = c.in_ok-push.ensures.items ∙ ap (λ (l : List ℕ). l ++ (c.args.letter ∷ [])) (c.in_ok-text.ensures.items ∙ c.deref-3.ensures.value) in
     let tails = c.in_ok-tails.ensures ∙ ap (λ l. tails_of c.args.letter (map (λ t. t.now) l)) c.deref-4.ensures.value in
+    let Q : List Place → Type 0 = λ l. (g : ℕ) → g < c.args.self.now.within → has_group t l g ≡ true in
     child_is c.args.self.now c.args.node.now
     (record { text = c.push.new.self; stage = c.in-Some.stage; places = c.in_ok-places.places; tails = c.in_ok-tails.tails }) c.args.letter
-    c.requires.ready c.requires.at text (sym c.in-Some.ensures) same tails
+    c.requires.ready c.requires.at text c.ranges.letter.0 (sym c.in-Some.ensures) c.in_ok-places.ensures.rising same
+    (subst Q c.deref-2.ensures.value (c.has_below.ensures.0 c.if-not-has_below.false)) tails

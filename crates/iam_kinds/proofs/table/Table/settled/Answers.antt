@@ -15,7 +15,7 @@ loop-place-preserved c =
     ∙ ap (λ g. if is_good t c.args.places.now g then place_at g 0 else k) c.group.ensures)
     c.in_ok-push.ensures.items
 
-pub returns : goal.returns
-returns c =
-    same_as _ _ _ c.sorted_places.ensures
+pub returns-clause-same : goal.returns-clause-same
+returns-clause-same c =
+    same_as _ _ _ c.sorted_places.ensures.same
     (whole (λ l. map (settled_place c.args.self.now.patterns.items c.args.places.now) l) c.args.places.now c.loop-place.place-index _ (omega arith) c.loop-place.invariant)

@@ -22,12 +22,12 @@ settled-requires c =
     let all = done ∙ ap (λ n. starts_from count (n - count)) many in
     subst (AreIn t) (sym (c.deref.ensures.value ∙ all)) (starts_in t count (length t - count) (omega arith))
 
-pub returns : goal.returns
-returns c =
+pub returns-clause-same : goal.returns-clause-same
+returns-clause-same c =
     let t = c.args.self.now.patterns.items in
     let count = c.args.count in
     let many : c.len-pattern-end.result ≡ length t = omega arith in
     let done = starts_done count c.loop-pattern.pattern c.len-pattern-end.result c.loop-pattern.starts.items (omega arith) c.loop-pattern.invariant in
     let all = done ∙ ap (λ n. starts_from count (n - count)) many in
     let P : List Place → Type 0 = λ l. IfOk c.settled.result (λ v. SameElements v.items (settled_places t l)) in
-    subst P (c.deref.ensures.value ∙ all) c.settled.ensures
+    subst P (c.deref.ensures.value ∙ all) c.settled.ensures.same

@@ -9,7 +9,7 @@ settled-requires c =
     let t = c.args.self.now.patterns.items in
     subst (AreIn t) (sym (c.deref.ensures.value ∙ c.in_ok-moved.ensures)) (moves_in t c.args.places.now c.args.letter c.requires.places_in)
 
-pub returns : goal.returns
-returns c =
+pub returns-clause-same : goal.returns-clause-same
+returns-clause-same c =
     let P : List Place → Type 0 = λ l. IfOk c.settled.result (λ v. SameElements v.items (settled_places c.args.self.now.patterns.items l)) in
-    subst P (c.deref.ensures.value ∙ c.in_ok-moved.ensures) c.settled.ensures
+    subst P (c.deref.ensures.value ∙ c.in_ok-moved.ensures) c.settled.ensures.same

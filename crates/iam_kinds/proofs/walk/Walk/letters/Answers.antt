@@ -11,4 +11,4 @@ pub returns : goal.returns
 returns c =
     IfOk-weaker c.letters.result _ (λ v. TriesAll c.args.asked.now c.args.self.now v.items c.args.head) (λ v stands.
     tries_node c.args.asked.now c.args.self.now c.args.head c.index-node.result.now c.in_ok-waited.waited.items c.deref.result.now c.deref-2.result.now v.items
-    c.requires.walk c.requires.head (sym c.index-node.ensures) c.in_ok-waited.ensures c.deref.ensures.value c.deref-2.ensures.value stands) c.letters.ensures
+    c.requires.ready c.requires.walk c.requires.head (sym c.index-node.ensures) c.in_ok-waited.ensures c.deref.ensures.value c.deref-2.ensures.value stands) c.letters.ensures

@@ -37,9 +37,11 @@ returns-clause-sought c =
     let P : List Place → Type 0 = λ l. SameElements c.in_ok-numbers.numbers.items (matched_groups t l) in
     let same = subst P c.deref-2.ensures.value c.in_ok-numbers.ensures.matched in
     let d = describes c.args.asked.now c.args.node.now c.in_ok-numbers.numbers.items c.requires c.in_ok-numbers.ensures.rising same in
-    let Q : List ℕ → Type 0 = λ l. (g : ℕ) → g < c.args.asked.now.within → Contains l g in
-    is_sought c.args.asked.now c.args.node.now c.in_ok-numbers.numbers.items c.requires (sym c.is_last.ensures ∙ c.if-not-is_last.false)
-    (λ h.
-    let passed = c.ends_here.ensures.1 (subst (λ l. Contains (map (λ t. t.now) l) []) (sym c.deref.ensures.value) h) in
-    let wrong : true ≡ false = sym passed ∙ c.if-ends_here.false in cc)
-    d (subst Q c.deref-3.ensures.value (c.has_below.ensures.0 c.if-not-has_below.false))
+    let Q : List ℕ → Type 0 = λ l. (g : ℕ) → g < c.args.asked.now.within → Contains l g in (
+      c.requires.characters,
+      is_sought c.args.asked.now c.args.node.now c.in_ok-numbers.numbers.items c.requires (sym c.is_last.ensures ∙ c.if-not-is_last.false)
+          (λ h.
+          let passed = c.ends_here.ensures.1 (subst (λ l. Contains (map (λ t. t.now) l) []) (sym c.deref.ensures.value) h) in
+          let wrong : true ≡ false = sym passed ∙ c.if-ends_here.false in cc)
+          d (subst Q c.deref-3.ensures.value (c.has_below.ensures.0 c.if-not-has_below.false)),
+    )

@@ -1,7 +1,8 @@
-use Rattle.std.proofs.Common.{◌++◌, [], ◌∷◌, ◌∙◌, ap, refl, map, List, ℕ}
-use Rattle.std.proofs.lemmas.List.{map-append}
+use Rattle.std.proofs.Common.{◌++◌, [], ◌∷◌, ◌∙◌, ap, arith, refl, map, List, ℕ}
+use Rattle.std.proofs.lemmas.List.{length-map, map-append}
 use Rattle.iam_kinds.specs.Walk.{shown_in}
 use Rattle.iam_kinds.proofs.GoLemmas.{shown_before, shown_now}
+use Rattle.iam_kinds.proofs.LimitLemmas.{many_texts}
 use Rattle.iam_kinds.proofs.walk.Walk.show.Goals as goal
 
 pub returns-then-not-branch-clause-walk : goal.returns-then-not-branch-clause-walk
@@ -19,11 +20,16 @@ returns-clause-walk c =
     let shown = ap (map (λ t. t.items)) c.in_ok-push.ensures.items ∙ map-append (λ t. t.items) c.args.self.now.shown.items (c.in_ok-shown.shown ∷ [])
     ∙ ap (λ (t : List ℕ). shown_in c.args.self.now ++ (t ∷ [])) c.in_ok-shown.ensures.items in
     (shown_now c.args.asked.now c.args.self.now (record c.args.self.now { kinds = c.add.new.self; shown = c.push.new.self }) c.args.text.now c.args.numbers.items
-    c.requires.walk (rw c.if-not-branch.false at c.in_ok-add.ensures.0) c.requires.described c.requires.sought refl shown c.in_ok-add.ensures.1).0
+    c.requires.walk (rw c.if-not-branch.false at c.in_ok-add.ensures.0) c.requires.described c.requires.sought (let many = length-map c.args.self.now.shown.items (λ t. t.items) in omega (arith, many)) refl shown c.in_ok-add.ensures.1).0
 
 pub returns-clause-covered : goal.returns-clause-covered
 returns-clause-covered c =
     let shown = ap (map (λ t. t.items)) c.in_ok-push.ensures.items ∙ map-append (λ t. t.items) c.args.self.now.shown.items (c.in_ok-shown.shown ∷ [])
     ∙ ap (λ (t : List ℕ). shown_in c.args.self.now ++ (t ∷ [])) c.in_ok-shown.ensures.items in
     (shown_now c.args.asked.now c.args.self.now (record c.args.self.now { kinds = c.add.new.self; shown = c.push.new.self }) c.args.text.now c.args.numbers.items
-    c.requires.walk (rw c.if-not-branch.false at c.in_ok-add.ensures.0) c.requires.described c.requires.sought refl shown c.in_ok-add.ensures.1).1
+    c.requires.walk (rw c.if-not-branch.false at c.in_ok-add.ensures.0) c.requires.described c.requires.sought (let many = length-map c.args.self.now.shown.items (λ t. t.items) in omega (arith, many)) refl shown c.in_ok-add.ensures.1).1
+
+pub returns-then-len-ge-MOST_KINDS-clause-over : goal.returns-then-len-ge-MOST_KINDS-clause-over
+returns-then-len-ge-MOST_KINDS-clause-over c =
+    many_texts c.args.asked.now c.args.self.now c.args.text.now c.args.numbers.items c.requires.walk (rw c.if-not-branch.false at c.in_ok-add.ensures.0)
+    c.requires.described c.requires.sought (let many = length-map c.args.self.now.shown.items (λ t. t.items) in omega (arith, many))
