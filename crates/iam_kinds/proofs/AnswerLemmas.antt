@@ -14,7 +14,7 @@ use Rattle.iam_kinds.specs.Walk.{Alike, AreTexts, Has, HasManyTexts, IsCounted, 
 use Rattle.iam_kinds.specs.declared.asked.Asked.{Asked}
 use Rattle.iam_kinds.specs.declared.grammar.Grammar.{Grammar}
 use Rattle.iam_kinds.specs.declared.table.Pattern.{Pattern}
-use Rattle.iam_kinds.proofs.FewerLemmas.{pairs_weaker}
+use Rattle.iam_kinds.proofs.FewerLemmas.{apart_by, only_one, pairs_weaker}
 use Rattle.iam_kinds.proofs.GoLemmas.{slice_at, slice_below, slice_in, slice_more}
 use Rattle.iam_kinds.proofs.Members.{In, from_map, in_append, in_left, in_map, in_of, in_right, of_in}
 use Rattle.iam_kinds.proofs.NodeLemmas.{element}
@@ -211,6 +211,14 @@ are_kinds question query texts is are = record {
       let second = Contains-get_or texts j d below in
       are.apart i j d less below
       (alike question query is _ _ (meant question query is _ (are.sought _ first)) (meant question query is _ (are.sought _ second)) agrees);
+  shortest = λ shown text h scalars m agrees.
+      let r = are.whole text scalars (sought question query is text m) in
+      let same = alike question query is shown text (meant question query is shown (are.sought shown h)) m agrees in
+      let one : shown ≡ r.0 =
+      only_one (Alike query) texts shown r.0 (λ a b s. (λ g. ((s g).1, (s g).0))) (apart_by (λ a b. ¬ Alike query a b) texts are.apart)
+      (in_of texts shown h) (in_of texts r.0 r.1) (λ g. (λ k. (r.2 g).1 ((same g).0 k), λ k. (same g).1 ((r.2 g).0 k))) in
+      omega (arith, ap length one, r.3);
+  order = are.order;
 }
 
 -- ---- what is asked

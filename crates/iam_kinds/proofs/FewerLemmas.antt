@@ -48,6 +48,15 @@ apart_map {A} {B} f R (x ∷ xs) apart = (
 pub pairs_weaker : {A : Type 0} (R S : A → A → Type 0) (xs : List A) → ((x y : A) → In x xs → In y xs → R x y → S x y) → AllPairs R xs → AllPairs S xs
 pairs_weaker R S xs to pairs = by_apart S xs (apart_weaker R S xs to (apart_by R xs pairs))
 
+-- of such elements those that are related are one
+pub only_one : {A : Type 0} (S : A → A → Type 0) (xs : List A) (x y : A) → ((a b : A) → S a b → S b a) → ApartBy (λ a b. ¬ S a b) xs
+    → In x xs → In y xs → S x y → x ≡ y
+only_one S [] x y turn apart h k s = absurd h
+only_one S (z ∷ xs) x y turn apart (inl e) (inl f) s = sym e ∙ f
+only_one {A} S (z ∷ xs) x y turn apart (inl e) (inr k) s = let P : A → Type 0 = λ a. S a y in absurd (apart.0 y k (subst P (sym e) s))
+only_one {A} S (z ∷ xs) x y turn apart (inr h) (inl f) s = let P : A → Type 0 = λ a. S a x in absurd (apart.0 x h (subst P (sym f) (turn x y s)))
+only_one S (z ∷ xs) x y turn apart (inr h) (inr k) s = only_one S xs x y turn apart.1 h k s
+
 pub split_at : {A : Type 0} (xs : List A) (x : A) → In x xs → (a b : List A) × (xs ≡ a ++ (x ∷ b))
 split_at [] x h = absurd h
 split_at (y ∷ xs) x (inl e) = ([], xs, ap (λ z. z ∷ xs) e)

@@ -209,6 +209,11 @@ kinds_fold question texts are =
           are.apart i j d less below
           (subst (λ t. Agree (folded_question question) t (get_or texts j d)) first
           (subst (λ t. Agree (folded_question question) (map folded (get_or texts i d)) t) second (fold_agree question _ _ agrees)));
+      shortest = λ shown text h scalars m agrees.
+          let r = are.shortest shown (map folded text) h (text_folded text scalars) (fold_meant question text m)
+          (subst (λ t. Agree (folded_question question) t (map folded text)) (folds shown h) (fold_agree question shown text agrees)) in
+          let same = length-map text folded in omega (arith, r, same);
+      order = are.order;
     }
 
 -- the question as it is asked

@@ -4,9 +4,9 @@ use Rattle.std.specs.Char.{IsScalar}
 use Rattle.std.specs.List.{AllPairs, Contains, slice_get}
 use Rattle.std.proofs.lemmas.List.Elements.{Contains-append_left, Contains-get_or, Contains-push, Contains-push_cases}
 use Rattle.std.proofs.lemmas.List.Quantifiers.{all_pairs_push}
-use Rattle.iam_kinds.specs.Kinds.{IsIn, IsText}
+use Rattle.iam_kinds.specs.Kinds.{IsBefore, IsIn, IsText}
 use Rattle.iam_kinds.specs.Lists.{lists_in}
-use Rattle.iam_kinds.specs.Walk.{Alike, AreTexts, Describes, Fits, Grows, Has, IsAt, IsCovered, IsExpandedAt, IsLive, IsMet, IsReady, IsSought, IsTried, IsWalk, Query, StandsFor, TriesAll, machine_at, query_of, shown_in}
+use Rattle.iam_kinds.specs.Walk.{Alike, AreTexts, Describes, Fits, Grows, Has, IsAt, IsBelow, IsCovered, IsExpandedAt, IsLive, IsMet, IsReady, IsSought, IsTried, IsWalk, Query, StandsFor, StaysBelow, StaysBelowBehind, TriesAll, machine_at, query_of, shown_in}
 use Rattle.iam_kinds.specs.declared.asked.Asked.{Asked}
 use Rattle.iam_kinds.specs.declared.asked.Node.{Node}
 use Rattle.iam_kinds.specs.declared.walk.Walk.{Walk}
@@ -20,8 +20,14 @@ use Rattle.std.specs.declared.result.Result.TheVariants.{Ok, Err}
 use Rattle.std.specs.Option.{option_and_then}
 use Rattle.iam_kinds.specs.Code.{SameElements, first_stage, next_stage, waited_at, waited_in}
 use Rattle.iam_kinds.specs.Letters.{Stands}
-use Rattle.iam_kinds.proofs.NodeLemmas.{stage_more}
+use Rattle.iam_kinds.proofs.NodeLemmas.{element, stage_more}
+use Rattle.iam_kinds.proofs.OrderLemmas.{before_length, before_on, before_trans, longer}
+use Rattle.iam_kinds.proofs.PlaceLemmas.{get_or_any}
 use Rattle.iam_kinds.proofs.ReachLemmas.{places_on}
+use Rattle.std.specs.List.Sorted.{IsStrictlyIncreasing}
+use Rattle.std.proofs.lemmas.List.Kept.{AllPairs-from_increasing}
+use Rattle.std.proofs.Common.{◌+◌, length-take-le, take}
+use Rattle.std.proofs.lemmas.List.{get_or-take}
 use Rattle.iam_kinds.proofs.StateLemmas.{stands_itself, state_on, tries}
 
 pub slice_at : {A : Type 0} (xs : List A) (i : ℕ) (x d : A) → slice_get xs i ≡ Some x → get_or xs i d ≡ x
@@ -53,18 +59,20 @@ alike_described asked numbers others one other d e alike =
     same_numbers numbers others d.rising e.rising (λ g h. (e.groups g).1 ((alike g).0 ((d.groups g).0 h))) (λ g h. (d.groups g).1 ((alike g).1 ((e.groups g).0 h)))
 
 -- ---- showing a text
-pub shown_before : (asked : Asked) (old new : Walk) (text numbers : List ℕ) → IsWalk asked old → Contains (lists_in old.kinds) numbers
+pub shown_before : (asked : Asked) (old new : Walk) (text numbers : List ℕ) → IsWalk asked old → IsBelow old text → Contains (lists_in old.kinds) numbers
     → Describes (query_of asked) numbers text → new.nodes.items ≡ old.nodes.items → shown_in new ≡ shown_in old
     → ((list : List ℕ) → Contains (lists_in new.kinds) list ↔ (Contains (lists_in old.kinds) list ⊎ (list ≡ numbers)))
     → IsWalk asked new × IsCovered asked new text
-shown_before asked old new text numbers walk has d nodes shown lists =
+shown_before asked old new text numbers walk below has d nodes shown lists =
     let keep : (x : List ℕ) → Contains (shown_in old) x → Contains (shown_in new) x = λ x h. subst (λ (l : List (List ℕ)). Contains l x) (sym shown) h in
     let back : (x : List ℕ) → Contains (shown_in new) x → Contains (shown_in old) x = λ x h. subst (λ (l : List (List ℕ)). Contains l x) shown h in
     let back_nodes : (x : Node) → Contains new.nodes.items x → Contains old.nodes.items x = λ x h. subst (λ (l : List Node). Contains l x) nodes h in (
       record {
         nodes = λ n h. walk.nodes n (back_nodes n h);
         sought = λ x h. walk.sought x (back x h);
-        covered = λ n h s. let r = walk.covered n (back_nodes n h) s in (r.0, keep r.0 r.1, r.2);
+        covered = λ n h s. let r = walk.covered n (back_nodes n h) s in (r.0, keep r.0 r.1, r.2, r.3);
+        rising = subst (AllPairs (λ one other. IsBefore one.text.items other.text.items)) (sym nodes) walk.rising;
+        order = subst (AllPairs IsBefore) (sym shown) walk.order;
         apart = subst (AllPairs (λ one other. ¬ Alike (query_of asked) one other)) (sym shown) walk.apart;
         few = subst (λ (l : List (List ℕ)). length l ≤ 4096) (sym shown) walk.few;
         kinds = λ list h.
@@ -75,7 +83,7 @@ shown_before asked old new text numbers walk has d nodes shown lists =
             (k.0, keep k.0 k.1, k.2);
         described = λ x h. let r = walk.described x (back x h) in (r.0, (lists r.0).1 (inl r.1), r.2);
       },
-      (let k = walk.kinds numbers has in (k.0, keep k.0 k.1, described_alike asked numbers k.0 text k.2 d)),
+      (let k = walk.kinds numbers has in (k.0, keep k.0 k.1, described_alike asked numbers k.0 text k.2 d, before_length k.0 text (below.shown k.0 k.1))),
     )
 
 -- a text with other numbers is unlike those that are shown
@@ -86,11 +94,11 @@ unlike asked old text numbers walk lacks d = λ k e below alike.
     let same = alike_described asked r.0 numbers (get_or (shown_in old) k e) text r.2 d alike in
     lacks (subst (λ (l : List ℕ). Contains (lists_in old.kinds) l) same r.1)
 
-pub shown_now : (asked : Asked) (old new : Walk) (text numbers : List ℕ) → IsWalk asked old → (¬ Contains (lists_in old.kinds) numbers)
+pub shown_now : (asked : Asked) (old new : Walk) (text numbers : List ℕ) → IsWalk asked old → IsBelow old text → (¬ Contains (lists_in old.kinds) numbers)
     → Describes (query_of asked) numbers text → IsText text × IsSought (query_of asked) text → length (shown_in old) < 4096 → new.nodes.items ≡ old.nodes.items → shown_in new ≡ shown_in old ++ (text ∷ [])
     → ((list : List ℕ) → Contains (lists_in new.kinds) list ↔ (Contains (lists_in old.kinds) list ⊎ (list ≡ numbers)))
     → IsWalk asked new × IsCovered asked new text
-shown_now asked old new text numbers walk lacks d s room nodes shown lists =
+shown_now asked old new text numbers walk below lacks d s room nodes shown lists =
     let q = query_of asked in
     let keep : (x : List ℕ) → Contains (shown_in old) x → Contains (shown_in new) x =
     λ x h. subst (λ (l : List (List ℕ)). Contains l x) (sym shown) (Contains-append_left (shown_in old) (text ∷ []) x h) in
@@ -102,7 +110,11 @@ shown_now asked old new text numbers walk lacks d s room nodes shown lists =
         nodes = λ n h. walk.nodes n (back_nodes n h);
         sought = λ x h. elim (back x h) [ inl o ↦ walk.sought x o | inr e ↦ subst (λ (x : List ℕ). IsText x × IsSought q x) e s ];
         few = omega (arith, room, ap length shown, length-append (shown_in old) (text ∷ []));
-        covered = λ n h s. let r = walk.covered n (back_nodes n h) s in (r.0, keep r.0 r.1, r.2);
+        covered = λ n h s. let r = walk.covered n (back_nodes n h) s in (r.0, keep r.0 r.1, r.2, r.3);
+        rising = subst (AllPairs (λ one other. IsBefore one.text.items other.text.items)) (sym nodes) walk.rising;
+        order =
+            subst (AllPairs IsBefore) (sym shown) (all_pairs_push IsBefore (shown_in old) text walk.order (λ k e less.
+            below.shown (get_or (shown_in old) k e) (Contains-get_or (shown_in old) k e less)));
         apart =
             subst (AllPairs (λ one other. ¬ Alike q one other)) (sym shown)
             (all_pairs_push (λ one other. ¬ Alike q one other) (shown_in old) text walk.apart (unlike asked old text numbers walk lacks d));
@@ -115,14 +127,15 @@ shown_now asked old new text numbers walk lacks d s room nodes shown lists =
           | inr e ↦ (numbers, (lists numbers).1 (inr refl), subst (Describes q numbers) e d)
         ];
       },
-      (text, here, λ g. (λ h. h, λ h. h)),
+      (text, here, (λ g. (λ h. h, λ h. h)), omega arith),
     )
 
 -- ---- a node more
 pub node_more : (asked : Asked) (old new : Walk) (node : Node) → IsWalk asked old → IsAt asked node
+    → ((n : Node) → Contains old.nodes.items n → IsBefore n.text.items node.text.items)
     → (IsSought (query_of asked) node.text.items → IsCovered asked old node.text.items) → new.nodes.items ≡ old.nodes.items ++ (node ∷ [])
     → shown_in new ≡ shown_in old → lists_in new.kinds ≡ lists_in old.kinds → IsWalk asked new
-node_more asked old new node walk at covers nodes shown lists =
+node_more asked old new node walk at below covers nodes shown lists =
     let keep : (x : List ℕ) → Contains (shown_in old) x → Contains (shown_in new) x = λ x h. subst (λ (l : List (List ℕ)). Contains l x) (sym shown) h in
     let back : (x : List ℕ) → Contains (shown_in new) x → Contains (shown_in old) x = λ x h. subst (λ (l : List (List ℕ)). Contains l x) shown h in
     let back_nodes : (x : Node) → Contains new.nodes.items x → Contains old.nodes.items x ⊎ (node ≡ x) =
@@ -130,16 +143,43 @@ node_more asked old new node walk at covers nodes shown lists =
       nodes = λ n h. elim (back_nodes n h) [ inl o ↦ walk.nodes n o | inr e ↦ subst (IsAt asked) e at ];
       sought = λ x h. walk.sought x (back x h);
       covered = λ n h s. elim (back_nodes n h) [
-        | inl o ↦ let r = walk.covered n o s in (r.0, keep r.0 r.1, r.2)
+        | inl o ↦ let r = walk.covered n o s in (r.0, keep r.0 r.1, r.2, r.3)
         | inr e ↦
             let r = covers (subst (λ (n : Node). IsSought (query_of asked) n.text.items) (sym e) s) in
-            (r.0, keep r.0 r.1, subst (λ (n : Node). Alike (query_of asked) r.0 n.text.items) e r.2)
+            let p = subst (λ (n : Node). Alike (query_of asked) r.0 n.text.items × (length r.0 ≤ length n.text.items)) e (r.2, r.3) in
+            (r.0, keep r.0 r.1, p.0, p.1)
       ];
+      rising =
+          subst (AllPairs (λ one other. IsBefore one.text.items other.text.items)) (sym nodes)
+          (all_pairs_push (λ one other. IsBefore one.text.items other.text.items) old.nodes.items node walk.rising (λ k d less.
+          below (get_or old.nodes.items k d) (Contains-get_or old.nodes.items k d less)));
+      order = subst (AllPairs IsBefore) (sym shown) walk.order;
       apart = subst (AllPairs (λ one other. ¬ Alike (query_of asked) one other)) (sym shown) walk.apart;
       few = subst (λ (l : List (List ℕ)). length l ≤ 4096) (sym shown) walk.few;
       kinds = λ list h. let r = walk.kinds list (subst (λ (l : List (List ℕ)). Contains l list) lists h) in (r.0, keep r.0 r.1, r.2);
       described = λ x h. let r = walk.described x (back x h) in (r.0, subst (λ (l : List (List ℕ)). Contains l r.0) (sym lists) r.1, r.2);
     }
+
+-- what is below stays below where a node came
+pub stays_below : (old new : Walk) (node : Node) → new.nodes.items ≡ old.nodes.items ++ (node ∷ [])
+    → ((shown : List ℕ) → Contains (shown_in new) shown → Contains (shown_in old) shown ⊎ (node.text.items ≡ shown)) → StaysBelow old new node.text.items
+stays_below old new node nodes only = λ text below before. record {
+  nodes = λ n h. elim (Contains-push_cases old.nodes.items node n (subst (λ (l : List Node). Contains l n) nodes h)) [
+    | inl o ↦ below.nodes n o
+    | inr e ↦ subst (λ (m : Node). IsBefore m.text.items text) e before
+  ];
+  shown = λ s h. elim (only s h) [
+    | inl o ↦ below.shown s o
+    | inr e ↦ subst (λ (l : List ℕ). IsBefore l text) e before
+  ];
+}
+
+-- or where none did
+pub same_below : (old new : Walk) (text : List ℕ) → new.nodes.items ≡ old.nodes.items → shown_in new ≡ shown_in old → IsBelow old text → IsBelow new text
+same_below old new text nodes shown below = record {
+  nodes = λ n h. below.nodes n (subst (λ (l : List Node). Contains l n) nodes h);
+  shown = λ s h. below.shown s (subst (λ (l : List (List ℕ)). Contains l s) shown h);
+}
 
 pub grown : (old new : Walk) → Grows old new → (node : Node) → Contains old.nodes.items node → Contains new.nodes.items node
 grown old new (more, e) node h = subst (λ (l : List Node). Contains l node) (sym e) (Contains-append_left old.nodes.items more node h)
@@ -209,6 +249,7 @@ stands_on asked node two text c ready at s r =
             stage_more text c (first_stage asked.grammar) ∙ ap (option_and_then (λ s. next_stage s c)) s.state.stage ∙ sym (stage_more one c (first_stage asked.grammar));
         places = places_on (machine_at asked) one text node.places.items c ready.table at.places_in at.placed s.state.places;
       });
+      shorter = omega (arith, r.shorter, s.shorter, longer one c, longer text c);
     }
 
 pub stands_live : (asked : Asked) (one text w : List ℕ) → StandsFor asked one text → IsLive (query_of asked) (text ++ w) → IsLive (query_of asked) (one ++ w)
@@ -276,12 +317,14 @@ are_texts asked walk ready is root all = record {
       let shown = is.covered r.0 r.1 (record { fits = fits; unnamed = unnamed }) in (
         shown.0,
         shown.1,
-        λ g. (
+        (λ g. (
           λ h. subst (Has q g) (same text) ((r.2.groups g []).1 (subst (Has q g) (sym (same r.0.text.items)) ((shown.2 g).0 h))),
           λ h. (shown.2 g).1 (subst (Has q g) (same r.0.text.items) ((r.2.groups g []).0 (subst (Has q g) (sym (same text)) h))),
-        ),
+        )),
+        omega (arith, shown.3, r.2.shorter),
       );
   apart = is.apart;
+  order = is.order;
 }
 
 -- the letters of a node of the walk
@@ -348,3 +391,57 @@ tried_nothing asked walk head = λ node at c h live. absurd (in_of [] c h)
 
 pub grown_length : (old new : Walk) → Grows old new → length old.nodes.items ≤ length new.nodes.items
 grown_length old new (more, e) = omega (arith, ap length e, length-append old.nodes.items more)
+
+-- what is below stays below where a letter was tried
+pub below_one : (old new : Walk) (head : ℕ) (node child : Node) (letter : ℕ) → get_or old.nodes.items head node ≡ node
+    → child.text.items ≡ node.text.items ++ (letter ∷ []) → StaysBelow old new child.text.items → StaysBelowBehind old new head (letter ∷ [])
+below_one old new head node child letter here text stays = λ other at above below before.
+    let e : node ≡ other = sym here ∙ slice_at old.nodes.items head other node at in
+    let child_is : child.text.items ≡ other.text.items ++ (letter ∷ []) = text ∙ ap (λ (n : Node). n.text.items ++ (letter ∷ [])) e in
+    stays above below (subst (λ (l : List ℕ). IsBefore l above) (sym child_is) (before letter (of_in (letter ∷ []) letter (inl refl))))
+
+pub at_before : (old new : Walk) (head : ℕ) (node : Node) → head < length old.nodes.items → Grows old new → slice_get new.nodes.items head ≡ Some node
+    → slice_get old.nodes.items head ≡ Some node
+at_before old new head node below grows at = sym (ap (λ l. slice_get l head) grows.1 ∙ slice_more old.nodes.items grows.0 head below) ∙ at
+
+pub at_after : (old new : Walk) (head : ℕ) (node : Node) → head < length old.nodes.items → Grows old new → slice_get old.nodes.items head ≡ Some node
+    → slice_get new.nodes.items head ≡ Some node
+at_after old new head node below grows at = ap (λ l. slice_get l head) grows.1 ∙ slice_more old.nodes.items grows.0 head below ∙ at
+
+-- letters that rise
+pub rising_less : (letters : List ℕ) (i letter d : ℕ) → IsStrictlyIncreasing letters → i < length letters → get_or letters i letter ≡ letter
+    → Contains (take i letters) d → d < letter
+rising_less letters i letter d rising within here (k, below, same) =
+    let short = length-take-le i letters in
+    let less : k < i = omega (arith, below, short) in
+    let first : get_or letters k d ≡ d = sym (get_or-take i letters k d less) ∙ same in
+    let pairs = AllPairs-from_increasing letters rising k i letter less within in
+    let one : get_or letters k letter ≡ d = get_or_any letters k letter d (omega (arith, less, within)) ∙ first in
+    omega (arith, pairs, one, here)
+
+-- what is below a text is below those behind it
+pub below_on : (walk : Walk) (one other : List ℕ) → IsBelow walk one → IsBefore one other → IsBelow walk other
+below_on walk one other below before = record {
+  nodes = λ n h. before_trans n.text.items one other (below.nodes n h) before;
+  shown = λ s h. before_trans s one other (below.shown s h) before;
+}
+
+-- the next node's letters are behind all that came
+pub below_head : (asked : Asked) (old new : Walk) (head : ℕ) → head < length old.nodes.items → Grows old new → IsWalk asked new
+    → ((node : Node) → slice_get old.nodes.items head ≡ Some node → (c : ℕ) → IsBelow old (node.text.items ++ (c ∷ [])))
+    → ((node : Node) → slice_get old.nodes.items head ≡ Some node → (text : List ℕ) → IsBelow old text
+    → ((c : ℕ) → IsBefore (node.text.items ++ (c ∷ [])) text) → IsBelow new text)
+    → (node : Node) → slice_get new.nodes.items (head + 1) ≡ Some node → (c : ℕ) → IsBelow new (node.text.items ++ (c ∷ []))
+below_head asked old new head within grows is below only = λ node at c.
+    let u = element old.nodes.items head within in
+    let there = at_after old new head u.0 within grows u.1 in
+    let next = slice_below new.nodes.items (head + 1) node at in
+    let pair = is.rising head (head + 1) node (omega arith) next in
+    let first : get_or new.nodes.items head node ≡ u.0 = slice_at new.nodes.items head u.0 node there in
+    let second : get_or new.nodes.items (head + 1) node ≡ node = slice_at new.nodes.items (head + 1) node node at in
+    let before : IsBefore u.0.text.items node.text.items =
+    subst (λ (n : Node). IsBefore u.0.text.items n.text.items) second
+    (subst (λ (n : Node). IsBefore n.text.items (get_or new.nodes.items (head + 1) node).text.items) first pair) in
+    only u.0 u.1 (node.text.items ++ (c ∷ []))
+    (below_on old (u.0.text.items ++ (c ∷ [])) (node.text.items ++ (c ∷ [])) (below u.0 u.1 c) (before_on u.0.text.items node.text.items c c before))
+    (λ d. before_on u.0.text.items node.text.items d c before)

@@ -6,6 +6,7 @@ pub mod MatchLemmas
 pub mod LetterLemmas
 pub mod GrammarLemmas
 pub mod FewerLemmas
+pub mod OrderLemmas
 pub mod ReachLemmas
 pub mod NodeLemmas
 pub mod SetLemmas

@@ -10,7 +10,7 @@ use Rattle.iam_kinds.specs.Kinds.{IsText}
 use Rattle.iam_kinds.specs.Lists.{lists_in}
 use Rattle.iam_kinds.specs.Places.{IsRising, place_cmp}
 use Rattle.iam_kinds.specs.States.{AreStates, HasManyStates, IsSame, IsState, State}
-use Rattle.iam_kinds.specs.Walk.{Alike, AreTexts, Counts, Describes, HasManyTexts, HasSeen, IsAt, IsCounted, IsFree, IsMet, IsOver, IsReady, IsSought, IsWalk, key_of, machine_at, place_numbers, query_of, shown_in, state_of, tails_at}
+use Rattle.iam_kinds.specs.Walk.{Alike, AreTexts, Counts, Describes, HasManyTexts, HasSeen, IsAt, IsBelow, IsCounted, IsFree, IsMet, IsOver, IsReady, IsSought, IsWalk, key_of, machine_at, place_numbers, query_of, shown_in, state_of, tails_at}
 use Rattle.iam_kinds.specs.declared.asked.Asked.{Asked}
 use Rattle.iam_kinds.specs.declared.asked.Node.{Node}
 use Rattle.iam_kinds.specs.declared.table.Place.{Place}
@@ -18,6 +18,7 @@ use Rattle.iam_kinds.specs.declared.walk.Walk.{Walk}
 use Rattle.iam_kinds.proofs.FewerLemmas.{ApartBy, apart_by, apart_map, apart_weaker, by_apart, fewer, fewer_elements, fewer_once}
 use Rattle.iam_kinds.proofs.GoLemmas.{AllExpanded, reaches, unlike}
 use Rattle.iam_kinds.proofs.Members.{In, from_map, in_of, of_in}
+use Rattle.iam_kinds.proofs.OrderLemmas.{before_length}
 use Rattle.iam_kinds.proofs.PlaceLemmas.{place_total}
 use Rattle.iam_kinds.proofs.SetLemmas.{before_all, not_both, same_elements}
 use Rattle.std.proofs.lemmas.Map.Keys.{sorted_tail}
@@ -119,12 +120,12 @@ seen_now old new node key nodes is none lacks lists states few places held (free
     )
 
 -- the state of a node was seen
-pub met_before : (asked : Asked) (walk : Walk) (node : Node) (key : List ℕ) → IsWalk asked walk → HasSeen walk → IsAt asked node → key ≡ key_of node
+pub met_before : (asked : Asked) (walk : Walk) (node : Node) (key : List ℕ) → IsWalk asked walk → IsBelow walk node.text.items → HasSeen walk → IsAt asked node → key ≡ key_of node
     → Contains (lists_in walk.seen) key → IsMet asked walk node.text.items
-met_before asked walk node key is (free, counts) at same h =
+met_before asked walk node key is below (free, counts) at same h =
     let r = counts.seen key h in
     let n = counts.nodes r.0 r.1 in
-    (r.0, n.0, same_state asked r.0 node (is.nodes r.0 n.0) at (sym r.2 ∙ same) n.1)
+    (r.0, n.0, same_state asked r.0 node (is.nodes r.0 n.0) at (sym r.2 ∙ same) n.1 (before_length r.0.text.items node.text.items (below.nodes r.0 n.0)))
 
 -- ---- a limit is passed
 pub once_of : (places : List Place) → IsRising places → AllPairs (λ one other. one ≢ other) places

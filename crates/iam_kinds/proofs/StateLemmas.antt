@@ -1,5 +1,5 @@
 -- What a node tells of its text, and which nodes stand for others.
-use Rattle.std.proofs.Common.{◌≡◌, ◌↔◌, inl, inr, ℕ, ◌<◌, ◌+◌, Bool, true, false, ◌==◌, not, List, [], ◌∷◌, ◌++◌, filter, refl, sym, ap, ◌∙◌, subst, append-nil, append_assoc, Option, Some, None, is_some}
+use Rattle.std.proofs.Common.{◌≡◌, ◌↔◌, inl, inr, ℕ, ◌<◌, ◌+◌, Bool, true, false, ◌==◌, not, List, [], ◌∷◌, ◌++◌, filter, refl, sym, ap, ◌∙◌, subst, append-nil, append_assoc, Option, Some, None, is_some, ◌≤◌, length, arith}
 use Rattle.std.specs.Char.{IsScalar}
 use Rattle.std.specs.List.{Contains, filter_map, flat_map, list_any}
 use Rattle.std.specs.List.Sorted.{IsStrictlyIncreasing}
@@ -22,6 +22,7 @@ use Rattle.iam_kinds.proofs.GrammarLemmas.{same_number, same_part}
 use Rattle.iam_kinds.proofs.MatchLemmas.{any_more, any_off, any_skip, anys_end, end_anys, given_off, nothing_left, one_off, one_on}
 use Rattle.iam_kinds.proofs.Members.{In, in_of, of_in, from_any, in_any, in_map, from_map, not_in_any, in_left, in_right}
 use Rattle.iam_kinds.proofs.NodeLemmas.{stage_more}
+use Rattle.iam_kinds.proofs.OrderLemmas.{longer}
 use Rattle.iam_kinds.proofs.PlaceLemmas.{both}
 use Rattle.iam_kinds.proofs.ReachLemmas.{stepped_exactly}
 
@@ -113,8 +114,8 @@ same_key one other key =
     (same_number one.stage other.stage number, same_places one.places.items other.places.items numbers)
 
 pub same_state : (asked : Asked) (one other : Node) → IsAt asked one → IsAt asked other → key_of one ≡ key_of other → tails_at one ≡ []
-    → StandsFor asked one.text.items other.text.items
-same_state asked one other at at' key free =
+    → length one.text.items ≤ length other.text.items → StandsFor asked one.text.items other.text.items
+same_state asked one other at at' key free shorter =
     let t = asked.table.now.patterns.items in
     let same = same_key one other key in
     let stage = same.0 in
@@ -135,6 +136,7 @@ same_state asked one other at at' key free =
           λ p. (at'.placed k).0 (subst (λ l. Contains l k) places ((at.placed k).1 p)),
         );
       };
+      shorter = shorter;
     }
 
 pub stands_itself : (asked : Asked) (text : List ℕ) → StandsFor asked text text
@@ -143,6 +145,7 @@ stands_itself asked text = record {
   groups = λ g w. (λ h. h, λ h. h);
   named = inr refl;
   state = record { stage = refl; places = λ k. (λ p. p, λ p. p) };
+  shorter = omega arith;
 }
 
 -- ---- letters that lead to the same
@@ -348,5 +351,6 @@ tries asked node waited letters ready at has stands c scalar live =
             ]);
             state = state_on (machine_at asked) other (u ++ (o ∷ [])) (u ++ (c ∷ [])) s.state
                 (other_state asked node waited c o ready at at_places wc wo stage);
+            shorter = omega (arith, s.shorter, longer u o, longer u c);
           },
         )

@@ -1,6 +1,6 @@
 -- The kinds of texts that patterns tell apart: AWS IAM User Guide, "IAM JSON policy elements reference", the elements `Action` and
 -- `Resource`, which read a text by patterns alone. A text is the list of its characters. LOGIC 2.1, 2.2 and 12.4.
-use Rattle.std.specs.Prelude.{◌≡◌, ◌↔◌, ◌<◌, ◌==◌, ◌||◌, ◌&&◌, ℕ, Bool, true, false, map, List, ◌∷◌, ◌++◌, ⊤, length, IsTrue, AllPairs, Contains}
+use Rattle.std.specs.Prelude.{◌≡◌, ◌↔◌, ◌<◌, ◌≤◌, ◌⊎◌, [], ◌==◌, ◌||◌, ◌&&◌, ℕ, Bool, true, false, map, List, ◌∷◌, ◌++◌, ⊤, length, IsTrue, AllPairs, Contains}
 use Rattle.std.specs.Char.{IsScalar, is_ascii_alphanumeric}
 use Rattle.std.specs.List.{list_all}
 use Rattle.iam_glob.specs.Glob.{Matches, MatchesFold, folded, sign_by}
@@ -79,11 +79,25 @@ abbrev pub Agree : Question → List ℕ → List ℕ → Type 0
 Agree question one other =
     (group : List (List Sign)) → Contains question.groups group → GroupMatches group one ↔ GroupMatches group other
 
--- one text of each kind: each is asked about, each text that is asked about agrees with one of them, and no two agree
+-- of two texts of one length, where they first differ the code point of the one is lower
+abbrev pub IsLess : List ℕ → List ℕ → Type 0
+IsLess [] other = ⊥
+IsLess (c ∷ text) [] = ⊥
+IsLess (c ∷ text) (d ∷ other) = (c < d) ⊎ ((c ≡ d) × IsLess text other)
+
+-- the shorter text is before the longer, and of two of one length the less
+abbrev pub IsBefore : List ℕ → List ℕ → Type 0
+IsBefore one other = (length one < length other) ⊎ ((length one ≡ length other) × IsLess one other)
+
+-- one text of each kind, in order: each is asked about, each text that is asked about agrees with one of them, no two agree, and none
+-- that agrees with one of them is shorter
 pub record AreKinds (question : Question) (texts : List (List ℕ)) : Type 0 where
   pub meant : (text : List ℕ) → Contains texts text → IsMeant question text
   pub whole : (text : List ℕ) → IsText text → IsMeant question text → (shown : List ℕ) × Contains texts shown × Agree question shown text
   pub apart : AllPairs (λ one other. ¬ Agree question one other) texts
+  pub shortest : (shown text : List ℕ) → Contains texts shown → IsText text → IsMeant question text → Agree question shown text
+      → length shown ≤ length text
+  pub order : AllPairs IsBefore texts
 
 -- ---- without regard to case
 pub record IsMeantFold (question : Question) (text : List ℕ) : Type 0 where
@@ -114,3 +128,6 @@ pub record AreKindsFold (question : Question) (texts : List (List ℕ)) : Type 0
   pub whole : (text : List ℕ) → IsText text → IsMeantFold question text
       → (shown : List ℕ) × Contains texts shown × AgreeFold question shown text
   pub apart : AllPairs (λ one other. ¬ AgreeFold question one other) texts
+  pub shortest : (shown text : List ℕ) → Contains texts shown → IsText text → IsMeantFold question text → AgreeFold question shown text
+      → length shown ≤ length text
+  pub order : AllPairs IsBefore texts

@@ -7,7 +7,7 @@ use Rattle.std.specs.List.Sorted.{IsStrictlyIncreasing}
 use Rattle.std.specs.Option.{option_map_or}
 use Rattle.iam_glob.specs.Glob.{Matches}
 use Rattle.iam_kinds.specs.Code.{AreIn, IsTable, Leads, first_stage, is_last_stage, next_stage, stage_number}
-use Rattle.iam_kinds.specs.Kinds.{IsIn, IsText}
+use Rattle.iam_kinds.specs.Kinds.{IsBefore, IsIn, IsText}
 use Rattle.iam_kinds.specs.Lists.{lists_in}
 use Rattle.iam_kinds.specs.Places.{IsRising}
 use Rattle.iam_kinds.specs.States.{HasManyStates, IsPlace, Machine, State, stage_behind}
@@ -75,8 +75,10 @@ Alike query one other = (g : ℕ) → Has query g one ↔ Has query g other
 
 pub record AreTexts (query : Query) (texts : List (List ℕ)) : Type 0 where
   pub sought : (text : List ℕ) → Contains texts text → IsSought query text
-  pub whole : (text : List ℕ) → IsText text → IsSought query text → (shown : List ℕ) × Contains texts shown × Alike query shown text
+  pub whole : (text : List ℕ) → IsText text → IsSought query text
+      → (shown : List ℕ) × Contains texts shown × Alike query shown text × (length shown ≤ length text)
   pub apart : AllPairs (λ one other. ¬ Alike query one other) texts
+  pub order : AllPairs IsBefore texts
 
 -- whether characters complete a text of the grammar that is read as far as this
 abbrev pub completes : List ℕ → Stage → Bool
@@ -117,6 +119,7 @@ pub record StandsFor (asked : Asked) (other text : List ℕ) : Type 0 where
   pub groups : (g : ℕ) (rest : List ℕ) → Has (query_of asked) g (text ++ rest) ↔ Has (query_of asked) g (other ++ rest)
   pub named : IsFree (query_of asked) other ⊎ (other ≡ text)
   pub state : HasState (machine_at asked) other text
+  pub shorter : length other ≤ length text
 
 -- the numbers of the groups that match the text, in order
 pub record Describes (query : Query) (numbers text : List ℕ) : Type 0 where
@@ -126,9 +129,25 @@ pub record Describes (query : Query) (numbers text : List ℕ) : Type 0 where
 abbrev pub shown_in : Walk → List (List ℕ)
 shown_in walk = map (λ text. text.items) walk.shown.items
 
--- a text like this one is shown
+-- a text like this one is shown that is not longer
 abbrev pub IsCovered : Asked → Walk → List ℕ → Type 0
-IsCovered asked walk text = (shown : List ℕ) × Contains (shown_in walk) shown × Alike (query_of asked) shown text
+IsCovered asked walk text =
+    (shown : List ℕ) × Contains (shown_in walk) shown × Alike (query_of asked) shown text × (length shown ≤ length text)
+
+-- the texts of the walk are before this one
+pub record IsBelow (walk : Walk) (text : List ℕ) : Type 0 where
+  pub nodes : (node : Node) → Contains walk.nodes.items node → IsBefore node.text.items text
+  pub shown : (shown : List ℕ) → Contains (shown_in walk) shown → IsBefore shown text
+
+-- so they are still once a node with this text came
+abbrev pub StaysBelow : Walk → Walk → List ℕ → Type 0
+StaysBelow old new added = (text : List ℕ) → IsBelow old text → IsBefore added text → IsBelow new text
+
+-- so they are still once these letters were tried at a node
+abbrev pub StaysBelowBehind : Walk → Walk → ℕ → List ℕ → Type 0
+StaysBelowBehind old new head letters =
+    (node : Node) → slice_get old.nodes.items head ≡ Some node → (text : List ℕ) → IsBelow old text
+    → ((c : ℕ) → Contains letters c → IsBefore (node.text.items ++ (c ∷ [])) text) → IsBelow new text
 
 pub record IsWalk (asked : Asked) (walk : Walk) : Type 0 where
   pub nodes : (node : Node) → Contains walk.nodes.items node → IsAt asked node
@@ -136,6 +155,8 @@ pub record IsWalk (asked : Asked) (walk : Walk) : Type 0 where
   pub few : length (shown_in walk) ≤ 4096
   pub covered : (node : Node) → Contains walk.nodes.items node → IsSought (query_of asked) node.text.items → IsCovered asked walk node.text.items
   pub apart : AllPairs (λ one other. ¬ Alike (query_of asked) one other) (shown_in walk)
+  pub rising : AllPairs (λ one other. IsBefore one.text.items other.text.items) walk.nodes.items
+  pub order : AllPairs IsBefore (shown_in walk)
   pub kinds : (numbers : List ℕ) → Contains (lists_in walk.kinds) numbers
       → (shown : List ℕ) × Contains (shown_in walk) shown × Describes (query_of asked) numbers shown
   pub described : (shown : List ℕ) → Contains (shown_in walk) shown

@@ -18,9 +18,10 @@ use std::alloc::Global;
 /// One text of each kind.
 #[derive(Debug, Drop)]
 pub enum Kinds {
-    /// These texts, each by its characters.
+    /// These texts, each by its characters: no text of its kind is shorter, and they stand in order of their lengths, those of one
+    /// length by code points.
     Shown(Vec<Vec<char>>),
-    /// There are more than 65,536 states, 4,096 kinds or 4,194,304 places of states.
+    /// There are more than 65,536 states, 4,096 kinds or 4,194,304 places in all states.
     NotShown,
 }
 

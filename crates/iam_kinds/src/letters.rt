@@ -1,6 +1,7 @@
 // The letters that a walk tries behind a text.
 ghost use Rattle.std.specs.Prelude.{[], ◌≡◌, ◌==◌, ◌↔◌, ◌⊎◌, ℕ, Contains, IfNone, IfOk, IfSome, IsTrue, OnOk, false, is_some, map, true};
 ghost use Rattle.std.specs.List.{list_any};
+ghost use Rattle.std.specs.List.Sorted.{IsStrictlyIncreasing};
 ghost use Rattle.std.specs.Char.{IsScalar};
 ghost use Rattle.iam_kinds.specs.Letters.{HasFree, Stands, begins_with, goes_on, is_free, is_other, tails_of};
 ghost use Rattle.iam_kinds.specs.Code.{SameElements, next_stage};
@@ -109,8 +110,9 @@ impl Behind<'_> {
 
     /// The letters that are tried, in order.
     pub fn letters(&self, alloc: Global) -> Result<Vec<char>, OutOfMemory>
-        ensures { IfOk result (λ v. (c : ℕ) → IsScalar c → is_some (next_stage self.now.stage c) ≡ true
+        ensures stand { IfOk result (λ v. (c : ℕ) → IsScalar c → is_some (next_stage self.now.stage c) ≡ true
             → Stands self.now.stage self.now.waited.now (map (λ t. t.now) self.now.tails.now) v.items c) }
+        ensures rising { IfOk result (λ v. IsStrictlyIncreasing v.items) }
     {
         let mut letters = Vec::from_slice(alloc, self.waited)?;
         self.add_unwaited(&mut letters)?;
@@ -120,7 +122,8 @@ impl Behind<'_> {
 
 /// The letters in order, each once.
 pub fn sorted_letters(letters: Vec<char>) -> Vec<char>
-    ensures { SameElements result.items letters.items }
+    ensures rising { IsStrictlyIncreasing result.items }
+    ensures same { SameElements result.items letters.items }
 {
     let mut letters = letters;
     letters.sort_unstable();

@@ -1,10 +1,14 @@
 // The walk over the states of the patterns, breadth first.
-ghost use Rattle.std.specs.Prelude.{[], ◌∷◌, ◌++◌, ◌≡◌, ◌↔◌, ◌<◌, ◌≤◌, ◌+◌, ◌⊎◌, MatchBool, ℕ, Contains, IfNone, IfOk, IfSome, IsTrue, length, map};
+ghost use Rattle.std.specs.Prelude.{[], ◌∷◌, ◌++◌, ◌≡◌, ◌↔◌, ◌<◌, ◌≤◌, ◌+◌, ◌⊎◌, MatchBool, List, Some, ℕ, Contains, IfNone, IfOk, IfSome, IsTrue, length, map};
 ghost use Rattle.std.specs.Bool.{OnFalse, OnTrue};
+ghost use Rattle.std.specs.List.{slice_get};
+ghost use Rattle.std.specs.List.Sorted.{IsStrictlyIncreasing};
+ghost use Rattle.iam_kinds.specs.Kinds.{IsBefore};
+ghost use Rattle.iam_kinds.specs.declared.asked.Node.{Node};
 ghost use Rattle.iam_kinds.specs.Kinds.{IsText};
 ghost use Rattle.iam_kinds.specs.Lists.{lists_in};
 ghost use Rattle.iam_kinds.specs.declared.asked.Asked.{Asked};
-ghost use Rattle.iam_kinds.specs.Walk.{AreTexts, Describes, Grows, HasSeen, IsAt, IsExpandedAt, IsMet, IsOver, IsReady, IsSought, IsCovered, IsTried, IsWalk, TriesAll, query_of};
+ghost use Rattle.iam_kinds.specs.Walk.{AreTexts, Describes, Grows, HasSeen, IsAt, IsBelow, IsExpandedAt, IsMet, IsOver, IsReady, IsSought, IsCovered, IsTried, IsWalk, StaysBelow, StaysBelowBehind, TriesAll, query_of, shown_in};
 
 use crate::OutOfMemory;
 use crate::asked::{Asked, Node};
@@ -37,6 +41,7 @@ impl<'a> Walk<'a> {
         ensures walk { (asked : Asked) → IsWalk asked result }
         ensures seen { HasSeen result }
         ensures nodes { result.nodes.items ≡ [] }
+        ensures below { (text : List ℕ) → IsBelow result text }
     {
         Walk {
             nodes: Vec::new(alloc),
@@ -83,6 +88,9 @@ impl<'a> Walk<'a> {
         requires walk { IsWalk asked.now self.old }
         requires described { Describes (query_of asked.now) numbers.items text.now }
         requires sought { IsText text.now × IsSought (query_of asked.now) text.now }
+        requires below { IsBelow self.old text.now }
+        ensures only { IfOk result (λ fits. OnTrue fits ((shown : List ℕ) → Contains (shown_in self.new) shown
+            → Contains (shown_in self.old) shown ⊎ (text.now ≡ shown))) }
         ensures walk { IfOk result (λ fits. OnTrue fits (IsWalk asked.now self.new)) }
         ensures covered { IfOk result (λ fits. OnTrue fits (IsCovered asked.now self.new text.now)) }
         ensures nodes { IfOk result (λ fits. OnTrue fits (self.new.nodes.items ≡ self.old.nodes.items)) }
@@ -106,8 +114,10 @@ impl<'a> Walk<'a> {
     fn add(&mut self, alloc: Global, asked: &Asked<'a>, node: Node<'a>) -> Result<bool, OutOfMemory>
         requires walk { IsWalk asked.now self.old }
         requires at { IsAt asked.now node }
+        requires below { IsBelow self.old node.text.items }
         ensures walk { IfOk result (λ fits. OnTrue fits (IsWalk asked.now self.new)) }
         ensures nodes { IfOk result (λ fits. OnTrue fits (self.new.nodes.items ≡ self.old.nodes.items ++ (node.entry ∷ []))) }
+        ensures only { IfOk result (λ fits. OnTrue fits (StaysBelow self.old self.new node.entry.text.items)) }
         ensures seen { IfOk result (λ fits. OnTrue fits (lists_in self.new.seen ≡ lists_in self.old.seen)) }
         ensures states { IfOk result (λ fits. OnTrue fits (self.new.states ≡ self.old.states)) }
         ensures places { IfOk result (λ fits. OnTrue fits (self.new.places ≡ self.old.places)) }
@@ -133,10 +143,12 @@ impl<'a> Walk<'a> {
         requires walk { IsWalk asked.now self.old }
         requires seen { HasSeen self.old }
         requires at { IsAt asked.now node }
+        requires below { IsBelow self.old node.text.items }
         ensures walk { IfOk result (λ fits. OnTrue fits (IsWalk asked.now self.new)) }
         ensures seen { IfOk result (λ fits. OnTrue fits (HasSeen self.new)) }
         ensures grows { IfOk result (λ fits. OnTrue fits (Grows self.old self.new)) }
         ensures met { IfOk result (λ fits. OnTrue fits (IsMet asked.now self.new node.entry.text.items)) }
+        ensures only { IfOk result (λ fits. OnTrue fits (StaysBelow self.old self.new node.entry.text.items)) }
         ensures over { IfOk result (λ fits. OnFalse fits (IsOver asked.now)) }
     {
         if !node.tails.is_empty() {
@@ -173,10 +185,13 @@ impl<'a> Walk<'a> {
         requires walk { IsWalk asked.now self.old }
         requires seen { HasSeen self.old }
         requires head { head < length self.old.nodes.items }
+        requires below { (node : Node) → slice_get self.old.nodes.items head ≡ Some node → (c : ℕ) → IsBelow self.old (node.text.items ++ (c ∷ [])) }
         ensures walk { IfOk result (λ fits. OnTrue fits (IsWalk asked.now self.new)) }
         ensures seen { IfOk result (λ fits. OnTrue fits (HasSeen self.new)) }
         ensures grows { IfOk result (λ fits. OnTrue fits (Grows self.old self.new)) }
         ensures expanded { IfOk result (λ fits. OnTrue fits (IsExpandedAt asked.now self.new head)) }
+        ensures only { IfOk result (λ fits. OnTrue fits ((node : Node) → slice_get self.old.nodes.items head ≡ Some node → (text : List ℕ)
+            → IsBelow self.old text → ((c : ℕ) → IsBefore (node.text.items ++ (c ∷ [])) text) → IsBelow self.new text)) }
         ensures over { IfOk result (λ fits. OnFalse fits (IsOver asked.now)) }
     {
         let letters = self.letters(alloc, asked, head)?;
@@ -200,10 +215,12 @@ impl<'a> Walk<'a> {
         requires walk { IsWalk asked.now self.old }
         requires seen { HasSeen self.old }
         requires head { head < length self.old.nodes.items }
+        requires below { (node : Node) → slice_get self.old.nodes.items head ≡ Some node → IsBelow self.old (node.text.items ++ (letter ∷ [])) }
         ensures walk { IfOk result (λ fits. OnTrue fits (IsWalk asked.now self.new)) }
         ensures seen { IfOk result (λ fits. OnTrue fits (HasSeen self.new)) }
         ensures grows { IfOk result (λ fits. OnTrue fits (Grows self.old self.new)) }
         ensures tried { IfOk result (λ fits. OnTrue fits (IsTried asked.now self.new head (letter ∷ []))) }
+        ensures only { IfOk result (λ fits. OnTrue fits (StaysBelowBehind self.old self.new head (letter ∷ []))) }
         ensures over { IfOk result (λ fits. OnFalse fits (IsOver asked.now)) }
     {
         match asked.child(alloc, &self.nodes[head], letter)? {
@@ -222,7 +239,8 @@ impl<'a> Walk<'a> {
         requires ready { IsReady asked.now }
         requires walk { IsWalk asked.now self.now }
         requires head { head < length self.now.nodes.items }
-        ensures { IfOk result (λ v. TriesAll asked.now self.now v.items head) }
+        ensures tries { IfOk result (λ v. TriesAll asked.now self.now v.items head) }
+        ensures rising { IfOk result (λ v. IsStrictlyIncreasing v.items) }
     {
         let node = &self.nodes[head];
         let waited = asked.waited(alloc, node)?;

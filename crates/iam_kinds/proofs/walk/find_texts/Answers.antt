@@ -1,6 +1,8 @@
-use Rattle.std.proofs.Common.{◌<◌, [], arith, subst, ℕ, length, below_more}
+use Rattle.std.proofs.Common.{◌<◌, [], ◌∷◌, ◌++◌, List, arith, sym, subst, ℕ, length, below_more}
+use Rattle.iam_kinds.specs.Kinds.{IsBefore}
+use Rattle.iam_kinds.proofs.OrderLemmas.{before_any}
 use Rattle.iam_kinds.specs.Walk.{IsExpandedAt, IsMet}
-use Rattle.iam_kinds.proofs.GoLemmas.{AllExpanded, are_texts, expanded_more, grown_length, met_more}
+use Rattle.iam_kinds.proofs.GoLemmas.{AllExpanded, are_texts, below_head, expanded_more, grown_length, met_more}
 use Rattle.iam_kinds.proofs.LimitLemmas.{not_over}
 use Rattle.iam_kinds.proofs.walk.find_texts.Goals as goal
 
@@ -14,6 +16,9 @@ loop-head-init c = record {
   root = subst (IsMet c.args.asked.now c.put.new.self) c.in_ok-root.ensures.text (rw c.if-not-branch.false at c.in_ok-put.ensures.met);
   below = omega arith;
   expanded = λ i below. absurd (omega (arith, below));
+  behind = λ node at d.
+      (rw c.if-not-branch.false at c.in_ok-put.ensures.only) (node.text.items ++ (d ∷ [])) (c.new-walk.ensures.below (node.text.items ++ (d ∷ [])))
+      (subst (λ (l : List ℕ). IsBefore l (node.text.items ++ (d ∷ []))) (sym c.in_ok-root.ensures.text) (before_any node.text.items d));
 }
 
 pub loop-head-preserved : goal.loop-head-preserved
@@ -31,6 +36,9 @@ loop-head-preserved c =
       expanded = below_more P c.loop-head.head
           (λ i below. expanded_more c.args.asked.now old new i (omega (arith, below, within)) grows (c.loop-head.invariant.expanded i below))
           (rw c.if-not-branch-2.false at c.in_ok-expand.ensures.expanded);
+      behind =
+          below_head c.args.asked.now old new c.loop-head.head within grows (rw c.if-not-branch-2.false at c.in_ok-expand.ensures.walk) c.loop-head.invariant.behind
+          (rw c.if-not-branch-2.false at c.in_ok-expand.ensures.only);
     }
 
 pub returns-then-head-len-clause-some : goal.returns-then-head-len-clause-some

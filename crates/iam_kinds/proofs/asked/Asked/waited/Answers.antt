@@ -16,4 +16,4 @@ returns c =
       | in_default w ↦
           ap (λ v. v.items) w.waited-is ∙ before ∙ sym (append-nil at) ∙ ap (λ (l : List ℕ). at ++ l) (sym (no_colon c.args.node.now.stage.part w.in_default.not-Service))
     ] in
-    same_as _ _ _ c.sorted_letters.ensures all
+    same_as _ _ _ c.sorted_letters.ensures.same all

@@ -1,5 +1,5 @@
 use Rattle.std.proofs.Common.{sym}
-use Rattle.iam_kinds.proofs.GoLemmas.{if_both_fit, tried_none, tried_one}
+use Rattle.iam_kinds.proofs.GoLemmas.{below_one, if_both_fit, if_fits, tried_none, tried_one}
 use Rattle.iam_kinds.proofs.walk.Walk.go.Goals as goal
 
 pub child-requires : goal.child-requires
@@ -18,3 +18,9 @@ pub returns-in-None-clause-tried : goal.returns-in-None-clause-tried
 returns-in-None-clause-tried c =
     tried_none c.args.asked.now c.args.self.now c.args.head c.index.result.now c.args.letter (sym c.index.ensures)
     (rw c.in-None.is at c.in_ok-child.ensures.none)
+
+pub returns-in-Some-clause-only : goal.returns-in-Some-clause-only
+returns-in-Some-clause-only c =
+    if_fits c.put.result (λ only.
+    below_one c.args.self.now c.put.new.self c.args.head c.index.result.now c.in-Some.child c.args.letter (sym c.index.ensures)
+    (rw c.in-Some.is at c.in_ok-child.ensures.text) only) c.put.ensures.only

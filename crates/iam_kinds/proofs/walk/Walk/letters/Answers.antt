@@ -7,8 +7,8 @@ use Rattle.iam_kinds.proofs.walk.Walk.letters.Goals as goal
 pub waited-requires : goal.waited-requires
 waited-requires c = c.requires.walk.nodes c.index-node.result.now (c.args.head, c.requires.head, sym c.index-node.ensures)
 
-pub returns : goal.returns
-returns c =
+pub returns-clause-tries : goal.returns-clause-tries
+returns-clause-tries c =
     IfOk-weaker c.letters.result _ (λ v. TriesAll c.args.asked.now c.args.self.now v.items c.args.head) (λ v stands.
     tries_node c.args.asked.now c.args.self.now c.args.head c.index-node.result.now c.in_ok-waited.waited.items c.deref.result.now c.deref-2.result.now v.items
-    c.requires.ready c.requires.walk c.requires.head (sym c.index-node.ensures) c.in_ok-waited.ensures c.deref.ensures.value c.deref-2.ensures.value stands) c.letters.ensures
+    c.requires.ready c.requires.walk c.requires.head (sym c.index-node.ensures) c.in_ok-waited.ensures c.deref.ensures.value c.deref-2.ensures.value stands) c.letters.ensures.stand

@@ -1,7 +1,7 @@
 use Rattle.std.proofs.Common.{◌≡◌, ◌⊎◌, ◌<◌, ◌≤◌, ◌+◌, ◌∷◌, [], ◌∙◌, ap, arith, refl, sym, subst, List, ℕ, length, map, eqb-true, eq-eqb, true, false}
 use Rattle.std.proofs.lemmas.List.{nil_from_length}
 use Rattle.std.specs.List.{Contains}
-use Rattle.iam_kinds.proofs.GoLemmas.{if_fits, if_four_fit, met_now}
+use Rattle.iam_kinds.proofs.GoLemmas.{if_fits, if_four_fit, met_now, same_below}
 use Rattle.iam_kinds.proofs.LimitLemmas.{many_states, met_before, seen_before, seen_more, seen_now, some_tails}
 use Rattle.iam_kinds.proofs.walk.Walk.put.Goals as goal
 
@@ -54,9 +54,19 @@ returns-then-not-is_new-clause-seen c =
 
 pub returns-then-not-is_new-clause-met : goal.returns-then-not-is_new-clause-met
 returns-then-not-is_new-clause-met c =
-    met_before c.args.asked.now c.args.self.now c.args.node c.in_ok-key.key.items c.requires.walk c.requires.seen c.requires.at c.in_ok-key.ensures
+    met_before c.args.asked.now c.args.self.now c.args.node c.in_ok-key.key.items c.requires.walk c.requires.below c.requires.seen c.requires.at c.in_ok-key.ensures
     (rw c.if-not-is_new.true at c.in_ok-is_new.ensures.0)
 
 pub returns-clause-met : goal.returns-clause-met
 returns-clause-met c =
     if_fits c.add-3.result (λ nodes. met_now c.args.asked.now c.args.self.now c.add-3.new.self c.args.node nodes) c.add-3.ensures.nodes
+
+pub returns-then-not-is_empty-clause-grows : goal.returns-then-not-is_empty-clause-grows
+returns-then-not-is_empty-clause-grows c = if_fits c.add.result (λ nodes. (c.args.node ∷ [], nodes)) c.add.ensures.nodes
+
+pub returns-clause-only : goal.returns-clause-only
+returns-clause-only c =
+    if_fits c.add-3.result (λ only text below before. only text (same_below c.args.self.now _ text refl refl below) before) c.add-3.ensures.only
+
+pub returns-then-not-is_new-clause-only : goal.returns-then-not-is_new-clause-only
+returns-then-not-is_new-clause-only c = λ text below before. same_below c.args.self.now _ text refl refl below
