@@ -13,7 +13,7 @@ from .files import compact
 from .keys import with_key
 from .kinds import Origin, Origins
 from .making import Estate, bound
-from .patterns import common, is_pattern, matcher
+from .patterns import common, is_pattern, matcher, plain
 from .questions import ARN, Scope, account_for, with_account
 from .program import Refused
 from .references import References
@@ -189,7 +189,7 @@ def spoken_actions(before: Source, after: Source, patterns: List[str]) -> Action
     found: Actions = {}
     for asked in patterns:
         if not is_pattern(asked):
-            found[asked.lower()] = asked, None
+            found[plain(asked).lower()] = plain(asked), None
             continue
         for action in known:
             if matcher(asked, True)(action) and any(matcher(it, True)(action) for it in spoken):
@@ -278,8 +278,8 @@ def same_cell(changes: Changes, cell: int, is_before: bool) -> Any:
 
 def is_named(worlds: Sequence[World], asked: str) -> bool:
     """Whether an ARN is asked for, which no resource of the worlds has."""
-    is_arn = ARN.fullmatch(asked) is not None and not is_pattern(asked)
-    return is_arn and not any(it["arn"] == asked for world in worlds for it in world["resources"])
+    is_arn = ARN.fullmatch(plain(asked)) is not None and not is_pattern(asked)
+    return is_arn and not any(it["arn"] == plain(asked) for world in worlds for it in world["resources"])
 
 
 def witnesses_of(worlds: Sequence[World], pattern: str) -> Dict[Tuple[str, str], Origin]:
@@ -306,8 +306,8 @@ def with_witnesses(scopes: Sequence[Scope], worlds: Sequence[World], pattern: st
     """The resources of the worlds before and after that a pattern chooses; of exports with a text for each pattern of the
     documents that speak, and what these stand for. An ARN that no world names is asked for all the same."""
     if is_named(worlds, pattern):
-        account = account_for(scopes[0], worlds[0], pattern)
-        return [with_named(scope, world, pattern, account) for scope, world in zip(scopes, worlds)], {}
+        account = account_for(scopes[0], worlds[0], plain(pattern))
+        return [with_named(scope, world, plain(pattern), account) for scope, world in zip(scopes, worlds)], {}
     named = {it["arn"] for world in worlds for it in world["resources"]}
     every = witnesses_of(worlds, pattern) if scopes[0].source.estate and is_pattern(pattern) else {}
     # A resource that one of the worlds has is not made up in the other.

@@ -8,7 +8,7 @@ from .asking import ask_all
 from .documents import World, cells_of, conditions_of, each, statements_of
 from .keys import givers, lacks, plain_operator, with_key
 from .kinds import first_text, statements, values_of
-from .patterns import common, resolved
+from .patterns import common, of_policy, resolved
 from .reports import Answers
 
 # Requests that are asked at most.
@@ -48,7 +48,7 @@ def texts_for(operator: str, value: Any) -> List[str]:
     if plain.endswith("IpAddress"):
         return [text.split("/")[0]]
     if plain.endswith("Like") or plain.startswith("Arn"):
-        return [common(text) or text]
+        return [common(of_policy(text)) or text]
     return [text]
 
 

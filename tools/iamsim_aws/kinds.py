@@ -5,7 +5,7 @@ from typing import Any, Callable, Dict, Iterable, Iterator, List, NamedTuple, Op
 
 from .arns import account_of, owner_of, principal_arn, resource_part, service_of
 from .documents import Place, World, each, places, statements_of
-from .patterns import common, is_pattern, matcher, resolved
+from .patterns import common, is_pattern, matcher, of_policy, pattern_of, plain
 
 REGION = "us-east-1"
 # What stands for the parts of an ARN that a pattern leaves open.
@@ -176,8 +176,8 @@ def resources(world: World, asked: str, actions: List[str]) -> Witnesses:
     for place, statement, is_new in statements(world, actions):
         values, account = values_of(world, place.path)
         for text in texts_of(statement, "Resource", "NotResource"):
-            pattern = resolved(text, values) if is_new else text
-            if pattern is not None and pattern not in named:
+            pattern = pattern_of(text, values) if is_new else of_policy(text)
+            if pattern is not None and plain(pattern) not in named:
                 patterns.setdefault((pattern, account), place.policy.name)
     found: Dict[Tuple[str, str], Witness] = {}
     without, absent = [], []
@@ -191,10 +191,11 @@ def resources(world: World, asked: str, actions: List[str]) -> Witnesses:
         elif arn and owner in ids:
             if arn not in named:
                 one = beside(world, arn, owner)
-                origin = Origin(pattern, patterns.get((pattern, account), ""))
+                policy = patterns.get((pattern, account), "")
+                origin = Origin(plain(pattern) if policy else pattern, policy)
                 found.setdefault((arn, one["account"]), Witness(one, origin))
         elif pattern != wide and common(pattern, of_pattern):
-            without.append(pattern)
+            without.append(plain(pattern))
     return Witnesses(list(found.values()), list(dict.fromkeys(without)), list(dict.fromkeys(absent)))
 
 

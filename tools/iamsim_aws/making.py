@@ -19,7 +19,7 @@ from .faults import Fault
 from .keys import with_callers
 from .naming import control_policy, resource_policy, trust_policy
 from .organizations import Organization
-from .patterns import any_matches, is_pattern, matcher
+from .patterns import any_matches, matcher
 
 
 # What a role has whose trust policy nobody knows yet: it is asked for as a principal alone.
@@ -90,7 +90,7 @@ def warnings(resources: List[Dict[str, Any]]) -> List[str]:
     found = []
     for it in resources:
         arn, of = it["arn"], account_of(it["arn"])
-        if is_pattern(arn) and arn != "*":
+        if ("*" in arn or "?" in arn) and arn != "*":
             found.append(f"{arn}: a resource is one text and no pattern: this one is named {arn}, wildcards and all")
         if of and of != it["account"]:
             found.append(f"{arn}: its ARN names the account {of}, and its account is {it['account']}")

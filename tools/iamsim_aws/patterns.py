@@ -1,17 +1,42 @@
-"""Patterns with '*' and '?', and texts that are made of them."""
+"""Patterns with '*' and '?', and texts that are made of them. A backslash before one of these, or before a backslash, gives that
+character; elsewhere it stands for itself, and so it always does in a policy."""
 
 import difflib
 import functools
+import itertools
 import re
-from typing import Callable, Dict, Iterable, List, Optional
+from typing import Callable, Dict, Iterable, List, Optional, Sequence, Tuple
 
 VARIABLE = re.compile(r"\$\{([^${},'*?]+)(?:, *'([^']*)')?\}|\$\{([*?$])\}")
+SIGN = re.compile(r"\\[*?\\]|.", re.DOTALL)
+
+
+@functools.lru_cache(maxsize=None)
+def signs_of(pattern: str) -> Tuple[str, ...]:
+    """The signs of a pattern: '*' for a run, '?', and each given character behind a backslash."""
+    found: List[str] = []
+    for it in SIGN.findall(pattern):
+        if it not in ("*", "?"):
+            found.append("\\" + it[-1])
+        elif it == "?" or found[-1:] != ["*"]:
+            found.append(it)
+    return tuple(found)
+
+
+def is_given(sign: str) -> bool:
+    return sign.startswith("\\")
 
 
 @functools.lru_cache(maxsize=None)
 def matcher(pattern: str, fold: bool = False) -> Callable[[str], object]:
     """Whether a text matches the whole pattern."""
-    first, *rest = ("".join("." if it == "?" else re.escape(it) for it in part) for part in re.split(r"\*+", pattern))
+    parts = [""]
+    for it in signs_of(pattern):
+        if it == "*":
+            parts.append("")
+        else:
+            parts[-1] += re.escape(it[1]) if is_given(it) else "."
+    first, *rest = parts
     # What stands between two runs is taken where it comes first, for good: a look ahead is not gone back into.
     middle = "".join(f"(?=(?P<run{n}>.*?{part}))(?P=run{n})" for n, part in enumerate(rest[:-1]))
     expression = first + middle + "".join(f".*{part}" for part in rest[-1:])
@@ -19,7 +44,22 @@ def matcher(pattern: str, fold: bool = False) -> Callable[[str], object]:
 
 
 def is_pattern(text: str) -> bool:
-    return "*" in text or "?" in text
+    return not all(map(is_given, signs_of(text)))
+
+
+def plain(pattern: str) -> str:
+    """A pattern without the backslashes that give characters: the only text that matches one without wildcards."""
+    return "".join(it[-1] for it in SIGN.findall(pattern))
+
+
+def of_policy(text: str) -> str:
+    """The pattern of a policy's text without variables."""
+    return text.replace("\\", "\\\\")
+
+
+def of_given(text: str) -> str:
+    """The pattern that this text alone matches."""
+    return re.sub(r"[*?\\]", r"\\\g<0>", text)
 
 
 def any_matches(patterns: Iterable[str], texts: List[str], fold: bool = False) -> bool:
@@ -35,7 +75,7 @@ def near(asked: str, names: Iterable[str]) -> str:
     last, parts = last_of(asked), {it: last_of(it) for it in names}
     if not last.strip("*?"):
         return ""
-    alike = difflib.get_close_matches(last, parts.values(), cutoff=0.8)
+    alike = difflib.get_close_matches(plain(last), parts.values(), cutoff=0.8)
     found = [it for it in parts if matcher(last, True)(parts[it])] or [it for it in parts if parts[it] in alike]
     return f" (near is {', '.join(found[:3])})" if found else ""
 
@@ -44,30 +84,47 @@ def variables_of(text: str) -> List[str]:
     return [it.group(1) for it in VARIABLE.finditer(text) if it.group(1)]
 
 
-def resolved(text: str, values: Dict[str, str]) -> Optional[str]:
-    """The text with the variables' values, keys in lower case; None where one has none."""
+def with_variables(text: str, value_of: Callable[[str, Optional[str]], str]) -> str:
+    """The pattern of a policy's text, with patterns in place of its variables, each by its key and its default."""
+    made, behind = [], 0
+    for it in VARIABLE.finditer(text):
+        key, default, sign = it.groups()
+        made += [of_policy(text[behind : it.start()]), of_given(sign) if sign else value_of(key, default)]
+        behind = it.end()
+    return "".join([*made, of_policy(text[behind:])])
+
+
+def opened(text: str) -> str:
+    """The pattern of a policy's text in which each variable may be any text."""
+    return with_variables(text, lambda *_: "*")
+
+
+def pattern_of(text: str, values: Dict[str, str]) -> Optional[str]:
+    """The pattern of a policy's text with the variables' values, keys in lower case; None where one has none."""
     lacking: List[str] = []
 
-    def value(found: "re.Match[str]") -> str:
-        key, default, sign = found.groups()
-        if sign:
-            return sign
+    def value(key: str, default: Optional[str]) -> str:
         given = values.get(key.lower(), default)
         if given is None:
             lacking.append(key)
-        return given or ""
+        return of_policy(given or "")
 
-    made = VARIABLE.sub(value, text)
+    made = with_variables(text, value)
     return None if lacking else made
 
 
-def signs_of(pattern: str, full: bool) -> str:
-    """The pattern's signs; where it is full, a run has at least one character."""
-    merged = re.sub(r"\*+", "*", pattern)
-    return merged.replace("*", "?*") if full else merged
+def resolved(text: str, values: Dict[str, str]) -> Optional[str]:
+    """The text with the variables' values, keys in lower case; None where one has none."""
+    made = pattern_of(text, values)
+    return None if made is None else plain(made)
 
 
-def steps(signs: str, at: int) -> List[int]:
+def filled_runs(signs: Iterable[str]) -> List[str]:
+    """The signs, where each run has at least one character."""
+    return [one for it in signs for one in (("?", "*") if it == "*" else (it,))]
+
+
+def steps(signs: Sequence[str], at: int) -> List[int]:
     """The places that are reached without a character: a run may end."""
     found = [at]
     while found[-1] < len(signs) and signs[found[-1]] == "*":
@@ -75,12 +132,12 @@ def steps(signs: str, at: int) -> List[int]:
     return found
 
 
-def taken(signs: str, at: int) -> int:
+def taken(signs: Sequence[str], at: int) -> int:
     """The place behind one character."""
     return at if signs[at] == "*" else at + 1
 
 
-def meeting(first: str, second: str, fold: bool) -> Optional[str]:
+def meeting(first: Sequence[str], second: Sequence[str], fold: bool) -> Optional[str]:
     """A shortest text that matches both lists of signs."""
     seen = {(0, 0): ""}
     queue = [(0, 0)]
@@ -91,9 +148,8 @@ def meeting(first: str, second: str, fold: bool) -> Optional[str]:
                     return seen[i, j]
                 if a == len(first) or b == len(second):
                     continue
-                one, other = first[a], second[b]
-                given = [it for it in (one, other) if it not in "*?"]
-                if len(given) == 2 and (one.lower() != other.lower() if fold else one != other):
+                given = [it[1] for it in (first[a], second[b]) if is_given(it)]
+                if len({it.lower() if fold else it for it in given}) == 2:
                     continue
                 state = taken(first, a), taken(second, b)
                 if state not in seen:
@@ -105,11 +161,14 @@ def meeting(first: str, second: str, fold: bool) -> Optional[str]:
 @functools.lru_cache(maxsize=None)
 def common(first: str, second: str = "*", fold: bool = False) -> Optional[str]:
     """A text that matches both patterns, with runs of at least one character where that can be; None where none does."""
-    given = [re.split(r"[*?]", it.lower() if fold else it, maxsplit=1)[0] for it in (first, second)]
-    if not given[0].startswith(given[1]) and not given[1].startswith(given[0]):
+    signs = [signs_of(it) for it in (first, second)]
+    given = ["".join(one[1] for one in itertools.takewhile(is_given, it)) for it in signs]
+    one, other = (it.lower() if fold else it for it in given)
+    if not one.startswith(other) and not other.startswith(one):
         return None
-    for one, other in ((True, True), (True, False), (False, True), (False, False)):
-        found = meeting(signs_of(first, one), signs_of(second, other), fold)
+    full = [filled_runs(it) for it in signs]
+    for one_of, other_of in ((full[0], full[1]), (full[0], signs[1]), (signs[0], full[1]), (signs[0], signs[1])):
+        found = meeting(one_of, other_of, fold)
         if found is not None:
             return found
     return None

@@ -10,7 +10,7 @@ from .faults import Fault
 from .kinds import Origin, Origins
 from .making import bound
 from .naming import resource_policy
-from .patterns import any_matches, is_pattern, matcher, near
+from .patterns import any_matches, is_pattern, matcher, near, plain
 from .sources import ASSUME, Source
 from .strangers import is_excepted, is_meant, strangers, with_strangers
 
@@ -105,9 +105,10 @@ def asked_in(scope: Scope, world: World, question: Question) -> Asked:
     pattern = question.resource
     found = [it for it in world["resources"] if any_matches([pattern], names_of_resource(it["arn"]))]
     added = []
-    if not found and ARN.fullmatch(pattern) and not is_pattern(pattern) and not kinds.is_absent_role(world, pattern):
-        found, added = [kinds.beside(world, pattern, account_for(scope, world, pattern))], [pattern]
-    has_kinds = scope.kinds and is_pattern(pattern)
+    is_one, arn = not is_pattern(pattern), plain(pattern)
+    if not found and is_one and ARN.fullmatch(arn) and not kinds.is_absent_role(world, arn):
+        found, added = [kinds.beside(world, arn, account_for(scope, world, arn))], [arn]
+    has_kinds = scope.kinds and not is_one
     nothing = kinds.Witnesses([], [], [])
     witnesses, without, absent = kinds.resources(world, pattern, world["actions"]) if has_kinds else nothing
     found += [it.resource for it in witnesses]
@@ -141,7 +142,7 @@ def missing(scope: Scope, question: Question) -> str:
     if not any(principals(it["principals"], question) for it in found):
         people = [principal_arn(one) for it in found for one in it["principals"]]
         return f"no principal matches {question.principal}{near(question.principal, people)}"
-    if any(kinds.is_absent_role(it, question.resource) for it in found):
+    if any(kinds.is_absent_role(it, plain(question.resource)) for it in found):
         return f"no export has the role {question.resource}, so nobody may assume it"
     hint = near(question.resource, [one["arn"] for it in found for one in it["resources"]])
     more = ", resources by --resources," if scope.source.estate else ""

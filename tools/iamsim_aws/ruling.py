@@ -18,7 +18,7 @@ from .reports import Answers
 from .sources import ASSUME
 from .strangers import is_excepted, strangers
 
-WORD = re.compile(r"(?:\\.|[^\s\\])+")
+WORD = re.compile(r"(?:\\.|\S)+")
 KINDS = ("never", "always")
 NOTHING_SPEAKS = "nothing that is named, and no pattern of a policy, is meant by it (--actions, --services and --resources name more)"
 
@@ -69,12 +69,12 @@ class Outcome(NamedTuple):
 
 
 def words_of(line: str) -> List[str]:
-    """The words of a line; '#' begins a comment, and a backslash keeps a sign as it is."""
+    """The words of a line; '#' begins a comment. A backslash keeps a space and '#', and is of the word before others."""
     found = []
     for it in WORD.findall(line):
         if it.startswith("#"):
             break
-        found.append(re.sub(r"\\(.)", r"\1", it))
+        found.append(re.sub(r"\\([\s#])|\\.", lambda kept: kept[1] or kept[0], it))
     return found
 
 

@@ -5,7 +5,7 @@ from typing import List
 from .arns import names_of_resource, resource_part
 from .documents import places, statements_of
 from .kinds import patterns_of_actions, texts_of
-from .patterns import VARIABLE, any_matches, common, is_pattern, near
+from .patterns import any_matches, common, is_pattern, near, opened
 from .questions import Question, Scope
 from .sources import ASSUME
 
@@ -29,7 +29,7 @@ def is_known_resource(scope: Scope, asked: str) -> bool:
     if any(any_matches([asked], names_of_resource(it["arn"])) for it in world["resources"]):
         return True
     every = (statement for it in places(world) for statement in statements_of(it.policy.document))
-    named = {VARIABLE.sub("*", text) for it in every for text in texts_of(it, "Resource", "NotResource")}
+    named = {opened(text) for it in every for text in texts_of(it, "Resource", "NotResource")}
     return any(may_mean(asked, it) for it in named if not is_wide(resource_part(it)))
 
 

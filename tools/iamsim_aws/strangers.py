@@ -13,7 +13,7 @@ from .exports import ACCOUNT
 from .keys import CALLER, plain_operator, with_callers
 from .kinds import filled
 from .making import keep_context
-from .patterns import any_matches
+from .patterns import any_matches, of_policy, plain
 from .sources import Source
 
 EVERYBODY = "*"
@@ -91,7 +91,7 @@ def conditioned(statement: Any, nobody: str) -> Iterator[str]:
         is_arn, is_account = key.lower() == "aws:principalarn", key.lower() in ("aws:principalaccount", CALLER.lower())
         for text in each(value) if plain_operator(operator) in EQUAL and (is_arn or is_account) else ():
             if isinstance(text, str) and "${" not in text:
-                yield (filled(text, nobody) or "") if is_arn else text
+                yield (filled(of_policy(text), nobody) or "") if is_arn else text
 
 
 def named(statement: Any, nobody: str) -> Iterator[str]:
@@ -129,7 +129,8 @@ def strangers(source: Source, worlds: List[World], asked: str = "") -> List[Prin
     """The stand-ins for those whom policies of the worlds' resources name, and for whom a question does."""
     known, estate = accounts_of(source), source.estate
     nobody, session = nobody_in(worlds, known), estate.session if estate else "session"
-    texts = {(asked if PARTY.fullmatch(asked) else account_of(asked), "aws"): None}
+    name = plain(asked)
+    texts = {(name if PARTY.fullmatch(name) else account_of(name), "aws"): None}
     for statement, partition in grants(worlds):
         texts.update(((text, partition), None) for text in named(statement, nobody))
     found: Dict[str, Principal] = {}

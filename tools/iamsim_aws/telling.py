@@ -8,7 +8,7 @@ from .documents import Policy, World, each, statements_of
 from .faults import line_of
 from .hanging import Turn
 from .kinds import Origins, speaks_of, texts_of
-from .patterns import VARIABLE, any_matches
+from .patterns import any_matches, opened
 from .reports import Answers
 from .strangers import is_stranger
 
@@ -112,7 +112,7 @@ def nearest(answers: Answers, cell: int) -> List[str]:
     for it in every:
         if any_matches(texts_of(it.statement, "Action"), [row.action], True):
             patterns = texts_of(it.statement, "Resource")
-            is_there = any_matches((VARIABLE.sub("*", text) for text in patterns), [row.resource])
+            is_there = any_matches((opened(text) for text in patterns), [row.resource])
             of = f"it is of {', '.join(patterns) or 'other resources'}"
             why = "its condition or variables do not hold" if is_there else of
             found.setdefault(is_there, f"    nearest is {it.words()}: {why}")
@@ -127,7 +127,7 @@ def silent_levels(layer: str) -> Callable[[Answers, int], List[str]]:
         for n, level in enumerate(policies_of(answers.world, p, r, layer)):
             every = [it for policy in level for it in statements_of(policy.document) if it.get("Effect") == "Allow"]
             own = [it for it in every if speaks_of(it, (row.action,))]
-            texts = [VARIABLE.sub("*", text) for it in own for text in texts_of(it, "Resource")]
+            texts = [opened(text) for it in own for text in texts_of(it, "Resource")]
             if not any("NotResource" in it for it in own) and not any_matches(texts, [row.resource]):
                 lines.append(f"    level {n} from the root does not: {', '.join(policy.name for policy in level)}")
         return lines

@@ -190,9 +190,35 @@ def test_patterns_of_many_stars():
         ("[a]*", "[a]b", True),
         ("*b*a*", "aab", False),
         ("A*b*C", "axbxC", False),
+        (r"\*", "*", True),
+        (r"\*", "x", False),
+        (r"\*", r"\*", False),
+        (r"a\?", "a?", True),
+        (r"\\", "\\", True),
+        (r"\\*", r"\x", True),
+        (r"\\\*", r"\*", True),
+        (r"\\\*", r"\x", False),
+        (r"\a", r"\a", True),
+        (r"\a", "a", False),
+        ("a\\", "a\\", True),
     ):
         same(bool(patterns.matcher(pattern)(text)), is_match, f"{pattern} {text!r}")
     assert patterns.matcher("S3:*Get*Object", True)("s3:getAnObject")
+
+
+def test_patterns_that_meet():
+    for one, other, text in (
+        ("a*", "*b", "ab"),
+        (r"a\*", "a*", "a*"),
+        (r"a\*", "a?", "a*"),
+        (r"a\*", "ab", None),
+        (r"\\*", r"*\*", r"\*"),
+        (r"a\b", r"a\\b", r"a\b"),
+    ):
+        same(patterns.common(one, other), text, f"{one} {other}")
+    # In a policy a backslash is a character, but what a variable gives is no wildcard.
+    same(patterns.pattern_of(r"a\*${*}${k}", {"k": r"\?"}), r"a\\*\*\\?")
+    same(patterns.resolved(r"a\*${*}${k}", {"k": r"\?"}), r"a\**\?")
 
 
 def test_objects_of_many_keys():

@@ -68,6 +68,15 @@ def test_names_arns_and_patterns():
         same(decided(found), {(f"{ACCOUNT}user/alice", "sts:AssumeRole", f"{ACCOUNT}role/app/audit"): "allowed"}, what)
 
 
+def test_wildcards_that_are_given():
+    resources = [{"arn": it, "account": "111122223333"} for it in ("*", "arn:aws:s3:::b/k")]
+    made = file(small_world(document(statement(action="s3:*")), resources=resources))
+    for what, arn in (("\\*", "*"), ("arn:aws:s3:::b/\\?", "arn:aws:s3:::b/?")):
+        found = rows("can", "ann", "s3:GetObject", what, "--world", made)
+        same(decided(found), {(f"{ACCOUNT}user/ann", "s3:GetObject", arn): "allowed"}, what)
+    same(len(rows("can", "ann", "s3:GetObject", "*", "--world", made)), 2)
+
+
 def test_who_can_read_an_object():
     found = rows("who-can", "s3:GetObject", "arn:aws:s3:::homes/alice/x", EXPORT)
     # alice and deploy by ReadObjects, bob by his own policy and boundary, worker by its inline policy.

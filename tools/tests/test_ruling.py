@@ -286,3 +286,14 @@ def test_reports_for_pipelines():
     assert "ReadObjects" in results[0]["message"]["text"]
     rules(text, "--junit", junit, "--sarif", sarif, "--allow-empty", status=3)
     same(xml.etree.ElementTree.parse(junit).getroot().get("failures"), "1")
+
+
+def test_wildcards_that_are_given():
+    # On k alone is there an allow; `\*` is the object of that name, and `\\k` and `\k` that of a backslash and k.
+    names = ("k", "*", "\\k")
+    resources = [{"arn": f"arn:aws:s3:::b/{it}", "account": "111122223333"} for it in names]
+    made = small_world(document(statement(action="s3:*", resource="arn:aws:s3:::b/k")), resources=resources)
+    lines = [f"never ann s3:GetObject arn:aws:s3:::b/{it}" for it in ("\\*", "\\\\k", "\\k", "*")]
+    out, _ = rules_of(made, "\n".join(lines), status=3)
+    same(states(out), ["kept", "kept", "kept", "broken"])
+    same([line.count("(1 requests)") for line in out.splitlines() if line.startswith(("kept", "broken"))], [1, 1, 1, 0])

@@ -61,6 +61,10 @@ SELECTIONS = [
     ("--resource arn:aws:s3:::B/k", None),
     ("--resource *q", [1, 3, 5, 7, 9, 11]),
     ("--resource ?", None),
+    # A backslash before a wildcard gives it as a character, and is one before any other.
+    ("--resource arn:aws:s3:::b/\\?", None),
+    ("--resource arn:aws:s3:::b/\\k", None),
+    ("--resource *\\* --resource *q", [1, 3, 5, 7, 9, 11]),
     ("--resource **", ALL),
     ("--decision allowed", [0, 1, 3, 6]),
     ("--decision explicitDeny", [2]),

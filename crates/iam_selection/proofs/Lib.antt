@@ -1,6 +1,7 @@
 mod Flags
 mod Founds
 mod Listings
+mod Names
 mod Nothing
 mod OneListing
 mod Picks

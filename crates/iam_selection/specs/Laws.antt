@@ -1,7 +1,8 @@
--- That there is one report of what is asked, that its rows are those of the report of all, and that asking nothing gives the report
--- of all. LOGIC 13.6.
-use Rattle.std.specs.Prelude.{◌≡◌, ℕ, ◌<◌, Bool, List, [], Some, length}
+-- That there is one report of what is asked, that its rows are those of the report of all, that asking nothing gives the report of
+-- all, and that each text has a pattern of its own. LOGIC 13.6.
+use Rattle.std.specs.Prelude.{◌≡◌, ◌≢◌, ◌↔◌, ℕ, ◌<◌, All, Bool, if◌then◌else◌, List, [], ◌∷◌, Some, length, map}
 use Rattle.std.specs.List.{slice_get}
+use Rattle.iam_glob.specs.Glob.{Matches, wild_sign}
 use Rattle.iam_layers.specs.Cell.{IsDecisionOf, IsVerdictOf}
 use Rattle.iam_world.specs.World.{WorldValue}
 use Rattle.iam_row.specs.Report.{AreRowsFrom, CellTexts, brief_layout, full_layout}
@@ -9,7 +10,7 @@ use Rattle.iam_row.specs.declared.quoted.Format.{Format}
 use Rattle.iam_matrix.specs.Matrix.{AreEntriesFrom}
 use Rattle.iam_matrix.specs.Report.{IsFirstReport, IsMatrixReport}
 use Rattle.iam_selection.specs.Report.{IsFirstSelectedReport, IsRowOf, IsSelectedReport}
-use Rattle.iam_selection.specs.Selection.{SelectionValue}
+use Rattle.iam_selection.specs.Selection.{SelectionValue, is_escapable, signs_of}
 
 abbrev pub OneSelectedReport : Type 0
 OneSelectedReport =
@@ -47,3 +48,16 @@ NothingSelectsAll =
 
 abbrev pub NothingSelectsFirst : Type 0
 NothingSelectsFirst = (world : WorldValue) (text : List ℕ) → IsFirstSelectedReport nothing world text → IsFirstReport world text
+
+-- a text with a `\` before each character that a `\` gives
+abbrev pub escaped : List ℕ → List ℕ
+escaped [] = []
+escaped (c ∷ text) = if is_escapable c then 92 ∷ c ∷ escaped text else c ∷ escaped text
+
+-- the pattern that is so written is matched by that text alone
+abbrev pub EachTextIsNamed : Type 0
+EachTextIsNamed = (name text : List ℕ) → Matches (signs_of (escaped name)) text ↔ (text ≡ name)
+
+-- where no `\` stands, a pattern is read as those of policies are
+abbrev pub ReadsAsPolicies : Type 0
+ReadsAsPolicies = (text : List ℕ) → All (λ c. c ≢ 92) text → signs_of text ≡ map wild_sign text

@@ -1,6 +1,6 @@
 -- What is asked of a matrix: requests are selected by their texts, and their rows are asked for by their decisions. LOGIC 13.6.
-use Rattle.std.specs.Prelude.{◌≡◌, ◌⊎◌, ℕ, ◌<◌, List, [], Option, Some, None, Any, chars, map}
-use Rattle.iam_glob.specs.Glob.{Matches, MatchesFold, wild_sign}
+use Rattle.std.specs.Prelude.{◌≡◌, ◌⊎◌, ℕ, ◌<◌, ◌==◌, Bool, ◌&&◌, ◌||◌, if◌then◌else◌, List, [], ◌∷◌, Option, Some, None, Any, chars}
+use Rattle.iam_glob.specs.Glob.{Matches, MatchesFold, plain_sign, wild_sign}
 use Rattle.iam_glob.specs.declared.sign.Sign.{Sign}
 use Rattle.iam_decision.specs.declared.verdict.Decision.{Decision}
 use Rattle.iam_decision.specs.declared.verdict.Decision.TheVariants.{Allowed}
@@ -20,9 +20,21 @@ pub record SelectionValue : Type 0 where
 abbrev pub IsMeant : {A : Type 0} → (A → Type 0) → List A → Type 0
 IsMeant Is said = (said ≡ []) ⊎ Any Is said
 
--- the pattern that a text is: `*` and `?` are wild
+-- the characters that a `\` gives: `*`, `?` and `\`
+abbrev pub is_escapable : ℕ → Bool
+is_escapable c = (c == 42) || ((c == 63) || (c == 92))
+
+-- the signs of characters: a `\` gives the one behind it, where that is one of these; before any other, and at the end, it stands
+-- for itself
+abbrev pub signs_of : List ℕ → List Sign
+signs_of [] = []
+signs_of (c ∷ []) = wild_sign c ∷ []
+signs_of (c ∷ d ∷ rest) =
+    if (c == 92) && is_escapable d then plain_sign d ∷ signs_of rest else wild_sign c ∷ signs_of (d ∷ rest)
+
+-- the pattern that a text is: `*` and `?` are wild, but those that are given
 abbrev pub pattern_of : List ℕ → List Sign
-pattern_of text = map wild_sign (chars text)
+pattern_of text = signs_of (chars text)
 
 -- a request with these texts is selected: each matches a pattern, an action without regard to case
 pub record Selects (selection : SelectionValue) (texts : CellTexts) : Type 0 where

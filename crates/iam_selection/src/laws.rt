@@ -1,6 +1,6 @@
-// That there is one report of what is asked of a world, that its rows are rows of the report of all, and that asking nothing gives
-// that report.
-ghost use Rattle.iam_selection.specs.Laws.{EachStandsInAll, NothingSelectsAll, NothingSelectsFirst, OneFirstSelectedReport, OneSelectedReport};
+// That there is one report of what is asked of a world, that its rows are rows of the report of all, that asking nothing gives
+// that report, and that each text has a pattern of its own.
+ghost use Rattle.iam_selection.specs.Laws.{EachStandsInAll, EachTextIsNamed, NothingSelectsAll, NothingSelectsFirst, OneFirstSelectedReport, OneSelectedReport, ReadsAsPolicies};
 
 use iam_layers::{one_decision_at, one_triple, one_verdict_at};
 use iam_row::one_row;
@@ -32,3 +32,13 @@ pub fn nothing_selects_all()
 {
     one_triple()
 }
+
+/// Each text, with a `\` before each `*`, `?` and `\`, is a pattern that it alone matches.
+pub fn each_text_is_named()
+    ensures { EachTextIsNamed }
+{}
+
+/// A pattern without a `\` is read as those of policies are.
+pub fn reads_as_policies()
+    ensures { ReadsAsPolicies }
+{}

@@ -6,6 +6,7 @@
 mod found;
 mod laws;
 mod list;
+mod pattern;
 mod picker;
 mod report;
 mod rows;
@@ -15,8 +16,12 @@ pub use iam_layers::{Decision, World};
 pub use iam_matrix::{Cut, Format, Gate, MatrixFault, Open};
 pub use iam_report::OutputFault;
 pub use iam_text::{Glob, Items, OutOfMemory};
-pub use laws::{each_stands_in_all, nothing_selects_all, one_selected_report};
+pub use laws::{
+    each_stands_in_all, each_text_is_named, nothing_selects_all, one_selected_report,
+    reads_as_policies,
+};
 pub use list::{ListText, comma_of, position_in};
+pub use pattern::pattern_of;
 pub use picker::{Picker, selects_some};
 pub use report::{first_selected_report, index_of, selected_report};
 pub use selection::Selection;
