@@ -67,7 +67,8 @@ class Reader:
     ) -> Pieces:
         secrets = [it["arn"] for it in self.estate.further]
         functions = Functions(expanded(template), given, scope)
-        made = Pieces(Names(functions, stack, self.account, secrets), unknowns, self.account)
+        names = Names(functions, stack, self.account, secrets, template is stack.template)
+        made = Pieces(names, unknowns, self.account)
         made.run()
         for it in template.strange_transforms():
             unknowns.lacks(f"Transform ({it})")

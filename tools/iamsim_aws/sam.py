@@ -36,14 +36,14 @@ def expanded(template: Template) -> Template:
     made: Objects = dict(template.resources)
     for logical, it in template.resources.items():
         kind = it.get("Type")
-        if kind not in SERVICES:
+        if not isinstance(kind, str) or kind not in SERVICES:
             continue
-        properties = {**shared(template, str(kind)), **object_in(it.get("Properties", {}), template, logical)}
+        properties = {**shared(template, kind), **object_in(it.get("Properties", {}), template, logical)}
         if "Role" in properties:
             continue
         if f"{logical}Role" in made:
             raise Fault(f"{template.path}: SAM makes {logical}Role, which the template has already")
-        role = {"Type": "AWS::IAM::Role", "Properties": role_of(template, logical, str(kind), properties)}
+        role = {"Type": "AWS::IAM::Role", "Properties": role_of(template, logical, kind, properties)}
         made[f"{logical}Role"] = {**role, **{key: it[key] for key in ("Condition", "DeletionPolicy") if key in it}}
     return template._replace(resources=made)
 

@@ -72,10 +72,11 @@ LOWER = ("AWS::S3::Bucket", "AWS::ECR::Repository")
 
 
 class Names:
-    """The names of a template's resources, before or after it changes the stack."""
+    """The names of a template's resources; of the one that is deployed (`is_before`) those that the stack has."""
 
-    def __init__(self, functions: Functions, stack: Stack, account: Optional[Account], secrets: List[str]):
+    def __init__(self, functions: Functions, stack: Stack, account: Account, secrets: List[str], is_before: bool):
         self.functions, self.stack, self.account, self.secrets = functions, stack, account, secrets
+        self.is_before = is_before
         self.found: Dict[str, Any] = {}
         self.made_up: Dict[str, str] = {}
         # Those that are asked for while a name is found: one that hangs on itself has none.
@@ -120,9 +121,9 @@ class Names:
     def named(self, logical: str) -> Any:
         naming, kind, old = NAMINGS[self.kind(logical)], self.kind(logical), self.old(logical)
         given = self.text(logical, naming.own) if naming.own else None
-        if given is not None:
+        if given is not None and (old is None or not self.is_before):
             return given
-        if old is not None and not self.is_moved(logical):
+        if old is not None and (self.is_before or not self.is_moved(logical)):
             return plain_name(kind, old)
         if old is None and self.stack.physical is None and self.stack.template is not None:
             if logical in self.stack.template.resources:
@@ -140,7 +141,7 @@ class Names:
     def of_export(self, logical: str) -> Optional[Values]:
         """What the export has by the physical id of a resource."""
         old, kind = self.old(logical), self.kind(logical)
-        if old is None or self.account is None or kind not in ENTITIES:
+        if old is None or kind not in ENTITIES:
             return None
         return entity_of(self.account, ENTITIES[kind][0], plain_name(kind, old), old)
 
@@ -156,7 +157,8 @@ class Names:
         if isinstance(name, Unclear) or isinstance(path, Unclear):
             return name if isinstance(name, Unclear) else path
         old = self.old(logical)
-        if old is not None and naming.refers == "arn" and plain_name(kind, old) == name and not self.is_moved(logical):
+        is_old = self.is_before or plain_name(kind, old or "") == name and not self.is_moved(logical)
+        if old is not None and naming.refers == "arn" and is_old:
             return old
         for it in ("account", "region"):
             if f"{{{it}}}" in naming.arn and not getattr(self.scope, it):

@@ -21,7 +21,9 @@ FUNCTIONS = [
 ]
 FUNCTIONS += ["Sub", "ToJsonString", "Transform", "And", "Equals", "If", "Not", "Or", "Contains", "EachMemberEquals"]
 FUNCTIONS += ["EachMemberIn", "RefAll", "ValueOf", "ValueOfAll"]
-PLAIN = "tag:yaml.org,2002:"
+PLAIN, SCALARS = "tag:yaml.org,2002:", ("str", "null", "bool", "int", "float")
+# What is longer is no number that a template has a use for.
+LONGEST = 64
 
 
 class Unclear:
@@ -64,23 +66,26 @@ class Reader:
                 if len(self.parts) >= DEEPEST:
                     raise self.fault(line, f"it is nested deeper than {DEEPEST}")
                 start: Any = [] if isinstance(event, yaml.SequenceStartEvent) else {}
-                self.refuse_key(line)
+                if self.awaits_key():
+                    raise self.fault(line, "a key is a list or an object")
                 self.parts.append(Part(start, event.tag, event.anchor, line))
             elif isinstance(event, yaml.ScalarEvent):
-                self.add(self.scalar(event, line), event.anchor, 1, line)
+                is_plain_key = self.awaits_key() and not event.tag
+                self.add(event.value if is_plain_key else self.scalar(event, line), event.anchor, 1, line)
             elif isinstance(event, yaml.AliasEvent):
                 self.alias(event.anchor, line)
             elif isinstance(event, (yaml.SequenceEndEvent, yaml.MappingEndEvent)):
                 part = self.parts.pop()
+                self.count -= part.count - 1
                 self.add(self.tagged(part.tag, part.value, part.line), part.anchor, part.count, line)
         if len(self.found) != 1:
             raise Fault(f"{self.what}: it has {len(self.found)} documents of YAML, and a template is one")
         return self.found[0]
 
-    def refuse_key(self, line: int) -> None:
+    def awaits_key(self) -> bool:
+        """Whether what comes is a key, which is a text as it is written."""
         part = self.parts[-1] if self.parts else None
-        if part and isinstance(part.value, dict) and part.key is None:
-            raise self.fault(line, "a key is a list or an object")
+        return part is not None and isinstance(part.value, dict) and part.key is None
 
     def alias(self, name: str, line: int) -> None:
         if name not in self.anchors:
@@ -109,16 +114,13 @@ class Reader:
             part.key = None
 
     def key(self, value: Any, holder: Dict[str, Any], line: int) -> str:
-        text = value if isinstance(value, str) else str(value).lower() if isinstance(value, bool) else None
-        if text is None and type(value) is int:
-            text = str(value)
-        if text is None:
+        if not isinstance(value, str):
             raise self.fault(line, "a key is no text")
-        if text == "<<":
+        if value == "<<":
             raise self.fault(line, "a template holds no merges (<<)")
-        if text in holder:
-            raise self.fault(line, f"the key {text} comes twice in one object")
-        return text
+        if value in holder:
+            raise self.fault(line, f"the key {value[:80]} comes twice in one object")
+        return value
 
     def scalar(self, event: Any, line: int) -> Any:
         if event.tag is not None and event.tag != "!":
@@ -129,7 +131,7 @@ class Reader:
     def plain(self, tag: str, text: str, line: int) -> Any:
         """A scalar without a short form; dates are texts, as in CloudFormation, and so is whatever has no other meaning."""
         kind = tag[len(PLAIN) :]
-        if kind not in ("null", "bool", "int", "float"):
+        if kind not in SCALARS[1:] or len(text) > LONGEST:
             return text
         try:
             value = self.loader.construct_object(self.yaml.ScalarNode(tag, text))
@@ -143,7 +145,7 @@ class Reader:
         """The value of a short form as the whole one, which JSON has."""
         if tag is None or tag == "!" or tag in (f"{PLAIN}map", f"{PLAIN}seq"):
             return value
-        if tag.startswith(PLAIN) and isinstance(value, str):
+        if tag.startswith(PLAIN) and isinstance(value, str) and tag[len(PLAIN) :] in SCALARS:
             return self.plain(tag, value, line)
         name = tag[1:]
         if name in ("Ref", "Condition"):
