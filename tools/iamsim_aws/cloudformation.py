@@ -10,7 +10,7 @@ from .functions import Functions, Scope
 from .making import Estate
 from .pieces import NESTED, READ, Key, Pieces
 from .planned import Change, Values
-from .sam import expanded
+from .sam import expanded, is_made
 from .standins import ENTITIES, PATHS, Names, entity_of, plain_name
 from .templates import Stack, Template, account_in, parameters_of, read_template, stacks_of
 from .unknowns import Unknowns
@@ -49,6 +49,10 @@ class Reader:
         self.after = self.pieces(template, given, stack, scope, self.unknowns)
         self.deployed: Optional[Pieces] = None
         if stack.template:
+            if stack.template.strange_transforms():
+                raise Fault(
+                    f"{stack.template.path}: it has macros: give it as they leave it (--template-stage Processed)"
+                )
             own = stack.parameters if stack.parameters is not None else given
             silent = Unknowns(stack.template.path, "template")
             self.deployed = self.pieces(stack.template, own, stack, scope, silent)
@@ -121,6 +125,8 @@ class Reader:
             self.unknowns.lacks(f"{logical} (it goes: {NESTED[kind]})")
         if kind not in READ:
             return
+        if is_made(self.template, logical):
+            return self.stays(logical, kind)
         keeps = self.keeps(logical, "DeletionPolicy")
         if keeps is None:
             self.unknowns.lacks(f"{logical} (whether it goes, by its DeletionPolicy: {DEPLOYED})")
@@ -132,6 +138,15 @@ class Reader:
                 self.unknowns.lacks(f"{logical} (what goes with it: {DEPLOYED})")
             for key, values in (before or {}).items():
                 self.change(logical, key[0], values, None)
+
+    def stays(self, logical: str, kind: str) -> None:
+        """What SAM has made of a resource of the template; permissions are of services, for which nobody asks."""
+        if kind == "AWS::Lambda::Permission":
+            self.unknowns.notes.append(
+                f"{self.template.path}: {logical} is what SAM makes: it is taken to stay as it is"
+            )
+        else:
+            self.unknowns.lacks(f"{logical} (what SAM makes of it)")
 
     def before(self, logical: str, kind: str) -> Optional[Dict[Key, Optional[Values]]]:
         """What a resource of the stack gave; None where nobody knows."""
@@ -155,8 +170,8 @@ class Reader:
             return None
         name = ENTITIES[kind][0]
         there = entity_of(self.account, name, plain_name(kind, own), own) or {}
-        values = {"name": plain_name(kind, own), "path": there.get("Path") or "/"}
-        return f"aws_iam_{name}", {**values, **({"arn": there["Arn"]} if "Arn" in there else {})}
+        known = {"path": there.get("Path") or "/", "arn": there["Arn"]} if "Arn" in there else {}
+        return f"aws_iam_{name}", {"name": plain_name(kind, own), **known}
 
     # --- what comes or changes -----------------------------------------------------------------------------------------
 
@@ -211,6 +226,9 @@ class Reader:
         if made is None:
             return
         if own and is_replaced(kind, own, made):
+            if own.get("name") == made["name"]:
+                why = "its path changes and its name does not, and CloudFormation refuses to make it anew"
+                raise Fault(f"{self.template.path}: {logical}: {why}")
             if self.keeps(logical, "UpdateReplacePolicy"):
                 self.unknowns.notes.append(f"{self.template.path}: {logical} is made anew, and the old one is retained")
                 before.clear()
@@ -248,7 +266,7 @@ class Reader:
 
 def is_replaced(kind: str, before: Values, after: Values) -> bool:
     """Whether what gets another name, or path, is made anew."""
-    moved = kind in PATHS and before.get("path") != after.get("path")
+    moved = kind in PATHS and before.get("path", after.get("path")) != after.get("path")
     return before.get("name") != after.get("name") or moved
 
 
@@ -265,6 +283,7 @@ def applied(estate: Estate, given: Given) -> Tuple[Estate, Estate, List[str]]:
     three = zip(templates, parameters, stacks)
     readers = [guarded(template, of, stack, estate, given.account) for template, of, stack in three]
     pieces = {key for it in readers for of in it.after.found.values() for key in of}
+    refuse_twice(readers)
     for reader in readers:
         reader.run(pieces)
     unknowns = together(readers)
@@ -274,6 +293,26 @@ def applied(estate: Estate, given: Given) -> Tuple[Estate, Estate, List[str]]:
     for kind in (kind for it in readers for kind in it.after.unread.values() if kind not in PLAIN):
         ignored[kind] = ignored.get(kind, 0) + 1
     return apply.first, made, unknowns.settled(apply.notes, ignored, given.allows_unknown)
+
+
+def refuse_twice(readers: List[Reader]) -> None:
+    """Of two resources that make one user, group, role or policy nobody sees which counts."""
+    seen: Dict[Tuple[str, ...], str] = {}
+    for reader in readers:
+        for logical, of in reader.after.found.items():
+            for key, values in of.items():
+                own = (
+                    reader.account.account,
+                    *key,
+                    *([str((values or {}).get("arn"))] if key[0] in ENTITY_KINDS else []),
+                )
+                if key[0].endswith(("_attachment", "_membership", "_permission", "_set")):
+                    continue
+                if own in seen:
+                    raise Fault(
+                        f"{reader.template.path}: {seen[own]} and {logical} make the same: {' '.join(own[2:]) or own[1]}"
+                    )
+                seen[own] = logical
 
 
 def guarded(template: Template, of: Dict[str, Any], stack: Stack, estate: Estate, account: Optional[str]) -> Reader:

@@ -4,7 +4,7 @@ import re
 from typing import Any, Callable, Dict, List, NamedTuple, Optional
 
 from .faults import Fault
-from .templates import Template
+from .templates import SAM, Template
 from .yamls import Unclear
 
 # How long a text may become, in characters: names that name one another could double it with each step.
@@ -142,7 +142,13 @@ class Functions:
             return self.parameter(given)
         if given in self.template.resources:
             return self.resource(given, None)
-        raise self.fault(f"Ref names {given[:80]}, which the template does not have")
+        return self.strange("Ref", given)
+
+    def strange(self, function: str, name: str) -> Any:
+        """A name that the template does not have; SAM makes more than is followed here."""
+        if SAM in self.template.transforms() and not name.startswith("AWS::"):
+            return Unclear(f"{name[:80]}, which SAM may make")
+        raise self.fault(f"{function} names {name[:80]}, which the template does not have")
 
     def scope_of(self, name: str) -> Any:
         return self.given.get(name) if name.startswith("AWS::") and name in self.given else self.scope.pseudo(name)
@@ -176,7 +182,7 @@ class Functions:
         if not isinstance(name, str) or not isinstance(attribute, str):
             raise self.fault("Fn::GetAtt takes the name of a resource and of an attribute")
         if name not in self.template.resources:
-            raise self.fault(f"Fn::GetAtt names {name[:80]}, which the template does not have")
+            return self.strange("Fn::GetAtt", name)
         return self.resource(name, attribute)
 
     def substituted(self, given: Any) -> Any:

@@ -26,7 +26,7 @@ class Pieces:
     """What the resources of a template give, each by its resource, its kind and what it is of; None where it is left out,
     since only the apply tells it. Of `unsure` kinds a resource may give more."""
 
-    def __init__(self, names: Names, unknowns: Unknowns, account: Optional[Account]):
+    def __init__(self, names: Names, unknowns: Unknowns, account: Account):
         self.names, self.unknowns, self.account = names, unknowns, account
         self.found: Dict[str, Dict[Key, Optional[Values]]] = {}
         self.unsure: Dict[str, List[str]] = {}
@@ -80,6 +80,11 @@ class Pieces:
 
     def give(self, kind: str, key: Key, values: Optional[Values]) -> None:
         self.found[self.logical][(kind, *key)] = values
+
+    def give_document(self, kind: str, key: Key, values: Values, name: str, made: Any) -> None:
+        """A piece with a document: without one it is left out, and of what is deployed known all the same."""
+        whole = {**values, name: made} if made is not None else None
+        self.give(kind, key, values if whole is None and self.names.is_before else whole)
 
     def lacks(self, kind: str, place: str, why: Unclear) -> None:
         """Nobody knows of what a piece is: there may be more of its kind."""
@@ -228,8 +233,7 @@ class Pieces:
         if own is None:
             return
         made = self.document(f"{place}PolicyDocument", given)
-        values = None if made is None else {kind: holder, "name": own, "policy": made}
-        self.give(f"aws_iam_{kind}_policy", (holder, own), values)
+        self.give_document(f"aws_iam_{kind}_policy", (holder, own), {kind: holder, "name": own}, "policy", made)
 
     def attached(self, kind: str, holder: str, arn: str) -> None:
         self.give(f"aws_iam_{kind}_policy_attachment", (holder, arn), {kind: holder, "policy_arn": arn})
@@ -253,7 +257,7 @@ class Pieces:
         made = self.document(place, given[place]) if place in given else None
         if place not in given:
             raise self.functions.fault(f"{place} is missing")
-        self.give(kind, (name,), None if made is None else {target: name, "policy": made, **more})
+        self.give_document(kind, (name,), {target: name, **more}, "policy", made)
 
 
 def unclear_places(value: Any, place: str) -> List[Tuple[str, str]]:
@@ -263,9 +267,9 @@ def unclear_places(value: Any, place: str) -> List[Tuple[str, str]]:
     return [it for key, one in items for it in unclear_places(one, f"{place}.{key}")]
 
 
-def by_name(account: Optional[Account], name: str) -> Any:
+def by_name(account: Account, name: str) -> Any:
     """The ARN of AWS's managed policy of that name that the export has."""
-    own = [it for it in (account.policies if account else {}) if ":aws:policy/" in it and it.split("/")[-1] == name]
+    own = [it for it in account.policies if ":aws:policy/" in it and it.split("/")[-1] == name]
     return own[0] if len(own) == 1 else Unclear(f"the policy {name}, which the export does not hold")
 
 
@@ -393,7 +397,7 @@ def permission(it: Pieces, given: Values) -> None:
         return
     if not function.startswith("arn:") and ":" in function:
         function = f"arn:{scope.partition}:lambda:{scope.region}:{function}"
-    sid = it.names.old(it.logical) or it.logical
+    sid = (it.names.old(it.logical) or it.logical).split("|")[-1]
     made.update(function_name=function, statement_id=sid, region=scope.region)
     it.give(kind, (function,), {name: one for name, one in made.items() if one})
 
@@ -409,8 +413,8 @@ def permission_set(it: Pieces, given: Values) -> None:
     it.give("aws_ssoadmin_permission_set", (), {"name": name, "arn": arn})
     if "InlinePolicy" in given:
         made = it.document("InlinePolicy", given["InlinePolicy"])
-        values = None if made is None else {"permission_set_arn": arn, "inline_policy": made}
-        it.give("aws_ssoadmin_permission_set_inline_policy", (arn,), values)
+        kind = "aws_ssoadmin_permission_set_inline_policy"
+        it.give_document(kind, (arn,), {"permission_set_arn": arn}, "inline_policy", made)
     kind = "aws_ssoadmin_managed_policy_attachment"
     for one in it.texts(kind, given, "ManagedPolicies"):
         it.give(kind, (arn, one), {"permission_set_arn": arn, "managed_policy_arn": one})
@@ -423,7 +427,7 @@ def organization_policy(it: Pieces, given: Values) -> None:
     if "Content" not in given:
         raise it.functions.fault("Content is missing")
     made = it.document("Content", given["Content"])
-    it.give(kind, (), None if made is None else {"id": own, "name": name, "type": of, "content": made})
+    it.give_document(kind, (), {"id": own, "name": name, "type": of}, "content", made)
     for target in it.texts(f"{kind}_attachment", given, "TargetIds"):
         it.give(f"{kind}_attachment", (own, target), {"policy_id": own, "target_id": target})
 

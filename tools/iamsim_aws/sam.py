@@ -25,6 +25,8 @@ PLAIN_EVENTS = [
     "IoTRule",
 ]
 PLAIN_EVENTS += ["AlexaSkill", "Cognito"]
+# What a role has of its function.
+ATTRIBUTES = ("Condition", "DeletionPolicy", "UpdateReplacePolicy")
 # What may give the role more, in a way that is not followed here.
 FURTHER = ("Tracing", "DeadLetterQueue", "EventInvokeConfig")
 
@@ -44,7 +46,7 @@ def expanded(template: Template) -> Template:
         if f"{logical}Role" in made:
             raise Fault(f"{template.path}: SAM makes {logical}Role, which the template has already")
         role = {"Type": "AWS::IAM::Role", "Properties": role_of(template, logical, kind, properties)}
-        made[f"{logical}Role"] = {**role, **{key: it[key] for key in ("Condition", "DeletionPolicy") if key in it}}
+        made[f"{logical}Role"] = {**role, **{key: it[key] for key in ATTRIBUTES if key in it}}
     return template._replace(resources=made)
 
 
@@ -99,6 +101,13 @@ def named(it: Any) -> Any:
     if isinstance(it, str):
         return it if it.startswith("arn:") or "{{" in it else ByName(it)
     return Unclear("a policy of another form")
+
+
+def is_made(template: Template, logical: str) -> bool:
+    """Whether a resource of a stack may be one that SAM has made of a resource of the template."""
+    kinds = ((name, str(it.get("Type"))) for name, it in template.resources.items())
+    own = tuple(name for name, kind in kinds if kind.startswith("AWS::Serverless::"))
+    return SAM in template.transforms() and logical.startswith((*own, "CodeDeployServiceRole", "Serverless"))
 
 
 class ByName(str):

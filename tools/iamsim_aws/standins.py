@@ -66,6 +66,12 @@ NAMINGS: Dict[str, Naming] = {
     "AWS::SSM::Parameter": regional("Name", "ssm", "parameter/", arns=()),
     "AWS::Organizations::Policy": Naming("", "", arns=(), names=("Id",)),
 }
+# What SAM makes of its own types, which a stack has.
+OF_SAM = {
+    "AWS::Serverless::Function": "AWS::Lambda::Function",
+    "AWS::Serverless::StateMachine": "AWS::StepFunctions::StateMachine",
+    "AWS::Serverless::SimpleTable": "AWS::DynamoDB::Table",
+}
 # What is made anew where its path changes.
 PATHS = ("AWS::IAM::Role", "AWS::IAM::ManagedPolicy")
 LOWER = ("AWS::S3::Bucket", "AWS::ECR::Repository")
@@ -106,7 +112,8 @@ class Names:
     def old(self, logical: str) -> Optional[str]:
         """The physical id of a resource that the stack has, of the same type."""
         kind, own = (self.stack.physical or {}).get(logical, ("", ""))
-        return own if own and kind == self.kind(logical) else None
+        mine = self.kind(logical)
+        return own if own and kind in (mine, OF_SAM.get(mine)) else None
 
     def name(self, logical: str) -> Any:
         """The name of a resource, or Unclear."""
@@ -193,15 +200,20 @@ class Names:
 
     def resource(self, logical: str, attribute: Optional[str]) -> Any:
         """What Ref (no attribute) or Fn::GetAtt gives."""
+        it, naming = self.functions.template.resources[logical], NAMINGS.get(self.kind(logical))
+        if "Condition" in it and self.functions.condition(it["Condition"]) is False:
+            raise self.functions.fault(f"it refers to {logical}, whose condition is not met")
         if attribute is None:
             return self.reference(logical)
-        naming = NAMINGS.get(self.kind(logical))
         if naming and attribute in naming.arns:
             return self.arn(logical)
         if naming and attribute in naming.names:
             return self.name(logical)
         if self.kind(logical) == "AWS::SQS::Queue" and attribute == "QueueUrl":
             return self.reference(logical)
+        own = self.of_export(logical) or {}
+        if attribute == "RoleId" and own.get("RoleName") == self.name(logical) and own.get("RoleId"):
+            return own["RoleId"]
         return Unclear(f"Fn::GetAtt {logical}.{attribute}")
 
     def tell(self, unknowns: Unknowns) -> None:

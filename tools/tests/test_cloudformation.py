@@ -529,6 +529,11 @@ def test_names_by_the_stack():
     same(found.resources[DEPLOY], TRUST)
     same(found.tags[DEPLOY], {"stage": "prod"})
     same(set(found.who), set(After(template()).who))
+    # The id of a role that stays is that of the export.
+    policy = inline("Own", document(statement(resource={"Fn::Sub": "${D.RoleId}:*"})))
+    by_id = template(D=role(None, **own), P=resource(POLICY, Roles=["audit"], **policy))
+    found = After(by_id, "--stack", stack(D=(ROLE, "deploy")))
+    same(found.who[AUDIT][f"{AUDIT} inline Own"]["Statement"][0]["Resource"], "AROADEPLOY00000000000:*")
     # What the export lacks is a fault.
     said = refused(given, "--stack", stack(D=(ROLE, "gone"), B=("AWS::S3::Bucket", "b")))
     same(said, "D: the template changes the role gone, which the export of 111122223333 lacks: they do not match")
@@ -548,6 +553,21 @@ def test_a_replacement_by_a_changed_name():
     found = After(kept, "--stack", stack(D=(ROLE, "deploy")))
     same(set(found.who), set(After(template()).who) | {other})
     same("D is made anew, and the old one is retained" in found.lines(), True)
+
+
+def test_what_cloudformation_refuses():
+    """Another path of a role is another role, and its name is taken; and so is what two resources make."""
+    given = template(D=role("deploy", Path="/new/"))
+    why = "its path changes and its name does not, and CloudFormation refuses to make it anew"
+    same(refused(given, "--stack", stack(D=(ROLE, "deploy"))), f"D: {why}")
+    arn = f"{ACCOUNT}role/new"
+    same(refused(template(A=role(), B=role())), f"A and B make the same: {arn}")
+    twice = {it: resource(POLICY, Roles=["audit"], **inline("p", READ)) for it in "AB"}
+    same(refused(template(**twice)), "A and B make the same: audit p")
+    given = template(
+        {"Conditions": {"No": {"Fn::Equals": ["a", "b"]}}}, A=role("a", Condition="No"), B=role({"Ref": "A"})
+    )
+    same(refused(given), "B: it refers to A, whose condition is not met")
 
 
 def test_groups_and_policies_that_are_made_anew():
@@ -880,6 +900,31 @@ def test_sam():
     found = After(template(SAM, M=machine), "--parameters", IN_SHOP)
     own = f"{ACCOUNT}role/shop-MRole-madeup"
     same(found.who[own], {f"{own} inline MRolePolicy0": READ})
+
+
+def test_what_sam_has_made_of_a_stack():
+    """A stack has what SAM makes: other types, the function's role, and permissions of its events."""
+    export, basic, logs = with_basic()
+    given = template(SAM, F=resource(FUNCTION, Policies=[WRITE, READ_OBJECTS], Events={"E": {"Type": "Api"}}))
+    there = stack(
+        F=("AWS::Lambda::Function", "shop-F-1x"),
+        FRole=(ROLE, "deploy"),
+        FEPermission=("AWS::Lambda::Permission", "shop-FE-1x"),
+    )
+    old = deployed(template(F=resource("AWS::Lambda::Function"), FRole=role(None, ManagedPolicyArns=[basic])))
+    attached = load(export)
+    deploy_role = next(it for it in attached["RoleDetailList"] if it["RoleName"] == "deploy")
+    deploy_role.update(Path="/", Arn=f"{ACCOUNT}role/deploy", AttachedManagedPolicies=[{"PolicyArn": basic}], Tags=[])
+    found = After(given, "--stack", there, "--stack", old, export=file(attached))
+    own = f"{ACCOUNT}role/deploy"
+    same(set(found.who[own]), {basic, READ_OBJECTS, f"{own} inline FRolePolicy0"})
+    same("FEPermission is what SAM makes: it is taken to stay as it is" in found.lines(), True)
+    role_of_sam = stack(F=("AWS::Lambda::Function", "f"), FEventRole=(ROLE, "audit"))
+    assert "FEventRole (what SAM makes of it)" in unknown(given, "--stack", role_of_sam, export=file(attached))
+    # Names of what SAM makes besides are not known.
+    rest = inline("p", document(statement(resource={"Fn::Sub": "${ServerlessRestApi}/*"})))
+    said = unknown(template(SAM, R=role(Policies=[rest])))
+    same(said, "R.Policies.0.PolicyDocument.Statement.0.Resource (ServerlessRestApi, which SAM may make)")
 
 
 def test_what_is_unknown_of_sam():

@@ -347,6 +347,9 @@ def test_answers_that_are_none():
     ):
         path = file(value)
         same(refused(given, "--stack", path), f"{path}: {why}")
+    path = file({"TemplateBody": template({"Transform": "Own"})})
+    why = "it has macros: give it as they leave it (--template-stage Processed)"
+    same(refused(given, "--stack", path), f"{path}: its TemplateBody: {why}")
     one, other = stack(R=(ROLE, "deploy")), stack(name="other", R=(ROLE, "deploy"))
     said = refused(given, "--stack", one, "--stack", other)
     same(said, f"{other}: two answers tell different things of one stack (name)")
