@@ -3,7 +3,7 @@
 from typing import Any, Dict, List, NamedTuple, Optional, Set, Tuple
 
 from . import besides
-from .effects import TARGETS, Apply
+from .effects import TARGETS, Apply, is_meant
 from .exports import Account
 from .faults import Fault
 from .functions import Functions, Scope
@@ -12,12 +12,12 @@ from .pieces import NESTED, READ, Key, Pieces
 from .planned import Change, Values
 from .sam import expanded, is_made
 from .standins import ENTITIES, PATHS, Names, entity_of, plain_name
-from .templates import Stack, Template, account_in, parameters_of, read_template, stacks_of
+from .templates import Stack, Template, account_in, parameters_of, read_template, stacks_of, with_previous
 from .unknowns import Unknowns
 from .yamls import Unclear
 
 RETAIN = ("Retain", "RetainExceptOnCreate")
-DEPLOYED = "--stack with the answer of get-template tells it"
+DEPLOYED = "--stack with the answers of get-template and describe-stacks tells it"
 # Resources that a template always has beside those that count.
 PLAIN = ("AWS::CDK::Metadata", "AWS::CloudFormation::WaitConditionHandle")
 ENTITY_KINDS = {f"aws_iam_{name}": kind for kind, (name, _) in ENTITIES.items()}
@@ -53,7 +53,7 @@ class Reader:
                 raise Fault(
                     f"{stack.template.path}: it has macros: give it as they leave it (--template-stage Processed)"
                 )
-            own = stack.parameters if stack.parameters is not None else given
+            own = stack.parameters if stack.parameters is not None else unknown_values(stack.template)
             silent = Unknowns(stack.template.path, "template")
             self.deployed = self.pieces(stack.template, own, stack, scope, silent)
         self.after.names.tell(self.unknowns)
@@ -180,13 +180,23 @@ class Reader:
         is_known = bool(self.deployed and is_there and before is not None) or not is_there and self.stack.is_known
         if kind in ENTITIES:
             self.put_entity(logical, kind, before or {}, after, is_known, given)
-        elif is_there and not is_known and kind in LINKS:
+        elif is_there and not is_known and (kind in LINKS or kind in PARTS and before is None):
             for why in besides.of_links(self.account, [it for it in after if it[1:]], given):
                 self.unknowns.lacks(f"{logical} ({why}: {DEPLOYED})")
         elif is_there and not is_known and before is None:
             before = {key: like(key[0], values) for key, values in after.items()}
+            self.others(logical, after)
         self.further(logical, kind, is_known, given)
         self.differing(logical, before or {}, after)
+
+    def others(self, logical: str, after: Dict[Key, Optional[Values]]) -> None:
+        """Resources that the physical id of a policy means, and that the template gives none."""
+        old = (self.stack.physical or {}).get(logical, ("", ""))[1]
+        for kind, *names in after:
+            for it in self.estate.further if kind in TARGETS else ():
+                is_old = old and "policy" in it and is_meant(it["arn"], old, kind)
+                if is_old and not any(is_meant(it["arn"], name, kind) for name in names):
+                    self.unknowns.lacks(f"{logical} (whether {it['arn']} keeps its policy: {DEPLOYED})")
 
     def further(self, logical: str, kind: str, is_known: bool, given: Set[Key]) -> None:
         """What permission sets and policies of the organisation have besides."""
@@ -264,6 +274,10 @@ class Reader:
         self.changes.append(Change(logical, kind, before, after, {}, is_anew, self.account.account))
 
 
+def unknown_values(template: Template) -> Dict[str, Any]:
+    return {it: Unclear(f"the value that the parameter {it} had") for it in template.parameters}
+
+
 def is_replaced(kind: str, before: Values, after: Values) -> bool:
     """Whether what gets another name, or path, is made anew."""
     moved = kind in PATHS and before.get("path", after.get("path")) != after.get("path")
@@ -280,7 +294,8 @@ def applied(estate: Estate, given: Given) -> Tuple[Estate, Estate, List[str]]:
     """The estate before the templates, with the policies that the deployed ones give, and after them; and what is to be told."""
     templates = [read_template(it) for it in given.templates]
     parameters, stacks = parameters_of(templates, given.parameters), stacks_of(templates, given.stacks)
-    three = zip(templates, parameters, stacks)
+    values = [with_previous(of, template, stack) for of, template, stack in zip(parameters, templates, stacks)]
+    three = zip(templates, values, stacks)
     readers = [guarded(template, of, stack, estate, given.account) for template, of, stack in three]
     pieces = {key for it in readers for of in it.after.found.values() for key in of}
     refuse_twice(readers)

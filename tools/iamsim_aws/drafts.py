@@ -19,12 +19,21 @@ def add_options(parser: argparse.ArgumentParser) -> None:
     add("--terraform", metavar="PLAN", help="a plan, by 'terraform show -json'")
     help_of_templates = "templates of CloudFormation, JSON or YAML"
     add("--cloudformation", nargs="+", default=[], metavar="TEMPLATE", help=help_of_templates)
-    help_of_parameters = "the values of their parameters; of several templates NAME=FILE is for the one of that name"
-    add("--parameters", action="append", default=[], metavar="[NAME=]FILE", help=help_of_parameters)
-    help_of_stack = "what a stack has, by describe-stack-resources, describe-stacks and get-template"
-    add("--stack", action="append", default=[], metavar="[NAME=]FILE", help=help_of_stack)
+    help_of_parameters = (
+        "the values of their parameters; NAME=FILE is for the one of several templates that is called so"
+    )
+    add("--parameters", action="append", default=[], metavar="FILE", help=help_of_parameters)
+    help_of_stack = "what a stack has, by describe-stack-resources, describe-stacks and get-template; or NAME=FILE"
+    add("--stack", action="append", default=[], metavar="FILE", help=help_of_stack)
     add("--allow-unknown", action="store_true", help="leave out what plan or templates tell only after the apply")
     add("--account", metavar="ID", help="the account of plan or templates, or of a resource whose ARN names none")
+
+
+def inputs(options: argparse.Namespace) -> List[str]:
+    """The files that these options name."""
+    found = [it.rpartition("=")[2] for it in [*options.put, *options.parameters, *options.stack]]
+    found += [it.partition("=")[2].partition("@")[0] for it in options.attach]
+    return [*found, *options.cloudformation, *filter(None, [options.terraform])]
 
 
 def before_and_after(source: Source, options: argparse.Namespace) -> Tuple[Source, Source]:

@@ -156,7 +156,11 @@ def described(items: List[Dict[str, Any]], what: str) -> Stack:
     if len(items) != 1:
         raise Fault(f"{what}: it describes {len(items)} stacks, and a template is of one")
     name, arn = (str(items[0].get(it) or "") for it in ("StackName", "StackId"))
-    return Stack(name, arn, parameters=from_list(items[0].get("Parameters") or [], what))
+    had = from_list(items[0].get("Parameters") or [], what)
+    masked = {
+        key: Unclear(f"the value of the parameter {key}, which AWS does not tell") for key in had if had[key] == "****"
+    }
+    return Stack(name, arn, parameters={**had, **masked})
 
 
 def physical(items: List[Dict[str, Any]], what: str) -> Stack:
@@ -218,6 +222,20 @@ def parameters_of(templates: List[Template], texts: List[str]) -> List[Dict[str,
                     raise Fault(f"--parameters {text}: the parameter {key} is given twice")
                 found[n][key] = value
     return found
+
+
+def with_previous(given: Dict[str, Any], template: Template, stack: Stack) -> Dict[str, Any]:
+    """The values of parameters with those that they had, where these are asked for or nothing else is given."""
+    made, had = dict(given), stack.parameters or {}
+    for name, of in template.parameters.items():
+        if name not in had or name in given and not isinstance(given[name], Unclear):
+            continue
+        by_default = of.get("Default", had[name])
+        if name in given or isinstance(by_default, (str, int, float)) and str(by_default) == had[name]:
+            made[name] = had[name]
+        else:
+            made[name] = Unclear(f"whether the parameter {name} keeps its previous value")
+    return made
 
 
 def chosen(templates: List[Template], text: str, option: str) -> Tuple[int, str, str]:

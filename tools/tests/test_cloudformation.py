@@ -18,7 +18,7 @@ READ_OBJECTS = "arn:aws:iam::aws:policy/ReadObjects"
 STACK_ARN = "arn:aws:cloudformation:eu-west-1:111122223333:stack/shop/0a1b"
 REGION = file({"AWS::Region": "eu-west-1"})
 NEW = "no --stack tells what its stack has: it is taken to be new, so that nothing goes"
-GET = "--stack with the answer of get-template tells it"
+GET = "--stack with the answers of get-template and describe-stacks tells it"
 READ = document(statement(action="s3:GetObject"))
 WRITE = document(statement(action="s3:PutObject"))
 TRUST = document({"Effect": "Allow", "Principal": {"AWS": ALICE}, "Action": "sts:AssumeRole"})
@@ -681,6 +681,38 @@ def test_what_is_there_besides():
     same(said, f"A.Groups (whether {ALICE} keeps the group Developers, which the template does not give: {GET})")
 
 
+def described(**values):
+    """The answer of describe-stacks, with the values that parameters have."""
+    of = [{"ParameterKey": key, "ParameterValue": it} for key, it in values.items()]
+    return file({"Stacks": [{"StackName": "shop", "StackId": STACK_ARN, "Parameters": of}]})
+
+
+def test_parameters_of_the_deployed_template():
+    """What they were only describe-stacks tells."""
+    roles = f"{ACCOUNT}policy/AssumeRoles"
+    given = template(
+        {"Parameters": {"P": {"Type": "String"}}}, D=role("deploy", Path="/app/", ManagedPolicyArns=[{"Ref": "P"}])
+    )
+    words = ["--stack", stack(D=(ROLE, "deploy")), "--stack", deployed(given)]
+    new = ["--parameters", file({"P": roles})]
+    said = unknown(given, *words, *new)
+    assert said.startswith(
+        f"D.ManagedPolicyArns (whether {DEPLOY} keeps {READ_OBJECTS}, which the template does not give: "
+    ), said
+    words += ["--stack", described(P=READ_OBJECTS)]
+    same(set(After(given, *words, *new).who[DEPLOY]), {roles})
+    # Without another value it keeps the one that it had, if it has none by default.
+    previous = file([{"ParameterKey": "P", "UsePreviousValue": True}])
+    same(set(After(given, *words, "--parameters", previous).who[DEPLOY]), {READ_OBJECTS})
+    given["Parameters"]["P"]["Default"] = READ_OBJECTS
+    same(set(After(given, *words).who[DEPLOY]), {READ_OBJECTS})
+    given["Parameters"]["P"]["Default"] = roles
+    same(unknown(given, *words), "D.ManagedPolicyArns.0 (whether the parameter P keeps its previous value)")
+    words[-1] = described(P="****")
+    said = unknown(given, *words, "--parameters", previous)
+    assert said.startswith("D.ManagedPolicyArns.0 (the value of the parameter P, which AWS does not tell), "), said
+
+
 def test_policies_of_resources_by_the_deployed_template():
     """The state before has the policy that the deployed template gives, where --resources gives none."""
     deny = document(
@@ -698,6 +730,10 @@ def test_policies_of_resources_by_the_deployed_template():
     )
     same(found(template(), "--stack", deployed(policy(deny))), {("gained", it) for it in readers})
     same(found(policy(deny), "--stack", deployed(policy(granting("s3:ListBucket")))), {("lost", it) for it in readers})
+    # Of a policy that moves, only the deployed template tells where it was.
+    given = file([{"arn": "arn:aws:s3:::archive", "account": "111122223333", "policy": deny}])
+    moved = ["--stack", stack(P=("AWS::S3::BucketPolicy", "archive")), "--resources", given]
+    same(unknown(policy(deny), *moved), f"P (whether arn:aws:s3:::archive keeps its policy: {GET})")
     told = "P: neither the template nor --resources has its policy before the template: it is taken to have none"
     assert told in After(policy(deny), *there).lines()
 
