@@ -6,7 +6,7 @@ from . import besides
 from .effects import TARGETS, Apply, is_meant
 from .exports import Account
 from .faults import Fault
-from .functions import Functions, Scope
+from .functions import Functions, Scope, text_of
 from .making import Estate
 from .pieces import NESTED, READ, Key, Pieces
 from .planned import Change, Values
@@ -43,8 +43,8 @@ class Reader:
         self.unknowns = Unknowns(template.path, "template")
         self.account = self.account_of(given, option)
         self.changes: List[Change] = []
-        region = str(given.get("AWS::Region") or "") or (stack.arn.split(":") + [""] * 4)[3]
-        name = str(given.get("AWS::StackName") or stack.name)
+        region = text_of(given.get("AWS::Region")) or (stack.arn.split(":") + [""] * 4)[3]
+        name = text_of(given.get("AWS::StackName")) or stack.name
         scope = Scope(self.account.account, self.account.partition, region, name, stack.arn)
         self.after = self.pieces(template, given, stack, scope, self.unknowns)
         self.deployed: Optional[Pieces] = None
@@ -87,7 +87,7 @@ class Reader:
         return str(of[logical].get("Type")) if is_there and logical in of else ""
 
     def run(self, given: Set[Key]) -> None:
-        """Finds the changes; `given` are the pieces of all templates."""
+        """Finds the changes; `given` are the pieces of all templates of its account."""
         if not self.stack.is_known:
             self.unknowns.notes.append(
                 f"{self.template.path}: no --stack tells what its stack has: it is taken to be new, so that nothing goes"
@@ -101,12 +101,10 @@ class Reader:
                 self.unknowns.lacks(f"{logical} (its type was {old})")
             elif kind:
                 self.put(logical, kind, bool(old), given)
-            elif old and not self.is_read_again(logical):
+            elif old and logical not in self.after.unread:
                 self.take(logical, old)
-
-    def is_read_again(self, logical: str) -> bool:
-        """Whether a resource stays that is of a type which is not read."""
-        return logical in self.after.unread
+            elif old in READ:
+                self.unknowns.lacks(f"{logical} (its type was {old})")
 
     # --- what goes -----------------------------------------------------------------------------------------------------
 
@@ -297,10 +295,10 @@ def applied(estate: Estate, given: Given) -> Tuple[Estate, Estate, List[str]]:
     values = [with_previous(of, template, stack) for of, template, stack in zip(parameters, templates, stacks)]
     three = zip(templates, values, stacks)
     readers = [guarded(template, of, stack, estate, given.account) for template, of, stack in three]
-    pieces = {key for it in readers for of in it.after.found.values() for key in of}
     refuse_twice(readers)
     for reader in readers:
-        reader.run(pieces)
+        some = [it for it in readers if it.account is reader.account]
+        reader.run({key for it in some for of in it.after.found.values() for key in of})
     unknowns = together(readers)
     apply = Apply([change for it in readers for change in it.changes], estate, given.account, unknowns)
     made = apply.run()

@@ -301,7 +301,7 @@ def on_resource(apply: Apply, change: Change) -> None:
     target = TARGETS[change.kind]
     old, name = ((of or {}).get(target) for of in (change.before, change.after))
     for it in apply.estate.further if old and not change.after else ():
-        if is_meant(it["arn"], old, change.kind):
+        if is_meant(it["arn"], str(old), change.kind):
             it.pop("policy", None)
     if name and change.after and change.after.get("policy"):
         for it in meant(apply, change, name):
