@@ -1,11 +1,11 @@
-"""The source after a change: drafts of policies, a plan of Terraform, or other exports."""
+"""The source after a change: drafts of policies, a plan of Terraform, templates of CloudFormation, or other exports."""
 
 import argparse
 from typing import List, Optional, Set, Tuple
 
-from . import files, putting, terraform
+from . import cloudformation, files, putting, terraform
 from .documents import World
-from .faults import Fault
+from .faults import Fault, tell
 from .making import Estate
 from .reports import axes_of
 from .sources import ASSUME, Source, source_of
@@ -17,25 +17,41 @@ def add_options(parser: argparse.ArgumentParser) -> None:
     help_of_attach = "a policy that a user, group or role is given besides, inline or by its ARN"
     add("--attach", action="append", default=[], metavar="NAME=FILE@PRINCIPAL", help=help_of_attach)
     add("--terraform", metavar="PLAN", help="a plan, by 'terraform show -json'")
-    add("--allow-unknown", action="store_true", help="leave out what the plan tells only after the apply")
-    add("--account", metavar="ID", help="the account of the plan, or of a resource whose ARN names none")
+    help_of_templates = "templates of CloudFormation, JSON or YAML"
+    add("--cloudformation", nargs="+", default=[], metavar="TEMPLATE", help=help_of_templates)
+    help_of_parameters = (
+        "the values of their parameters; NAME=FILE is for the one of several templates that is called so"
+    )
+    add("--parameters", action="append", default=[], metavar="FILE", help=help_of_parameters)
+    help_of_stack = "what a stack has, by describe-stack-resources, describe-stacks and get-template; or NAME=FILE"
+    add("--stack", action="append", default=[], metavar="FILE", help=help_of_stack)
+    add("--allow-unknown", action="store_true", help="leave out what plan or templates tell only after the apply")
+    add("--account", metavar="ID", help="the account of plan or templates, or of a resource whose ARN names none")
+
+
+def inputs(options: argparse.Namespace) -> List[str]:
+    """The files that these options name."""
+    found = [it.rpartition("=")[2] for it in [*options.put, *options.parameters, *options.stack]]
+    found += [it.partition("=")[2].partition("@")[0] for it in options.attach]
+    return [*found, *options.cloudformation, *filter(None, [options.terraform])]
 
 
 def before_and_after(source: Source, options: argparse.Namespace) -> Tuple[Source, Source]:
     """The source without and with the drafts and the plan of the options."""
     first = estate = source.estate
-    if options.terraform:
-        if estate is None:
-            raise Fault("--terraform: a plan is put into effect on exports, and not on a world")
-        first, estate = terraform.applied(estate, options.terraform, options.account, options.allow_unknown)
+    lines: List[str] = []
+    if options.terraform or options.cloudformation or options.parameters or options.stack:
+        first, estate, lines = applied(estate, options)
     if options.attach and estate is None:
         raise Fault("--attach: a policy is attached in exports, and not in a world")
     attached = [putting.read_attachment(it) for it in options.attach]
     drafts = [putting.read_draft(it) for it in options.put]
     estate = putting.with_drafts(putting.with_attachments(estate, attached), drafts) if estate else None
     aliases = estate.organization.names() if estate else {}
-    if options.terraform and first and estate:
-        refuse_unheld(first, estate)
+    if first and estate and (options.terraform or options.cloudformation):
+        refuse_unheld(first, estate, "plan" if options.terraform else "template")
+    for line in lines:
+        tell(line)
     plain = source.like(estate, lambda world: world).world([ASSUME])
     meant = putting.resolved(plain, drafts, aliases, estate)
 
@@ -45,17 +61,34 @@ def before_and_after(source: Source, options: argparse.Namespace) -> Tuple[Sourc
     return source.like(first, lambda world: world), source.like(estate, change)
 
 
-def refuse_unheld(before: Estate, after: Estate) -> None:
-    """What a plan attaches has to be in the exports, or among the drafts."""
+def applied(estate: Optional[Estate], options: argparse.Namespace) -> Tuple[Estate, Estate, List[str]]:
+    """The estate before and after the plan, or the templates, and what is to be told of them."""
+    if options.terraform and (options.cloudformation or options.parameters or options.stack):
+        raise Fault("give a plan by --terraform, or templates by --cloudformation, and not both")
+    if options.terraform:
+        if estate is None:
+            raise Fault("--terraform: a plan is put into effect on exports, and not on a world")
+        return terraform.applied(estate, options.terraform, options.account, options.allow_unknown)
+    if not options.cloudformation:
+        raise Fault("--parameters and --stack belong to --cloudformation")
+    if estate is None:
+        raise Fault("--cloudformation: templates are put into effect on exports, and not on a world")
+    of = options.cloudformation, options.parameters, options.stack
+    return cloudformation.applied(estate, cloudformation.Given(*of, options.account, options.allow_unknown))
+
+
+def refuse_unheld(before: Estate, after: Estate, word: str) -> None:
+    """What a plan or template (`word`) attaches has to be in the exports, or among the drafts."""
     known = {it for account in before.accounts for it in account.lacking()}
     for holder, arn in (it for account in after.accounts for it in account.lacking()):
         if (holder, arn) not in known:
-            why = f"the plan attaches {arn}, which the export does not hold"
+            why = f"the {word} attaches {arn}, which the export does not hold"
             raise Fault(f"{holder}: {why}: give its document by --put {arn}=FILE")
 
 
 def is_changed(options: argparse.Namespace) -> bool:
-    return bool(options.put or options.attach or options.terraform)
+    some = options.put, options.attach, options.terraform, options.cloudformation, options.parameters, options.stack
+    return any(some)
 
 
 def is_world(path: str) -> bool:
@@ -93,12 +126,14 @@ def both(options: argparse.Namespace) -> Tuple[Source, Source]:
         raise Fault("--before and --after belong together")
     if before and after:
         if is_changed(options) or options.exports or options.world:
-            raise Fault("compare --before with --after, or exports with --put and --terraform, and not both")
+            raise Fault(
+                "compare --before with --after, or exports with --put, --terraform and --cloudformation, and not both"
+            )
         sides = side(options, before, "before"), side(options, after, "after")
         for it in sides:
             it.has_trust = any(one.has_trust for one in sides)
         return sides
     if not is_changed(options):
-        ways = "--put NAME=FILE, --attach NAME=FILE@PRINCIPAL, --terraform PLAN, or --before and --after"
+        ways = "--put NAME=FILE, --attach NAME=FILE@PRINCIPAL, --terraform PLAN, --cloudformation TEMPLATE, or --before and --after"
         raise Fault(f"say what changes: {ways}")
     return before_and_after(source_of(options), options)

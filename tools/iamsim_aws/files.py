@@ -69,8 +69,8 @@ def no_constant(name: str) -> None:
     raise ValueError(f"{name} is no JSON")
 
 
-def parsed(text: str, what: str) -> Any:
-    """The JSON value of a text. Of equal keys of an object the last stands, and each is told once."""
+def parsed(text: str, what: str, refuses_equal: bool = False) -> Any:
+    """The JSON value of a text. Of equal keys of an object the last stands, and each is told once, or refused."""
     equal: Dict[str, None] = {}
 
     def members(pairs: List[Tuple[str, Any]]) -> Dict[str, Any]:
@@ -87,6 +87,8 @@ def parsed(text: str, what: str) -> Any:
     except ValueError as error:
         raise Fault(f"{what}: it is no JSON: {error}") from None
     for key in equal:
+        if refuses_equal:
+            raise Fault(f"{what}: the key {key} comes twice in one object")
         tell(f"{what}: the key {key} comes twice in one object: the last one stands")
     return found
 

@@ -1,4 +1,4 @@
-"""Whether a plan fits the exports: what it takes to be there before it."""
+"""Whether a plan or a template fits the exports: what it takes to be there before it."""
 
 import re
 from typing import Any, Dict, Iterator, List, Tuple
@@ -6,7 +6,7 @@ from typing import Any, Dict, Iterator, List, Tuple
 from . import files
 from .exports import Account, policy
 from .faults import Fault
-from .plans import Change, Values, Where, iam_arn
+from .planned import Change, Values, Where, iam_arn
 
 ROOT = re.compile(r"arn:[a-z-]+:iam::([0-9]{12}):root")
 INLINE = {"user": "UserPolicyList", "group": "GroupPolicyList", "role": "RolePolicyList"}
@@ -24,12 +24,12 @@ def holders(account: Account, kind: str, name: Any) -> List[Values]:
     return [found] if found is not None else []
 
 
-def refuse_lacking(change: Change, account: Account) -> None:
-    """What a plan updates or deletes has to be in the export, else nothing would be compared."""
+def refuse_lacking(change: Change, account: Account, word: str) -> None:
+    """What a plan or template (`word`) updates or deletes has to be in the export, else nothing would be compared."""
     for what, is_there in taken_as_there(change, account):
         if not is_there:
             raise Fault(
-                f"{change.address}: the plan changes the {what}, which the export of {account.account} lacks: they do not match"
+                f"{change.address}: the {word} changes the {what}, which the export of {account.account} lacks: they do not match"
             )
 
 
@@ -44,10 +44,10 @@ def plain(value: Any) -> Any:
     return root[1] if root else str(value).lower() if isinstance(value, bool) else str(value)
 
 
-def drifted(change: Change, there: Dict[str, Any]) -> List[str]:
+def drifted(change: Change, there: Dict[str, Any], word: str) -> List[str]:
     """A line for each attribute that a plan takes to be there before it otherwise than it is there."""
     before = change.before or {}
-    told = "is not what the plan takes to be there before it: the export and --resources count"
+    told = f"is not what the {word} takes to be there before it: the export and --resources count"
 
     def read(value: Any) -> Any:
         is_document = isinstance(value, str) and value.lstrip().startswith("{")

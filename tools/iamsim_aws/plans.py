@@ -6,8 +6,9 @@ from typing import Any, Dict, Iterator, List, NamedTuple, Optional, Tuple
 from . import files
 from .exports import document
 from .faults import Fault
+from .planned import Change, Values, Where, any_true, iam_arn
+from .unknowns import LATER, Unknowns
 
-Values = Dict[str, Any]
 INDEX = re.compile(r"\[[^\]]*\]")
 DATA_DOCUMENT = "aws_iam_policy_document"
 # Attributes that are documents, which a document may be taken from as a whole.
@@ -15,37 +16,6 @@ DOCUMENTS = ("policy", "json", "assume_role_policy", "content", "inline_policy")
 
 # What gets another name only by being made anew.
 RENAMED = ("aws_iam_role", "aws_iam_policy")
-
-
-class Where(NamedTuple):
-    """The account and partition that ARNs are of; an empty account is not known."""
-
-    account: str
-    partition: str
-
-
-class Change(NamedTuple):
-    """A resource of the plan: what it is before and after, each None where it is not."""
-
-    address: str
-    kind: str
-    before: Optional[Values]
-    after: Optional[Values]
-    unknown: Values
-    is_replaced: bool = False
-
-    @property
-    def values(self) -> Values:
-        return self.after or self.before or {}
-
-    def is_changed(self) -> bool:
-        return self.before != self.after or any_true(self.unknown)
-
-
-def any_true(value: Any) -> bool:
-    if isinstance(value, (dict, list)):
-        return any(map(any_true, value.values() if isinstance(value, dict) else value))
-    return value is True
 
 
 def object_or_none(value: Any) -> Optional[Values]:
@@ -84,6 +54,7 @@ def doubts(given: Any) -> List[str]:
 class Plan:
     def __init__(self, path: str):
         self.path = files.name_of(path)
+        self.unknowns = Unknowns(self.path, "plan")
         given = files.read_json(path)
         try:
             if "resource_changes" not in given and "format_version" not in given:
@@ -92,16 +63,12 @@ class Plan:
             configuration = given.get("configuration", {})
             root = configuration.get("root_module", {})
             self.expressions = {address: (way, of) for address, way, of in configured(root, "")}
-            self.doubts = doubts(given)
+            self.unknowns.doubts = doubts(given)
             self.region = region_of(configuration)
         except (KeyError, TypeError, AttributeError):
             raise Fault(f"{self.path}: it is no plan of 'terraform show -json'") from None
         self.changes = [it for it, mode in every if mode == "managed"]
         self.read = [it for it, mode in every if mode == "data" and it.kind == DATA_DOCUMENT]
-        # What only the apply tells, and what of it is taken to be any resource.
-        self.unknown: List[str] = []
-        self.opened: List[str] = []
-        self.notes: List[str] = []
 
     def configured(self, change: Change) -> Tuple[str, Values]:
         """The path of the module of a resource, and its expressions."""
@@ -140,7 +107,7 @@ class Plan:
         return found
 
     def lacks(self, change: Change, name: str) -> None:
-        self.unknown.append(f"{change.address}.{name}")
+        self.unknowns.lacks(f"{change.address}.{name}")
 
     def document(self, change: Change, name: str, where: Where) -> Any:
         """The document of an attribute; None where there is none, or only the apply tells it."""
@@ -206,11 +173,6 @@ def derived(change: Change, name: str, where: Where) -> Optional[str]:
     return change.address if change.kind == "aws_organizations_policy" and name == "id" else None
 
 
-def iam_arn(kind: str, values: Values, where: Where) -> str:
-    made = f"arn:{where.partition}:iam::{where.account}:{kind}{values.get('path') or '/'}{values.get('name')}"
-    return str(values.get("arn") or made)
-
-
 class Statement(NamedTuple):
     """A statement of data.aws_iam_policy_document, of which the apply tells a part."""
 
@@ -244,16 +206,10 @@ class Statement(NamedTuple):
         known = [it for it in self.given.get("resources") or [] if isinstance(it, str)]
         if not any_true(self.unknown.get("resources")):
             return known
-        place = f"{self.change.address}.statement.{self.number}.resources"
+        place, unknowns = f"{self.change.address}.statement.{self.number}.resources", self.plan.unknowns
         if effect != "Allow":
-            self.plan.notes.append(f"{place} is known only after the apply: this deny is left out")
-            return None
-        found = self.referred("resources")
-        if found is None:
-            self.plan.opened.append(place)
-            return ["*"]
-        self.plan.notes.append(f"{place} is known only after the apply: taken to be {found} and all below it")
-        return [*known, found, f"{found}/*"]
+            unknowns.notes.append(f"{place} {LATER}: this deny is left out")
+        return unknowns.resources(place, effect, known, self.referred("resources") if effect == "Allow" else None)
 
     def referred(self, name: str) -> Optional[str]:
         """The ARN to which an element of the statement refers."""

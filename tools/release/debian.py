@@ -20,7 +20,7 @@ Architecture: amd64
 Maintainer: {maintainer}
 Installed-Size: {size}
 Depends: {depends}
-Recommends: parallel
+Recommends: parallel, python3-yaml
 Section: admin
 Priority: optional
 Description: policy simulator and access matrix for AWS

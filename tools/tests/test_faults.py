@@ -289,8 +289,10 @@ def test_other_inputs_cut():
         }
     )
     worlds = json.dumps(small_world(document(statement())))
+    template = {"Resources": {"U": {"Type": "AWS::IAM::User", "Properties": {"UserName": "x"}}}}
     files = [
         ("changes", plan, lambda it: [EXPORT, "--terraform", it]),
+        ("changes", json.dumps(template), lambda it: [EXPORT, "--cloudformation", it]),
         ("changes", draft, lambda it: [EXPORT, "--put", f"Homes={it}"]),
         ("check", worlds, lambda it: [it]),
         ("keys", worlds, lambda it: [it]),

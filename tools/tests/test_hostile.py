@@ -435,7 +435,37 @@ PLAN = {
     ],
     "configuration": {"root_module": {"resources": [{"address": "aws_iam_role.r", "expressions": {"name": {}}}]}},
 }
+TEMPLATE = {
+    "Parameters": {"Env": {"Type": "String", "Default": "prod"}},
+    "Conditions": {"IsProd": {"Fn::Equals": [{"Ref": "Env"}, "prod"]}},
+    "Resources": {
+        "R": {
+            "Type": "AWS::IAM::Role",
+            "Condition": "IsProd",
+            "Properties": {
+                "RoleName": {"Fn::Sub": "${Env}-r"},
+                "AssumeRolePolicyDocument": document(),
+                "Policies": [{"PolicyName": "p", "PolicyDocument": document(statement(resource={"Fn::GetAtt": ["B", "Arn"]}))}],
+                "Tags": [{"Key": "a", "Value": {"Fn::Join": ["-", ["a", {"Ref": "Env"}]]}}],
+            },
+        },
+        "B": {"Type": "AWS::S3::Bucket", "Properties": {"BucketName": {"Fn::If": ["IsProd", "b", {"Ref": "AWS::NoValue"}]}}},
+    },
+}
+IN_YAML = """Resources:
+  U:
+    Type: AWS::IAM::User
+    Properties: {UserName: !Sub "${AWS::AccountId}-u", Groups: [Readers]}
+  P:
+    Type: AWS::IAM::UserPolicy
+    Properties:
+      UserName: !Ref U
+      PolicyName: &p p
+      PolicyDocument: {Version: 2012-10-17, Statement: [{Effect: Allow, Action: "*", Resource: !Join ["", [a, *p]]}]}
+"""
 INPUTS = [
+    (TEMPLATE, lambda it: ["world", EXPORT, "--cloudformation", it]),
+    (IN_YAML, lambda it: ["world", EXPORT, "--cloudformation", it]),
     (load(EXPORT), lambda it: ["can", "alice", "s3:PutObject", "*", it]),
     (PLAN, lambda it: ["changes", EXPORT, "--terraform", it]),
     (document(statement(), statement("Deny", "s3:*")), lambda it: ["changes", EXPORT, "--put", f"Homes={it}"]),

@@ -12,7 +12,19 @@ from ..reports import csv_text
 
 HEADER = ["principal", "action", "resource", "decision", "policies"]
 OTHERS = ["exports", "world", "names", "actions", "resources", "organization", "context", "moment", "services"]
-OTHERS += ["kinds", "policy", "sealed", "account", "chains", "put", "attach", "terraform"]
+OTHERS += [
+    "kinds",
+    "policy",
+    "sealed",
+    "account",
+    "chains",
+    "put",
+    "attach",
+    "terraform",
+    "cloudformation",
+    "parameters",
+    "stack",
+]
 
 
 def opened(options: argparse.Namespace) -> Database:

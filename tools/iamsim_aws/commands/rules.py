@@ -49,10 +49,8 @@ def run(options: argparse.Namespace) -> int:
 
 def inputs(options: argparse.Namespace) -> List[str]:
     """The files that are read."""
-    drafts_of = [it.rpartition("=")[2] for it in options.put]
-    drafts_of += [it.partition("=")[2].partition("@")[0] for it in options.attach]
-    named = [options.rules, options.world, options.names, options.actions, options.organization, options.terraform]
-    return [*filter(None, named), *options.exports, *options.resources, *options.context, *drafts_of]
+    named = [options.rules, options.world, options.names, options.actions, options.organization]
+    return [*filter(None, named), *options.exports, *options.resources, *options.context, *drafts.inputs(options)]
 
 
 def report(options: argparse.Namespace, cases: List[Case], notes: Sequence[str] = ()) -> None:

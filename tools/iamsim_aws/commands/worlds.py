@@ -63,7 +63,8 @@ def write_world(value: World) -> None:
 
 
 def world(options: argparse.Namespace) -> int:
-    files.refuse_taken([options.names], [*options.exports, *options.resources, *options.context, options.actions])
+    read = [*options.exports, *options.resources, *options.context, options.actions, *drafts.inputs(options)]
+    files.refuse_taken([options.names], read)
     chosen = read_actions(options.actions) if options.actions else [ASSUME]
     refuse_unknown(References(options.services), chosen)
     made = chosen_of(options, chosen)
