@@ -1,4 +1,4 @@
--- Places of patterns, and their order.
+-- Places of patterns, and their order. LOGIC 2.2.
 use Rattle.std.specs.Prelude.{List}
 use Rattle.std.specs.List.Sorted.{IsStrictlySortedBy}
 use Rattle.std.specs.Ordering.{nat_cmp, on, then_cmp}

@@ -1,4 +1,4 @@
--- What a walk counts, said of texts: the states behind texts, and the limits. LOGIC 2.2.
+-- What a walk counts, said of texts: the states behind texts, and the limits. LOGIC 2.2 and 15.
 use Rattle.std.specs.Prelude.{◌≡◌, ◌≢◌, ◌↔◌, ◌⊎◌, ◌<◌, ◌≤◌, ◌+◌, ◌++◌, ℕ, List, [], ◌∷◌, Option, Some, length, map, IsTrue, AllPairs, Contains}
 use Rattle.std.specs.List.{range_with_len, sum_by}
 use Rattle.std.specs.Option.{option_and_then}
