@@ -16,7 +16,7 @@ use Rattle.iam_matrix.specs.Report.{IsFirstText}
 entries_behind : {X : Type 0} (Is : ℕ → X → Type 0) (from : ℕ) (x : X) (xs : List X) → AreEntriesFrom Is from (x ∷ xs) → AreEntriesFrom Is (from + 1) xs
 entries_behind Is from x xs are i y at = let same : from + suc i ≡ from + 1 + i = omega arith in subst (λ k. Is k y) same (are (suc i) y at)
 
-one_entries : {X : Type 0} (Is : ℕ → X → Type 0) → ((cell : ℕ) (x y : X) → Is cell x → Is cell y → x ≡ y) → (from : ℕ) (xs ys : List X)
+pub one_entries : {X : Type 0} (Is : ℕ → X → Type 0) → ((cell : ℕ) (x y : X) → Is cell x → Is cell y → x ≡ y) → (from : ℕ) (xs ys : List X)
     → length xs ≡ length ys → AreEntriesFrom Is from xs → AreEntriesFrom Is from ys → xs ≡ ys
 one_entries Is one from [] [] e h k = refl
 one_entries Is one from [] (y ∷ ys) e h k = absurd (omega (arith, e))

@@ -19,7 +19,7 @@ use Rattle.iam_matrix.specs.Report.{IsMatrixReport}
 use Rattle.iam_matrix.specs.Code.Tiles.{AreEntries, AreTails, AreTailsOf, Chain}
 use Rattle.iam_matrix.proofs.Tiles.{join_entries, no_entries, whole}
 
-chain_tails : {X : Type 0} (Is : ℕ → X → Type 0) (tail : X → Tail) (from : ℕ) (lengths : List ℕ) (outputs : List (List Tail))
+pub chain_tails : {X : Type 0} (Is : ℕ → X → Type 0) (tail : X → Tail) (from : ℕ) (lengths : List ℕ) (outputs : List (List Tail))
     → Chain (λ f n output. AreTails Is tail f n output) from lengths outputs
     → AreTails Is tail from (sum lengths) (flat_map (λ tile. tile) outputs)
 chain_tails Is tail from [] [] c = ([], no_entries Is from, refl)

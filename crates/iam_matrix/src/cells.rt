@@ -19,8 +19,8 @@ use std::alloc::Global;
 use std::marker::PhantomData;
 use std::thread::Threads;
 
-/// How many matches the cache of a worker's engine holds.
-const CAPACITY: usize = 1024;
+/// How many matches the cache of an engine holds, of which each worker has one.
+pub const CAPACITY: usize = 1024;
 
 /// What an engine says of a cell.
 trait Entry: Drop {

@@ -18,7 +18,7 @@ mod survey;
 mod workers;
 
 pub use asks::Asks;
-pub use cells::{matrix, matrix_brief};
+pub use cells::{CAPACITY, matrix, matrix_brief};
 pub use cut::{Cells, Cut, CutFault};
 pub use each::{end_of, past_row};
 pub use fault::MatrixFault;

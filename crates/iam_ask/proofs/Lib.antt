@@ -1,0 +1,4 @@
+mod Judged
+mod Made
+mod OneReport
+mod Written
