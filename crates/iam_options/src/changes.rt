@@ -7,7 +7,7 @@ ghost use Rattle.iam_options.specs.declared.options.Usage.TheVariants as u;
 
 use crate::arguments::{brief, format, run};
 use crate::command::{Asked, asked_in, file, file_at, with_patterns};
-use crate::options::{Usage, WORKERS, usage_of};
+use crate::options::{Usage, run_options, usage_of};
 use clap::error::ErrorKind;
 use clap::{Arg, ArgAction, ArgMatches, Command as Parser};
 use std::alloc::{AllocError, Global};
@@ -108,11 +108,12 @@ fn options_at(command: &ArgMatches<'_>) -> ChangesOptions
     ensures run { HasRun command.now result.workers result.tile result.json result.brief }
     ensures all { IsFlag command.now (codes "all") result.all }
 {
+    let run = run_options(command);
     ChangesOptions {
-        workers: command.get_one("workers").unwrap_or(WORKERS),
-        tile: command.get_one("tile"),
-        json: command.get_str("format") == Some("json"),
-        brief: command.get_flag("brief"),
+        workers: run.workers,
+        tile: run.tile,
+        json: run.json,
+        brief: run.brief,
         all: command.get_flag("all"),
     }
 }

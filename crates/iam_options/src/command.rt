@@ -3,6 +3,7 @@ ghost use Rattle.std.specs.Prelude.{◌≡◌, ◌↔◌, IsTrue, IfOk, codes, l
 ghost use Rattle.iam_options.specs.Words.{HasAsked, IsFileAt, IsFlag, texts_at};
 
 use crate::arguments::{check, decide, first, matrix, named, with};
+use crate::ask::{AskCommand, ask, ask_in};
 use crate::changes::{ChangesCommand, changes, changes_in};
 use crate::options::{Options, Usage, options_in, usage_of};
 use clap::builder::ValueParser;
@@ -33,6 +34,8 @@ pub enum Command {
     World(WorldCommand),
     /// The changes between two worlds.
     Changes(ChangesCommand),
+    /// The requests of a file.
+    Ask(AskCommand),
 }
 
 /// What a command line asks for of one world: the options, where the world comes from, and which rows are asked for.
@@ -90,6 +93,7 @@ fn command_or_usage(
 ) -> Result<Command, Usage> {
     match (matches.subcommand(), options_in(matches)) {
         (Some(("changes", command)), _) => Ok(Command::Changes(changes_in(alloc, command)?)),
+        (Some(("ask", command)), _) => Ok(Command::Ask(ask_in(alloc, command)?)),
         (Some((_, command)), Some(options)) => {
             Ok(Command::World(world_in(alloc, options, command)?))
         }
@@ -172,7 +176,7 @@ fn iamsim<'a>(alloc: Global) -> Result<Parser<'a>, AllocError> {
         selecting_rows(alloc, of_world(alloc, matrix(alloc))),
     );
     let parser = with(parser, selecting(alloc, of_world(alloc, first(alloc))));
-    with(parser, changes(alloc))
+    with(with(parser, changes(alloc)), ask(alloc))
 }
 
 /// A command of a world that may be named.
@@ -206,14 +210,14 @@ pub fn with_patterns<'a>(alloc: Global, command: Parser<'a>) -> Result<Parser<'a
             "Only requests for actions that match, in any case of letters",
         ))?
         .arg(pattern(alloc, "resource", "Only requests on resources that match"))?
-        .arg(allow_empty(alloc))
+        .arg(allow_empty(alloc, "End with status 0, not 4, where no request matches"))
 }
 
-fn allow_empty<'a>(alloc: Global) -> Arg<'a> {
+pub fn allow_empty<'a>(alloc: Global, help: &'static str) -> Arg<'a> {
     Arg::new(alloc, "allow-empty")
         .long("allow-empty")
         .action(ArgAction::SetTrue)
-        .help("End with status 0, not 4, where no request matches")
+        .help(help)
 }
 
 /// A command for some rows.

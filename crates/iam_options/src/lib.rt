@@ -2,10 +2,12 @@
 #![tactic(auto)]
 
 mod arguments;
+mod ask;
 mod changes;
 mod command;
 mod options;
 
+pub use ask::AskCommand;
 pub use changes::{ChangesCommand, ChangesOptions, FailOn};
 pub use command::{Asked, Command, WorldCommand, command_of};
-pub use options::{Options, Task, Usage, options_of};
+pub use options::{Options, RunOptions, Task, Usage, options_of};

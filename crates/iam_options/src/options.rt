@@ -9,7 +9,7 @@ use clap::{ArgMatches, Command as Parser, Error};
 use std::alloc::{AllocError, Global};
 
 /// How many workers there are where the command line does not say.
-pub const WORKERS: u32 = 4;
+const WORKERS: u32 = 4;
 
 /// What the command line asks for.
 #[derive(Clone, Copy, Debug, PartialEq, Eq)]
@@ -19,6 +19,19 @@ pub struct Options {
     /// How many workers decide the cells; 4 where nothing is said.
     pub workers: u32,
     /// How many cells a worker takes at once, where this is said.
+    pub tile: Option<u64>,
+    /// Whether the report is JSON, in place of CSV.
+    pub json: bool,
+    /// Whether the report has the decisions alone, without statements and lacks.
+    pub brief: bool,
+}
+
+/// How the report of a command is made.
+#[derive(Clone, Copy, Debug, PartialEq, Eq)]
+pub struct RunOptions {
+    /// How many workers decide; 4 where nothing is said.
+    pub workers: u32,
+    /// How many requests a worker takes at once, where this is said.
     pub tile: Option<u64>,
     /// Whether the report is JSON, in place of CSV.
     pub json: bool,
@@ -91,18 +104,31 @@ pub fn options_in(matches: &ArgMatches<'_>) -> Option<Options>
     Some(with_options(task, command))
 }
 
+/// How the report of a command is made.
+pub fn run_options(command: &ArgMatches<'_>) -> RunOptions
+    ensures { HasRun command.now result.workers result.tile result.json result.brief }
+{
+    RunOptions {
+        workers: command.get_one("workers").unwrap_or(WORKERS),
+        tile: command.get_one("tile"),
+        json: command.get_str("format") == Some("json"),
+        brief: command.get_flag("brief"),
+    }
+}
+
 /// A task with the options that stand behind its command; one that the command does not have is left as it is where
 /// nothing is said.
 fn with_options(task: Task, command: &ArgMatches<'_>) -> Options
     ensures task { result.task ≡ task }
     ensures run { HasRun command.now result.workers result.tile result.json result.brief }
 {
+    let run = run_options(command);
     Options {
         task,
-        workers: command.get_one("workers").unwrap_or(WORKERS),
-        tile: command.get_one("tile"),
-        json: command.get_str("format") == Some("json"),
-        brief: command.get_flag("brief"),
+        workers: run.workers,
+        tile: run.tile,
+        json: run.json,
+        brief: run.brief,
     }
 }
 

@@ -1,8 +1,8 @@
 use Rattle.iam_options.proofs.Reading.{number_read, same_word}
-use Rattle.iam_options.proofs.changes.options_at.Goals as goal
+use Rattle.iam_options.proofs.options.run_options.Goals as goal
 
-pub returns-clause-run : goal.returns-clause-run
-returns-clause-run c = record {
+pub returns : goal.returns
+returns c = record {
   has_workers = (
     c.get_one.result,
     number_read 32 _ _ c.get_one.ensures.none c.get_one.ensures.value,
