@@ -356,3 +356,49 @@ class Maker:
             n = self.dice.randrange(len(text))
             text = text[:n] if self.often(0.3) else text[:n] + bytes([self.dice.randrange(256)]) + text[n + 1 :]
         return text
+
+
+def request(dice, maker, world):
+    """A request of a world that has one, mostly with keys of its own; now and then off the world, or off the shape."""
+    principal = dice.choice(world["principals"])
+    account, _, name = (principal.get("role") or "").partition(":role/")
+    text = (
+        principal.get("user")
+        or f"{account.replace(':iam:', ':sts:')}:assumed-role/{name.split('/')[-1]}/{principal['session']}"
+    )
+    action = dice.choice(world["actions"])
+    it = {
+        "principal": text,
+        "action": action.swapcase() if maker.often(0.2) else action,
+        "resource": dice.choice(world["resources"])["arn"],
+    }
+    if maker.often(0.6):
+        given = {**world.get("context", {}), **principal.get("context", {})}
+        it["context"] = {
+            key: value
+            for key, value in maker.context(
+                ["k", "List", "aws:SourceIp", "tag", "n", "many", "flag", "r", "own"]
+            ).items()
+            if maker.often(0.02) or key.lower() not in {known.lower() for known in given}
+        }
+    if maker.often(0.01):
+        it[dice.choice(list(it))] = dice.choice(["none", 7, None, {"x": {}}, {"aws:username": "x"}])
+    return it
+
+
+def requests(seed, world):
+    """The bytes of two files of requests of a world, the first without keys."""
+    maker = Maker(-seed - 1)
+    dice = maker.dice
+    if not (world["principals"] and world["actions"] and world["resources"]):
+        return [b""]
+    files = []
+    for with_keys in (False, True):
+        lines = [request(dice, maker, world) for _ in range(dice.randint(1, 12))]
+        if not with_keys:
+            lines = [{name: value for name, value in it.items() if name != "context"} for it in lines]
+        files.append(
+            b"\n".join(json.dumps(it, ensure_ascii=maker.often(0.5)).encode() for it in lines)
+            + (b"\n" if maker.often(0.7) else b"")
+        )
+    return files

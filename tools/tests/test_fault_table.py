@@ -7,12 +7,14 @@ import re
 from harness import TOOLS, same
 
 TOP = os.path.dirname(TOOLS)
-# For each table the enum that has its faults, and the section of LOGIC.md that states them. A run of two worlds has two more.
+# For each table the enum that has its faults, and the section of LOGIC.md that states them. A run of two worlds has two more, and one of
+# requests another.
 TABLES = {
     "Of the run": ("iam_app/src/fault.rt", "RunFault", "14"),
     "Of the matrix": ("iam_matrix/src/fault.rt", "MatrixFault", "11.7"),
     "Of the cut": ("iam_matrix/src/cut.rt", "CutFault", "11.7"),
     "Of the world": ("iam_world/src/fault.rt", "WorldFault", "12.2"),
+    "Of a line of requests": ("iam_asked/src/fault.rt", "LineFault", "13.8"),
     "Of a context": ("iam_context/src/fault.rt", "ContextFault", "9.3"),
     "Of a document": ("iam_policy/src/fault.rt", "Fault", "6.3"),
 }
@@ -41,10 +43,11 @@ def variants(path, enum):
 
 
 def test_the_code_has_the_faults_of_the_table():
-    run, *of_two = variants("iam_app/src/changes_fault.rt", "ChangesFault")
-    same(run, "Run")
+    run, *further = variants("iam_app/src/changes_fault.rt", "ChangesFault")
+    also, *last = variants("iam_app/src/requests_fault.rt", "RequestsFault")
+    same([run, also], ["Run", "Run"])
     for name, (path, enum, _) in TABLES.items():
-        same(variants(path, enum) + (of_two if enum == "RunFault" else []), table(name), enum)
+        same(variants(path, enum) + (further + last if enum == "RunFault" else []), table(name), enum)
 
 
 def test_logic_has_the_faults_of_the_table():

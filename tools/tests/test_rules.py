@@ -13,8 +13,6 @@ TOP = os.path.dirname(TOOLS)
 LEFT_OUT = {"1.2"}
 # What is left out, and the examples of other sections.
 WITHOUT_DEFINITIONS = LEFT_OUT | {"6.11", "11.5"}
-# What no command asks for: a test of the crates tries it.
-WITHOUT_ROWS = LEFT_OUT | {"13.8"}
 
 
 def read(path):
@@ -87,7 +85,7 @@ def test_each_row_names_a_section_and_each_section_has_a_row():
         rows = json.loads(read(path))
         if isinstance(rows, list):
             tried |= {row["rule"] for row in rows}
-    assert tried == set(sections()) - WITHOUT_ROWS, set(sections()) ^ tried
+    assert tried == set(sections()) - LEFT_OUT, set(sections()) ^ tried
 
 
 def test_proofs_has_the_number_of_trusted_definitions():

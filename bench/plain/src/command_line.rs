@@ -9,12 +9,15 @@ Commands:
   decide <P> <A> <R>        Print the verdict of one cell
   matrix                    Print the verdicts of all cells
   first                     Print the first allowed cell
+  ask                       Print the verdicts of the requests of a file
   help                      Print this message
 
-Options of matrix and first:
+Options of matrix, first and ask:
       --workers <N>         Number of workers, 1 to 64 [default: 4]
       --tile <N>            Cells of a tile [default: the cells by 256]
-Options of matrix:
+Options of ask:
+      --requests <FILE>     The requests, one a line
+Options of matrix and ask:
       --format <csv|json>   Form of the report [default: csv]
       --brief               Leave statements and lacks out
   -h, --help                Print help
@@ -25,6 +28,7 @@ pub enum Task {
     Decide(u64, u64, u64),
     Matrix,
     First,
+    Ask,
 }
 
 pub struct Options {
@@ -33,6 +37,7 @@ pub struct Options {
     pub tile: Option<u64>,
     pub json: bool,
     pub brief: bool,
+    pub requests: String,
 }
 
 pub enum Usage {
@@ -45,12 +50,13 @@ pub fn options_of(words: &[String]) -> Result<Options, Usage> {
     let Some((name, rest)) = words.split_first() else {
         return refused("no command".into());
     };
-    let mut o = Options { task: Task::Check, workers: 4, tile: None, json: false, brief: false };
+    let mut o = Options { task: Task::Check, workers: 4, tile: None, json: false, brief: false, requests: String::new() };
     let known: &[&str] = match name.as_str() {
         "-h" | "--help" | "help" => return Err(Usage::Help),
         "check" | "decide" => &[],
         "matrix" => &["--workers", "--tile", "--format", "--brief"],
         "first" => &["--workers", "--tile"],
+        "ask" => &["--workers", "--tile", "--format", "--brief", "--requests"],
         _ => return refused(format!("unrecognized command or argument '{name}'")),
     };
     let numbers = flags(rest, known, &mut o)?;
@@ -58,6 +64,7 @@ pub fn options_of(words: &[String]) -> Result<Options, Usage> {
         ("check", []) => Task::Check,
         ("matrix", []) => Task::Matrix,
         ("first", []) => Task::First,
+        ("ask", []) if !o.requests.is_empty() => Task::Ask,
         ("decide", [p, a, r]) => Task::Decide(number(p)?, number(a)?, number(r)?),
         _ => return refused("wrong number of arguments".into()),
     };
@@ -109,6 +116,7 @@ fn set(flag: &str, value: &str, o: &mut Options) -> Result<(), Usage> {
     match (flag, value) {
         ("--workers", _) => o.workers = number(value)?,
         ("--tile", _) => o.tile = Some(number(value)?),
+        ("--requests", _) => o.requests = value.into(),
         ("--format", "csv") => o.json = false,
         ("--format", "json") => o.json = true,
         _ => return refused(format!("invalid value '{value}' for '{flag}'")),

@@ -97,9 +97,7 @@ impl Contexts {
                 Value::List(l) => texts.extend(l.iter().map(scalar_text)),
                 one => texts.push(scalar_text(one)),
             }
-            if !texts.is_empty() {
-                out.push((id, self.one.put(&texts)));
-            }
+            out.push((id, self.one.put(&texts)));
         }
         if twice {
             return Err(1);

@@ -1,6 +1,7 @@
 //! Simulates AWS IAM policies: a world of policy documents on standard input,
 //! the access matrix (or one cell of it, or the first allowed one) on standard output.
 mod arena;
+mod ask;
 mod bits;
 mod command_line;
 mod decide;
@@ -40,7 +41,7 @@ fn main() {
             2
         }
         Ok(o) => match run(&o) {
-            Ok(()) => 0,
+            Ok(status) => status,
             Err(line) => {
                 eprintln!("fault {line}");
                 1
@@ -66,20 +67,29 @@ fn input() -> Result<&'static [u8], String> {
     Ok(Vec::leak(bytes))
 }
 
-/// Does what the options ask for, or gives the rest of a fault's line.
-fn run(o: &Options) -> Result<(), String> {
+/// Does what the options ask for, and gives the status, or the rest of a fault's line.
+fn run(o: &Options) -> Result<i32, String> {
     let w = reading::read(input()?).map_err(|f| format!("2 World: {f}"))?;
     match o.task {
-        Task::Check => check(w),
-        Task::Decide(x, y, z) => decide_one(w, x, y, z),
+        Task::Check => check(w)?,
+        Task::Decide(x, y, z) => decide_one(w, x, y, z)?,
+        Task::Ask => return ask_all(w, o),
         Task::Matrix | Task::First => {
             lawful(o, w.cells())?;
             match o.task {
-                Task::First => first(w, o.workers as usize),
-                _ => matrix(w, form_of(o), o.workers as usize),
+                Task::First => first(w, o.workers as usize)?,
+                _ => matrix(w, form_of(o), o.workers as usize)?,
             }
         }
     }
+    Ok(0)
+}
+
+/// The status is 4 where there is no request.
+fn ask_all(mut w: World, o: &Options) -> Result<i32, String> {
+    let (text, some) = ask::report(&mut w, ask::bytes_of(&o.requests)?, form_of(o), |count| lawful(o, count))?;
+    put(&text)?;
+    Ok(if some { 0 } else { 4 })
 }
 
 fn check(w: World) -> Result<(), String> {

@@ -52,7 +52,7 @@ fn from_value(root: &'static Value) -> Result<World, String> {
     }
     let now = [leak(stamp(moment)), leak(moment.to_string())];
     let (keys, world_part, principal_parts, resource_parts) = contexts;
-    Ok(World { now, accounts, principals, actions, resources, statements, keys, world_part, principal_parts, resource_parts })
+    Ok(World { now, accounts, principals, actions, resources, statements, keys, world_part, principal_parts, resource_parts, own: Part::new() })
 }
 
 fn bad(path: impl std::fmt::Display) -> String {
@@ -303,7 +303,7 @@ struct RawResource {
     control: &'static [Value],
 }
 
-fn object(v: &'static Value) -> Option<&'static [Member]> {
+pub fn object(v: &'static Value) -> Option<&'static [Member]> {
     match *v {
         Value::Object(m) => Some(m),
         _ => None,
@@ -348,7 +348,7 @@ impl Members {
     }
 }
 
-fn context_shape(v: Option<&'static Value>) -> Option<&'static [Member]> {
+pub fn context_shape(v: Option<&'static Value>) -> Option<&'static [Member]> {
     let fine = |x: &Value| matches!(x, Value::Text(_) | Value::Bool(_) | Value::Unsigned(_) | Value::Negative(_));
     match v {
         None => Some(&[]),

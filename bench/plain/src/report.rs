@@ -5,6 +5,7 @@ use self::texts::{Pack, Shared};
 use crate::bits::each_bit;
 use crate::decide::{place_text, Decision, LACKS};
 use crate::engine::{Engine, Memo, State};
+use crate::json::escape_into;
 use crate::output::{widen_pipe, Ordered};
 use crate::threads::spawn;
 use crate::world::World;
@@ -59,6 +60,61 @@ pub fn csv_row(w: &World, cell: u64, p: usize, a: usize, r: usize, v: &(Decision
     });
     out.push(b'\n');
     out
+}
+
+/// What stands before all rows, and after them.
+pub fn opening(form: Form) -> &'static str {
+    match form {
+        Form::Csv => FULL_HEAD,
+        Form::CsvBrief => BRIEF_HEAD,
+        Form::Json | Form::JsonBrief => "[",
+    }
+}
+
+pub fn closing(form: Form) -> &'static str {
+    if form.json() {
+        "]\n"
+    } else {
+        ""
+    }
+}
+
+/// A row by itself.
+pub fn row(w: &World, form: Form, n: u64, [p, a, r]: [usize; 3], v: &(Decision, Vec<u32>, u8)) -> Vec<u8> {
+    match form {
+        Form::Csv => csv_row(w, n, p, a, r, v),
+        Form::CsvBrief => {
+            let mut out = csv_start(w, n, p, a, r, v.0 as usize);
+            out.push(b'\n');
+            out
+        }
+        Form::Json | Form::JsonBrief => json_row(w, form, n, [p, a, r], v),
+    }
+}
+
+fn json_row(w: &World, form: Form, n: u64, [p, a, r]: [usize; 3], v: &(Decision, Vec<u32>, u8)) -> Vec<u8> {
+    let text = |s: &str| {
+        let mut out = b"\"".to_vec();
+        escape_into(&mut out, s);
+        out.push(b'"');
+        String::from_utf8(out).expect("a text of JSON")
+    };
+    let list = |texts: Vec<String>| format!("[{}]", texts.iter().map(|t| text(t)).collect::<Vec<_>>().join(","));
+    let mut lacks = Vec::new();
+    each_bit(v.2 as u64, |b| lacks.push(LACKS[b].to_string()));
+    let places = v.1.iter().map(|s| place_text(&w.statements[*s as usize])).collect();
+    let (lacks, places) = if form.brief() {
+        (String::new(), String::new())
+    } else {
+        (format!("\"lacks\":{},", list(lacks)), format!(",\"statements\":{}", list(places)))
+    };
+    let comma = if n > 0 { "," } else { "" };
+    let (action, word) = (text(w.actions[a]), WORDS[v.0 as usize]);
+    let (principal, resource) = (text(w.principals[p].name), text(w.resources[r].arn));
+    format!(
+        "{comma}{{\"action\":{action},\"cell\":{n},\"decision\":\"{word}\",{lacks}\"principal\":{principal},\"resource\":{resource}{places}}}"
+    )
+    .into_bytes()
 }
 
 /// The five fields of the brief form.

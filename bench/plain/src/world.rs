@@ -14,6 +14,8 @@ pub struct World {
     pub world_part: Part,
     pub principal_parts: Vec<Part>,
     pub resource_parts: Vec<Part>,
+    /// The keys that the request gives itself.
+    pub own: Part,
 }
 
 #[derive(Debug)]
@@ -66,13 +68,14 @@ impl World {
             0..=3 => return &self.principals[p].derived[key as usize..key as usize + 1],
             4 => return &self.resources[r].account_id,
             5 | 6 => return &self.now[key as usize - 5..key as usize - 4],
+            _ if self.own.iter().any(|x| x.0 == key) => &self.own,
             _ => match self.keys.source(key) {
                 Source::World => &self.world_part,
                 Source::Principal => &self.principal_parts[p],
                 Source::Resource => &self.resource_parts[r],
             },
         };
-        if part.len() <= 8 {
+        if part.len() <= 8 || std::ptr::eq(part, &self.own) {
             for x in part {
                 if x.0 == key {
                     return x.1;

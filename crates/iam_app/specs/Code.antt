@@ -1,3 +1,4 @@
+pub mod Asking
 pub mod Cells
 pub mod Pieces
 pub mod Sides

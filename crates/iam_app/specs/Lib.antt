@@ -1,3 +1,4 @@
+pub mod Ask
 pub mod Changes
 pub mod ChangesFault
 pub mod ChangesLaws
@@ -6,5 +7,6 @@ pub mod Command
 pub mod FaultLine
 pub mod Laws
 pub mod Output
+pub mod RequestsFault
 pub mod Selected
 pub mod Streams

@@ -17,7 +17,7 @@ use std::io::{Read, Write};
 use std::thread::Threads;
 
 /// The exit status of a run in which no request was asked about.
-const NOTHING_ASKED: u8 = 4;
+pub const NOTHING_ASKED: u8 = 4;
 
 /// Answers a command about one world, whatever file it names: reads the world, and writes the report of all where nothing is
 /// asked for, as [`crate::run`] does, else what is asked for, as [`crate::run_selected`] does, with the same faults; whether some

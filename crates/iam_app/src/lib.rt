@@ -1,6 +1,7 @@
 //! The program behind `iamsim`: its command line, its streams and what it says of a fault.
 #![tactic(auto)]
 
+mod ask;
 mod cells;
 mod changes;
 mod changes_fault;
@@ -10,22 +11,26 @@ mod input;
 mod laws;
 mod output;
 mod program;
+mod requests_fault;
 mod selected;
 
+pub use ask::{ask_status, run_ask};
 pub use changes::{Comparison, changes_status, run_changes};
 pub use changes_fault::{ChangesFault, Side, changes_fault_line};
 pub use command::{changes_command_status, command_status, run_changes_command, run_command};
 pub use fault::{RunFault, fault_line, status};
+pub use iam_asked::{FaultyLine, LineFault};
 pub use iam_changes::Kinds;
 pub use iam_layers::WorldFault;
 pub use iam_matrix::{CutFault, MatrixFault};
 pub use iam_options::{
-    Asked, ChangesCommand, ChangesOptions, Command, FailOn, Options, Task, Usage, WorldCommand,
-    command_of, options_of,
+    AskCommand, Asked, ChangesCommand, ChangesOptions, Command, FailOn, Options, RunOptions, Task,
+    Usage, WorldCommand, command_of, options_of,
 };
 pub use iam_requests::{Axis, Twice};
 pub use iam_selection::Selection;
 pub use iam_text::OutOfMemory;
 pub use laws::{one_changes_output, one_output};
 pub use program::run;
+pub use requests_fault::{RequestsFault, requests_fault_line};
 pub use selected::{run_selected, selection_of};

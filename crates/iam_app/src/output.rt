@@ -2,8 +2,10 @@
 ghost use Rattle.std.specs.Prelude.{◌≡◌, [], OnOk, OnErr};
 ghost use Rattle.std.specs.Io.KnownBytes.{Appends, Keeps};
 ghost use Rattle.iam_report.specs.Streams.{AppendsBeginning};
+ghost use Rattle.iam_ask.specs.Code.Rows.{ask_text};
 ghost use Rattle.iam_app.specs.Code.Pieces.{report_text};
 
+use iam_ask::AskText;
 use iam_changes::ChangesText;
 use iam_report::{MatrixText, OutputFault, write_text};
 use iam_selection::ListText;
@@ -58,5 +60,19 @@ pub fn write_report<W: Write>(
     ensures err { OnErr result (AppendsBeginning (W.contents writer.old) (W.contents writer.new) (report_text report.now)) }
 {
     write_unflushed(writer, kept, report)?;
+    flush(writer)
+}
+
+/// Writes the report of requests, as [`write_report`] writes others.
+pub fn write_answers<W: Write>(
+    writer: &mut W,
+    kept: &mut Vec<u8>,
+    report: &AskText<'_>,
+) -> Result<(), OutputFault>
+    requires { kept.old.items ≡ [] }
+    ensures ok { OnOk result (Appends (W.contents writer.old) (W.contents writer.new) (ask_text report.now)) }
+    ensures err { OnErr result (AppendsBeginning (W.contents writer.old) (W.contents writer.new) (ask_text report.now)) }
+{
+    report.write_to(writer, kept)?;
     flush(writer)
 }

@@ -22,20 +22,20 @@ use iam_layers::{Decision, World};
 use iam_matrix::{MatrixFault, Open};
 use iam_options::{Asked, Options, Task};
 use iam_report::buffer;
-use iam_selection::{Selection, first_selected_report, selected_report, selects_some};
+use iam_selection::{Selection, first_selected_report, pattern_of, selected_report, selects_some};
 use iam_text::{Glob, Items};
 use std::alloc::Global;
 use std::io::{Read, Write};
 use std::mem;
 use std::thread::Threads;
 
-/// The patterns that these words are, in which `*` and `?` are wild.
+/// The patterns that these words are.
 fn patterns(alloc: Global, words: &[String]) -> Result<Items<Glob>, OutOfMemory>
     ensures { IfOk result (λ patterns. patterns ≡ patterns_in words.now) }
 {
     let mut patterns = Vec::new(alloc);
     for word in words {
-        patterns.push(Glob::read(alloc, word.as_str())?)?;
+        patterns.push(pattern_of(alloc, word.as_str())?)?;
     }
     Ok(Items::from_vec(patterns))
 }

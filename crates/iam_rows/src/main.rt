@@ -19,7 +19,8 @@ use std::thread::Threads;
 const WORLDS: &str = "worlds.json";
 
 /// The files of rows, by theme.
-const ROWS: [&str; 12] = [
+const ROWS: [&str; 13] = [
+    "ask.json",
     "changes.json",
     "commands.json",
     "conditions.json",

@@ -1,12 +1,14 @@
 // A row is an object: its name, the section of LOGIC.md that it tries (`rule`), an input, words, and what has to come of
 // them: `output`, or `row` for the full header and that row, else nothing; `fault`, the line of the fault, else none;
 // `status`, else 0 without a fault and 1 with one. Where it has `runs`, each of these has words and an answer of its own.
-// Of two worlds `before` is the input of the one before, and `input` that of the one after, whatever files the words name.
+// Of two worlds `before` is the input of the one before, and `input` that of the one after, and `requests`, beside the words, that of
+// a file of requests, whatever files the words name.
 use crate::input::{input_of, number_at, text_at};
 use crate::problem::Problem;
 use iam_app::{
-    ChangesCommand, Command, Usage, WorldCommand, changes_command_status, changes_fault_line,
-    command_of, command_status, fault_line, run_changes_command, run_command,
+    AskCommand, ChangesCommand, Command, Usage, WorldCommand, ask_status, changes_command_status,
+    changes_fault_line, command_of, command_status, fault_line, requests_fault_line, run_ask,
+    run_changes_command, run_command,
 };
 use serde_json::Value;
 use std::alloc::Global;
@@ -63,10 +65,10 @@ pub fn try_rows<R: AllocGlobal + Print + Threads + Sync>(
         match row.get("runs").and_then(Value::as_array) {
             Some(runs) => {
                 for answer in runs.as_slice() {
-                    try_run(rt, name, &inputs, answer, tally)?;
+                    try_run(rt, name, worlds, &inputs, answer, tally)?;
                 }
             }
-            None => try_run(rt, name, &inputs, row, tally)?,
+            None => try_run(rt, name, worlds, &inputs, row, tally)?,
         }
     }
     Ok(())
@@ -92,6 +94,7 @@ fn count(tally: &mut Tally, same: bool) {
 fn try_run<R: AllocGlobal + Print + Threads + Sync>(
     rt: &R,
     name: &str,
+    worlds: &Value,
     inputs: &Inputs,
     want: &Value,
     tally: &mut Tally,
@@ -99,7 +102,11 @@ fn try_run<R: AllocGlobal + Print + Threads + Sync>(
     let alloc = rt.alloc();
     let words = text_at(want, "words").ok_or(Problem::Form)?;
     let split: Vec<&str> = words.split_ascii_whitespace().collect(alloc)?;
-    let answer = answer_to(rt, split.as_slice(), inputs)?;
+    let requests = match want.get("requests") {
+        Some(requests) => input_of(alloc, worlds, requests)?,
+        None => Vec::new(alloc),
+    };
+    let answer = answer_to(rt, split.as_slice(), inputs, requests.as_slice())?;
     let want = wanted(alloc, want)?;
     let same = is_same(&answer, &want);
     count(tally, same);
@@ -142,10 +149,12 @@ fn answer_to<R: AllocGlobal + Threads + Sync>(
     rt: &R,
     words: &[&str],
     inputs: &Inputs,
+    requests: &[u8],
 ) -> Result<Answer, Problem> {
     match command_of(rt.alloc(), words) {
         Ok(Command::World(command)) => world_answer(rt, &command, inputs.world.as_slice()),
         Ok(Command::Changes(command)) => changes_answer(rt, &command, inputs),
+        Ok(Command::Ask(command)) => { ask_answer(rt, &command, inputs.world.as_slice(), requests) }
         Err(usage) => usage_answer(rt.alloc(), usage),
     }
 }
@@ -188,6 +197,36 @@ fn changes_answer<R: AllocGlobal + Threads + Sync>(
     };
     Ok(Answer {
         status: u64::from(changes_command_status(&outcome, command.fail_on, command.allow_empty)),
+        output,
+        fault,
+    })
+}
+
+/// What comes of a command about the requests of a file.
+fn ask_answer<R: AllocGlobal + Threads + Sync>(
+    rt: &R,
+    command: &AskCommand,
+    world: &[u8],
+    requests: &[u8],
+) -> Result<Answer, Problem> {
+    let alloc = rt.alloc();
+    let mut input = world;
+    let mut file = requests;
+    let mut output = Vec::new(alloc);
+    let outcome = run_ask(
+        rt,
+        alloc,
+        &command.options,
+        &mut input,
+        &mut file,
+        &mut output,
+    );
+    let fault = match &outcome {
+        Ok(_) => String::new(alloc),
+        Err(fault) => requests_fault_line(alloc, fault)?,
+    };
+    Ok(Answer {
+        status: u64::from(ask_status(&outcome, command.allow_empty)),
         output,
         fault,
     })

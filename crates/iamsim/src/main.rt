@@ -4,8 +4,9 @@
 mod source;
 
 use iam_app::{
-    ChangesCommand, Command, OutOfMemory, Usage, WorldCommand, changes_command_status,
-    changes_fault_line, command_of, command_status, fault_line, run_changes_command, run_command,
+    AskCommand, ChangesCommand, Command, OutOfMemory, Usage, WorldCommand, ask_status,
+    changes_command_status, changes_fault_line, command_of, command_status, fault_line,
+    requests_fault_line, run_ask, run_changes_command, run_command,
 };
 use source::{Input, NotRead, Source, line_of_file};
 use std::alloc::Global;
@@ -29,6 +30,19 @@ fn main(rt: HostRuntime) -> ExitCode {
             let mut after = Input::of(&rt, &command.after, rt.stdin());
             let mut stdout = rt.stdout();
             let status = changes(&rt, alloc, &command, &mut before, &mut after, &mut stdout);
+            ExitCode::from(status)
+        }
+        Ok(Command::Ask(command)) => {
+            let mut input = Input::of(&rt, &command.world, rt.stdin());
+            let mut file = Input::of(&rt, &command.requests, rt.stdin());
+            let status = ask(
+                &rt,
+                alloc,
+                &command,
+                &mut input,
+                &mut file,
+                &mut rt.stdout(),
+            );
             ExitCode::from(status)
         }
         Err(usage) => ExitCode::from(tell_usage(&rt, &usage)),
@@ -85,6 +99,24 @@ fn changes<T: Threads + Sync + Files + Eprint, R: Read + Drop, W: Write>(
         tell_fault(rt, alloc, changes_fault_line(alloc, fault), not_read);
     }
     changes_command_status(&outcome, command.fail_on, command.allow_empty)
+}
+
+/// Answers the requests of a file; the exit status.
+fn ask<T: Threads + Sync + Files + Eprint, R: Read + Drop, W: Write>(
+    rt: &T,
+    alloc: Global,
+    command: &AskCommand,
+    input: &mut Input<'_, R, T>,
+    file: &mut Input<'_, R, T>,
+    stdout: &mut W,
+) -> u8 {
+    let outcome = run_ask(rt, alloc, &command.options, input, file, stdout);
+    if let Err(fault) = &outcome {
+        // Where the world can't be read, the requests were not.
+        let not_read = input.not_read().or(file.not_read());
+        tell_fault(rt, alloc, requests_fault_line(alloc, fault), not_read);
+    }
+    ask_status(&outcome, command.allow_empty)
 }
 
 /// Prints what a command line without options is answered, and gives the exit status.
