@@ -1,7 +1,7 @@
 // Readers and writers that fail, at each of their calls, for all commands.
 use iam_app::{
-    Command, changes_command_status, changes_fault_line, command_of, command_status, fault_line,
-    run_changes_command, run_command,
+    Command, ask_status, changes_command_status, changes_fault_line, command_of, command_status,
+    fault_line, requests_fault_line, run_ask, run_changes_command, run_command,
 };
 use std::io;
 use std::io::{ErrorKind, Read, Write};
@@ -42,8 +42,15 @@ gained,arn:aws:iam::111122223333:user/ann,S3:getobject,arn:aws:s3:::b/k,,allowed
 
 const CHANGES: &str = "changes - after.json --workers 1 --brief --fail-on lost";
 
+/// A request for the cell of the world, and how it is asked for.
+const REQUESTS: &str =
+    r#"{"principal":"arn:aws:iam::111122223333:user/ann","action":"s3:GetObject","resource":"arn:aws:s3:::b/k"}
+"#;
+
+const ASK: &str = "ask world.json --requests - --workers 1 --brief";
+
 /// Each command, in each form of its report, and what it writes.
-const RUNS: [(&str, &str); 9] = [
+const RUNS: [(&str, &str); 10] = [
     (
         "check",
         "ok principals 1 actions 1 resources 1 cells 1 statements 1\n",
@@ -56,12 +63,21 @@ const RUNS: [(&str, &str); 9] = [
     ("matrix --workers 1 --format json --brief", JSON_BRIEF),
     ("first --workers 1", BRIEF),
     (CHANGES, GAINED),
+    (ASK, BRIEF),
 ];
 
 /// The command of these words.
 fn asked_by(rt: &impl AllocGlobal, words: &str) -> Result<Command, Fail> {
     let split: Vec<&str> = words.split_ascii_whitespace().collect(rt.alloc())?;
     Ok(command_of(rt.alloc(), split.as_slice())?)
+}
+
+/// What stands beside the world: the requests, or a world before it.
+fn beside(command: &Command) -> &'static str {
+    match command {
+        Command::Ask(_) => REQUESTS,
+        Command::World(_) | Command::Changes(_) => EMPTY,
+    }
 }
 
 /// Gives one byte a read, and fails once no more reads are left.
@@ -151,6 +167,14 @@ fn end_of<R: Read, S: Read, W: Write>(
                 line,
             ))
         }
+        Command::Ask(asked) => {
+            let outcome = run_ask(rt, alloc, &asked.options, after, before, writer);
+            let line = match &outcome {
+                Ok(_) => String::new(alloc),
+                Err(fault) => requests_fault_line(alloc, fault)?,
+            };
+            Ok((ask_status(&outcome, asked.allow_empty), line))
+        }
     }
 }
 
@@ -164,7 +188,7 @@ fn reads(
     line: &str,
 ) -> Result<(), Fail> {
     let mut before = Dripping {
-        rest: EMPTY.as_bytes(),
+        rest: beside(command).as_bytes(),
         reads: of_before,
     };
     let mut after = Dripping {
@@ -181,17 +205,20 @@ fn reads(
 
 #[test]
 fn readers_that_fail_at_each_read(rt: HostRuntime) -> Result<(), Fail> {
-    let (of_before, of_after) = (EMPTY.len() + 1, WORLD.len() + 1);
+    let of_after = WORLD.len() + 1;
     for (words, report) in RUNS {
         let command = asked_by(&rt, words)?;
+        let of_before = beside(&command).len().saturating_add(1);
         for count in 0..of_after {
             reads(&rt, &command, of_before, count, "", "fault 1 Read")?;
         }
         reads(&rt, &command, of_before, of_after, report, "")?;
     }
-    let command = asked_by(&rt, CHANGES)?;
-    for count in 0..of_before {
-        reads(&rt, &command, count, of_after, "", "fault 1 Read")?;
+    for words in [CHANGES, ASK] {
+        let command = asked_by(&rt, words)?;
+        for count in 0..beside(&command).len().saturating_add(1) {
+            reads(&rt, &command, count, of_after, "", "fault 1 Read")?;
+        }
     }
     Ok(())
 }
@@ -206,7 +233,7 @@ fn fills(
     flushes: bool,
     line: &str,
 ) -> Result<(), Fail> {
-    let mut before = EMPTY.as_bytes();
+    let mut before = beside(command).as_bytes();
     let mut after = WORLD.as_bytes();
     let mut writer = Narrow {
         taken: Vec::new(rt.alloc()),
