@@ -205,7 +205,9 @@ def test_texts_with_signs_of_patterns_and_of_csv():
         ("*,*", [2]),
         ("*${aws:username}", [3]),
         ("*:::?", [4]),
-        ("*\\*", None),
+        ("*\\*", [0]),
+        ("*\\?", [1]),
+        ("*\\\\*", None),
     ):
         lines = "".join(f"{cell},{BOB},{GET},{fields[cell]},implicitDeny,,identity\n" for cell in cells or [])
         done = (status_of(cells), (HEADER + lines).encode(), b"")
