@@ -20,7 +20,7 @@ from release import proof
 TOP = os.path.dirname(TOOLS)
 DIST = os.path.join(TOOLS, "dist")
 COMMANDS = {
-    "iamsim": ["check", "decide", "matrix", "first", "changes", "help"],
+    "iamsim": ["check", "decide", "matrix", "first", "changes", "ask", "help"],
     "iamsim-aws": re.findall(
         r"^    ([a-z][a-z-]*)(?= |$)", run([os.path.join(TOOLS, "iamsim-aws"), "--help"])[0], re.M
     ),
@@ -383,11 +383,20 @@ def test_bash_completes_words_and_files():
         ["iamsim", "matrix", "--decision", "=", "i"],
         ["iamsim", "matrix", "--workers", ""],
         ["iamsim", "changes", "--fail-on", ""],
+        ["iamsim", "ask", "--requests", "examples/sm"],
     ]
     asked += [["iamsim", "decide", "0", "0", "0", "examples/sm"], ["iamsim", "help", "f"]]
     same(
         bash_words(folder, "iamsim", asked, TOP),
-        [["csv", "json"], ["implicitDeny"], [], ["gained", "lost", "any"], ["examples/smallest.json"], ["first"]],
+        [
+            ["csv", "json"],
+            ["implicitDeny"],
+            [],
+            ["gained", "lost", "any"],
+            ["examples/smallest.json"],
+            ["examples/smallest.json"],
+            ["first"],
+        ],
     )
     asked = [
         ["iamsim-aws", "can", "--format", ""],
