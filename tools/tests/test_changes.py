@@ -352,7 +352,9 @@ def test_a_choice_that_meets_nothing():
         "nothing names a resource that arn:aws:s3:::hoems/* means, but policies for all: is it a slip?\n" in said
     ), said
     _, said = aws(*words, "--action", "s3:PutObjekt")
-    hint = "names an action that s3:PutObjekt means, but by a pattern (near is s3:PutObject): is it a slip? If not, give"
+    hint = (
+        "names an action that s3:PutObjekt means, but by a pattern (near is s3:PutObject): is it a slip? If not, give"
+    )
     assert hint in said, said
     out, said = aws(*words, "--action", "kms:*", status=4)
     same(out, "0 lost and 0 gained, of 0 requests\n")

@@ -270,7 +270,10 @@ def test_the_package():
     run(["dpkg-deb", "--raw-extract", package(), root])
     fields = dict(it.split(": ", 1) for it in read(root, "DEBIAN/control").splitlines() if ": " in it and it[0] != " ")
     same((fields["Package"], fields["Version"], fields["Architecture"]), ("iamsim", version(), "amd64"))
-    same((fields["Depends"].startswith("python3 (>= 3.8), libc6 (>= 2."), fields["Recommends"]), (True, "parallel, python3-yaml"))
+    same(
+        (fields["Depends"].startswith("python3 (>= 3.8), libc6 (>= 2."), fields["Recommends"]),
+        (True, "parallel, python3-yaml"),
+    )
     lines = [it.split("  ") for it in read(root, "DEBIAN/md5sums").splitlines()]
     same({path for _, path in lines}, {it for it in files_below(root) if not it.startswith("DEBIAN/")})
     for value, path in lines:

@@ -11,12 +11,16 @@ def test_a_name_of_several_policies():
     export, draft = load(EXPORT), file(document())
     trust = document({"Effect": "Allow", "Principal": {"AWS": ALICE}, "Action": "sts:AssumeRole"})
     other = json.loads(json.dumps(export).replace("111122223333", "777788889999"))
-    both, roles = [file(export), file(other)], [f"arn:aws:iam::{it}:role/app/deploy" for it in ("111122223333", "777788889999")]
+    both, roles = [file(export), file(other)], [
+        f"arn:aws:iam::{it}:role/app/deploy" for it in ("111122223333", "777788889999")
+    ]
     for name in ("deploy", "role/app/deploy"):
         _, said = aws("changes", *both, "--put", f"{name}={draft}", status=1)
         listed = ", ".join(f"{it} trust policy" for it in roles)
         same(said, f"iamsim-aws: --put {name}: several policies are called so, name one of them: {listed}\n")
-    found = changes(*both, "--put", f"{roles[1]}={draft}", "--action", "sts:AssumeRole", "--resource", "*:role/app/deploy")
+    found = changes(
+        *both, "--put", f"{roles[1]}={draft}", "--action", "sts:AssumeRole", "--resource", "*:role/app/deploy"
+    )
     assert found and {it[3] for it in found} == {roles[1]}, found
     # A role, its inline policy and a managed one.
     deploy, managed = export["RoleDetailList"][0], f"{ACCOUNT}policy/deploy"
@@ -30,7 +34,11 @@ def test_a_name_of_several_policies():
         assert said.endswith(f"name one of them: {managed}, {role} inline deploy, {role} trust policy\n"), said
     # One of them is put in each world: where the action is of iam:, a role has no trust policy.
     everything = file(document(statement()))
-    for name, of_iam in ((role, set()), (f"{role} inline deploy", {f"{SESSION}deploy/s1"}), (managed, {f"{SESSION}deploy/s1"})):
+    for name, of_iam in (
+        (role, set()),
+        (f"{role} inline deploy", {f"{SESSION}deploy/s1"}),
+        (managed, {f"{SESSION}deploy/s1"}),
+    ):
         given = file(trust) if name == role else everything
         found = changes(path, "--put", f"{name}={given}", "--action", "iam:PassRole", "--resource", role)
         same({it[1] for it in found}, of_iam, name)

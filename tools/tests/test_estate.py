@@ -622,16 +622,24 @@ def test_a_part_of_an_estate():
     assert whole > 4
     asked = ["cy", "s3:GetObject", OBJECT, *base]
     aws("can", *asked)
-    [(n,)] = rows(where, f"SELECT world FROM worlds, principals p WHERE name = '{CY}' AND p.principal >= first_principal AND "
-                  "p.principal < end_principal AND first_action = 0 AND end_resource = 4")
-    there = rows(where, f"SELECT (end_principal - first_principal) * (end_action - first_action) * "
-                        f"(end_resource - first_resource) FROM worlds WHERE world = {n}")[0][0]
+    [(n,)] = rows(
+        where,
+        f"SELECT world FROM worlds, principals p WHERE name = '{CY}' AND p.principal >= first_principal AND "
+        "p.principal < end_principal AND first_action = 0 AND end_resource = 4",
+    )
+    there = rows(
+        where,
+        f"SELECT (end_principal - first_principal) * (end_action - first_action) * "
+        f"(end_resource - first_resource) FROM worlds WHERE world = {n}",
+    )[0][0]
     change = sqlite3.connect(path)
     change.execute(f"UPDATE worlds SET ended = 'waiting' WHERE world = {n}")
     change.execute("DELETE FROM access WHERE principal = (SELECT principal FROM principals WHERE name = ?)", (CY,))
     change.commit()
     out, said = aws("can", *asked, status=6)
-    assert out.startswith(f"unknown, since its world is not loaded or it was not asked for: {CY} s3:GetObject {OBJECT}\n"), out
+    assert out.startswith(
+        f"unknown, since its world is not loaded or it was not asked for: {CY} s3:GetObject {OBJECT}\n"
+    ), out
     assert f"1 of {whole} worlds of the estate are not loaded" in said, said
     [found] = json.loads(aws("can", *asked, "--format", "json", status=6)[0])
     same((found["decision"], found["statements"]), ("unknown", []))

@@ -93,7 +93,13 @@ def test_a_job_runs_nothing_of_the_folder():
     harm = f"open({planted!r}, 'w').close()\n"
     same(estate(folder, "--slurm")[0], 0)
     for where in (folder, room()):
-        for name in ("sqlite3.py", "gzip.py", "sitecustomize.py", "iamsim_aws/__init__.py", "iamsim_aws/estates/__init__.py"):
+        for name in (
+            "sqlite3.py",
+            "gzip.py",
+            "sitecustomize.py",
+            "iamsim_aws/__init__.py",
+            "iamsim_aws/estates/__init__.py",
+        ):
             put(where, name, harm)
         status, out, said = estate(folder, env=env, cwd=where)
         same(status, 0, said)
@@ -299,7 +305,9 @@ def test_streams_that_are_closed_or_full():
         assert "another form" not in ran.stderr and "Exception" not in ran.stderr, ran.stderr
     # Of what waited to be written before a fault nothing more is said.
     worlds = file(json.dumps(small_world()) + "\n{}\n")
-    words, env = f"{AWS} matrices < {worlds} > /dev/full", {k: v for k, v in os.environ.items() if k != "PYTHONUNBUFFERED"}
+    words, env = f"{AWS} matrices < {worlds} > /dev/full", {
+        k: v for k, v in os.environ.items() if k != "PYTHONUNBUFFERED"
+    }
     ran = subprocess.run(["sh", "-c", words], stderr=subprocess.PIPE, encoding="utf-8", env=env)
     same((ran.returncode, ran.stderr.count("\n")), (1, 1), ran.stderr)
     assert ran.stderr.startswith("iamsim-aws: world 1: fault 2 World"), ran.stderr
@@ -365,7 +373,7 @@ def test_a_question_that_is_ended_ends_the_program():
 
 
 def test_a_terminal_is_told_how_far_it_is():
-    slow = f"#!/bin/sh\nsleep 4\nexec {IAMSIM} \"$@\"\n"
+    slow = f'#!/bin/sh\nsleep 4\nexec {IAMSIM} "$@"\n'
     env = {**os.environ, "IAMSIM": put(room(), "iamsim", slow)}
     words = [AWS, "can", "alice", "s3:GetObject", OBJECT, EXPORT]
     ours, theirs = pty.openpty()
@@ -445,11 +453,16 @@ TEMPLATE = {
             "Properties": {
                 "RoleName": {"Fn::Sub": "${Env}-r"},
                 "AssumeRolePolicyDocument": document(),
-                "Policies": [{"PolicyName": "p", "PolicyDocument": document(statement(resource={"Fn::GetAtt": ["B", "Arn"]}))}],
+                "Policies": [
+                    {"PolicyName": "p", "PolicyDocument": document(statement(resource={"Fn::GetAtt": ["B", "Arn"]}))}
+                ],
                 "Tags": [{"Key": "a", "Value": {"Fn::Join": ["-", ["a", {"Ref": "Env"}]]}}],
             },
         },
-        "B": {"Type": "AWS::S3::Bucket", "Properties": {"BucketName": {"Fn::If": ["IsProd", "b", {"Ref": "AWS::NoValue"}]}}},
+        "B": {
+            "Type": "AWS::S3::Bucket",
+            "Properties": {"BucketName": {"Fn::If": ["IsProd", "b", {"Ref": "AWS::NoValue"}]}},
+        },
     },
 }
 IN_YAML = """Resources:

@@ -70,7 +70,10 @@ def test_what_is_told_is_in_both_reports():
     deleted, short = "AIDAEXAMPLEEXAMPLE00", "alice"
     linked = "arn:aws:iam::111122223333:role/aws-service-role/support.amazonaws.com/AWSServiceRoleForSupport"
     grant = document(
-        *({"Effect": "Allow", "Principal": {"AWS": it}, "Action": "s3:*"} for it in (names, deleted, deleted, short, linked))
+        *(
+            {"Effect": "Allow", "Principal": {"AWS": it}, "Action": "s3:*"}
+            for it in (names, deleted, deleted, short, linked)
+        )
     )
     resources = file([{"arn": "arn:aws:s3:::b", "account": "111122223333", "policy": grant}])
     written(folder, "rules.txt", "never chain s3:PutObjekt arn:aws:s3:::b\nalways alice s3:GetObject arn:aws:s3:::b\n")

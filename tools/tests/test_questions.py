@@ -157,9 +157,20 @@ def test_each_access_point_has_its_own_policy():
             aws("can", carol, action, f"arn:aws:{other}{end}", *given, status=3)
     point = [{"arn": "arn:aws:s3:eu-west-1:111122223333:accesspoint/p", "account": "111122223333", "policy": grant}]
     _, said = aws("can", carol, "s3:GetObject", point[0]["arn"], *exports, "--resources", file(point))
-    assert f"{point[0]['arn']}: its requests fall under the policy of its bucket too, which is not asked here" in said, said
+    assert (
+        f"{point[0]['arn']}: its requests fall under the policy of its bucket too, which is not asked here" in said
+    ), said
     denying = document({"Effect": "Deny", "Principal": "*", "Action": "*", "Resource": "*"})
-    words = ["changes", *exports, "--resources", file(point), "--put", f"accesspoint/p={file(denying)}", "--format", "csv"]
+    words = [
+        "changes",
+        *exports,
+        "--resources",
+        file(point),
+        "--put",
+        f"accesspoint/p={file(denying)}",
+        "--format",
+        "csv",
+    ]
     out, _ = aws(*words, "--action", "s3:GetObject", "--resource", "*accesspoint/p")
     assert f"lost,{carol},s3:GetObject,{point[0]['arn']}," in out, out
 
@@ -190,7 +201,10 @@ def test_the_deciding_statement_comes_first():
     world["principals"][0]["boundary"] = full
     path = file(world)
     words = ["s3:GetObject", "arn:aws:s3:::b/k", "--world", path]
-    own, limit = "principals/0/identity/0, statement 0 (identity policy)", "accounts/0/org/1/1, statement 0 (organisation policy)"
+    own, limit = (
+        "principals/0/identity/0, statement 0 (identity policy)",
+        "accounts/0/org/1/1, statement 0 (organisation policy)",
+    )
     for it in (["can", "ann"], ["who-can"]):
         lines = aws(*it, *words)[0].splitlines()
         same([line.strip() for line in lines if "allowed by" in line], [f"allowed by {own}", f"allowed by {limit}"])
@@ -205,21 +219,33 @@ def test_the_deciding_statement_comes_first():
     assert f"    allowed by {own}\n    allowed by {limit}\n" in out and "org/0/0" not in out, out
     # Of a level that lacks this its policies are named.
     world["principals"][0]["identity"] = [full]
-    world["accounts"][0]["org"] = [[full], [document(statement(action="kms:*")), document(statement(resource="arn:aws:s3:::c"))]]
+    world["accounts"][0]["org"] = [
+        [full],
+        [document(statement(action="kms:*")), document(statement(resource="arn:aws:s3:::c"))],
+    ]
     out, _ = aws("can", "ann", *words[:3], file(world), status=3)
     assert "that allows this\n    level 1 from the root does not: accounts/0/org/1/0, accounts/0/org/1/1\n" in out, out
     assert "level 0" not in out, out
     # The nearest statement has the action, and another resource or a condition.
     conditioned = statement(action="s3:Get*", Condition={"Bool": {"aws:SecureTransport": "true"}})
     for some, why in (
-        ([statement(action="s3:PutObject"), statement(action="s3:get*", resource=["arn:aws:s3:::c/*", "arn:aws:s3:::d"])],
-         "statement 1 (identity policy): it is of arn:aws:s3:::c/*, arn:aws:s3:::d"),
-        ([statement(action="s3:*", resource="arn:aws:s3:::c"), conditioned],
-         "statement 1 (identity policy): its condition or variables do not hold"),
+        (
+            [
+                statement(action="s3:PutObject"),
+                statement(action="s3:get*", resource=["arn:aws:s3:::c/*", "arn:aws:s3:::d"]),
+            ],
+            "statement 1 (identity policy): it is of arn:aws:s3:::c/*, arn:aws:s3:::d",
+        ),
+        (
+            [statement(action="s3:*", resource="arn:aws:s3:::c"), conditioned],
+            "statement 1 (identity policy): its condition or variables do not hold",
+        ),
     ):
         out, _ = aws("can", "ann", "s3:GetObject", "*", "--world", file(small_world(document(*some))), status=3)
         assert f"allows this\n    nearest is principals/0/identity/0, {why}\n" in out, out
-    out, _ = aws("can", "ann", "s3:GetObject", "*", "--world", file(small_world(document(statement(action="kms:*")))), status=3)
+    out, _ = aws(
+        "can", "ann", "s3:GetObject", "*", "--world", file(small_world(document(statement(action="kms:*")))), status=3
+    )
     assert "nearest" not in out, out
 
 
