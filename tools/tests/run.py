@@ -4,6 +4,7 @@
 import importlib
 import os
 import shutil
+import signal
 import sys
 import tempfile
 import traceback
@@ -21,6 +22,8 @@ def main():
     # The tools start some thousands of times: what Python compiles of them is kept for the run.
     os.environ["PYTHONPYCACHEPREFIX"] = os.path.join(room, "compiled")
     os.environ.pop("PYTHONDONTWRITEBYTECODE", None)
+    # A run in the background ignores the signal of a terminal, and so would what it starts.
+    signal.signal(signal.SIGINT, signal.default_int_handler)
     from harness import Skipped
 
     passed = failed = 0
