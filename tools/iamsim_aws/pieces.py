@@ -203,7 +203,6 @@ class Pieces:
                 self.unknowns.lacks(f"{self.place('PermissionsBoundary')} ({boundary.why})")
             else:
                 made["permissions_boundary"] = boundary
-        if kind in ("user", "role"):
             tags = self.tags(given)
             if tags is not None:
                 made["tags"] = tags
@@ -276,17 +275,22 @@ def by_name(account: Account, name: str) -> Any:
 # --- what is read of each type ---------------------------------------------------------------------------------------
 
 
+def with_document(it: Pieces, kind: str, given: Values, member: str, named: str) -> Optional[str]:
+    """A role or managed policy with the document that it has to have: its name, None where nobody knows it."""
+    name = it.entity(kind, given)
+    if member not in given:
+        raise it.functions.fault(f"{member} is missing")
+    if name is not None:
+        made, values = it.document(member, given[member]), it.found[it.logical][(f"aws_iam_{kind}",)]
+        if made is not None and values is not None:
+            values[named] = made
+    return name
+
+
 def role(it: Pieces, given: Values) -> None:
-    name = it.entity("role", given)
-    if "AssumeRolePolicyDocument" not in given:
-        raise it.functions.fault("AssumeRolePolicyDocument is missing")
-    if name is None:
-        return
-    trust = it.document("AssumeRolePolicyDocument", given["AssumeRolePolicyDocument"])
-    values = it.found[it.logical][("aws_iam_role",)]
-    if trust is not None and values is not None:
-        values["assume_role_policy"] = trust
-    it.own_policies("role", name, given)
+    name = with_document(it, "role", given, "AssumeRolePolicyDocument", "assume_role_policy")
+    if name is not None:
+        it.own_policies("role", name, given)
 
 
 def user(it: Pieces, given: Values) -> None:
@@ -314,15 +318,8 @@ HOLDERS = (("user", "Users"), ("group", "Groups"), ("role", "Roles"))
 
 
 def managed(it: Pieces, given: Values) -> None:
-    name = it.entity("policy", given)
-    if "PolicyDocument" not in given:
-        raise it.functions.fault("PolicyDocument is missing")
-    if name is None:
+    if with_document(it, "policy", given, "PolicyDocument", "policy") is None:
         return
-    made = it.document("PolicyDocument", given["PolicyDocument"])
-    values = it.found[it.logical][("aws_iam_policy",)]
-    if values is not None and made is not None:
-        values["policy"] = made
     for kind, of in HOLDERS:
         for holder in it.texts(f"aws_iam_{kind}_policy_attachment", given, of):
             it.attached(kind, holder, str(it.names.arn(it.logical)))
