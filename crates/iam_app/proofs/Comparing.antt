@@ -6,9 +6,9 @@ use Rattle.iam_world.specs.WorldFault.{IsFirstWorldFault}
 use Rattle.iam_world.specs.declared.fault.WorldFault.{WorldFault}
 use Rattle.iam_world.specs.declared.fault.WorldFault.TheVariants as w
 use Rattle.iam_selection.specs.Selection.{SelectionValue}
-use Rattle.iam_requests.specs.Laws.{OneTwice}
-use Rattle.iam_requests.specs.Twice.{IsApart, IsFirstTwice}
-use Rattle.iam_requests.specs.declared.twice.Twice.{Twice}
+use Rattle.iam_changes.specs.RequestLaws.{OneTwice}
+use Rattle.iam_changes.specs.Twice.{IsApart, IsFirstTwice}
+use Rattle.iam_changes.specs.declared.twice.Twice.{Twice}
 use Rattle.iam_changes.specs.Change.{AskedValue}
 use Rattle.iam_changes.specs.Laws.{OneChangesReport}
 use Rattle.iam_changes.specs.declared.change.Kinds.{Kinds}

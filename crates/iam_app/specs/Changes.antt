@@ -13,11 +13,11 @@ use Rattle.iam_matrix.specs.declared.cut.CutFault.{CutFault}
 use Rattle.iam_matrix.specs.declared.cut.CutFault.TheVariants as c
 use Rattle.iam_matrix.specs.declared.fault.MatrixFault.TheVariants as m
 use Rattle.iam_selection.specs.Selection.{SelectionValue, SelectsSome}
-use Rattle.iam_requests.specs.Requests.{IsCount}
+use Rattle.iam_changes.specs.Requests.{IsCount}
 use Rattle.iam_changes.specs.Report.{IsChangesReport}
-use Rattle.iam_requests.specs.Twice.{IsApart, IsFirstTwice}
+use Rattle.iam_changes.specs.Twice.{IsApart, IsFirstTwice}
 use Rattle.iam_changes.specs.declared.change.Kinds.{Kinds}
-use Rattle.iam_requests.specs.declared.twice.Twice.{Twice}
+use Rattle.iam_changes.specs.declared.twice.Twice.{Twice}
 use Rattle.iam_options.specs.declared.changes.ChangesOptions.{ChangesOptions}
 use Rattle.iam_app.specs.Output.{format_of, tile_or_default}
 use Rattle.iam_app.specs.Streams.{AllRemained, MoreRemained}

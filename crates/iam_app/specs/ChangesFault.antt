@@ -1,7 +1,7 @@
 -- The line that tells of a fault of a run of two worlds, with its number: the first seven are those of a run. LOGIC 13.4, 14.
 use Rattle.std.specs.Prelude.{ℕ, List, ◌++◌, Bool, ◌||◌, false, Option, Some, None, codes}
 use Rattle.iam_world.specs.WorldFault.{world_text}
-use Rattle.iam_requests.specs.Twice.{twice_text}
+use Rattle.iam_changes.specs.Twice.{twice_text}
 use Rattle.iam_changes.specs.declared.change.Kinds.{Kinds}
 use Rattle.iam_options.specs.declared.changes.FailOn.{FailOn}
 use Rattle.iam_options.specs.declared.changes.FailOn.TheVariants.{Gained, Lost, Any}

@@ -5,7 +5,7 @@ use Rattle.iam_world.specs.declared.fault.WorldFault.{WorldFault}
 use Rattle.iam_world.specs.declared.fault.WorldFault.TheVariants as w
 use Rattle.iam_selection.specs.Selection.{SelectionValue}
 use Rattle.iam_changes.specs.declared.change.Kinds.{Kinds}
-use Rattle.iam_requests.specs.declared.twice.Twice.{Twice}
+use Rattle.iam_changes.specs.declared.twice.Twice.{Twice}
 use Rattle.iam_options.specs.declared.changes.ChangesOptions.{ChangesOptions}
 use Rattle.iam_app.specs.Changes.{BeginsChanges, EndsChangesBy, IsChangesOutput, WritesChanges}
 use Rattle.iam_app.specs.declared.changes_fault.ChangesFault.{ChangesFault}

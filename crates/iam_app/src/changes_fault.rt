@@ -5,8 +5,8 @@ ghost use Rattle.iam_app.specs.declared.changes_fault.ChangesFault.TheVariants a
 
 use crate::OutOfMemory;
 use crate::fault::RunFault;
+use iam_changes::Twice;
 use iam_layers::WorldFault;
-use iam_requests::Twice;
 use std::alloc::Global;
 use std::fmt::{self, Display, Formatter, Write};
 use thiserror::Error;

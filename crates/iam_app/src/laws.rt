@@ -2,10 +2,9 @@
 ghost use Rattle.iam_app.specs.ChangesLaws.{OneChangesBeginning, OneChangesEnd, OneChangesOutput};
 ghost use Rattle.iam_app.specs.Laws.{OneBeginning, OneEnd, OneOutput, OneSelectedBeginning, OneSelectedEnd, OneSelectedOutput};
 
-use iam_changes::one_changes;
+use iam_changes::{one_changes, one_twice};
 use iam_layers::one_verdict_at;
 use iam_matrix::one_report;
-use iam_requests::one_twice;
 use iam_row::one_row;
 use iam_selection::one_selected_report;
 use iam_world::{no_world_and_fault, one_first_fault, one_world};

@@ -20,14 +20,13 @@ pub use changes_fault::{ChangesFault, Side, changes_fault_line};
 pub use command::{changes_command_status, command_status, run_changes_command, run_command};
 pub use fault::{RunFault, fault_line, status};
 pub use iam_asked::{FaultyLine, LineFault};
-pub use iam_changes::Kinds;
+pub use iam_changes::{Axis, Kinds, Twice};
 pub use iam_layers::WorldFault;
 pub use iam_matrix::{CutFault, MatrixFault};
 pub use iam_options::{
     AskCommand, Asked, ChangesCommand, ChangesOptions, Command, FailOn, Options, RunOptions, Task,
     Usage, WorldCommand, command_of, options_of,
 };
-pub use iam_requests::{Axis, Twice};
 pub use iam_selection::Selection;
 pub use iam_text::OutOfMemory;
 pub use laws::{one_changes_output, one_output};

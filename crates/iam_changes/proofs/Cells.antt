@@ -9,12 +9,12 @@ use Rattle.iam_layers.specs.Laws.{OneTriple, OneVerdictOf}
 use Rattle.iam_layers.proofs.CellLemmas.{cell_below}
 use Rattle.iam_world.specs.World.{WorldValue, world_cells}
 use Rattle.iam_row.specs.Report.{CellTexts, IsCellTexts}
-use Rattle.iam_requests.specs.Lists.{somes}
-use Rattle.iam_requests.specs.Requests.{AreOfCells, AreRequests, Has, IsUnlessHad}
-use Rattle.iam_requests.specs.Twice.{IsApart, StandOnce, axis_texts}
-use Rattle.iam_requests.specs.declared.twice.Axis.TheVariants.{Principals, Actions, Resources}
-use Rattle.iam_requests.proofs.Ones.{one_texts}
-use Rattle.iam_requests.proofs.Places.{principal_there, resource_there}
+use Rattle.iam_changes.specs.Lists.{somes}
+use Rattle.iam_changes.specs.Requests.{AreOfCells, AreRequests, Has, IsUnlessHad}
+use Rattle.iam_changes.specs.Twice.{IsApart, StandOnce, axis_texts}
+use Rattle.iam_changes.specs.declared.twice.Axis.TheVariants.{Principals, Actions, Resources}
+use Rattle.iam_changes.proofs.Ones.{one_texts}
+use Rattle.iam_changes.proofs.Places.{principal_there, resource_there}
 use Rattle.iam_changes.specs.Change.{Says}
 use Rattle.iam_changes.proofs.Somes.{OnceIn, OnceSome, once_append, once_somes, in_front, in_back, some_in, some_from}
 

@@ -9,10 +9,10 @@ use Rattle.iam_layers.specs.Laws.{OneDecisionOf, OneTriple, OneVerdictOf}
 use Rattle.iam_world.specs.World.{WorldValue}
 use Rattle.iam_row.specs.Report.{CellTexts}
 use Rattle.iam_selection.specs.Selection.{Selects}
-use Rattle.iam_requests.specs.Laws.{OneRequests}
-use Rattle.iam_requests.specs.Lists.{somes}
-use Rattle.iam_requests.specs.Requests.{AreRequests, Has}
-use Rattle.iam_requests.specs.Twice.{IsApart}
+use Rattle.iam_changes.specs.RequestLaws.{OneRequests}
+use Rattle.iam_changes.specs.Lists.{somes}
+use Rattle.iam_changes.specs.Requests.{AreRequests, Has}
+use Rattle.iam_changes.specs.Twice.{IsApart}
 use Rattle.iam_changes.specs.Change.{AskedValue, ChangeValue, Changes, IsChange, IsRow, Says, allows, is_allowed}
 use Rattle.iam_changes.specs.Laws
 use Rattle.iam_changes.specs.Laws.{Allows, turned}

@@ -1,7 +1,7 @@
 -- Entries of which some are there, and items that stand once.
 use Rattle.std.proofs.Common.{◌≡◌, ◌⊎◌, inl, inr, ℕ, zero, suc, List, [], ◌∷◌, ◌++◌, Option, Some, None, refl, sym, ap, subst, ◌∙◌, arith}
 use Rattle.std.specs.List.{AllZip, slice_get}
-use Rattle.iam_requests.specs.Lists.{somes}
+use Rattle.iam_changes.specs.Lists.{somes}
 
 -- ---- where an item stands
 

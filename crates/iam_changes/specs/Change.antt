@@ -9,8 +9,8 @@ use Rattle.iam_layers.specs.Cell.{IsVerdictOf}
 use Rattle.iam_world.specs.World.{WorldValue}
 use Rattle.iam_row.specs.Report.{CellTexts, IsCellTexts}
 use Rattle.iam_selection.specs.Selection.{SelectionValue, Selects}
-use Rattle.iam_requests.specs.Lists.{somes}
-use Rattle.iam_requests.specs.Requests.{AreRequests, Has}
+use Rattle.iam_changes.specs.Lists.{somes}
+use Rattle.iam_changes.specs.Requests.{AreRequests, Has}
 use Rattle.iam_changes.specs.declared.change.Change.{Change}
 use Rattle.iam_changes.specs.declared.change.Change.TheVariants.{Gained, Lost, Differs}
 

@@ -12,7 +12,7 @@ use Rattle.iam_row.specs.declared.quoted.Format.{Format}
 use Rattle.iam_selection.specs.Selection.{Selects}
 use Rattle.iam_changes.specs.Change.{AreChanges, AskedValue, ChangeValue, IsChange}
 use Rattle.iam_changes.specs.Report.{IsChangesReport}
-use Rattle.iam_requests.specs.Twice.{IsApart}
+use Rattle.iam_changes.specs.Twice.{IsApart}
 use Rattle.iam_changes.specs.declared.change.Change.{Change}
 use Rattle.iam_changes.specs.declared.change.Change.TheVariants.{Gained, Lost, Differs}
 use Rattle.iam_changes.specs.declared.change.Kinds.{Kinds}

@@ -1,4 +1,8 @@
 pub mod Change
 pub mod Code
 pub mod Laws
+pub mod Lists
 pub mod Report
+pub mod RequestLaws
+pub mod Requests
+pub mod Twice

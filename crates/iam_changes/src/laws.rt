@@ -1,8 +1,8 @@
 // That two worlds have one report of what has changed, and what follows from what a change is.
+ghost use Rattle.iam_changes.specs.RequestLaws.{OneCount, OneRequests, OneTwice};
 ghost use Rattle.iam_changes.specs.Laws.{EachChangeOnce, ExactlyTheChanges, GainedIsLost, NoChangesAgainstItself, OneChanges, OneChangesReport, SameAccess};
 
 use iam_layers::{one_decision_at, one_triple, one_verdict_at};
-use iam_requests::one_count;
 
 /// Two worlds whose requests can be told apart have at most one list of the changes that are asked for, and at most one report of
 /// them in a format, in full or in brief, with its kinds of changes.
@@ -53,3 +53,16 @@ pub fn same_access()
     one_decision_at();
     one_triple()
 }
+
+/// Two worlds have one list of requests, and so one number of them.
+pub fn one_count()
+    ensures list { OneRequests }
+    ensures count { OneCount }
+{
+    one_triple()
+}
+
+/// A world has at most one first place at which a text stands again.
+pub fn one_twice()
+    ensures { OneTwice }
+{}

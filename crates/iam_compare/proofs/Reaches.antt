@@ -3,7 +3,7 @@ use Rattle.std.proofs.Common.{◌≡◌, ℕ, ◌+◌, ◌-◌, ◌*◌, ◌/◌
 use Rattle.std.proofs.lemmas.Bool.{cases_lt, le-ltb, lt-ltb}
 use Rattle.std.proofs.lemmas.Nat.{le-div, mul-le}
 use native.Mathlib.Nat.{div-mul-le_self}
-use Rattle.iam_requests.specs.Code.Found.{reach}
+use Rattle.iam_changes.specs.Code.Found.{reach}
 
 pub reach_past : (first last count n : ℕ) → count ≤ n → reach first last count n ≡ first + last
 reach_past first last count n past =

@@ -9,9 +9,9 @@ use Rattle.iam_row.specs.declared.quoted.Format.{Format}
 use Rattle.iam_row.specs.declared.quoted.Quoted.{Quoted}
 use Rattle.iam_row.specs.declared.tail.Tail.{Tail}
 use Rattle.iam_matrix.specs.Matrix.{AreEntriesFrom}
-use Rattle.iam_requests.specs.Code.Found.{RequestsValue}
-use Rattle.iam_requests.specs.Lists.{somes}
-use Rattle.iam_requests.specs.Requests.{AreRequests, IsCount}
+use Rattle.iam_changes.specs.Code.Found.{RequestsValue}
+use Rattle.iam_changes.specs.Lists.{somes}
+use Rattle.iam_changes.specs.Requests.{AreRequests, IsCount}
 use Rattle.iam_changes.specs.Change.{AreChanges, AskedValue, ChangeValue, IsRow}
 use Rattle.iam_changes.specs.Code.Kept.{kinds_in, no_kinds, with_kind}
 use Rattle.iam_changes.specs.Code.Pieces.{ArePiecesOf, PartValue, ReportValue, lead_of, report_text, rows_in}

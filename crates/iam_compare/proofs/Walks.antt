@@ -11,11 +11,11 @@ use Rattle.iam_world.specs.World.{WorldValue, world_cells}
 use Rattle.iam_row.specs.Report.{CellTexts, HasTexts, IsCellTexts}
 use Rattle.iam_selection.specs.Selection.{IsSelected, Selects}
 use Rattle.iam_matrix.specs.Matrix.{AreEntriesFrom}
-use Rattle.iam_requests.specs.Code.Found.{RequestsValue}
-use Rattle.iam_requests.specs.Lists.{somes}
-use Rattle.iam_requests.specs.Requests.{Has}
-use Rattle.iam_requests.proofs.Counts.{cell_texts}
-use Rattle.iam_requests.proofs.Places.{has_found}
+use Rattle.iam_changes.specs.Code.Found.{RequestsValue}
+use Rattle.iam_changes.specs.Lists.{somes}
+use Rattle.iam_changes.specs.Requests.{Has}
+use Rattle.iam_changes.proofs.Counts.{cell_texts}
+use Rattle.iam_changes.proofs.Places.{has_found}
 use Rattle.iam_changes.specs.Change.{AskedValue, ChangeValue, IsRow, Says}
 use Rattle.iam_row.specs.declared.quoted.Format.{Format}
 use Rattle.iam_row.specs.declared.tail.Tail.{Tail}

@@ -12,10 +12,10 @@ use Rattle.iam_row.specs.declared.quoted.Format.{Format}
 use Rattle.iam_matrix.specs.Matrix.{AreEntriesFrom}
 use Rattle.iam_matrix.specs.Code.Tiles.{AreEntries, Chain}
 use Rattle.iam_matrix.proofs.Tiles.{join_entries, no_entries}
-use Rattle.iam_requests.specs.Code.Found.{RequestsValue}
-use Rattle.iam_requests.specs.Lists.{somes}
-use Rattle.iam_requests.specs.Requests.{AreRequests, Has, IsUnlessHad}
-use Rattle.iam_requests.proofs.Ones.{one_texts}
+use Rattle.iam_changes.specs.Code.Found.{RequestsValue}
+use Rattle.iam_changes.specs.Lists.{somes}
+use Rattle.iam_changes.specs.Requests.{AreRequests, Has, IsUnlessHad}
+use Rattle.iam_changes.proofs.Ones.{one_texts}
 use Rattle.iam_changes.specs.Change.{AreChanges, AskedValue, ChangeValue, IsRow}
 use Rattle.iam_changes.specs.Code.Kept.{joined_kinds, kinds_in, no_kinds, with_kind}
 use Rattle.iam_changes.specs.Code.Pieces.{PartValue, rows_in}

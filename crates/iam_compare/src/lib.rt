@@ -7,10 +7,11 @@
 mod report;
 mod walk;
 
-pub use iam_changes::{Change, ChangesText, Kinds, OutputFault};
+pub use iam_changes::{
+    Axis, Change, ChangesText, Kinds, OutputFault, Requests, Twice, first_twice,
+};
 pub use iam_layers::World;
 pub use iam_matrix::{Cut, Format, Gate, MatrixFault, Open};
-pub use iam_requests::{Axis, Requests, Twice, first_twice};
 pub use iam_selection::Selection;
 pub use iam_text::OutOfMemory;
 pub use report::changes_report;

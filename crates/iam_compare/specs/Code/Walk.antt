@@ -8,9 +8,9 @@ use Rattle.iam_row.specs.declared.quoted.Format.{Format}
 use Rattle.iam_row.specs.declared.tail.Tail.{Tail}
 use Rattle.iam_matrix.specs.Matrix.{AreEntriesFrom}
 use Rattle.iam_matrix.specs.Code.Tiles.{Chain}
-use Rattle.iam_requests.specs.Lists.{somes}
-use Rattle.iam_requests.specs.Requests.{Has}
-use Rattle.iam_requests.specs.Code.Found.{RequestsValue, reach}
+use Rattle.iam_changes.specs.Lists.{somes}
+use Rattle.iam_changes.specs.Requests.{Has}
+use Rattle.iam_changes.specs.Code.Found.{RequestsValue, reach}
 use Rattle.iam_changes.specs.Change.{AskedValue, ChangeValue, Changes, IsRow}
 use Rattle.iam_changes.specs.Code.Kept.{GatheredValue, no_kinds, pair_of, part_row, with_kind}
 use Rattle.iam_changes.specs.Code.Pieces.{PartValue}

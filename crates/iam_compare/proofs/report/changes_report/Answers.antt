@@ -1,6 +1,6 @@
 use Rattle.std.proofs.Common.{◌≡◌, ℕ, ap, sym, subst, ◌∙◌}
 use Rattle.iam_world.specs.World.{world_cells}
-use Rattle.iam_requests.specs.Requests.{IsCount}
+use Rattle.iam_changes.specs.Requests.{IsCount}
 use Rattle.iam_changes.specs.Change.{AskedValue}
 use Rattle.iam_changes.specs.Code.Kept.{kinds_in}
 use Rattle.iam_changes.specs.Code.Pieces.{ArePiecesOf, ReportValue, lead_of, report_text, rows_in}

@@ -4,7 +4,7 @@ use Rattle.iam_world.specs.World.{WorldValue}
 use Rattle.iam_row.specs.Report.{IsCellTexts}
 use Rattle.iam_selection.specs.Code.Listing.{PickerValue}
 use Rattle.iam_selection.specs.Selection.{IsSelected}
-use Rattle.iam_requests.specs.Requests.{Has}
+use Rattle.iam_changes.specs.Requests.{Has}
 use Rattle.iam_compare.proofs.walk.skips_row.Goals as goal
 
 pub asks_row-requires : goal.asks_row-requires

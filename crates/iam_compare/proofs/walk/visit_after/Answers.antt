@@ -5,7 +5,7 @@ use Rattle.iam_layers.specs.Cell.{IsCell, IsVerdictAt}
 use Rattle.iam_world.specs.World.{WorldValue}
 use Rattle.iam_row.specs.Report.{HasTexts, IsCellTexts}
 use Rattle.iam_selection.specs.Selection.{IsSelected}
-use Rattle.iam_requests.specs.Requests.{Has}
+use Rattle.iam_changes.specs.Requests.{Has}
 use Rattle.iam_compare.specs.Code.Walk.{asked_of}
 use Rattle.iam_compare.proofs.Pair.{both_used, first_engine, read_first_of, read_second, read_second_of, second_engine}
 use Rattle.iam_compare.proofs.Walks.{found_within, gathers_nothing, gathers_said, number_within, off_after, place_after, says_at, says_found}

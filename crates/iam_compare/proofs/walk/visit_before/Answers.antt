@@ -6,7 +6,7 @@ use Rattle.iam_world.specs.World.{WorldValue, world_cells}
 use Rattle.iam_row.specs.Report.{CellTexts, IsCellTexts}
 use Rattle.iam_selection.specs.Code.Listing.{PickerValue}
 use Rattle.iam_selection.specs.Selection.{IsSelected}
-use Rattle.iam_requests.specs.Requests.{Has}
+use Rattle.iam_changes.specs.Requests.{Has}
 use Rattle.iam_compare.specs.Code.Walk.{AddsSaid, asked_of}
 use Rattle.iam_compare.proofs.Walks.{gathers_nothing, gathers_said, has_of_found, none_of_found, number_within, off_before, place_before, says_at, within_cell}
 use Rattle.iam_compare.proofs.walk.visit_before.Goals as goal

@@ -2,7 +2,7 @@ use Rattle.std.proofs.Common.{◌≡◌, ◌+◌, ◌-◌, inl, sym, ap, subst, 
 use Rattle.iam_layers.specs.Cell.{IsCell}
 use Rattle.iam_world.specs.World.{WorldValue, world_cells}
 use Rattle.iam_row.specs.Report.{CellTexts, IsCellTexts}
-use Rattle.iam_requests.specs.Requests.{Has}
+use Rattle.iam_changes.specs.Requests.{Has}
 use Rattle.iam_compare.specs.Code.Walk.{Gathers, asked_of}
 use Rattle.iam_compare.proofs.Walks.{few_rows, gathers_behind, gathers_join, gathers_none, off_before}
 use Rattle.iam_compare.proofs.walk.walk_before.Goals as goal
