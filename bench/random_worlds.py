@@ -386,15 +386,15 @@ def request(dice, maker, world):
     return it
 
 
-def requests(seed, world):
-    """The bytes of two files of requests of a world, the first without keys."""
+def requests(seed, world, most=12):
+    """The bytes of two files of requests of a world, each of so many lines at most, the first without keys."""
     maker = Maker(-seed - 1)
     dice = maker.dice
     if not (world["principals"] and world["actions"] and world["resources"]):
         return [b""]
     files = []
     for with_keys in (False, True):
-        lines = [request(dice, maker, world) for _ in range(dice.randint(1, 12))]
+        lines = [request(dice, maker, world) for _ in range(dice.randint(1, most))]
         if not with_keys:
             lines = [{name: value for name, value in it.items() if name != "context"} for it in lines]
         files.append(

@@ -38,7 +38,7 @@ def opened(answers: Answers) -> Dict[int, str]:
         return {}
     found = turns(answers.world, answers)
     first = {cell: next((it for it in of if it.decision == "allowed"), None) for cell, of in found.items()}
-    return {cell: f"`{it.key}` is `{it.value}`" for cell, it in first.items() if it}
+    return {cell: it.words() for cell, it in first.items() if it}
 
 
 def steps_of(source: Source) -> Steps:
@@ -49,6 +49,9 @@ def steps_of(source: Source) -> Steps:
         if "role" in it:
             sessions.setdefault(principal_arn(it), []).append(principal_text(it))
     narrow = {**world, "resources": [it for it in world["resources"] if it["arn"] in sessions]}
+    untold = sorted(set(sessions) - {it["arn"] for it in narrow["resources"]})
+    if untold:
+        tell(f"who may assume these roles was not asked, since nothing gives their trust policies: {', '.join(untold)}")
     found: Steps = {}
     answers = ask(with_strangers(source, narrow, strangers(source, [narrow])))
     for cell, given in [*((it, "") for it in answers.allowed()), *opened(answers).items()]:
@@ -76,9 +79,8 @@ def ways(steps: Steps, ends: Dict[str, str], depth: int) -> Dict[str, Way]:
     return {principal: way for principal, way in found.items() if len(way.steps) > 1}
 
 
-def chains(source: Source, allowed: Set[str], lacking: Dict[str, str], depth: int) -> List[List[Way]]:
+def chains(steps: Steps, allowed: Set[str], lacking: Dict[str, str], depth: int) -> List[List[Way]]:
     """The ways to those that are allowed, and the further ones with keys that nothing gives."""
-    steps = steps_of(source)
     plain = {it: [step for step in of if not step.given] for it, of in steps.items()}
     first = ways(plain, dict.fromkeys(allowed, ""), depth)
     keyed = ways(steps, {**lacking, **dict.fromkeys(allowed, "")}, depth)

@@ -7,6 +7,7 @@ from . import hanging, kinds
 from .arns import principal_text
 from .asking import ask_all, ask_changes, whole
 from .checking import NOTHING
+from .covering import tell_lacked
 from .documents import Place, World, bare, cells_of, mapped, places, statements_of
 from .faults import tell
 from .files import compact
@@ -182,8 +183,7 @@ def spoken_actions(before: Source, after: Source, patterns: List[str]) -> Action
     # Of a service that has a file all actions are known, but for those that somebody names all the same.
     known = [*references.actions(), *(it for it in texts if not references.has_file(it))]
     lacked = [it for it in texts if not references.knows(it) and it in spoken]
-    if lacked:
-        tell(f"the service reference lacks these actions, which are asked for all the same: {', '.join(lacked)}")
+    tell_lacked(lacked)
     known += lacked
     wide = {text: policy for text, policy in spoken.items() if is_pattern(text)}
     found: Actions = {}
@@ -287,18 +287,23 @@ def witnesses_of(worlds: Sequence[World], pattern: str) -> Dict[Tuple[str, str],
     changed document if there is one."""
     found: Dict[Tuple[str, str], Origin] = {}
     absent: Dict[str, None] = {}
+    without: Dict[str, None] = {}
     before, after = worlds
+    changed = differing(before, after)
     # What a changed limit kept back is what others allow.
-    for some in (differing(before, after), all_speaking(before, after, is_limit)):
+    for some in (changed, all_speaking(before, after, is_limit)):
         for world in some:
             made = kinds.resources(world, pattern, world["actions"])
             absent.update(dict.fromkeys(made.absent))
+            without.update(dict.fromkeys(made.without if some is changed else ()))
             for it in made.found:
                 key = it.resource["arn"], it.resource["account"]
                 if key not in found or not found[key].policy:
                     found[key] = it.origin
     if absent:
         tell(f"no export has these roles, so nobody may assume them: {', '.join(absent)}")
+    if without:
+        tell(f"no text stands for these patterns, whose account or variables nothing gives: {', '.join(without)}")
     return found
 
 
@@ -362,7 +367,7 @@ def with_keys(before: World, after: World) -> List[Tuple[str, World, World]]:
 
 def as_services_have(references: References, changes: Changes) -> Changes:
     """The changes without requests that no service has, as far as the service reference is given."""
-    before, after = (references.pairs(it.world, True) for it in changes[:2])
+    before, after = (references.pairs(it.world, it.world["actions"]) for it in changes[:2])
     lost = [cell for cell in changes.lost if before[cell % len(before)]]
     gained = [cell for cell in changes.gained if after[cell % len(after)]]
     left = len(changes.lost) + len(changes.gained) - len(lost) - len(gained)

@@ -8,15 +8,16 @@ import signal
 from typing import Any, List, Optional
 
 from . import files
-from .commands import changes, estates, page, questions, reports, rules, worlds
+from .commands import changes, estates, page, questions, replay, reports, rules, worlds
 from .faults import TOLD, Fault, tell
 
 DESCRIPTION = """Questions to iamsim about what AWS gives: who can, what changes, and the rules that a team keeps.
 Only 'organization' calls AWS; iamsim decides. docs/AWS.md explains it."""
 
 STATUSES = """statuses: 0 done; 1 a fault, told in one line; 2 the command line is refused; 3 'can': not all is allowed,
-'rules': a rule is broken, 'changes --fail-on': something changes; 4 'rules': a rule meets no request,
-'changes --fail-on': no request is of --action and --resource; 6 '--database': of some requests nothing is known"""
+'rules': a rule is broken, 'changes --fail-on': something changes, 'replay': a call is refused then, or answered otherwise;
+4 'rules': a rule meets no request, 'changes --fail-on': no request is of --action and --resource, 'replay': no call is
+asked for; 5 'replay --strict': something of the log was not asked; 6 '--database': of some requests nothing is known"""
 
 
 def parser() -> argparse.ArgumentParser:
@@ -28,19 +29,20 @@ def parser() -> argparse.ArgumentParser:
         allow_abbrev=False,
     )
     commands = made.add_subparsers(title="commands", metavar="COMMAND", required=True)
-    for group in (questions, changes, rules, page, worlds, reports, estates):
+    for group in (questions, changes, replay, rules, page, worlds, reports, estates):
         group.add_all(commands)
     return made
 
 
 def parsed(words: Optional[List[str]]) -> argparse.Namespace:
-    """The options of a line; exports may stand before options and behind them."""
+    """The options of a line; logs, or else exports, may stand before options and behind them."""
     made = parser()
     options, rest = made.parse_known_args(words)
-    if rest and (not hasattr(options, "exports") or any(it.startswith("-") and it != "-" for it in rest)):
+    name = next((it for it in ("logs", "exports") if hasattr(options, it)), None)
+    if rest and (name is None or any(it.startswith("-") and it != "-" for it in rest)):
         made.error(f"unrecognized arguments: {' '.join(rest)}")
-    if rest:
-        options.exports = [*options.exports, *rest]
+    if rest and name:
+        setattr(options, name, [*getattr(options, name), *rest])
     return options
 
 

@@ -1,12 +1,13 @@
 """What an answer does not cover, in lines on standard error."""
 
 import re
-from typing import Any, Dict, Iterable, Set
+from typing import Any, Dict, Iterable, Iterator, List, Set
 
 from .arns import account_of
-from .documents import World, conditions_of, statements_of
+from .documents import World, conditions_of, each, statements_of
 from .exports import ACCOUNT
 from .faults import tell
+from .kinds import speaks_of
 from .patterns import is_pattern
 from .sources import Source
 from .strangers import EVERYBODY, accounts_of, named_by, stand_in
@@ -18,8 +19,15 @@ def tell_actions(source: Source, patterns: Iterable[str]) -> None:
         tell("without --services an action pattern is taken over the actions of the world and of its policies")
 
 
-def tell_strangers(source: Source, worlds: Iterable[World]) -> None:
-    """Those to whom policies of the worlds' resources grant and for whom nobody is asked, each once."""
+def tell_lacked(actions: List[str]) -> None:
+    """The actions that policies name and the service reference lacks."""
+    if actions:
+        tell(f"the service reference lacks these actions, which are asked for all the same: {', '.join(actions)}")
+
+
+def tell_strangers(source: Source, worlds: Iterable[World], has_services: bool = False) -> None:
+    """Those to whom policies of the worlds' resources grant and for whom nobody is asked, each once; services where they
+    are wanted, since most roles trust one."""
     known = accounts_of(source)
     in_organization = source.estate is not None and source.estate.organization.is_there
     found: Dict[str, None] = {}
@@ -29,11 +37,22 @@ def tell_strangers(source: Source, worlds: Iterable[World]) -> None:
                 for text in named_by(statement):
                     why = why_nobody(text, known)
                     found.update({f"{it['policy'].name} names {text}, {why}": None} if why else {})
+                for text in others(statement, world, has_services):
+                    found[f"{it['policy'].name} names {text}, for whom nobody is asked"] = None
                 if in_organization and named_by(statement) and asks_for_members(statement):
                     what = "grants to members of an organisation: of those without an export nobody is asked"
                     found[f"{it['policy'].name} {what}"] = None
     for line in found:
         tell(line)
+
+
+def others(statement: Any, world: World, has_services: bool) -> Iterator[str]:
+    """Whom a statement on the world's actions names that is no principal of an account."""
+    given = statement.get("Principal") if isinstance(statement, dict) and statement.get("Effect") == "Allow" else None
+    if not isinstance(given, dict) or not speaks_of(statement, tuple(world["actions"])):
+        return
+    for kind in ("Federated", "CanonicalUser", *(["Service"] if has_services else [])):
+        yield from (f"{kind} {it}" for it in each(given.get(kind)) if isinstance(it, str))
 
 
 def why_nobody(text: str, known: Set[str]) -> str:

@@ -118,6 +118,18 @@ def refuse_twice(world: World, word: str) -> None:
             seen.add(text)
 
 
+def put_moment(sides: Tuple[Source, Source], asked: Optional[int]) -> None:
+    """Both are asked at the given moment, or at the later of theirs; a world whose moment is none is left for iamsim to refuse."""
+    theirs = [it.moment for it in sides]
+    if not all(type(it) is int for it in theirs):
+        return
+    latest = max(theirs) if asked is None else asked
+    if asked is None and len(set(theirs)) > 1 and any(it.given for it in sides):
+        tell(f"before and after are of two moments: both are asked at the later one, {latest} (--moment)")
+    for it in sides:
+        it.put_moment(latest)
+
+
 def both(options: argparse.Namespace) -> Tuple[Source, Source]:
     """The sources before and after; both have the same moment."""
     before: Optional[List[str]] = options.before
@@ -130,6 +142,7 @@ def both(options: argparse.Namespace) -> Tuple[Source, Source]:
                 "compare --before with --after, or exports with --put, --terraform and --cloudformation, and not both"
             )
         sides = side(options, before, "before"), side(options, after, "after")
+        put_moment(sides, options.moment)
         for it in sides:
             it.has_trust = any(one.has_trust for one in sides)
         return sides

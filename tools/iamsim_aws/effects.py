@@ -17,6 +17,8 @@ from .unknowns import Unknowns
 QUEUE = re.compile(r"https://sqs\.((?!us-gov-)[a-z0-9-]+)\.amazonaws\.com/([0-9]{12})/([^/]+)")
 # Resources of these providers have nothing of AWS.
 OTHERS = ("random_", "null_", "time_", "tls_", "local_", "archive_", "http_", "terraform_")
+# What trust policies name, of which only the ARN matters here.
+PROVIDERS = ("aws_iam_openid_connect_provider", "aws_iam_saml_provider")
 ROLE_LISTS = ("inline_policy", "managed_policy_arns")
 Handle = Callable[["Apply", Change], None]
 
@@ -63,7 +65,8 @@ class Apply:
     def where(self, change: Change) -> Where:
         """Where new ARNs are."""
         found = self.found(change, self.first)
-        return where_of(found) if found else Where(self.wanted(change) or "", self.first.accounts[0].partition)
+        where = where_of(found) if found else Where(self.wanted(change) or "", self.first.accounts[0].partition)
+        return where._replace(region=self.region)
 
     def run(self) -> Estate:
         """What goes goes first, before what it hangs on: so nothing of it is left, and nothing new gets it."""
@@ -88,7 +91,8 @@ class Apply:
                     is_new = change.is_replaced or of.is_link
                     of.handle(self, change._replace(before=None) if is_new else change)
         for change in self.changes:
-            if change.kind not in KINDS and change.before != change.after and not change.kind.startswith(OTHERS):
+            is_read = change.kind in KINDS or change.kind in PROVIDERS
+            if not is_read and change.before != change.after and not change.kind.startswith(OTHERS):
                 self.ignored[change.kind] = self.ignored.get(change.kind, 0) + 1
         return self.estate._replace(organization=self.organization)
 

@@ -31,8 +31,9 @@ class Progress:
 
     AFTER = 2.0
 
-    def __init__(self, count: int):
+    def __init__(self, count: int, words: str = "iamsim has answered {done} of {count} questions"):
         self.count, self.done, self.wide = count, 0, 0
+        self.words = words
         self.began = self.told = time.monotonic()
 
     def __enter__(self) -> "Progress":
@@ -45,7 +46,7 @@ class Progress:
         now = time.monotonic()
         if now - self.began > self.AFTER and now - self.told >= 1:
             self.told = now
-            self.show(f"iamsim has answered {self.done} of {self.count} questions, {now - self.began:.0f} s")
+            self.show(f"{self.words.format(done=self.done, count=self.count)}, {now - self.began:.0f} s")
 
     def show(self, text: str) -> None:
         if sys.stderr is not None and sys.stderr.isatty() and (text or self.wide):

@@ -18,11 +18,19 @@ DATE = re.compile(r"(\d{4}-\d\d-\d\d)(?:T(\d\d:\d\d)(:\d\d)?(?:\.\d+)?(?:Z|([+-]
 
 
 class Turn(NamedTuple):
-    """With this value of this key the answer is another."""
+    """With this value of this key the answer is another; and so it is with further values."""
 
     key: str
     value: str
     decision: str
+    others: Tuple[str, ...] = ()
+
+    @property
+    def values(self) -> List[str]:
+        return [self.value, *self.others]
+
+    def words(self) -> str:
+        return f"`{self.key}` is {' or '.join(f'`{it}`' for it in self.values)}"
 
 
 def around(text: str) -> List[str]:
@@ -143,14 +151,21 @@ def is_too_much(world: World) -> bool:
 
 
 def turns(world: World, answers: Answers) -> Dict[int, List[Turn]]:
-    """For each cell the keys, each with its first value, with which it becomes allowed or is no longer."""
+    """For each cell the keys, each with its values, with which it becomes allowed or is no longer."""
     asked = [] if is_too_much(world) else list(questions(world))
     found: Dict[int, List[Turn]] = {}
     before = answers.flags()
     for (key, text, _), other in zip(asked, ask_all([it for _, _, it in asked], brief=True)):
         after = other.flags()
         for cell in range(len(before)) if after != before else ():
-            of = found.setdefault(cell, []) if before[cell] != after[cell] else None
-            if of is not None and not any(it.key == key for it in of):
-                of.append(Turn(key, text, other.at(cell).decision))
+            if before[cell] != after[cell]:
+                join(found.setdefault(cell, []), Turn(key, text, other.at(cell).decision))
     return found
+
+
+def join(turned: List[Turn], turn: Turn) -> None:
+    """Adds a value to those of its key."""
+    if turned and turned[-1].key == turn.key:
+        turned[-1] = turned[-1]._replace(others=(*turned[-1].others, turn.value))
+    else:
+        turned.append(turn)

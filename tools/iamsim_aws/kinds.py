@@ -5,7 +5,7 @@ from typing import Any, Callable, Dict, Iterable, Iterator, List, NamedTuple, Op
 
 from .arns import account_of, owner_of, principal_arn, resource_part, service_of
 from .documents import Place, World, each, places, statements_of
-from .patterns import common, is_pattern, matcher, of_policy, pattern_of, plain
+from .patterns import common, is_pattern, matcher, of_policy, opened, pattern_of, plain, variables_of
 
 REGION = "us-east-1"
 # What stands for the parts of an ARN that a pattern leaves open.
@@ -144,10 +144,23 @@ def filled(pattern: str, account: str, template: Optional[List[str]] = None) -> 
 def beside(world: World, arn: str, account: str) -> Resource:
     """A resource that the world does not name; the policy of a bucket or access point is that of each of its objects."""
     owner = owner_of(arn)
-    of_owner = [it for it in world["resources"] if owner_of(it["arn"]) == owner]
-    for it in sorted(of_owner, key=lambda it: "policy" not in it)[:1]:
-        return {"arn": arn, **{name: it[name] for name in ("account", "policy", "control") if name in it}}
-    return {"arn": arn, "account": account}
+    return owned(owners([it for it in world["resources"] if owner_of(it["arn"]) == owner]), arn, account)
+
+
+def owners(resources: List[Resource]) -> Dict[str, Resource]:
+    """Of each bucket, access point or other resource the one of these that speaks for it: one with a policy if there is one."""
+    found: Dict[str, Resource] = {}
+    for it in sorted(resources, key=lambda it: "policy" not in it):
+        found.setdefault(owner_of(it["arn"]), it)
+    return found
+
+
+def owned(of: Dict[str, Resource], arn: str, account: str) -> Resource:
+    """A resource with what the one has that speaks for it."""
+    it = of.get(owner_of(arn))
+    if it is None:
+        return {"arn": arn, "account": account}
+    return {"arn": arn, **{name: it[name] for name in ("account", "policy", "control") if name in it}}
 
 
 class Witnesses(NamedTuple):
@@ -172,15 +185,19 @@ def resources(world: World, asked: str, actions: List[str]) -> Witnesses:
     them says nothing of the others."""
     named = {it["arn"] for it in world["resources"]}
     ids = {it["id"] for it in world["accounts"]}
-    patterns: Dict[Tuple[str, str], str] = {}
+    patterns: Dict[Tuple[str, str], Origin] = {}
+    without, absent = [], []
     for place, statement, is_new in statements(world, actions):
         values, account = values_of(world, place.path)
         for text in texts_of(statement, "Resource", "NotResource"):
             pattern = pattern_of(text, values) if is_new else of_policy(text)
             if pattern is not None and plain(pattern) not in named:
-                patterns.setdefault((pattern, account), place.policy.name)
+                # A text that variables alone make is no name that the policy gives.
+                shown = plain(pattern) if is_pattern(pattern) else text
+                patterns.setdefault((pattern, account), Origin(shown, place.policy.name))
+            elif pattern is None and statement.get("Effect") == "Allow" and may_come(place, text, values, asked):
+                without.append(text)
     found: Dict[Tuple[str, str], Witness] = {}
-    without, absent = [], []
     wide = in_parts_of("", asked)
     for pattern, account in [*patterns, *((wide, account) for account in ids if (wide, account) not in patterns)]:
         of_pattern = in_parts_of(pattern, asked)
@@ -191,12 +208,18 @@ def resources(world: World, asked: str, actions: List[str]) -> Witnesses:
         elif arn and owner in ids:
             if arn not in named:
                 one = beside(world, arn, owner)
-                policy = patterns.get((pattern, account), "")
-                origin = Origin(plain(pattern) if policy else pattern, policy)
+                origin = patterns.get((pattern, account), Origin(pattern, ""))
                 found.setdefault((arn, one["account"]), Witness(one, origin))
         elif pattern != wide and common(pattern, of_pattern):
             without.append(plain(pattern))
     return Witnesses(list(found.values()), list(dict.fromkeys(without)), list(dict.fromkeys(absent)))
+
+
+def may_come(place: Place, text: str, values: Dict[str, str], asked: str) -> bool:
+    """Whether a text of which nothing gives a variable may be of what is asked for: a session has no user's name."""
+    lacking = {it.lower() for it in variables_of(text)} - set(values)
+    is_never = place.path.startswith("principals/") and "aws:username" in lacking
+    return not is_never and common(opened(text), in_parts_of(opened(text), asked)) is not None
 
 
 def in_parts_of(pattern: str, asked: str) -> str:

@@ -12,11 +12,14 @@ from .arns import account_of, principal_arn, principal_text
 from .documents import Policy, World, statements_of
 from .files import compact
 from .hanging import Turn
+from .joining import ABSENT
 from .kinds import Origins, stands
-from .reports import DECISIONS, Answer, Answers, Numbers, keys_of
+from .reports import DECISIONS, Answers, Numbers, keys_of
+from .strangers import shown
 
+# A request by the keys of its axes.
+Request = Tuple[Any, ...]
 PARTS = os.path.join(os.path.dirname(os.path.realpath(__file__)), "parts")
-ABSENT = Answer("absent", (), ())
 
 
 class Layers:
@@ -106,8 +109,10 @@ def data(
     turns: Optional[Dict[int, List[Turn]]] = None,
     before: Optional[Answers] = None,
     stand: Optional[Origins] = None,
+    keyed: Optional[List[Tuple[str, Request, str]]] = None,
+    has_commands: bool = True,
 ) -> Dict[str, Any]:
-    """What the page shows."""
+    """What the page shows; `keyed` are the requests that change with a key alone, with that key in words."""
     axes = [list(axis) for axis in keys_of(answers.world)]
     for axis, more in enumerate(keys_of(before.world)) if before else ():
         there = set(axes[axis])
@@ -121,18 +126,41 @@ def data(
     words = [*DECISIONS, "absent"]
     return {
         "moment": answers.world["moment"],
-        "axes": [axes[0], axes[1], [arn for arn, _ in axes[2]]],
+        "axes": [shown_people(answers, before, axes[0]), axes[1], [arn for arn, _ in axes[2]]],
         "answers": [[words.index(it.decision), " ".join(it.statements), " ".join(it.lacks)] for it in every],
         "isBrief": is_brief,
         "layers": own,
         "before": old and {"cells": packed(old[0], len(every))[1], "layers": old[1]},
-        "turns": {str(cell): [list(it) for it in of] for cell, of in (turns or {}).items()},
+        "turns": {str(cell): [[it.key, it.values, it.decision] for it in of] for cell, of in (turns or {}).items()},
+        "keyed": keyed_cells(axes, keyed or []),
+        "hasCommands": has_commands and before is None,
         "stand": list(stands(stand or {}).items()),
         "statements": list(statements),
         "names": list(names),
         "width": width,
         "cells": cells,
     }
+
+
+def request_of(answers: Answers, cell: int) -> Request:
+    return tuple(axis[n] for axis, n in zip(keys_of(answers.world), answers.place(cell)))
+
+
+def keyed_cells(axes: List[List[Any]], keyed: List[Tuple[str, Request, str]]) -> Dict[str, Tuple[str, str]]:
+    """The cells that change with a key alone, each with how and with which."""
+    numbers = [{key: n for n, key in enumerate(axis)} for axis in axes]
+    found: Dict[str, Tuple[str, str]] = {}
+    for kind, request, given in keyed:
+        p, a, r = (of[key] for of, key in zip(numbers, request))
+        found.setdefault(str((p * len(axes[1]) + a) * len(axes[2]) + r), (kind, given))
+    return found
+
+
+def shown_people(answers: Answers, before: Optional[Answers], texts: List[str]) -> List[str]:
+    """The principals as answers name them."""
+    people = [it for of in (answers, before) if of for it in of.world["principals"]]
+    names = {principal_text(it): shown(it) for it in people}
+    return [names[it] for it in texts]
 
 
 def escaped(value: Any) -> str:

@@ -6,10 +6,11 @@ Values = Dict[str, Any]
 
 
 class Where(NamedTuple):
-    """The account and partition that ARNs are of; an empty account is not known."""
+    """The account, partition and region that ARNs are of; an empty account or region is not known."""
 
     account: str
     partition: str
+    region: str = ""
 
 
 class Change(NamedTuple):

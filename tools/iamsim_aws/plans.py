@@ -14,6 +14,19 @@ DATA_DOCUMENT = "aws_iam_policy_document"
 # Attributes that are documents, which a document may be taken from as a whole.
 DOCUMENTS = ("policy", "json", "assume_role_policy", "content", "inline_policy")
 
+# Whose ARN follows from a name: the service and what stands before it, the attribute that has it, and those that are the ARN.
+NAMED: Dict[str, Tuple[Any, ...]] = {
+    "aws_cloudwatch_log_group": (("logs", "log-group:"), "name", "arn"),
+    "aws_dynamodb_table": (("dynamodb", "table/"), "name", "arn"),
+    "aws_ecr_repository": (("ecr", "repository/"), "name", "arn"),
+    "aws_iam_openid_connect_provider": (("iam", "oidc-provider/"), "url", "arn", "id"),
+    "aws_iam_saml_provider": (("iam", "saml-provider/"), "name", "arn", "id"),
+    "aws_kinesis_stream": (("kinesis", "stream/"), "name", "arn", "id"),
+    "aws_lambda_function": (("lambda", "function:"), "function_name", "arn"),
+    "aws_sns_topic": (("sns", ""), "name", "arn", "id"),
+    "aws_sqs_queue": (("sqs", ""), "name", "arn"),
+}
+
 # What gets another name only by being made anew.
 RENAMED = ("aws_iam_role", "aws_iam_policy")
 
@@ -170,7 +183,20 @@ def derived(change: Change, name: str, where: Where) -> Optional[str]:
         return str(values["name"]) if name == "id" else None
     if change.kind == "aws_s3_bucket" and values.get("bucket") and name in ("id", "arn"):
         return str(values["bucket"]) if name == "id" else f"arn:{where.partition}:s3:::{values['bucket']}"
+    if change.kind in NAMED and name in NAMED[change.kind][2:]:
+        return arn_by_name(change, where)
     return change.address if change.kind == "aws_organizations_policy" and name == "id" else None
+
+
+def arn_by_name(change: Change, where: Where) -> Optional[str]:
+    """The ARN that follows from the name, the account and the region."""
+    (service, before), (own, *_) = NAMED[change.kind][0], NAMED[change.kind][1:]
+    text, region = change.values.get(own), change.values.get("region") or where.region
+    if not text or not where.account or (service != "iam" and not region):
+        return None
+    # The ARN of a provider of OpenID Connect has its URL without the scheme.
+    text = str(text).split("://")[-1] if own == "url" else text
+    return f"arn:{where.partition}:{service}:{'' if service == 'iam' else region}:{where.account}:{before}{text}"
 
 
 class Statement(NamedTuple):
@@ -187,8 +213,9 @@ class Statement(NamedTuple):
         """The statement: without what it does not say, empty where it is left out, None where nothing stands for it."""
         if not isinstance(self.given, dict) or not isinstance(self.unknown, dict):
             return None
-        whole = ("actions", "not_actions", "not_resources", "condition", "effect", "principals", "not_principals")
-        if any(any_true(self.unknown.get(it)) for it in whole):
+        whole = ("actions", "not_actions", "not_resources", "condition", "effect", "not_principals")
+        people = self.people("principals")
+        if people is None or any(any_true(self.unknown.get(it)) for it in whole):
             return None
         effect = self.given.get("effect") or "Allow"
         made: Values = {"Sid": self.given.get("sid"), "Effect": effect}
@@ -197,7 +224,7 @@ class Statement(NamedTuple):
         if resources is None:
             return {}
         made.update({"Resource": resources, "NotResource": self.given.get("not_resources")})
-        made.update({"Principal": self.people("principals"), "NotPrincipal": self.people("not_principals")})
+        made.update({"Principal": people, "NotPrincipal": self.people("not_principals")})
         made["Condition"] = conditions(self.given.get("condition") or [])
         return {key: value for key, value in made.items() if value}
 
@@ -213,17 +240,35 @@ class Statement(NamedTuple):
 
     def referred(self, name: str) -> Optional[str]:
         """The ARN to which an element of the statement refers."""
-        way, expressions = self.plan.configured(self.change)
-        blocks = expressions.get("statement")
+        return self.arn_of(self.block().get(name))
+
+    def block(self) -> Values:
+        """The expressions of the statement."""
+        blocks = self.plan.configured(self.change)[1].get("statement")
         block = blocks[self.number] if isinstance(blocks, list) and self.number < len(blocks) else {}
-        found = self.plan.target(way, block.get(name) if isinstance(block, dict) else None)
+        return block if isinstance(block, dict) else {}
+
+    def arn_of(self, expression: Any) -> Optional[str]:
+        """The ARN to which an expression refers."""
+        found = self.plan.target(self.plan.configured(self.change)[0], expression)
         text = derived(*found, self.where) if found else None
         return text if text and text.startswith("arn:") else None
 
     def people(self, name: str) -> Any:
+        """None where not all that is named is known."""
         found: Dict[str, List[str]] = {}
-        for it in self.given.get(name) or []:
-            found.setdefault(str(it.get("type")), []).extend(it.get("identifiers") or [])
+        given = self.given.get(name) or []
+        for it in given:
+            known = [one for one in it.get("identifiers") or [] if isinstance(one, str)]
+            found.setdefault(str(it.get("type")), []).extend(known)
+        if any_true(self.unknown.get(name)):
+            # Of several blocks nobody knows which is which, since a plan has them in an order of its own.
+            blocks = self.block().get(name)
+            one = blocks[0] if isinstance(blocks, list) and len(blocks) == len(given) == 1 else {}
+            text = self.arn_of(one.get("identifiers") if isinstance(one, dict) else None)
+            if text is None or not isinstance(given[0].get("type"), str):
+                return None
+            found[given[0]["type"]].append(text)
         return "*" if found.get("*") == ["*"] else found
 
 

@@ -101,7 +101,7 @@ def each_of(jobs: Iterable[Tuple[List[str], bytes]], count: int) -> Iterator[byt
             while waiting:
                 yield answer()
         finally:
-            for it in waiting:
-                it.cancel()
-            if any(not it.done() for it in waiting):
+            for one in waiting:
+                one.cancel()
+            if any(not one.done() for one in waiting):
                 stop()

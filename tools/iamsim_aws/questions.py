@@ -1,7 +1,7 @@
 """The requests that a question asks for, as worlds, and which resources there stand for what."""
 
 import re
-from typing import Any, Dict, List, NamedTuple, Optional
+from typing import Any, Dict, Iterable, List, NamedTuple, Optional
 
 from . import kinds
 from .arns import account_of, names_of_resource, principal_arn
@@ -62,9 +62,18 @@ def actions(scope: Scope, pattern: str) -> Dict[str, Optional[Origin]]:
     source = scope.source
     references = source.references
     found = kinds.actions(source.world([ASSUME]), pattern, source.actions, scope.kinds)
-    # Of a service that has a file all actions are known.
-    rest = {it: of for it, of in found.items() if it in source.actions or not references.has_file(it)}
+    # Of a service that has a file all actions are known, but for those that policies name all the same.
+    more = {*source.actions, *lacked(source, found)}
+    rest = {it: of for it, of in found.items() if it in more or not references.has_file(it)}
     return {**{it: None for it in references.actions() if matcher(pattern, True)(it)}, **rest}
+
+
+def lacked(source: Source, actions: Iterable[str]) -> List[str]:
+    """The actions that policies name, and that the file of their service lacks."""
+    if not source.references.services:
+        return []
+    spoken = {it.lower() for it in kinds.patterns_of_actions(source.world([ASSUME]))}
+    return [it for it in actions if it.lower() in spoken and not source.references.knows(it)]
 
 
 def account_for(scope: Scope, world: World, arn: str) -> str:

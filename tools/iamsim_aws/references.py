@@ -74,11 +74,11 @@ class References:
     def actions(self) -> List[str]:
         return [f"{it.name}:{name}" for it in self.services.values() for name in it.names]
 
-    def pairs(self, world: World, keeps_unknown: bool = False) -> List[bool]:
-        """Whether a service has the request of each action and resource, in the order of cells; of one without a file, yes.
-        Actions that the files lack may be kept."""
+    def pairs(self, world: World, also: Iterable[str] = ()) -> List[bool]:
+        """Whether a service has the request of each action and resource, in the order of cells; of one without a file, yes,
+        and of those further actions that the files lack."""
         pairs = ((action, it["arn"]) for action in world["actions"] for it in world["resources"])
-        kept = {it for it in world["actions"] if not self.services or keeps_unknown and not self.knows(it)}
+        kept = {it for it in also if not self.knows(it)} if self.services else set(world["actions"])
         return [action in kept or self.keeps(action, arn) for action, arn in pairs]
 
     def has_file(self, action: str) -> bool:

@@ -132,32 +132,62 @@ def grouped(lines: Iterable[Any], key: Any) -> Iterator[Tuple[Any, List[Any]]]:
     yield from found.items()
 
 
+# What a principal gains or loses for one reason, in a line for each kind of request, with how many they are.
+Rows = Tuple[Tuple[str, int], ...]
+Block = Tuple[Tuple[str, Rows], ...]
+
+
 def rows_of(lines: List[Line]) -> Iterator[Tuple[str, int]]:
-    """The rows of a table, each with how many requests it has: what a principal may or may not by the same statements, with
-    all actions, and the first resources."""
-    of_action = {request: [it.shown(it.resource) for it in of] for request, of in by_action(lines)}
-    for (principal, resources), actions in grouped(of_action, lambda it: (it[0], tuple(of_action[it]))):
+    """Lines on the requests of one principal: all actions on the same resources in one, of which the first are named."""
+    of_action = {action: tuple(it.shown(it.resource) for it in of) for action, of in grouped(lines, by_action)}
+    for resources, actions in grouped(of_action, of_action.__getitem__):
         more = f" and {len(resources) - FEW} more" if len(resources) > FEW else ""
-        cells = [[principal], [action for _, action in actions], resources[:FEW]]
-        row = " | ".join(", ".join(map(code, of)) for of in cells)
-        yield f"| {row}{more} |", len(actions) * len(resources)
+        names = (", ".join(map(code, of)) for of in (actions, resources[:FEW]))
+        yield " on ".join(names) + more, len(actions) * len(resources)
 
 
-def by_action(lines: List[Line]) -> Iterator[Tuple[Tuple[str, str], List[Line]]]:
-    return grouped(lines, lambda it: (it.principal, it.shown(it.action)))
+def by_action(line: Line) -> str:
+    return line.shown(line.action)
+
+
+def reason_of(line: Line) -> str:
+    given = [f"if {line.given}"] if line.given else []
+    return "; ".join([f"{line.before}, now {line.after}", *given, *line.why])
+
+
+def block_of(lines: List[Line]) -> Block:
+    """What one principal gains or loses, by reasons."""
+    return tuple((reason, tuple(rows_of(of))) for reason, of in grouped(lines, reason_of))
+
+
+def blocks_of(lines: List[Line]) -> Iterator[Tuple[Tuple[Block, bool], List[str]]]:
+    """The blocks, each with whether it is of administrators, and of whom it is."""
+    own = {
+        who: (block_of(of), any(it.is_administrator for it in of))
+        for who, of in grouped(lines, lambda it: it.principal)
+    }
+    yield from grouped(own, own.__getitem__)
 
 
 def pieces_of(lines: List[Line]) -> Iterator[Tuple[str, int]]:
-    """The rows in Markdown, grouped by what decides; the first of a table with what stands above it."""
+    """The lines in Markdown, in blocks by principal; the first of a block with what stands above it. Of several principals
+    for whom the same holds there is one block, which they end."""
     for title, of in parted(lines):
-        head = ["", f"### {title[0].upper()}{title[1:]}", ""]
-        for (_, before, after, given, why), some in grouped(of, lambda it: (it.change, *it[4:7], tuple(it.why))):
-            reasons = [f"{before}, now {after}", *([f"if {given}"] if given else []), *why]
-            head += [*(f"- {code(it)}" for it in reasons), "", "| Principal | Actions | Resources |", "|---|---|---|"]
-            for row, count in rows_of(some):
-                yield "\n".join([*head, row]), count
+        head = ["", f"### {title[0].upper()}{title[1:]}"]
+        for (block, is_administrator), people in blocks_of(of):
+            who = f"{len(people)} principals" if people[1:] else code(people[0])
+            what = "administrators" if people[1:] else "an administrator"
+            head += ["", f"#### {who}{f', {what}' if is_administrator else ''}", ""]
+            for reason, rows in block:
+                head.append(f"- {code(reason)}")
+                for row, count in rows:
+                    yield "\n".join([*head, f"  - {row}"]), 0 if people[1:] else count
+                    head = []
+            head = ["", "Each of:", ""]
+            for it in people if people[1:] else ():
+                yield "\n".join([*head, f"- {code(it)}"]), sum(count for _, rows in block for _, count in rows)
                 head = []
-            head = [""]
+            head = []
 
 
 def fitting(pieces: Iterable[Tuple[str, int]], room: int) -> Tuple[List[str], int]:

@@ -6,15 +6,17 @@ from typing import Dict, List, NamedTuple, Optional, Tuple
 from . import files
 from .arns import principal_arn, principal_text
 from .asking import ask_all
+from .chains import Way
 from .documents import World
 from .faults import Fault, tell
 from .hanging import Turn, is_too_much, later, together, turns
 from .keys import with_key
 from .kinds import Origins
 from .patterns import is_pattern, near
-from .questions import Asked, Question, Scope, missing, worlds
+from .questions import Asked, Question, Scope, lacked, missing, worlds
 from .references import is_mixed
 from .reports import Answers
+from .slips import is_unnamed, unnamed
 from .sources import ASSUME
 from .strangers import is_excepted, strangers
 
@@ -38,14 +40,15 @@ class Rule(NamedTuple):
 
 
 class Break(NamedTuple):
-    """A request that breaks a rule: its answer as it is, or with a key that nothing gives; what its texts stand for; and
-    its answer before a draft, where it was allowed."""
+    """A request that breaks a rule: its answer as it is, or with a key that nothing gives; what its texts stand for; its
+    answer before a draft, where it was allowed; and by which roles somebody comes to it."""
 
     answers: Answers
     cell: int
     turn: Optional[Turn]
     stand: Origins
     before: Optional[Tuple[Answers, int]] = None
+    way: Optional[Way] = None
 
     def is_mixed(self) -> bool:
         """Whether hardly any service has such a request: it is told last."""
@@ -142,6 +145,8 @@ def check(scope: Scope, rules: List[Rule], as_given: bool = False, before: Optio
         broken = [more for it, found in zip(of, kept) for more in breaks(rule, it, *found, as_given)]
         requests = sum(met(it, *found) for it, found in zip(of, kept)) or len(broken)
         why = "" if requests else missing(scope, rule.question) if not of else NOTHING_SPEAKS
+        if requests and not broken and is_unnamed(scope, rule.question):
+            requests, why = 0, unnamed(scope, rule.question.action)
         broken = sorted(since(before, rule, broken) if before else broken, key=Break.is_mixed)
         outcomes.append(Outcome(rule, requests, broken, of, why, scope.source.giver))
     return outcomes
@@ -196,5 +201,5 @@ def breaks(rule: Rule, asked: Asked, answers: Answers, cells: List[int], as_give
 
 def cells_of(scope: Scope, answers: Answers) -> List[int]:
     """The requests that some service has, as far as the service reference is given."""
-    kept = scope.source.references.pairs(answers.world)
+    kept = scope.source.references.pairs(answers.world, lacked(scope.source, answers.world["actions"]))
     return [cell for cell in range(len(answers.numbers)) if kept[cell % len(kept)]]

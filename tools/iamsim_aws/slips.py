@@ -41,14 +41,28 @@ def may_mean(asked: str, pattern: str) -> bool:
     return all(common(one, other) is not None for one, other in zip(*parts))
 
 
+def unnamed(scope: Scope, action: str) -> str:
+    """That no list and no policy names an action that is meant; nothing where one does."""
+    named = [] if is_wide(action) else named_actions(scope, action)
+    if is_wide(action) or any(common(it, action, True) for it in named):
+        return ""
+    but = "for all of a service" if is_pattern(action) else f"by a pattern{near(action, named)}"
+    what = f"no list and no policy names an action that {action} means, but {but}"
+    return f"{what}: is it a slip? If not, give its actions by --actions FILE or --services FOLDER"
+
+
+def is_unnamed(scope: Scope, question: Question) -> bool:
+    """Whether a question of one text each asks for an action that nobody names, of a service of which policies speak."""
+    if is_pattern(question.action) or is_pattern(question.resource) or not unnamed(scope, question.action):
+        return False
+    service = question.action.lower().partition(":")[0]
+    return any(it.lower().startswith(f"{service}:") for it in patterns_of_actions(scope.source.world([ASSUME])))
+
+
 def slips(scope: Scope, question: Question) -> List[str]:
     """A line for each name of a question that is likely a slip."""
-    action, resource, found = question.action, question.resource, []
-    named = [] if is_wide(action) else named_actions(scope, action)
-    if not is_wide(action) and not any(common(it, action, True) for it in named):
-        but = "for all of a service" if is_pattern(action) else f"by a pattern{near(action, named)}"
-        what = f"no list and no policy names an action that {action} means, but {but}"
-        found.append(f"{what}: is it a slip? If not, give its actions by --actions FILE or --services FOLDER")
+    action, resource = question.action, question.resource
+    found = list(filter(None, [unnamed(scope, action)]))
     if is_pattern(resource) and not is_wide(resource_part(resource)) and not is_known_resource(scope, resource):
         hint = near(resource, [it["arn"] for it in scope.source.world([ASSUME])["resources"]])
         found.append(f"nothing names a resource that {resource} means{hint}, but policies for all: is it a slip?")

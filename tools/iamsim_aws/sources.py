@@ -16,14 +16,15 @@ from .references import References
 ASSUME = "sts:AssumeRole"
 
 
-def add_options(parser: argparse.ArgumentParser) -> None:
+def add_options(parser: argparse.ArgumentParser, has_session: bool = True) -> None:
     """What exports are joined with."""
     add = parser.add_argument
     files_of: Dict[str, Any] = {"action": "append", "default": [], "metavar": "FILE"}
     add("--resources", **files_of, help="further resources, a JSON list of {arn, account, policy, sealed, context}")
     add("--organization", metavar="FILE", help="the organisation's policies, as iamsim-aws organization collects them")
     add("--context", **files_of, help="the condition keys of all requests, a JSON object")
-    add("--session", default="session", metavar="NAME", help="the name of each role's session (default: session)")
+    if has_session:
+        add("--session", default="session", metavar="NAME", help="the name of each role's session (default: session)")
     add(
         "--moment",
         type=moment,
@@ -155,6 +156,17 @@ class Source:
         made = Source(estate, self.given, self.actions, self.references)
         made.change = change
         return made
+
+    @property
+    def moment(self) -> Any:
+        """The moment of the requests; of a world what stands there."""
+        return self.estate.moment if self.estate else (self.given or {}).get("moment")
+
+    def put_moment(self, moment: int) -> None:
+        if self.estate:
+            self.estate = self.estate._replace(moment=moment)
+        else:
+            self.given = {**(self.given or {}), "moment": moment}
 
     @property
     def giver(self) -> str:

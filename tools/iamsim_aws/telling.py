@@ -141,7 +141,7 @@ HINTS = {"identity": nearest, "org": silent_levels("org"), "control": silent_lev
 
 def turn_words(turn: Turn) -> str:
     what = "allowed" if turn.decision == "allowed" else "denied"
-    return f"{what} if `{turn.key}` is `{turn.value}`"
+    return f"{what} if {turn.words()}"
 
 
 def request_words(answers: Answers, cell: int) -> str:
@@ -181,7 +181,7 @@ def as_json(answers: Answers, cell: int, turns: List[Turn], made_up: Origins) ->
         "decision": row.answer.decision,
         "statements": statements,
         "lacks": list(row.answer.lacks),
-        "hangsOn": [it._asdict() for it in turns],
+        "hangsOn": [{"key": it.key, "value": it.value, "decision": it.decision, "values": it.values} for it in turns],
         "standsFor": [{"text": it, **made_up[it]._asdict()} for it in (row.action, row.resource) if it in made_up],
     }
 

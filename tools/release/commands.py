@@ -110,7 +110,7 @@ def argument(made: argparse.ArgumentParser, action: argparse.Action) -> Paramete
     value = "" if action.nargs == 0 else str(action.metavar or ("WORD" if choices else action.dest.upper()))
     shapes = {"*": f"[{value} ...]", "+": f"{value} [{value} ...]", "?": f"[{value}]"}
     shape = "" if action.option_strings else shapes.get(str(action.nargs), value)
-    again = bool(action.option_strings) and type(action).__name__ == "_AppendAction"
+    again = bool(action.option_strings) and type(action).__name__ in ("_AppendAction", "_ExtendAction")
     return Parameter(list(action.option_strings), value, said, choices, shape, again)
 
 

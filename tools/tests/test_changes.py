@@ -449,6 +449,30 @@ def test_worlds_before_and_after():
     assert "say what changes" in said, said
 
 
+def test_both_sides_have_one_moment():
+    """A world of second 0 and one of 2026-01-02: what ends with 2025 is allowed in neither, or with --moment 0 before alone."""
+    until = document(statement(Condition={"DateLessThan": {"aws:CurrentTime": "2026-01-01T00:00:00Z"}}))
+    old, new = small_world(until), {**small_world(until), "moment": 1767312000}
+    told = "before and after are of two moments: both are asked at the later one, 1767312000 (--moment)"
+    for before, after in ((old, new), (new, old)):
+        out, said = aws("changes", "--before", file(before), "--after", file(after), "--verbose")
+        assert told in said and "getobject" not in out.lower(), out + said
+    none = {**small_world(document()), "moment": 1767312000}
+    lost = {
+        ("lost", "arn:aws:iam::111122223333:user/ann", "s3:GetObject", "arn:aws:s3:::b/k"): ("allowed", "implicitDeny")
+    }
+    for before, after in ((old, none), (new, none)):
+        words = ["--before", file(before), "--after", file(after)]
+        same(changes(*words), lost)
+        assert "two moments" not in aws("changes", *words, "--moment", "0")[1]
+    # A world and an export: the export has the moment of today, which is the later.
+    _, said = aws("changes", "--before", file(old), "--after", EXPORT)
+    assert "before and after are of two moments: both are asked at the later one, " in said, said
+    # What is no moment stays, and iamsim refuses it.
+    _, said = aws("changes", "--before", file({**old, "moment": "0"}), "--after", file(new), status=1)
+    assert "BadShape at moment" in said, said
+
+
 def test_worlds_with_and_without_trust_policies():
     """What both are asked for is compared, also where one has roles with trust policies alone."""
     role = {"arn": f"{ACCOUNT}role/r", "account": "111122223333"}
@@ -500,19 +524,17 @@ def test_changes_in_words_and_for_a_review():
             "",
             "### Lost",
             "",
-            "- <code>allowed, now explicitDeny</code>",
-            "- <code>denied by principals/0/identity/0, statement 0 &#60;b&#62;No (identity policy)</code>",
-            "- <code>was allowed by principals/0/identity/0, statement 0 Old&#124;&#96; (identity policy)</code>",
+            "#### <code>arn:aws:iam::111122223333:user/ann</code>",
             "",
-            "| Principal | Actions | Resources |",
-            "|---|---|---|",
-            "| <code>arn:aws:iam::111122223333:user/ann</code> | <code>s3:GetObject</code> | <code>arn:aws:s3:::b/k</code> |",
+            "- <code>allowed, now explicitDeny; denied by principals/0/identity/0, statement 0 &#60;b&#62;No (identity policy);"
+            " was allowed by principals/0/identity/0, statement 0 Old&#124;&#96; (identity policy)</code>",
+            "  - <code>s3:GetObject</code> on <code>arn:aws:s3:::b/k</code>",
         ],
     )
 
 
 def test_a_review_of_many_requests():
-    """The same principal, actions and statements make a row, of which three resources are named."""
+    """A principal has a block, and each reason one line there; behind it stand the actions, with three of the resources."""
     resources = [{"arn": f"arn:aws:s3:::b/{n}", "account": "111122223333"} for n in range(5)]
     actions = ("s3:GetObject", "s3:PutObject")
     before = small_world(
@@ -521,9 +543,7 @@ def test_a_review_of_many_requests():
     after = small_world(document(statement()), actions=actions, resources=resources)
     words = [word for it in actions for word in ("--action", it)]
     out, _ = aws("changes", "--before", file(before), "--after", file(after), *words, "--format", "markdown")
-    why = "- <code>allowed by principals/0/identity/0, statement 0 (identity policy)</code>"
-    head = ["", "| Principal | Actions | Resources |", "|---|---|---|"]
-    ann = "| <code>arn:aws:iam::111122223333:user/ann</code> |"
+    why = "now allowed; allowed by principals/0/identity/0, statement 0 (identity policy)</code>"
     three = ", ".join(f"<code>arn:aws:s3:::b/{n}</code>" for n in range(3))
     # Reads of five objects, writes of four, and the write that was denied.
     same(
@@ -533,17 +553,35 @@ def test_a_review_of_many_requests():
             "",
             "### Gained",
             "",
-            "- <code>implicitDeny, now allowed</code>",
-            why,
-        ]
-        + [*head, f"{ann} <code>s3:GetObject</code> | {three} and 2 more |"]
-        + [
-            f"{ann} <code>s3:PutObject</code> | {three} and 1 more |",
+            "#### <code>arn:aws:iam::111122223333:user/ann</code>, an administrator",
             "",
-            "- <code>explicitDeny, now allowed</code>",
-            why,
-        ]
-        + [*head, f"{ann} <code>s3:PutObject</code> | <code>arn:aws:s3:::b/4</code> |"],
+            f"- <code>implicitDeny, {why}",
+            f"  - <code>s3:GetObject</code> on {three} and 2 more",
+            f"  - <code>s3:PutObject</code> on {three} and 1 more",
+            f"- <code>explicitDeny, {why}",
+            "  - <code>s3:PutObject</code> on <code>arn:aws:s3:::b/4</code>",
+        ],
+    )
+    # For whom the same holds by the same policies there is one block, which names them all.
+    draft = file(document(statement(action="s3:List*", resource="arn:aws:s3:::b/k")))
+    words = ["--action", "s3:GetObject", "--resource", "arn:aws:s3:::b/k", "--format", "markdown", "--session", "s1"]
+    out, _ = aws("changes", EXPORT, "--put", f"ReadObjects={draft}", *words)
+    same(
+        out.splitlines()[2:13],
+        [
+            "### Lost",
+            "",
+            "#### 2 principals",
+            "",
+            "- <code>allowed, now implicitDeny; lacks identity: no identity policy of the principal allows this; was allowed by"
+            " arn:aws:iam::aws:policy/ReadObjects, statement 0 (identity policy)</code>",
+            "  - <code>s3:GetObject</code> on <code>arn:aws:s3:::b/k</code>",
+            "",
+            "Each of:",
+            "",
+            f"- <code>{ALICE}</code>",
+            f"- <code>{SESSION}deploy/s1</code>",
+        ],
     )
 
 
@@ -554,10 +592,10 @@ def test_a_review_that_a_comment_has_no_room_for():
     after = {**before, "principals": [{"user": it, "identity": [document(statement())]} for it in users]}
     words = ["--action", "s3:GetObject", "--format", "markdown"]
     out, _ = aws("changes", "--before", file(before), "--after", file(after), *words)
-    # All 600 want a row, and each has over 120 signs.
+    # All 600 want a block of over 120 signs, since each has the policy as its own.
     assert 65_000 < len(out) <= 65_536, len(out)
     *lines, last = out.splitlines()
-    rows = sum(line.startswith("| <code>") for line in lines)
+    rows = sum(line.startswith("  - <code>") for line in lines)
     left = "requests and 0 notes are left out, for which a comment has no room: --format csv has all"
     same(last, f"{600 - rows} {left}")
 
@@ -574,9 +612,65 @@ def test_texts_that_are_made_up():
     header, *rows = csv.reader(io.StringIO(out))
     same([header[-1], *(row[-1] for row in rows)], ["stands for", stands, stands])
     out, _ = aws(*words, "--format", "markdown")
-    assert f"| <code>{stands.replace('*', '&#42;')}</code> | <code>&#42;</code> |\n" in out, out
+    assert f"  - <code>{stands.replace('*', '&#42;')}</code> on <code>&#42;</code>\n" in out, out
     out, _ = aws(*words, "--format", "page")
     assert f'["s3:Listx","{stands.partition(" ")[2]}"]' in out, "the page does not have it"
+
+
+def test_texts_that_a_variable_makes():
+    """A text that the value of a variable makes is made up too: bob is no user/bob, but user/ops/bob."""
+    own = statement(action="iam:ChangePassword", resource=f"{ACCOUNT}user/${{aws:username}}")
+    export, words = load(EXPORT), ["--action", "iam:ChangePassword"]
+    export["UserDetailList"][1]["UserPolicyList"] = [{"PolicyName": "Own", "PolicyDocument": document(own)}]
+    del export["UserDetailList"][1]["PermissionsBoundary"]
+    stands = f"{ACCOUNT}user/bob stands for {ACCOUNT}user/${{aws:username}} of {BOB} inline Own"
+    given = ["changes", file(export), "--put", f"Own={file(document(statement(action='s3:GetObject')))}", *words]
+    assert f"- {BOB} iam:ChangePassword {ACCOUNT}user/bob\n    {stands}\n" in aws(*given)[0]
+    assert f",{stands}\n" in aws(*given, "--format", "csv")[0]
+    assert f"<code>{stands}</code>" in aws(*given, "--format", "markdown")[0]
+    assert f"\n{stands}\n" in aws("who-can", "iam:ChangePassword", "*", "--kinds", file(export))[0]
+    # What a policy names itself stands for itself.
+    out, _ = aws(
+        "changes", EXPORT, "--put", f"Homes={file(document({**own, 'Resource': f'{ACCOUNT}user/bob'}))}", *words
+    )
+    assert f"+ {ALICE} iam:ChangePassword {ACCOUNT}user/bob\n    allowed by" in out, out
+
+
+def test_patterns_for_which_no_text_stands():
+    """Nothing gives the variable's value, so nobody was asked for it: that is told, and of what changes alone."""
+    line = "no text stands for these patterns, whose account or variables nothing gives: arn:aws:s3:::"
+    path = "secrets/${aws:PrincipalTag/none}/*"
+    for resource, wanted in (
+        (f"arn:aws:s3:::{path}", True),
+        ("arn:aws:s3:::secrets/${aws:username}/*", False),
+        ("*", False),
+    ):
+        draft = file(document(statement(action="s3:GetObject", resource=resource)))
+        _, said = aws("changes", EXPORT, "--put", f"ReadObjects={draft}")
+        same(f"{line}{path}\n" in said, wanted, resource + said)
+        _, said = aws("changes", EXPORT, "--put", f"Homes={draft}", "--attach", f"New={draft}@bob")
+        same(f"{line}{path}\n" in said, wanted, resource + said)
+        assert (
+            not wanted
+            or "no text"
+            not in aws("changes", EXPORT, "--put", f"Homes={draft}", "--resource", "arn:aws:s3:::homes/*")[1]
+        )
+    # The policy of a bucket does not know who asks.
+    grant = {
+        "Effect": "Allow",
+        "Principal": "*",
+        "Action": "s3:GetObject",
+        "Resource": "arn:aws:s3:::homes/${aws:username}/*",
+    }
+    resources = ["--resources", file([{"arn": "arn:aws:s3:::homes", "account": "111122223333"}])]
+    _, said = aws("changes", EXPORT, *resources, "--put", f"homes={file(document(grant))}")
+    assert f"{line}homes/${{aws:username}}/*\n" in said, said
+    junit = file("")
+    given = file([{"arn": "arn:aws:s3:::homes", "account": "111122223333", "policy": document(grant)}])
+    aws(
+        "rules", file("never chain s3:GetObject arn:aws:s3:::homes/*\n"), EXPORT, "--resources", given, "--junit", junit
+    )
+    assert 'failures="1"' in open(junit).read()
 
 
 def test_an_action_of_one_service_on_a_resource_of_another():

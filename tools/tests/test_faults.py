@@ -364,12 +364,12 @@ def test_hostile_texts_in_changes():
     assert lines_are_clean(out) and out.startswith("5 lost and 0 gained, of 5 requests\n"), out
     rows = list(csv.reader(io.StringIO(aws("changes", *words, "--format", "csv")[0], newline="")))
     same([row[3] for row in rows[1:]], ARNS)
-    # In Markdown the five are a row, of which three are named.
+    # In Markdown the five are a line, in which three are named.
     for some in (value["resources"], value["resources"][::-1]):
         before, after = ({**it, "resources": some} for it in (value, after))
         words = ["--before", file(before), "--after", file(after), "--names", file(names), "--format", "markdown"]
         lines = aws("changes", *words)[0].splitlines()
-        same([line.count("|") for line in lines if line.startswith("| <code>")], [4])
+        same([line.count("<code>") for line in lines if line.startswith("  - ")], [4])
         same([line for line in lines if "<script" in line or "](y)" in line], [])
 
 

@@ -178,11 +178,11 @@ def test_an_estate_goes_on_with_the_program_that_began_it():
 
 
 def test_patterns_of_many_stars():
-    at = time.monotonic()
+    at = time.process_time()
     assert not patterns.matcher("*a" * 8 + "*b")("a" * 40)
     assert not patterns.matcher("*a" * 300 + "*b")("a" * 4000)
     assert patterns.matcher("*a" * 300 + "*b")("a" * 300 + "b")
-    assert time.monotonic() - at < 1
+    assert time.process_time() - at < 1
     for pattern, text, is_match in (
         ("", "", True),
         ("*", "", True),
@@ -229,10 +229,10 @@ def test_patterns_that_meet():
 
 def test_objects_of_many_keys():
     text = "{" + ",".join(f'"k{n}":1,"k{n}":2' for n in range(20000)) + "}"
-    at, said = time.monotonic(), io.StringIO()
+    at, said = time.process_time(), io.StringIO()
     with contextlib.redirect_stderr(said):
         same(files.parsed(text, "x"), {f"k{n}": 2 for n in range(20000)})
-    assert time.monotonic() - at < 5
+    assert time.process_time() - at < 5
     same(said.getvalue().count("comes twice in one object"), 20000)
 
 

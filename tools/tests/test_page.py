@@ -7,8 +7,9 @@ import sys
 import time
 
 from browser import Browser
-from harness import AWS, EXAMPLES, IAMSIM, aws, document, file, load, matrix, run, same, small_world, statement
+from harness import AWS, EXAMPLES, IAMSIM, aws, data, document, file, load, matrix, run, same, small_world, statement
 
+ACCOUNT, EXPORT = "arn:aws:iam::111122223333:", data("account.json")
 ROOM = os.environ["TOOLS_TEST_ROOM"]
 
 
@@ -233,7 +234,9 @@ def test_what_changes_on_a_page():
         it.write(aws("changes", "--before", file(before), "--after", file(after), "--format", "page")[0])
     with Opened(path) as browser:
         assert "2 gained, 1 lost" in browser.evaluate("at('summary').innerText")
-        browser.evaluate("at('only-changes').click()")
+        # It opens with what changes alone, at the first.
+        same(browser.evaluate("at('only-changes').checked"), True)
+        assert "lost: implicitDeny" in detail(browser), detail(browser)
         signs = browser.evaluate(
             "[...document.querySelectorAll('.cell')].map((it) => [it.getAttribute('aria-label').split(': ').pop(), it.innerText])"
         )
@@ -251,6 +254,72 @@ def test_what_changes_on_a_page():
         assert "before: absent" in detail(browser)
         screenshot(browser, "changes.png")
         same(browser.faults(), [])
+
+
+def test_what_changes_with_a_key_alone_on_a_page():
+    """It counts as gained there as in the text, and names the key; who is outside has the words of the text."""
+    code = {"Bool": {"aws:MultiFactorAuthPresent": "true"}}
+    # alice, whose group's policy is Homes, may put with the code; the bucket lets another account read.
+    draft = file(document(statement(action="s3:PutObject", resource="arn:aws:s3:::new", Condition=code)))
+    grant = {"Effect": "Allow", "Principal": {"AWS": "999988887777"}, "Action": "s3:GetObject", "Resource": "*"}
+    given = [EXPORT, "--resources", file([{"arn": "arn:aws:s3:::new", "account": "111122223333"}])]
+    given += ["--put", f"Homes={draft}", "--put", f"new={file(document(grant))}", "--resource", "arn:aws:s3:::new"]
+    out, _ = aws("changes", *given)
+    assert out.startswith("0 lost and 2 gained, of "), out
+    path = os.path.join(ROOM, "keyed.html")
+    with open(path, "w") as it:
+        it.write(aws("changes", *given, "--format", "page")[0])
+    with Opened(path) as browser:
+        assert "; 2 gained, 0 lost" in browser.evaluate("at('summary').innerText")
+        browser.evaluate("setView(LIST)")
+        alice = f"{ACCOUNT}user/alice"
+        parts = "[...document.querySelectorAll('.line')].map((it) => [it.children[0].title, it.children[3].title])"
+        same(
+            sorted(browser.evaluate(parts)),
+            [
+                ["anyone outside: account 999988887777", "gained, allowed"],
+                [alice, "gained, if aws:MultiFactorAuthPresent is true, implicitDeny"],
+            ],
+        )
+        rows = browser.evaluate("listCsv()").splitlines()
+        same(rows[0], "principal,action,resource,decision,before,change")
+        assert 'implicitDeny,implicitDeny,"gained, if aws:MultiFactorAuthPresent is true"' in "\n".join(rows), rows
+        same(browser.faults(), [])
+
+
+def test_a_page_of_sts_and_iam():
+    """Both worlds are made: a role's trust policy decides on sts: actions, and on no iam: action."""
+    actions = ["sts:AssumeRole", "iam:PassRole"]
+    path, words = os.path.join(ROOM, "both.html"), ["--actions", file("\n".join(actions)), "--session", "s1"]
+    with open(path, "w") as it:
+        it.write(aws("page", EXPORT, *words, "--hanging")[0])
+    export = load(EXPORT)
+    del export["UserDetailList"][1]["PermissionsBoundary"]
+    wide = os.path.join(ROOM, "wide.html")
+    with open(wide, "w") as it:
+        it.write(aws("page", file(export), *words)[0])
+    found = {}
+    for it in (path, wide):
+        with Opened(it) as browser:
+            texts = "[...answerOf].map((_, n) => [...textsOf(n), WORDS[decisionOf[answerOf[n]]]])"
+            found[it] = {tuple(row[:3]) for row in browser.evaluate(texts) if row[3] == "allowed"}
+            same(browser.evaluate("answerOf.some((n) => decisionOf[n] === 3)"), False)
+            assert "iamsim decide" not in detail(browser)
+            same(browser.faults(), [])
+    # By hand: who may assume which role, of which chain trusts deploy itself; the boundary keeps bob from iam:, and without it he
+    # may pass every role.
+    alice, bob = f"{ACCOUNT}user/alice", f"{ACCOUNT}user/ops/bob"
+    assume = {(alice, "sts:AssumeRole", f"{ACCOUNT}role/app/{it}") for it in ("deploy", "audit")}
+    deploy = "arn:aws:sts::111122223333:assumed-role/deploy/s1"
+    assume |= {
+        (bob, "sts:AssumeRole", f"{ACCOUNT}role/app/deploy"),
+        (deploy, "sts:AssumeRole", f"{ACCOUNT}role/app/chain"),
+    }
+    same(found[path], assume)
+    roles = [it["Arn"] for it in export["RoleDetailList"]]
+    same(found[wide], assume | {(bob, "iam:PassRole", it) for it in roles})
+    _, said = aws("page", EXPORT, *words, "--report", file("[]"), status=1)
+    assert "a report is of one world" in said, said
 
 
 def sessions_alike():
@@ -300,6 +369,51 @@ def test_headings_on_small_screens():
                 f"{width}: wider than the screen",
             )
             screenshot(browser, f"small-{width}-{scheme}.png")
+        same(browser.faults(), [])
+
+
+def fits(browser, choice):
+    """Whether all elements that a selector chooses are in sight and none is cut."""
+    of = f"[...document.querySelectorAll('{choice}')]"
+    is_cut = "it.scrollWidth > it.clientWidth + 1 || it.getBoundingClientRect().right > window.innerWidth + 1"
+    return browser.evaluate(f"{of}.length > 0 && !{of}.some((it) => {is_cut})")
+
+
+def test_counts_names_and_columns_at_three_widths():
+    """Few of many cells are allowed: the count shows; names of the list are short and whole, or cut in the middle; the last column of
+    many is in sight when one goes there."""
+    value = sessions_alike()
+    value["actions"] = [f"s3:ActionOfALongName{n:02}" for n in range(60)]
+    value["principals"] = [
+        {"role": f"arn:aws:iam::111122223333:role/team/reader-{n}", "session": "s", "identity": []} for n in range(40)
+    ]
+    value["principals"][7]["identity"] = [document(statement(action="s3:ActionOfALongName59"))]
+    with Opened(page_of(value, "widths")) as browser:
+        for width in (1440, 800, 420):
+            size = {"width": width, "height": 900, "deviceScaleFactor": 1, "mobile": False}
+            browser.call("Emulation.setDeviceMetricsOverride", **size)
+            browser.evaluate("setView(0); window.onresize()")
+            same(
+                browser.evaluate("at('total').innerText.split('\\n').map((it) => it.trim())[0]"),
+                "✓ 3 allowed",
+                str(width),
+            )
+            assert fits(browser, "#total span"), width
+            browser.evaluate("choose(7, 59)")
+            browser.evaluate("draw()")
+            last = "[...document.querySelectorAll('.column')].pop()"
+            same(browser.evaluate(f"{last}.querySelector('.name').title"), value["actions"][-1])
+            edges = f"[{last}.getBoundingClientRect().right, at('pane').getBoundingClientRect().left + at('pane').clientWidth]"
+            right, edge = browser.evaluate(edges)
+            assert right <= edge + 1, (width, right, edge)
+            assert fits(browser, ".column.chosen .name"), width
+            browser.evaluate("setView(LIST)")
+            assert fits(browser, ".line > span:nth-child(-n+3)"), width
+            names = browser.evaluate(
+                "[...new Set([...document.querySelectorAll('.line > span:first-child')].map((it) => it.innerText))]"
+            )
+            assert names and all(it.startswith("reader-") for it in names), names
+            screenshot(browser, f"widths-{width}.png")
         same(browser.faults(), [])
 
 

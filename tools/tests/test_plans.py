@@ -34,9 +34,9 @@ def test_each_kind_of_resource_is_read_or_counted():
     ]
     found, said = gained(plan(*some))
     same(found, set())
-    for it in ("awscc_iam_role_policy", "aws_iam_openid_connect_provider", "aws_ssoadmin_permission_set"):
+    for it in ("awscc_iam_role_policy", "aws_ssoadmin_permission_set"):
         assert f"1 changes of {it} are not read" in said, said
-    assert "random_id" not in said, said
+    assert "random_id" not in said and "openid" not in said, said
 
 
 def test_several_references():
@@ -113,6 +113,71 @@ def test_documents_that_are_read_at_the_apply():
     found, said = gained(both, action="s3:PutObject", resource=f"{B}/k")
     same(found, {("gained", ALICE)})
     assert "statement.1.resources is known only after the apply: this deny is left out" in said, said
+
+
+OIDC = "oidc-provider/token.actions.githubusercontent.com"
+
+
+def of_github(count=1):
+    """A plan with a provider of OpenID Connect, and a role whose trust policy refers to it."""
+    known = {"type": "Federated", "identifiers": []}
+    of = {"effect": "Allow", "actions": ["sts:AssumeRoleWithWebIdentity"], "principals": [known] * count, "sid": None}
+    unknown = [{"principals": [{"identifiers": True}] * count}]
+    read = change("aws_iam_policy_document.t", None, {"statement": [of], "version": None}, json=True, statement=unknown)
+    read.update(address="data.aws_iam_policy_document.t", mode="data")
+    provider = ["aws_iam_openid_connect_provider.g.arn", "aws_iam_openid_connect_provider.g"]
+    blocks = [{"identifiers": {"references": provider}, "type": {"constant_value": "Federated"}}] * count
+    named = ["data.aws_iam_policy_document.t.json", "data.aws_iam_policy_document.t"]
+    configuration = [
+        configured("aws_iam_role.ci", assume_role_policy=named),
+        {"address": read["address"], "mode": "data", "expressions": {"statement": [{"principals": blocks}]}},
+    ]
+    some = [
+        change(
+            "aws_iam_openid_connect_provider.g", None, {"url": f"https://{OIDC.partition('/')[2]}"}, arn=True, id=True
+        ),
+        read,
+        change("aws_iam_role.ci", None, {"name": "ci", "path": "/"}, assume_role_policy=True, arn=True),
+        change("aws_iam_role_policy.ci", None, {"role": "ci", "name": "Read", "policy": READ}),
+    ]
+    return plan(*some, configuration={"resources": configuration})
+
+
+def test_a_role_that_a_provider_of_the_plan_is_trusted_for():
+    """The ARN of the provider follows from its URL; nobody is asked for whom it vouches, which is told."""
+    found, said = gained(of_github())
+    same(found, {("gained", f"{SESSION}ci/s1")})
+    assert "apply" not in said, said
+    _, said = gained(of_github(), action="sts:AssumeRoleWithWebIdentity", resource=f"{ACCOUNT}role/ci")
+    assert f"{ACCOUNT}role/ci trust policy names Federated {ACCOUNT}{OIDC}, for whom nobody is asked\n" in said, said
+    # Of two blocks nobody knows which is which.
+    _, said = gained(of_github(2), status=1)
+    assert "only the apply tells aws_iam_role.ci.assume_role_policy" in said, said
+
+
+def test_arns_that_follow_from_names():
+    """Those that have nothing else in them than the name, the account and the region of the provider, or their own."""
+    region = {"provider_config": {"aws": {"expressions": {"region": {"constant_value": "eu-west-1"}}}}}
+    of = {"effect": "Allow", "actions": ["x:Do"], "resources": [None], "sid": None}
+    for kind, values, arn in (
+        ("aws_sqs_queue", {"name": "q"}, "arn:aws:sqs:eu-west-1:111122223333:q"),
+        ("aws_sns_topic", {"name": "t", "region": "us-east-2"}, "arn:aws:sns:us-east-2:111122223333:t"),
+        ("aws_dynamodb_table", {"name": "t"}, "arn:aws:dynamodb:eu-west-1:111122223333:table/t"),
+        ("aws_lambda_function", {"function_name": "f"}, "arn:aws:lambda:eu-west-1:111122223333:function:f"),
+        ("aws_sqs_queue", {"name_prefix": "q"}, None),
+        ("aws_sqs_queue", {"name": "q"}, None),
+    ):
+        refers = {"references": [f"{kind}.n.arn", f"{kind}.n"]}
+        made = load(read_later([of], [{"resources": [True]}], [{"resources": refers}]))
+        made["resource_changes"].append(change(f"{kind}.n", None, values, arn=True))
+        # The last one is of a provider whose region nobody knows.
+        is_last = kind == "aws_sqs_queue" and arn is None and "name" in values
+        made["configuration"].update({} if is_last else region)
+        found, said = gained(file(made), action="x:Do", resource=arn or "*", status=0 if arn else 1)
+        assert arn or "only the apply tells data.aws_iam_policy_document.d.statement.0.resources" in said, said
+        same(found, {("gained", ALICE)} if arn else set(), str((kind, values)))
+        if arn:
+            same(gained(file(made), action="x:Do", resource=f"{arn}x")[0], set())
 
 
 def test_tags_that_are_all_removed():

@@ -312,7 +312,7 @@ def test_what_an_answer_hangs_on():
     found = rows("who-can", "sts:AssumeRole", "role/app/partner", *BOTH)
     carol = [it for it in found if it["principal"] == "arn:aws:iam::444455556666:user/carol"][0]
     same((carol["decision"], carol["lacks"]), ("implicitDeny", ["resource"]))
-    same(carol["hangsOn"], [{"key": "sts:ExternalId", "value": "e-1", "decision": "allowed"}])
+    same(carol["hangsOn"], [{"key": "sts:ExternalId", "value": "e-1", "decision": "allowed", "values": ["e-1"]}])
     same([it["principal"] for it in found if it["hangsOn"]], [carol["principal"]])
 
 
@@ -336,11 +336,28 @@ def test_each_kind_of_condition_turns():
     for condition, key, value in CASES:
         made = file(small_world(document(statement(Condition=condition))))
         [found] = rows("can", "ann", "s3:GetObject", "*", "--world", made, status=3)
-        wanted = [{"key": key, "value": value, "decision": "allowed"}] if key else []
+        values = ["team", "unit"] if value == "team" else [value]
+        wanted = [{"key": key, "value": value, "decision": "allowed", "values": values}] if key else []
         same(found["hangsOn"], wanted, str(condition))
     two = file(small_world(document(statement(Condition=CASES[-1][0]))))
     out, _ = aws("can", "ann", "s3:GetObject", "*", "--world", two, status=3)
     assert "turns an answer: aws:MultiFactorAuthPresent, aws:SecureTransport" in out, out
+
+
+def test_all_values_of_a_key_are_told():
+    """Each with which the answer turns, and no other: of the accounts that a trust policy lists, and of numbers."""
+    trusted = {"StringEquals": {"sts:ExternalId": ["e-1", "e-2", "e-3"]}}
+    denied = statement("Deny", Condition={"StringEquals": {"sts:ExternalId": "e-2"}})
+    made = file(small_world(document(statement(Condition=trusted), denied)))
+    told = "`sts:ExternalId` is `e-1` or `e-3`"
+    out, _ = aws("can", "ann", "s3:GetObject", "*", "--world", made, status=3)
+    assert f"  allowed if {told}\n" in out, out
+    [found] = rows("can", "ann", "s3:GetObject", "*", "--world", made, status=3)
+    same([it["values"] for it in found["hangsOn"]], [["e-1", "e-3"]])
+    out, _ = aws("can", "ann", "s3:GetObject", "*", "--world", made, "--format", "csv", status=3)
+    assert f",allowed if {told}\n" in out, out
+    out, _ = aws("rules", file("never ann s3:GetObject *\n"), "--world", made, status=3)
+    assert f"ann may s3:GetObject arn:aws:s3:::b/k if {told}, which nothing gives" in out, out
 
 
 def test_an_allow_may_hang_on_a_key_too():

@@ -3,6 +3,7 @@
 import xml.etree.ElementTree
 
 from harness import AWS, aws, data, document, file, load, run, same, small_world, statement
+from test_questions import chained
 
 ACCOUNT = "arn:aws:iam::111122223333:"
 SESSION = "arn:aws:sts::111122223333:assumed-role/"
@@ -202,6 +203,59 @@ def test_rules_over_a_service_reference():
     assert "no action matches s3:Delete*" in out, out
 
 
+def test_a_misspelt_action_on_one_resource():
+    """Without wildcards a rule asks for one text alone: where policies speak of its service, and none of that action by its name,
+    nothing is meant by it, whatever pattern fits it."""
+    # Policies name s3:GetObject, s3:PutObject and s3:*; of sqs and kms there is nothing.
+    for action, resource, state in (
+        ("s3:GetObject", "arn:aws:s3:::homes/x", "kept"),
+        ("S3:getobject", "arn:aws:s3:::homes/x", "kept"),
+        ("s3:GetObjct", "arn:aws:s3:::homes/x", "empty"),
+        ("s3:GetObjct", "releases/app.zip", "empty"),
+        ("s3:DeleteObject", "arn:aws:s3:::homes/x", "empty"),
+        ("s3:GetObjct", "arn:aws:s3:::homes/*", "kept"),
+        ("sqs:Purge", "arn:aws:sqs:eu-west-1:111122223333:q", "kept"),
+    ):
+        out, _ = rules(f"never chain {action} {resource}\n", status=4 if state == "empty" else 0)
+        same(states(out), [state], (action, resource))
+    out, _ = rules("never chain s3:GetObjct arn:aws:s3:::homes/x\n", status=4)
+    assert (
+        "no list and no policy names an action that s3:GetObjct means, but by a pattern (near is s3:GetObject)" in out
+    ), out
+    # An always that a pattern keeps is not kept either; one that is broken is.
+    out, _ = rules("always *:role/app/deploy s3:GetObjct arn:aws:s3:::releases/app.zip\n", status=4)
+    same(states(out), ["empty"])
+    rules("never bob s3:GetObjct arn:aws:s3:::releases/app.zip\n", status=3)
+    # A list, or the service reference, names it.
+    rules("never chain s3:DeleteObject arn:aws:s3:::homes/x\n", "--actions", file("s3:DeleteObject\n"))
+    rules("never chain s3:PutObject arn:aws:s3:::homes/x\n", "--services", data("s3.json"))
+    rules("never chain s3:GetObjct arn:aws:s3:::homes/x\n", "--allow-empty")
+
+
+def test_an_action_that_a_policy_names_and_its_service_lacks():
+    """It is asked for all the same, and told: the files may be older than the policies."""
+    draft = file(document(statement(action=["s3:GetObject", "s3:NewThing"], resource="arn:aws:s3:::homes/*")))
+    given, lacks = [
+        "--services",
+        data("s3.json"),
+        "--put",
+        f"ReadObjects={draft}",
+    ], "the service reference lacks these actions"
+    said_of = f"iamsim-aws: {lacks}, which are asked for all the same: s3:NewThing\n"
+    for action, resource in (
+        ("s3:*", "*"),
+        ("s3:New*", "arn:aws:s3:::homes/*"),
+        ("s3:NewThing", "arn:aws:s3:::homes/x"),
+    ):
+        out, said = rules(f"never alice {action} {resource}\n", *given, status=3)
+        assert "alice may s3:NewThing arn:aws:s3:::homes/x" in out and said.count(said_of) == 1, out + said
+    out, said = aws("who-can", "s3:New*", "arn:aws:s3:::homes/x", EXPORT, *given)
+    assert "allowed: arn:aws:iam::111122223333:user/alice s3:NewThing" in out and said.count(said_of) == 1, out + said
+    # What no policy names is met by no request, as before.
+    _, said = rules("never alice s3:NewThing arn:aws:s3:::homes/x\n", *given[:2], status=4)
+    assert lacks not in said, said
+
+
 def test_rules_over_what_changes():
     draft = file(document(statement(action="s3:*", resource="*")))
     text = "never * s3:PutObject arn:aws:s3:::releases/app.zip except bob\n"
@@ -286,6 +340,77 @@ def test_reports_for_pipelines():
     assert "ReadObjects" in results[0]["message"]["text"]
     rules(text, "--junit", junit, "--sarif", sarif, "--allow-empty", status=3)
     same(xml.etree.ElementTree.parse(junit).getroot().get("failures"), "1")
+
+
+def test_rules_over_chains_of_roles():
+    """ann may assume a, whose session may assume b, and so c and d, which alone reads: with --chains they all break a rule."""
+    made, rule = chained(), "never {} s3:GetObject b/k{}\n"
+    a, b, c, d = (f"{SESSION}{it}/s" for it in "abcd")
+    ann, reads = f"{ACCOUNT}user/ann", "arn:aws:s3:::b/k"
+    for who, words, wanted in (
+        ("ann", [], None),
+        ("ann", ["--chains"], None),
+        ("ann", ["--chains", "--depth", "4"], [ann, a, b, c, d]),
+        ("*:role/c", ["--chains", "--depth", "1"], [c, d]),
+        ("bob", ["--chains", "--depth", "9"], None),
+    ):
+        out, _ = rules_of(made, rule.format(who, ""), *words, status=3 if wanted else 0)
+        same(states(out), ["broken" if wanted else "kept"], str((who, words)))
+        come = f"may come to s3:GetObject {reads} by assuming roles, "
+        line = f"  {wanted[0]} {come}{' -> '.join(wanted)}: allowed by principals/5/identity/0" if wanted else ""
+        assert line in out, out
+    # Who is excepted may all the same be the way of others.
+    for depth, status in (("1", 0), ("2", 3)):
+        out, _ = rules_of(
+            made, rule.format("*", " except *:role/d *:role/c"), "--chains", "--depth", depth, status=status
+        )
+        same([line.split(" may ")[0].strip() for line in out.splitlines()[1:-1]], [b] if status else [])
+    # Who breaks it alone is told once, before those who come by roles.
+    out, _ = rules_of(made, rule.format("*", ""), "--chains", "--depth", "9", status=3)
+    same([line.split(" may ")[0].strip() for line in out.splitlines()[1:-1]], [d, c, b, a, ann])
+    # A step, or the request itself, that wants a key; as given nobody has it.
+    key = {"StringEquals": {"sts:ExternalId": "e-1"}}
+    made["resources"][0]["policy"]["Statement"][0]["Condition"] = key
+    junit = file("")
+    given = [made, rule.format("ann", ""), "--chains", "--depth", "4", "--junit", junit]
+    out, _ = rules_of(*given, status=3)
+    assert f"by assuming roles, {ann} (if `sts:ExternalId` is `e-1`) -> {a} -> {b} -> {c} -> {d}: " in out, out
+    assert f"{ann} (if `sts:ExternalId` is `e-1`) -&gt; {a}" in open(junit, encoding="utf-8").read()
+    rules_of(*given, "--as-given")
+    made["principals"][5]["identity"][0]["Statement"][0]["Condition"] = key
+    out, _ = rules_of(made, rule.format("*:role/c", ""), "--chains", status=3)
+    assert f"{c} -> {d} (if `sts:ExternalId` is `e-1`): " in out, out
+    rules_of(made, rule.format("nobody", ""), "--chains", status=4)
+    # What always has to be allowed is asked of the principal itself.
+    rules_of(chained(), "always *:role/c s3:GetObject b/k\n", "--chains", status=3)
+
+
+def test_roles_whose_trust_nobody_knows():
+    """A world that names a session and not its role does not tell who may assume it: then a kept rule is not all."""
+    made, junit = chained(), file("")
+    line = "who may assume these roles was not asked, since nothing gives their trust policies: "
+    words = ["--chains", "--depth", "4", "--junit", junit]
+    _, said = rules_of(made, "never bob s3:GetObject b/k\n", *words)
+    assert line not in said, said
+    made["resources"] = [it for it in made["resources"] if not it["arn"].endswith("role/b")]
+    _, said = rules_of(made, "never ann s3:GetObject b/k\n", *words)
+    same(said.count(f"{line}{ACCOUNT}role/b\n"), 1, said)
+    assert 'failures="1"' in open(junit, encoding="utf-8").read()
+
+
+def test_a_chain_from_outside():
+    """The role partner trusts another account, with a key; its session may put what the policy of the bucket grants to it."""
+    grant = {"Effect": "Allow", "Principal": {"AWS": f"{ACCOUNT}role/app/partner"}, "Action": "s3:PutObject"}
+    bucket = [{"arn": "arn:aws:s3:::new", "account": "111122223333", "policy": document({**grant, "Resource": "*"})}]
+    given = [EXPORT, "--resources", file(bucket), "--session", "s1"]
+    rule = file("never * s3:PutObject arn:aws:s3:::new/k except bob *:role/app/partner\n")
+    aws("rules", rule, *given)
+    out, _ = aws("rules", rule, *given, "--chains", status=3)
+    who = "anyone outside: account 444455556666"
+    wanted = (
+        f"  {who} may come to s3:PutObject arn:aws:s3:::new/k by assuming roles, {who} (if `sts:ExternalId` is `e-1`)"
+    )
+    assert f"{wanted} -> {SESSION}partner/s1: allowed by arn:aws:s3:::new policy, statement 0" in out, out
 
 
 def test_wildcards_that_are_given():

@@ -257,7 +257,8 @@ def test_changes_show_what_they_gain():
     out, _ = aws("changes", EXPORT, *words, "--format", "csv")
     same(list(csv.reader(io.StringIO(out)))[1][:6], ["gained", OUT, "s3:GetObject", BUCKET, "implicitDeny", "allowed"])
     out, _ = aws("changes", EXPORT, *words, "--format", "page")
-    assert "arn:aws:iam::999988887777:user/(anyone)" in out and "what its own account may allow (assumed)" in out
+    # In the words of answers.
+    assert f'"{OUT}"' in out and "(anyone)" not in out and "what its own account may allow (assumed)" in out, out
     # A trust policy, and back.
     role = f"{ACCOUNT}role/app/audit"
     trust = lambda *who: file(
@@ -296,6 +297,29 @@ def test_who_is_not_asked():
     same(said, f"iamsim-aws: {BUCKET} policy names {federated}, for whom nobody is asked\n")
     _, said = aws("who-can", "s3:GetObject", BUCKET, EXPORT, "--resources", bucket(grant("999988887777", "*")))
     same(said, "")
+
+
+def test_who_is_no_principal_of_an_account():
+    """For them nobody is asked: it is told where a statement speaks of what is asked; of services where a policy changes."""
+    role, federated = f"{ACCOUNT}role/people", f"{ACCOUNT}saml-provider/idp"
+    names = f"{role} trust policy names Federated {federated}, for whom nobody is asked"
+    for action, wanted in (("sts:AssumeRoleWithSAML", True), ("sts:AssumeRole", False)):
+        rule = file(f"never * {action} {role}\n")
+        for words, status in ((["who-can", action, role], 0), (["rules", rule, "--allow-empty"], 0)):
+            same(names in aws(*words, EXPORT, status=status)[1], wanted, str(words))
+    canonical = bucket({**grant(), "Principal": {"CanonicalUser": "79a5"}})
+    _, said = aws("who-can", "s3:GetObject", BUCKET, EXPORT, "--resources", canonical)
+    assert f"{BUCKET} policy names CanonicalUser 79a5, for whom nobody is asked\n" in said, said
+    worker, junit = f"{ACCOUNT}role/worker", file("")
+    trust = {"Effect": "Allow", "Principal": {"Service": "ec2.amazonaws.com"}, "Action": "sts:AssumeRole"}
+    _, said = aws("changes", EXPORT, "--put", f"{worker}={file(document(trust))}")
+    assert f"{worker} trust policy names Service ec2.amazonaws.com, for whom nobody is asked\n" in said, said
+    assert "Service" not in aws("who-can", "sts:AssumeRole", worker, EXPORT)[1]
+    # What was not asked fails in the reports of a pipeline.
+    rule = file("never alice s3:PutObject arn:aws:s3:::releases*\n")
+    given = bucket({**grant(), "Principal": {"CanonicalUser": "79a5"}, "Action": "s3:PutObject"})
+    aws("rules", rule, EXPORT, "--resources", given, "--junit", junit)
+    assert 'failures="1"' in open(junit, encoding="utf-8").read()
 
 
 def test_a_world_has_them_too():

@@ -1,7 +1,6 @@
 """changes."""
 
 import argparse
-import time
 from typing import Any, List, Tuple
 
 from .. import drafts, files, reviews
@@ -9,7 +8,8 @@ from ..changing import Changes, changes_of, differing, spoken_of
 from ..covering import tell_actions, tell_strangers
 from ..documents import World
 from ..faults import TOLD, Fault, tell
-from ..paging import data, page
+from ..joining import joined
+from ..paging import data, page, request_of
 from ..questions import Question, Scope
 from ..slips import slips
 from ..sources import ASSUME, Source, add_source
@@ -38,14 +38,12 @@ def add_all(commands: Any) -> None:
 
 
 def run(options: argparse.Namespace) -> int:
-    if options.moment is None:
-        options.moment = int(time.time())
     before, after = drafts.both(options)
     patterns = options.action or ["*"]
     found = changes_of(before, after, patterns, options.resource, options.account, options.format == "page")
     tell_actions(after, patterns)
     plain = [it for it in found if not it.given]
-    tell_strangers(after, [world for it in plain for world in changed(it)])
+    tell_strangers(after, [world for it in plain for world in changed(it)], True)
     lines = [line for it in found for line in reviews.lines_of(it, options.verbose)]
     requests, left = sum(it.requests for it in plain), sum(it.left for it in plain)
     if left:
@@ -84,8 +82,18 @@ def changed(changes: Changes) -> Tuple[World, World]:
 
 
 def page_of(found: List[Changes]) -> str:
-    """The page of the matrix before and after."""
+    """The page of the matrix before and after, with what changes with a key alone."""
     plain = [it for it in found if not it.given]
-    if len(plain) != 1:
-        raise Fault("a page is of one matrix: choose either iam: actions or others by --action")
-    return page(data(plain[0].after, False, before=plain[0].before, stand=plain[0].stand))
+    if not plain:
+        raise Fault("the two sides differ in no policy, so there is no page")
+    sides = [[it.before for it in plain], [it.after for it in plain]]
+    actions = list(dict.fromkeys(action for it in plain for action in it.after.world["actions"]))
+    before, after = (joined(of, actions) if of[1:] else of[0] for of in sides)
+    keyed = [
+        (kind, request_of(answers, cell), it.given)
+        for it in found
+        for kind, answers, cells in (("gained", it.after, it.gained), ("lost", it.before, it.lost))
+        for cell in (cells if it.given else ())
+    ]
+    stand = {text: origin for it in plain for text, origin in it.stand.items()}
+    return page(data(after, False, before=before, stand=stand, keyed=keyed))

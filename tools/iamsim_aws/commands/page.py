@@ -1,12 +1,13 @@
 """page."""
 
 import argparse
-from typing import Any
+from typing import Any, List
 
 from .. import files, hanging
-from ..asking import ask
+from ..asking import ask_all
 from ..documents import World
 from ..faults import Fault
+from ..joining import joined, joined_turns
 from ..making import refuse_empty
 from ..paging import data, page
 from ..reports import is_brief, read_report
@@ -22,26 +23,30 @@ def add_all(commands: Any) -> None:
     parser.add_argument("--hanging", action="store_true", help="also ask what each answer hangs on")
 
 
-def world_for(source: Source) -> World:
-    """The one world of the source; of exports by default who may assume which role."""
+def worlds_for(source: Source) -> List[World]:
+    """The worlds of the source; of exports by default who may assume which role."""
     if source.estate is None:
-        return source.world(source.actions)
-    found = source.worlds(source.actions or [ASSUME])
-    if len(found) > 1:
-        raise Fault("a trust policy decides on sts: actions and on no iam: action: make a page of each")
-    if not found:
-        return source.world([])
-    return found[0]
+        return [source.world(source.actions)]
+    return source.worlds(source.actions or [ASSUME]) or [source.world([])]
 
 
 def run(options: argparse.Namespace) -> int:
     source = source_of(options)
-    world = world_for(source)
+    worlds, brief = worlds_for(source), False
     if options.report is None:
-        refuse_empty(world)
-        answers, brief = ask(world), False
+        for it in worlds:
+            refuse_empty(it)
+        found = ask_all(worlds)
+    elif len(worlds) > 1:
+        raise Fault("a report is of one world, and sts: and iam: actions want one each: leave --report out")
     else:
         text = files.read_text(options.report)
-        answers, brief = read_report(world, text), is_brief(text)
-    files.write(page(data(answers, brief, hanging.turns(world, answers) if options.hanging else {})))
+        found, brief = [read_report(worlds[0], text)], is_brief(text)
+    turned = [hanging.turns(it.world, it) if options.hanging else {} for it in found]
+    if found[1:]:
+        answers = joined(found, source.actions)
+        turns = joined_turns(answers, list(zip(found, turned)))
+    else:
+        answers, turns = found[0], turned[0]
+    files.write(page(data(answers, brief, turns, has_commands=len(found) == 1)))
     return 0

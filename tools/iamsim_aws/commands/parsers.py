@@ -38,6 +38,12 @@ def add_verbose(parser: argparse.ArgumentParser) -> None:
     parser.add_argument("--verbose", action="store_true", help=what)
 
 
+def add_chains(parser: argparse.ArgumentParser, what: str) -> None:
+    parser.add_argument("--chains", action="store_true", help=what)
+    help_of_depth = "at most so many roles one after the other (default: 3)"
+    parser.add_argument("--depth", type=whole, default=3, metavar="N", help=help_of_depth)
+
+
 def whole(text: str) -> int:
     """A whole number of at least 1."""
     if not text.isascii() or not text.isdigit() or int(text) < 1:

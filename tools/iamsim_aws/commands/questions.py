@@ -5,18 +5,18 @@ from typing import Any, Dict, List, NamedTuple, Set
 
 from .. import chains, drafts, files, hanging
 from ..asking import ask
-from ..covering import tell_strangers
+from ..covering import tell_lacked, tell_strangers
 from ..exports import policy
 from ..faults import Fault, line_of, tell
 from ..hanging import Turn
 from ..kinds import made_up, stand_words
-from ..questions import Asked, Question, Scope, account_words, missing, worlds
+from ..questions import Asked, Question, Scope, account_words, lacked, missing, worlds
 from ..reports import Answers, csv_text
 from ..sources import add_source, source_of
 from ..strangers import is_stranger
 from ..telling import HEADER, as_fields, as_json, told
 from . import databases
-from .parsers import add, add_verbose, whole
+from .parsers import add, add_chains, add_verbose
 
 
 class Found(NamedTuple):
@@ -38,10 +38,7 @@ def add_all(commands: Any) -> None:
         commands, "who-can", "list the principals that may do this, and who lacks a key alone", example, who_can
     )
     add_question(parser)
-    parser.add_argument("--chains", action="store_true", help="also who may come to it by assuming roles")
-    parser.add_argument(
-        "--depth", type=whole, default=3, metavar="N", help="at most so many roles one after the other (default: 3)"
-    )
+    add_chains(parser, "also who may come to it by assuming roles")
 
 
 def add_question(parser: argparse.ArgumentParser) -> None:
@@ -75,6 +72,7 @@ def answered(scope: Scope, question: Question) -> List[Found]:
     if not asked:
         raise Fault(missing(scope, question))
     found = []
+    tell_lacked(lacked(scope.source, dict.fromkeys(action for it in asked for action in it.world["actions"])))
     for it in asked:
         answers = ask(it.world)
         found.append(Found(it, answers, hanging.turns(it.world, answers)))
@@ -209,13 +207,13 @@ def lines_for(found: Found, allowed: List[int], turned: List[int], is_verbose: b
 def chain_lines(scope: Scope, found: List[Found], depth: int) -> List[str]:
     allowed: Set[str] = {it.answers.row(cell).principal for it in found for cell in it.answers.allowed()}
     lacking = {
-        it.answers.row(cell).principal: f"`{turn.key}` is `{turn.value}`"
+        it.answers.row(cell).principal: turn.words()
         for it in found
         for cell, of in it.turns.items()
         for turn in of
         if turn.decision == "allowed"
     }
-    ways, keyed = chains.chains(scope.source, allowed, lacking, depth)
+    ways, keyed = chains.chains(chains.steps_of(scope.source), allowed, lacking, depth)
     lines = [] if ways or keyed else ["nobody else may come to it by assuming roles"]
     if ways:
         lines = [f"{len(ways)} more may come to it by assuming at most {depth} roles one after the other:"]

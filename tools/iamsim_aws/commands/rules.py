@@ -5,16 +5,17 @@ import time
 from typing import Any, List, Sequence, Set, Tuple
 
 from .. import drafts, files
-from ..covering import tell_actions, tell_strangers
+from ..coming import with_chains
+from ..covering import tell_actions, tell_lacked, tell_strangers
 from ..faults import TOLD, Fault, line_of, tell
 from ..kinds import stand_words
 from ..pipelines import Case, fault, junit, sarif
-from ..questions import Scope, account_words
+from ..questions import Scope, account_words, lacked
 from ..ruling import Break, Outcome, check, read_rules
 from ..slips import slips
 from ..sources import add_source, source_of
 from ..telling import BY, LACKS, deciding
-from .parsers import add, add_verbose, whole
+from .parsers import add, add_chains, add_verbose, whole
 
 STATUSES = {"kept": 0, "broken": 3, "empty": 4}
 
@@ -31,6 +32,7 @@ def add_all(commands: Any) -> None:
     parser.add_argument(
         "--most", type=whole, default=20, metavar="N", help="tell so many requests of a broken rule (default: 20)"
     )
+    add_chains(parser, "'never' also means who may come to it by assuming roles")
     add_verbose(parser)
     parser.add_argument("--junit", metavar="FILE", help="writes a report for a pipeline")
     parser.add_argument("--sarif", metavar="FILE", help="writes a report for code scanning")
@@ -71,7 +73,7 @@ def cases_of(options: argparse.Namespace, outcomes: List[Outcome], fails: Set[st
 
 
 def is_unasked(line: str) -> bool:
-    return any(it in line for it in ("not asked", "nobody is asked", "no text stands"))
+    return any(it in line for it in ("not asked", "nobody is asked", "no text stands", "the change is left out"))
 
 
 def checked(options: argparse.Namespace) -> int:
@@ -84,6 +86,8 @@ def checked(options: argparse.Namespace) -> int:
         before = Scope(first, account=options.account)
     scope = Scope(source, account=options.account)
     outcomes = check(scope, rules, options.as_given, before)
+    if options.chains:
+        outcomes = with_chains(scope, outcomes, options.as_given, options.depth)
     notes(scope, outcomes)
     files.write("".join(f"{line_of(line)}\n" for it in outcomes for line in lines_of(it, options)))
     counts = {state: sum(it.state == state for it in outcomes) for state in STATUSES}
@@ -97,6 +101,8 @@ def checked(options: argparse.Namespace) -> int:
 def notes(scope: Scope, outcomes: List[Outcome]) -> None:
     """What the outcomes cover."""
     tell_actions(scope.source, [it.rule.question.action for it in outcomes])
+    actions = dict.fromkeys(it for of in outcomes for asked in of.asked for it in asked.world["actions"])
+    tell_lacked(lacked(scope.source, actions))
     tell_strangers(scope.source, [asked.world for it in outcomes for asked in it.asked])
     for it in outcomes:
         for line in slips(scope, it.rule.question) if it.rule.kind == "never" and it.state == "kept" else ():
@@ -124,8 +130,12 @@ def message(broken: Break, giver: str, is_verbose: bool) -> str:
     why += [f"was {BY['allowed']} {it.words()}" for it in before]
     why += stand_words(broken.stand, row.action, row.resource)
     may = "may" if row.answer.decision == "allowed" else "may not"
-    given = f" if `{turn.key}` is `{turn.value}`, which nothing gives ({giver} gives it)" if turn else ""
-    return f"{row.principal} {may} {row.action} {row.resource}{given}: {'; '.join(why) or 'no statement speaks of it'}"
+    given = f" if {turn.words()}, which nothing gives ({giver} gives it)" if turn else ""
+    because = "; ".join(why) or "no statement speaks of it"
+    if broken.way:
+        who, way = broken.way.steps[0].principal, broken.way.words()
+        return f"{who} may come to {row.action} {row.resource} by assuming roles, {way}: {because}"
+    return f"{row.principal} {may} {row.action} {row.resource}{given}: {because}"
 
 
 def messages(outcome: Outcome, options: argparse.Namespace) -> List[str]:

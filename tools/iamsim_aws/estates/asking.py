@@ -116,7 +116,7 @@ class Database:
         for *request, p, a, r in self.base.execute(command):
             if (p, a) != last:
                 last, asked = (p, a), [it for it in self.done if it.p <= p < it.end_p and it.a <= a < it.end_a]
-            yield Request(*request, any(it.r <= r < it.end_r for it in asked))
+            yield Request._make([*request, any(it.r <= r < it.end_r for it in asked)])
 
     def unknown(self) -> int:
         """How many of the chosen requests of all principals no world that is loaded has asked for."""

@@ -41,7 +41,7 @@ const CELL = 34, ROW = 28, LINE = 26;
 const state = {
   view: 0, fixed: [0, 0, 0], rowText: "", columnText: "", shown: [true, true, true], onlyChanges: false,
   rows: [], columns: [], rowCounts: [], columnCounts: [], row: 0, column: 0,
-  found: [], line: 0, order: 0, isFalling: false,
+  found: [], line: 0, order: 0, isFalling: false, lineRoom: [],
 };
 
 const at = (id) => document.getElementById(id);
@@ -61,12 +61,14 @@ function unpacked(base, width) {
 
 const number = (n) => n.toLocaleString("en-US");
 
-// A short form of a text for headings: what tells an ARN from its neighbours first.
+// A short form of a text: what tells an ARN from its neighbours first. Who is outside stays so.
 function short(axis, text) {
   const parts = text.split(":");
+  const outside = /^outside: (.*)$/s.exec(text);
+  if (axis === 0 && outside) return [`outside: ${short(0, outside[1])[0]}`, short(0, outside[1])[1]];
   if (axis === 1 || parts.length < 6) return [text, ""];
   const rest = parts.slice(5).join(":");
-  if (axis === 0) return [rest, parts[4]];
+  if (axis === 0) return [rest.replace(/^assumed-role\//, ""), parts[4]];
   return [rest, parts[4] ? `${parts[2]} ${parts[4]}` : parts[2]];
 }
 
@@ -77,11 +79,18 @@ function axes() {
   return VIEWS[Math.min(state.view, LIST - 1)];
 }
 
-// 1 where a cell became allowed, 2 where it is so no longer.
+// 1 where a cell became allowed, 2 where it is so no longer, as it is or with a key alone.
 function changeOf(n) {
   if (!beforeOf) return 0;
   const was = decisionOf[beforeOf[n]] === 0, is = decisionOf[answerOf[n]] === 0;
-  return was === is ? 0 : is ? 1 : 2;
+  if (was !== is) return is ? 1 : 2;
+  return data.keyed[n] ? CHANGES.indexOf(data.keyed[n][0]) : 0;
+}
+
+// How a cell changed, in words, with the key that it wants for that.
+function changeWords(n) {
+  const change = changeOf(n), was = beforeOf && decisionOf[beforeOf[n]] === 0, is = decisionOf[answerOf[n]] === 0;
+  return CHANGES[change] + (change && was === is ? `, if ${data.keyed[n][1].replaceAll("`", "")}` : "");
 }
 
 function isShown(n) {
@@ -188,14 +197,19 @@ function layOut() {
   document.documentElement.style.setProperty("--title", `${Math.round(title)}px`);
 }
 
-function heading(className, axis, n, of, room) {
-  const element = make("div", className), name = make("span", "name");
-  const [first, second] = labelOf(axis, n);
-  const rest = second ? widthOf(second) + 8 : 0;
-  name.append(fitted(first, Math.max(40, room - rest)));
-  if (second) name.append(" ", make("small", "", second));
+// A short text in so much room; the account stands behind it where the name keeps enough of that.
+function named(className, axis, n, room) {
+  const name = make("span", className), [first, second] = labelOf(axis, n);
+  const rest = second ? widthOf(second) + 8 : 0, isWide = room - rest >= Math.min(widthOf(first), 130);
+  name.append(fitted(first, Math.max(40, isWide ? room - rest : room)));
+  if (second && isWide) name.append(" ", make("small", "", second));
   name.title = data.axes[axis][n];
-  element.append(name, counts(of));
+  return name;
+}
+
+function heading(className, axis, n, of, room) {
+  const element = make("div", className);
+  element.append(named("name", axis, n, room), counts(of));
   return element;
 }
 
@@ -210,7 +224,7 @@ function cell(r, c) {
   element.id = `cell-${n}`;
   element.dataset.cell = n;
   element.setAttribute("role", "gridcell");
-  const changed = change ? `${CHANGES[change]}, ` : "";
+  const changed = change ? `${changeWords(n)}, ` : "";
   element.setAttribute("aria-label", `${textsOf(n).join(", ")}: ${changed}${WORDS[decision]}`);
   element.onclick = () => choose(r, c);
   if (r === state.row && c === state.column) element.classList.add("chosen");
@@ -283,8 +297,19 @@ function updateGrid() {
   corner();
   at("nothing").hidden = state.rows.length > 0 && state.columns.length > 0;
   draw();
-  if (state.rows.length && state.columns.length) choose(state.row, state.column);
+  if (state.rows.length && state.columns.length) choose(...placeOfShown());
   else at("detail").replaceChildren();
+}
+
+// The chosen place, or where its cell passes no filter the first one whose cell does.
+function placeOfShown() {
+  const passes = (r, c) => isShown(cellAt(state.rows[r], state.columns[c]));
+  if (passes(state.row, state.column)) return [state.row, state.column];
+  for (let r = 0; r < state.rows.length; r += 1) {
+    const c = state.columns.findIndex((_, place) => passes(r, place));
+    if (c >= 0) return [r, c];
+  }
+  return [state.row, state.column];
 }
 
 function corner() {
@@ -337,20 +362,19 @@ function lineOf(place) {
   element.style.top = `${place * LINE}px`;
   element.dataset.cell = n;
   element.setAttribute("role", "row");
-  textsOf(n).forEach((text) => {
-    const part = make("span", "", text);
-    part.title = text;
-    element.append(part);
-  });
-  const last = make("span");
-  last.append(make("span", `mark d${decision}`, SIGNS[decision]), `${change ? `${CHANGES[change]}, ` : ""}${WORDS[decision]}`);
+  numbersOf(n).forEach((it, axis) => element.append(named("", axis, it, state.lineRoom[axis])));
+  const last = make("span"), word = `${change ? `${changeWords(n)}, ` : ""}${WORDS[decision]}`;
+  last.title = word;
+  last.append(make("span", `mark d${decision}`, SIGNS[decision]), make("span", "word", word));
   element.append(last);
   element.onclick = () => chooseLine(place);
   return element;
 }
 
 function drawLines() {
-  const lines = at("lines");
+  const lines = at("lines"), style = getComputedStyle(document.body);
+  ruler.font = `${style.fontSize} ${style.fontFamily}`;
+  state.lineRoom = [...at("titles").children].map((it) => it.clientWidth - 4);
   const first = Math.max(0, Math.floor(lines.scrollTop / LINE) - 2);
   const last = Math.min(state.found.length, Math.ceil((lines.scrollTop + lines.clientHeight) / LINE) + 2);
   const made = document.createDocumentFragment();
@@ -381,8 +405,10 @@ function updateList() {
 const field = (text) => (/[",\r\n]/.test(text) ? `"${text.replaceAll('"', '""')}"` : text);
 
 function listCsv() {
-  const header = [...AXES, "decision", ...(beforeOf ? ["before"] : [])];
-  const rows = state.found.map((n) => [...textsOf(n), WORDS[decisionOf[answerOf[n]]], ...(beforeOf ? [WORDS[decisionOf[beforeOf[n]]]] : [])]);
+  const header = [...AXES, "decision", ...(beforeOf ? ["before", "change"] : [])];
+  const rows = state.found.map((n) => [
+    ...textsOf(n), WORDS[decisionOf[answerOf[n]]], ...(beforeOf ? [WORDS[decisionOf[beforeOf[n]]], changeWords(n)] : []),
+  ]);
   return [header, ...rows].map((row) => `${row.map(field).join(",")}\n`).join("");
 }
 
@@ -457,9 +483,10 @@ function turnsPart(n) {
   const turns = data.turns[n] || [];
   if (!turns.length) return [];
   const list = make("ul");
-  turns.forEach(([key, value, decision]) => {
+  turns.forEach(([key, values, decision]) => {
     const line = make("li");
-    line.append(`${decision} if `, make("code", "", key), " is ", make("code", "", value));
+    line.append(`${decision} if `, make("code", "", key), " is ");
+    values.forEach((value, n) => line.append(n ? " or " : "", make("code", "", value)));
     list.append(line);
   });
   return [make("h3", "", "What it hangs on"), list];
@@ -493,7 +520,7 @@ function beforeParts(n, numbers) {
 function detail(n) {
   const numbers = numbersOf(n), texts = textsOf(n), answer = data.answers[answerOf[n]], decision = answer[0];
   const title = make("h2"), list = make("dl"), change = changeOf(n);
-  title.append(make("span", `mark d${decision}`, SIGNS[decision]), `${change ? `${CHANGES[change]}: ` : ""}${WORDS[decision]}`);
+  title.append(make("span", `mark d${decision}`, SIGNS[decision]), `${change ? `${changeWords(n)}: ` : ""}${WORDS[decision]}`);
   const stands = new Map(data.stand);
   AXES.forEach((axis, it) => {
     const value = make("dd", "", texts[it]);
@@ -501,7 +528,7 @@ function detail(n) {
     list.append(make("dt", "", axis), value);
   });
   const command = make("p");
-  if (!beforeOf) command.append("Cell ", make("b", "", number(n)), ": ", make("code", "", `iamsim decide ${numbers.join(" ")} < world.json`));
+  if (data.hasCommands) command.append("Cell ", make("b", "", number(n)), ": ", make("code", "", `iamsim decide ${numbers.join(" ")} < world.json`));
   at("detail").dataset.cell = n;
   at("detail").replaceChildren(title, make("p", "", MEANINGS[decision]), list, ...turnsPart(n),
     ...answerParts(data.layers, answer, numbers), ...beforeParts(n, numbers), command);
@@ -521,7 +548,7 @@ function summary() {
   at("summary").textContent = `${named.join(" × ")} = ${number(answerOf.length)} cells, at ${moment}${beforeOf ? `; ${number(changes[1])} gained, ${number(changes[2])} lost` : ""}`;
   totals.slice(0, 3).forEach((n, decision) => {
     const part = make("span", `d${decision}`, `${SIGNS[decision]} ${number(n)} ${WORDS[decision]}`);
-    part.style.flex = `${n} 0 0`;
+    part.style.flexGrow = n;
     part.title = part.textContent;
     if (n) at("total").append(part);
   });
@@ -573,6 +600,7 @@ function changesBox() {
   const label = make("label"), box = make("input");
   box.type = "checkbox";
   box.id = "only-changes";
+  box.checked = state.onlyChanges;
   box.onchange = () => { state.onlyChanges = box.checked; update(); };
   label.append(box, "changed alone");
   return label;
@@ -603,8 +631,10 @@ function firstView() {
   return Math.max(0, VIEWS.findIndex((view) => view[2] === single));
 }
 
+// Of what changes the changed cells are shown first.
 function start() {
   summary();
+  state.onlyChanges = Boolean(beforeOf) && answerOf.some((_, n) => changeOf(n) > 0);
   VIEWS.forEach(([rows, columns, fixed], n) => {
     const option = make("option", "", `${AXES[rows]}s by ${AXES[columns]}s, one ${AXES[fixed]}`);
     option.value = n;
@@ -624,8 +654,9 @@ function start() {
   at("lines").onkeydown = onListKey;
   at("copy").onclick = copyList;
   at("detail").onkeydown = (event) => { if (event.key === "Escape") at(state.view === LIST ? "lines" : "pane").focus(); };
-  window.onresize = () => { if (state.view === LIST) drawLines(); else { layOut(); draw(); } };
+  window.onresize = () => { if (state.view === LIST) drawLines(); else { layOut(); draw(); bring(state.row, state.column); } };
   decisionBoxes();
+  if (beforeOf) at("list").className = "changes";
   onText("row-filter", "rowText");
   onText("column-filter", "columnText");
   setView(firstView());

@@ -1,0 +1,1 @@
+"""Calls that a log of CloudTrail has, asked for again."""

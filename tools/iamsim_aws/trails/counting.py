@@ -1,0 +1,101 @@
+"""The calls of a log, alike ones counted together, and what was not mapped, by reason and name."""
+
+from typing import Any, Dict, List, NamedTuple, Set, Tuple
+
+from .mapping import FREE, TIME, Call, Mapper, Missed, is_of_service, text
+
+# So many names are told apart, and so many sessions of a call; and the characters of a name.
+NAMES, SESSIONS = 1000, 4
+LONG = 300
+OTHERS = "others"
+
+
+class Example(NamedTuple):
+    """An event of several that are alike, the first of them."""
+
+    time: str
+    event: str
+    session: str
+
+
+class Made(NamedTuple):
+    """How often a call was made, when first and last, an example, and the names of the first sessions."""
+
+    times: int
+    first: str
+    last: str
+    example: Example
+    sessions: Tuple[str, ...]
+
+    def joined(self, other: "Made") -> "Made":
+        sessions = self.sessions
+        if other.sessions != sessions:
+            sessions = tuple(sorted({*sessions, *other.sessions})[:SESSIONS])
+        return Made(
+            self.times + other.times,
+            min(self.first, other.first),
+            max(self.last, other.last),
+            min(self.example, other.example),
+            sessions,
+        )
+
+
+class Tally:
+    """What some events come to. `mapped` counts those of which all is asked, `served` those that a service made for somebody,
+    `doubled` the objects in which a key comes twice; `seen` has the principals of whom there is an event."""
+
+    def __init__(self) -> None:
+        self.events = self.mapped = self.served = self.doubled = 0
+        self.calls: Dict[Call, Made] = {}
+        self.missed: Dict[Tuple[str, str], int] = {}
+        self.seen: Set[str] = set()
+
+    def miss(self, reason: str, name: str, count: int = 1) -> None:
+        key = reason, name[:LONG]
+        if key not in self.missed and len(self.missed) >= NAMES:
+            key = reason, OTHERS
+        self.missed[key] = self.missed.get(key, 0) + count
+
+    def add(self, call: Call, made: Made) -> None:
+        before = self.calls.get(call)
+        self.calls[call] = made if before is None else before.joined(made)
+
+    def count(self, event: Any, mapper: Mapper) -> None:
+        self.events += 1
+        try:
+            session, calls, lacking = mapper.calls(event, self.seen)
+        except Missed as why:
+            self.miss(why.reason, why.name)
+            self.mapped += why.reason == FREE
+            return
+        for it in lacking:
+            self.miss(it.reason, it.name)
+        self.mapped += not lacking
+        self.served += is_of_service(event)
+        time = text(event, "eventTime")
+        time = time if TIME.fullmatch(time) else ""
+        example = Example(time, text(event, "eventID")[:64], session)
+        made = Made(1, time, time, example, (session,) if session else ())
+        for call in calls:
+            self.add(call, made)
+
+    def join(self, other: "Tally") -> None:
+        self.events += other.events
+        self.mapped += other.mapped
+        self.served += other.served
+        self.doubled += other.doubled
+        self.seen |= other.seen
+        for (reason, name), count in other.missed.items():
+            self.miss(reason, name, count)
+        for call, made in other.calls.items():
+            self.add(call, made)
+
+
+def ordered(missed: Dict[Tuple[str, str], int]) -> List[Tuple[str, str, int]]:
+    """(reason, name, count), the most frequent of each reason first."""
+    return sorted(((*key, count) for key, count in missed.items()), key=lambda it: (it[0], -it[2], it[1]))
+
+
+def counted(count: int, what: str) -> str:
+    """So many of something, in words."""
+    return f"{count} {what}{'' if count == 1 else 's'}"

@@ -1,0 +1,137 @@
+"""The decisions of 'iamsim ask' on requests of a log, each by itself, in as few worlds as the limits allow."""
+
+import bisect
+import os
+import tempfile
+from typing import Any, Dict, Iterator, List, NamedTuple, Set, Tuple
+
+from ..arns import principal_text
+from ..asking import explained, whole
+from ..documents import World
+from ..faults import Fault
+from ..files import compact, encoded
+from ..keys import DERIVED, context_of
+from ..program import Refused, each_of, world_bytes
+from ..reports import HEAD, TAIL, Answer, Answers, words
+from ..splitting import parts
+from .sides import Request, Side, grouped
+
+# The bytes of the keys of one file of requests, each text with 64 more; half of what iamsim reads.
+KEYS = 1 << 25
+NOTHING: Set[str] = set()
+TAKEN_KEYS = frozenset(it.lower() for it in DERIVED)
+
+
+class Job(NamedTuple):
+    """A world, and the lines of the requests that are asked there, with their numbers."""
+
+    world: World
+    numbers: List[int]
+    lines: List[str]
+
+
+def jobs_of(side: Side, some: List[Request]) -> Iterator[Job]:
+    """The worlds of some requests, each within the limits, with the requests of each."""
+    for numbers in grouped(some):
+        given = [some[n] for n in numbers]
+        world, contexts = without_decimals(side.world(given), given)
+        people = {(it.who, it.session): None for it in given}
+        principals = {key: n for n, key in enumerate(people)}
+        resources = {it["arn"]: n for n, it in enumerate(world["resources"])}
+        every = parts(world)
+        firsts = [sorted({getattr(it, axis) for it in every}) for axis in ("principal", "resource")]
+        found: Dict[Tuple[int, int], List[Tuple[int, Request]]] = {}
+        for n, it in zip(numbers, given):
+            places = principals[it.who, it.session], resources[it.resource]
+            key = tuple(of[bisect.bisect_right(of, at) - 1] for of, at in zip(firsts, places))
+            found.setdefault((key[0], key[1]), []).append((n, it))
+        for part in every:
+            yield from of_part(part.world, found.pop((part.principal, part.resource), []), contexts)
+
+
+def without_decimals(world: World, some: List[Request]) -> Tuple[World, Dict[Any, Dict[str, Any]]]:
+    """The world without decimals, and the keys of the requests as they are then."""
+    keys = list(dict.fromkeys(it.keys for it in some))
+    count = len(world["principals"])
+    holders: List[Dict[str, Any]] = [{"context": dict(it)} for it in keys]
+    made = whole({**world, "principals": [*world["principals"], *holders]})
+    contexts: Dict[Any, Dict[str, Any]] = dict(zip(keys, (it["context"] for it in made["principals"][count:])))
+    return {**made, "principals": made["principals"][:count]}, contexts
+
+
+def of_part(world: World, some: List[Tuple[int, Request]], contexts: Dict[Any, Dict[str, Any]]) -> Iterator[Job]:
+    """The jobs of one world: several where the keys of its requests are too large for one."""
+    people = {principal_text(it): names_given(world, it) for it in world["principals"]}
+    things = {it["arn"]: names_given({}, it) for it in world["resources"] if "context" in it}
+    texts: Dict[Tuple[str, str], str] = {}
+    heads: Dict[Tuple[str, str], str] = {}
+    job, size = Job(world, [], []), 0
+    for n, it in some:
+        own = contexts[it.keys]
+        who = texts.get((it.who, it.session)) or texts.setdefault((it.who, it.session), it.principal)
+        if own:
+            taken, more = people[who], things.get(it.resource, NOTHING)
+            own = {key: value for key, value in own.items() if key.lower() not in taken and key.lower() not in more}
+            size += sum(len(key) + 4 * len(value) + 128 for key, value in own.items())
+        if size > KEYS and job.numbers:
+            yield job
+            job, size = Job(world, [], []), 0
+        head = heads.get((who, it.action))
+        if head is None:
+            head = heads[who, it.action] = compact({"principal": who, "action": it.action, "resource": ""})[:-3]
+        context = f',"context":{compact(own)}' if own else ""
+        job.numbers.append(n)
+        job.lines.append(f"{head}{compact(it.resource)}{context}}}")
+    if job.numbers:
+        yield job
+
+
+def names_given(world: World, holder: Dict[str, Any]) -> Set[str]:
+    """The keys, in lower case, that no request with this holder may give."""
+    given = {it.lower() for it in [*context_of(world), *context_of(holder)]}
+    return given | TAKEN_KEYS if world else given
+
+
+def decide(side: Side, some: List[Request], is_full: bool) -> Tuple[List[Answer], int]:
+    """The answer to each request, without statements unless they are wanted, and how many worlds were asked."""
+    jobs = list(jobs_of(side, some))
+    found: List[Answer] = [Answer("", (), ())] * len(some)
+    with tempfile.TemporaryDirectory() as room:
+
+        def given() -> Iterator[Tuple[List[str], bytes]]:
+            for n, it in enumerate(jobs):
+                path = os.path.join(room, str(n))
+                with open(path, "wb") as file:
+                    file.write(encoded("".join(f"{line}\n" for line in it.lines)))
+                brief = [] if is_full else ["--brief"]
+                yield ["ask", "--format", "json", *brief, "--requests", path], world_bytes(it.world)
+
+        texts = each_of(given(), len(jobs))
+        for n, it in enumerate(jobs):
+            try:
+                text = next(texts).decode()
+            except Refused as refused:
+                raise refused if "fault 10 Request" in str(refused) else explained(it.world, refused) from None
+            os.remove(os.path.join(room, str(n)))
+            fill(found, it, text, is_full)
+    return found, len(jobs)
+
+
+def fill(found: List[Answer], job: Job, text: str, is_full: bool) -> None:
+    """Puts the answers of a report in their places."""
+    heads, tails = HEAD.findall(text), TAIL.findall(text) if is_full else []
+    if len(heads) != len(job.numbers) or (is_full and len(tails) != len(heads)):
+        raise Fault("iamsim has not answered each request of the log")
+    known: Dict[Any, Answer] = {}
+    for n, head, tail in zip(job.numbers, heads, tails or [""] * len(heads)):
+        key = head, tail
+        if key not in known:
+            known[key] = Answer(head[0], words(tail), words(head[1]))
+        found[n] = known[key]
+
+
+def answers_of(side: Side, request: Request, answer: Answer) -> Answers:
+    """The answer to a request as other reports have it: of a world that has this request alone."""
+    found = Answers(side.world([request]), 1)
+    found.number(0, lambda: answer)
+    return found
