@@ -3,4 +3,5 @@ pub mod DerivedLemmas
 mod ManagementLemmas
 mod OneAnswer
 mod OwnLemmas
+mod UnnamedLemmas
 pub mod VerdictLemmas

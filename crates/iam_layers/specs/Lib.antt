@@ -4,3 +4,4 @@ pub mod Code
 pub mod Derived
 pub mod Laws
 pub mod Own
+pub mod Unnamed

@@ -47,6 +47,8 @@ impl World {
     ghost use Rattle.iam_world.specs.Invariants.{HasFewPolicies};
     ghost use Rattle.iam_world.specs.declared.fault.WorldFault.TheVariants as w;
     ghost use Rattle.iam_match.specs.Request.{access_of};
+    ghost use Rattle.iam_layers.specs.Unnamed.{AreUnnamedKeys, AreUnnamedPolicies};
+    ghost use Rattle.iam_layers.specs.declared.unnamed.Unnamed.TheVariants.{Of};
     ghost use Rattle.iam_layers.specs.Cell.{IsAccessAt, IsAction, IsApplicableAt, IsCell, IsContextAt, IsDerivedAt, IsPrincipal, IsRequestContext, IsResource, IsSharedAt, IsVerdictAt, principal_text};
 
     /// The world of a JSON document, or the first fault of its bytes: `TooLarge` for over 8,388,608 of them, then 1
@@ -269,6 +271,46 @@ impl World {
             same_account: account == resource.account(),
             sealed: resource.is_sealed(),
         }
+    }
+
+    /// The policies that apply where principal p asks for a resource of this account of which nothing else is said; p has to be below
+    /// `principals()`.
+    pub(crate) fn applicable_alone(&self, p: u64, account: &str) -> Applicable<'_>
+        requires { p < length self.now.principals }
+        ensures value { AreUnnamedPolicies self.now p (Of account.entry) (value_of result) }
+        ensures numbered { IsNumbered (value_of result) }
+    {
+        let principal = self.principal(p);
+        let own = principal.requester().account();
+        Applicable {
+            org: org_of(self.parts.account(own)),
+            control: &[],
+            resource: None,
+            identity: principal.identity(),
+            boundary: principal.boundary(),
+            session: principal.session(),
+            same_account: own == account,
+            sealed: false,
+        }
+    }
+
+    /// The keys that follow from principal p, a resource of this account and the moment; p has to be below `principals()`.
+    pub(crate) fn derived_in(
+        &self,
+        alloc: Global,
+        p: u64,
+        account: &str,
+    ) -> Result<Derived, OutOfMemory>
+        requires { p < length self.now.principals }
+        ensures { IfOk result (λ derived. AreUnnamedKeys self.now p (Of account.entry) derived.items) }
+    {
+        keys_with(
+            alloc,
+            self.requester(p),
+            account,
+            self.parts.moment(),
+            self.stamp.as_str(),
+        )
     }
 
     /// How many levels of policies the organisation has that binds principal p, which has to be below `principals()`.
