@@ -22,8 +22,8 @@ of_like P free world p r (principal, there, (resource, at, holds)) = (
   principal,
   there,
   λ text other (like, found, is).
-    let same : resource ≡ like = one_some (slice_get world.resources r) resource like at found in
-    subst (P principal) (sym is) (free principal like text (subst (P principal) same holds)),
+      let same : resource ≡ like = one_some (slice_get world.resources r) resource like at found in
+      subst (P principal) (sym is) (free principal like text (subst (P principal) same holds)),
 )
 
 pub policies_like : (world : WorldValue) (p r : ℕ) (applicable : ApplicableValue) → IsApplicableAt world p r applicable
@@ -35,15 +35,14 @@ pub keys_like : (world : WorldValue) (p r : ℕ) (derived : ContextValue) → Is
 keys_like world p r derived (principal, there, (resource, at, (stamp, stamped, is))) = (
   principal,
   there,
-  λ text other (like, found, same).
-    (
-      stamp,
-      stamped,
-      is
-          ∙ ap (λ (x : ResourceValue). derived_of principal.requester x.account world.moment stamp)
-              (one_some (slice_get world.resources r) resource like at found)
-          ∙ sym (ap (λ (x : ResourceValue). derived_of principal.requester x.account world.moment stamp) same),
-    ),
+  λ text other (like, found, same). (
+    stamp,
+    stamped,
+    is
+        ∙ ap (λ (x : ResourceValue). derived_of principal.requester x.account world.moment stamp)
+        (one_some (slice_get world.resources r) resource like at found)
+        ∙ sym (ap (λ (x : ResourceValue). derived_of principal.requester x.account world.moment stamp) same),
+  ),
 )
 
 pub context_like : (world : WorldValue) (p r : ℕ) (derived context : ContextValue) → IsContextAt world p r derived context
