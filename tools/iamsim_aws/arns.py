@@ -9,11 +9,13 @@ def resource_part(arn: str) -> str:
 
 
 def account_of(arn: str) -> str:
-    return (arn.split(":", 5) + [""] * 5)[4]
+    parts = arn.split(":", 5)
+    return parts[4] if len(parts) > 4 else ""
 
 
 def service_of(arn: str) -> str:
-    return (arn.split(":", 5) + [""] * 5)[2]
+    parts = arn.split(":", 3)
+    return parts[2] if len(parts) > 2 else ""
 
 
 def is_access_point(arn: str) -> bool:

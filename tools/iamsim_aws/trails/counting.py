@@ -1,6 +1,7 @@
 """The calls of a log, alike ones counted together, and what was not mapped, by reason and name."""
 
-from typing import Any, Dict, List, NamedTuple, Set, Tuple
+import functools
+from typing import Any, Dict, Iterable, List, NamedTuple, Set, Tuple
 
 from .mapping import FREE, TIME, Call, Mapper, Missed, is_of_service, text
 
@@ -28,14 +29,14 @@ class Made(NamedTuple):
     sessions: Tuple[str, ...]
 
     def joined(self, other: "Made") -> "Made":
-        sessions = self.sessions
+        times, first, last, example, sessions = self
         if other.sessions != sessions:
             sessions = tuple(sorted({*sessions, *other.sessions})[:SESSIONS])
         return Made(
-            self.times + other.times,
-            min(self.first, other.first),
-            max(self.last, other.last),
-            min(self.example, other.example),
+            times + other.times,
+            first if first < other.first else other.first,
+            last if last > other.last else other.last,
+            example if example < other.example else other.example,
             sessions,
         )
 
@@ -49,6 +50,17 @@ class Tally:
         self.calls: Dict[Call, Made] = {}
         self.missed: Dict[Tuple[str, str], int] = {}
         self.seen: Set[str] = set()
+
+    def __getstate__(self) -> Dict[str, Any]:
+        """What one process sends to another: columns, since calls are many and alike."""
+        made = columns(self.calls.values())
+        made[3:4] = [columns(made[3])] if made else []
+        return {**vars(self), "calls": (columns(self.calls), made)}
+
+    def __setstate__(self, state: Dict[str, Any]) -> None:
+        calls, made = state["calls"]
+        made[3:4] = [rows(Example, made[3])] if made else []
+        self.__dict__.update(state, calls=dict(zip(rows(Call, calls), rows(Made, made))))
 
     def miss(self, reason: str, name: str, count: int = 1) -> None:
         key = reason, name[:LONG]
@@ -72,8 +84,7 @@ class Tally:
             self.miss(it.reason, it.name)
         self.mapped += not lacking
         self.served += is_of_service(event)
-        time = text(event, "eventTime")
-        time = time if TIME.fullmatch(time) else ""
+        time = time_of(text(event, "eventTime")[:LONG])
         example = Example(time, text(event, "eventID")[:64], session)
         made = Made(1, time, time, example, (session,) if session else ())
         for call in calls:
@@ -87,8 +98,25 @@ class Tally:
         self.seen |= other.seen
         for (reason, name), count in other.missed.items():
             self.miss(reason, name, count)
+        if not self.calls:
+            self.calls = other.calls
+            return
         for call, made in other.calls.items():
             self.add(call, made)
+
+
+@functools.lru_cache(maxsize=4096)
+def time_of(given: str) -> str:
+    return given if TIME.fullmatch(given) else ""
+
+
+def columns(some: Iterable[Any]) -> List[Any]:
+    return list(zip(*some))
+
+
+def rows(kind: Any, some: List[Any]) -> Iterable[Any]:
+    """The tuples of a kind that columns hold."""
+    return map(functools.partial(tuple.__new__, kind), zip(*some))
 
 
 def ordered(missed: Dict[Tuple[str, str], int]) -> List[Tuple[str, str, int]]:

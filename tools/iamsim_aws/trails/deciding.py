@@ -3,7 +3,7 @@
 import bisect
 import os
 import tempfile
-from typing import Any, Dict, Iterator, List, NamedTuple, Set, Tuple
+from typing import Any, Dict, FrozenSet, Iterator, List, NamedTuple, Tuple
 
 from ..arns import principal_text
 from ..asking import explained, whole
@@ -18,7 +18,7 @@ from .sides import Request, Side, grouped
 
 # The bytes of the keys of one file of requests, each text with 64 more; half of what iamsim reads.
 KEYS = 1 << 25
-NOTHING: Set[str] = set()
+NOTHING: FrozenSet[str] = frozenset()
 TAKEN_KEYS = frozenset(it.lower() for it in DERIVED)
 
 
@@ -63,32 +63,43 @@ def of_part(world: World, some: List[Tuple[int, Request]], contexts: Dict[Any, D
     """The jobs of one world: several where the keys of its requests are too large for one."""
     people = {principal_text(it): names_given(world, it) for it in world["principals"]}
     things = {it["arn"]: names_given({}, it) for it in world["resources"] if "context" in it}
-    texts: Dict[Tuple[str, str], str] = {}
-    heads: Dict[Tuple[str, str], str] = {}
+    heads: Dict[Tuple[str, str, str], Tuple[str, FrozenSet[str]]] = {}
+    tails: Dict[Any, Tuple[str, int]] = {}
     job, size = Job(world, [], []), 0
     for n, it in some:
-        own = contexts[it.keys]
-        who = texts.get((it.who, it.session)) or texts.setdefault((it.who, it.session), it.principal)
-        if own:
-            taken, more = people[who], things.get(it.resource, NOTHING)
-            own = {key: value for key, value in own.items() if key.lower() not in taken and key.lower() not in more}
-            size += sum(len(key) + 4 * len(value) + 128 for key, value in own.items())
-        if size > KEYS and job.numbers:
-            yield job
-            job, size = Job(world, [], []), 0
-        head = heads.get((who, it.action))
-        if head is None:
-            head = heads[who, it.action] = compact({"principal": who, "action": it.action, "resource": ""})[:-3]
-        context = f',"context":{compact(own)}' if own else ""
+        key = it.who, it.session, it.action
+        if key not in heads:
+            who = it.principal
+            head = compact({"principal": who, "action": it.action, "resource": ""})[:-3]
+            heads[key] = head, people[who]
+        head, taken = heads[key]
+        if it.keys:
+            given = it.keys, taken, things.get(it.resource, NOTHING)
+            if given not in tails:
+                tails[given] = tail_of(contexts[it.keys], taken | given[2])
+            tail, more = tails[given]
+            size += more
+            if size > KEYS and job.numbers:
+                yield job
+                job, size = Job(world, [], []), more
+        else:
+            tail = "}"
         job.numbers.append(n)
-        job.lines.append(f"{head}{compact(it.resource)}{context}}}")
+        job.lines.append(f"{head}{compact(it.resource)}{tail}")
     if job.numbers:
         yield job
 
 
-def names_given(world: World, holder: Dict[str, Any]) -> Set[str]:
+def tail_of(context: Dict[str, Any], taken: FrozenSet[str]) -> Tuple[str, int]:
+    """The end of a line that has the keys of a request, but for those that its world gives; and what bytes are counted for it."""
+    own = {key: value for key, value in context.items() if key.lower() not in taken}
+    size = sum(len(key) + 4 * len(value) + 128 for key, value in own.items())
+    return (f',"context":{compact(own)}}}' if own else "}"), size
+
+
+def names_given(world: World, holder: Dict[str, Any]) -> FrozenSet[str]:
     """The keys, in lower case, that no request with this holder may give."""
-    given = {it.lower() for it in [*context_of(world), *context_of(holder)]}
+    given = frozenset(it.lower() for it in [*context_of(world), *context_of(holder)])
     return given | TAKEN_KEYS if world else given
 
 

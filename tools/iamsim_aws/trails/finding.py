@@ -2,7 +2,7 @@
 
 import functools
 import re
-from typing import Any, Dict, Iterator, List, Optional, Tuple
+from typing import Any, Dict, Iterator, List, NamedTuple, Optional, Tuple
 
 from ..arns import account_of, service_of
 from . import tables
@@ -12,6 +12,8 @@ ACCOUNT = re.compile(r"[0-9]{12}")
 QUEUE = re.compile(r"https?://[^/]+/([0-9]{12})/([^/]+)")
 # Of one event no more resources are asked for, whatever its lists hold.
 MOST = 1000
+# What was worked out of so many characters is kept for events of the same.
+SHORT = 1024
 
 
 # The ARN of a resource, the account that the event gives it, and by what both were found.
@@ -43,37 +45,40 @@ def listed(event: Dict[str, Any]) -> Iterator[Found]:
     for it in given[:MOST] if isinstance(given, list) else ():
         arn = it.get("ARN") if isinstance(it, dict) else None
         if isinstance(arn, str) and arn:
-            kind, account = it.get("type"), it.get("accountId")
-            is_account = isinstance(account, str) and ACCOUNT.fullmatch(account)
-            yield str(kind), arn, str(account) if is_account else owner(event, str(kind))
+            kind = str(it.get("type"))
+            yield kind, arn, account_in(it, "accountId") or owner(event, kind)
 
 
 def owner(event: Dict[str, Any], kind: str) -> str:
     """The account of an object's bucket, which `resources` may tell beside it."""
     if kind == "AWS::S3::Object":
         for it in event["resources"][:MOST]:
-            account = it.get("accountId") if isinstance(it, dict) and it.get("type") == "AWS::S3::Bucket" else None
-            if isinstance(account, str) and ACCOUNT.fullmatch(account):
-                return account
+            if isinstance(it, dict) and it.get("type") == "AWS::S3::Bucket":
+                account = account_in(it, "accountId")
+                if account:
+                    return account
     return ""
+
+
+def account_in(holder: Dict[str, Any], name: str) -> str:
+    """The account that a member of an object is; an empty text where it is none."""
+    found = holder.get(name)
+    return found if isinstance(found, str) and len(found) == 12 and ACCOUNT.fullmatch(found) else ""
 
 
 def of_kind(event: Dict[str, Any], who: Any, kind: str) -> List[Found]:
     """(ARN, account, by what it was found) of the resources of a kind."""
-    called, template = tables.TYPES[kind]
-    named = [(arn, account, "resources[].ARN") for of, arn, account in listed(event) if called and of == called]
+    called = tables.TYPES[kind][0]
+    named = [it for it in listed(event) if it[0] == called] if called else []
     if named:
-        return [(arn, *hinted(event, arn, account, found)) for arn, account, found in named]
+        return [(arn, *hinted(event, arn, account, "resources[].ARN")) for _, arn, account in named]
     if kind == "caller":
         return [] if who.session else [(who.arn, who.account, "userIdentity.arn")]
-    members = [name for _, name, _ in pieces_of(template)[0] if name not in ("p", "r", "a")]
-    given = {"p": who.partition, "r": region(event), "a": who.account}
-    found = "requestParameters." + " and .".join(members)
-    if kind == "made-secret":
-        found = "responseElements.arn"
-    texts = filled(template, given, event)
-    texts = by_ids(texts, given) if kind == "by-id" else texts
-    return [(arn, *hinted(event, arn, "", found)) for arn in texts]
+    template, place = template_of(kind), region(event)
+    values = tuple([values_of(event, it) for it in template.members])
+    is_short = len(place) + sum([len(one) for of in values for one in of]) <= SHORT
+    texts = (known_texts if is_short else filled)(kind, who.partition, place, who.account, values)
+    return [(arn, *hinted(event, arn, "", template.found)) for arn in texts]
 
 
 def by_ids(texts: List[str], given: Dict[str, str]) -> List[str]:
@@ -92,14 +97,18 @@ def hinted(event: Dict[str, Any], arn: str, account: str, found: str) -> Tuple[s
     if arn[:1] in "?*" or account_of(arn):
         return "", found
     if account:
-        return account, f"{found}, its account by resources[].accountId"
+        return account, with_account(found, "resources[].accountId")
     of = recipient(event)
-    return of, f"{found}, its account by recipientAccountId" if of else found
+    return of, with_account(found, "recipientAccountId") if of else found
+
+
+@functools.lru_cache(maxsize=None)
+def with_account(found: str, by: str) -> str:
+    return f"{found}, its account by {by}"
 
 
 def recipient(event: Dict[str, Any]) -> str:
-    given = event.get("recipientAccountId")
-    return given if isinstance(given, str) and ACCOUNT.fullmatch(given) else ""
+    return account_in(event, "recipientAccountId")
 
 
 def region(event: Dict[str, Any]) -> str:
@@ -107,27 +116,43 @@ def region(event: Dict[str, Any]) -> str:
     return given if isinstance(given, str) else ""
 
 
+class Template(NamedTuple):
+    """The places of a template, each with the text before it, its name and its default; what stands behind the last; the members
+    of the parameters among them, and how what is found by them is called."""
+
+    places: List[Tuple[str, str, Optional[str]]]
+    rest: str
+    members: List[str]
+    found: str
+
+
 @functools.lru_cache(maxsize=None)
-def pieces_of(template: str) -> Tuple[List[Tuple[str, str, Optional[str]]], str]:
-    """The places of a template, each with the text before it, its name and its default; and what stands behind the last."""
-    found, at = [], 0
+def template_of(kind: str) -> Template:
+    template, at = tables.TYPES[kind][1], 0
+    places = []
     for place in PLACE.finditer(template):
-        found.append((template[at : place.start()], place[1], place[2]))
+        places.append((template[at : place.start()], place[1], place[2]))
         at = place.end()
-    return found, template[at:]
+    members = [name for _, name, _ in places if name not in ("p", "r", "a")]
+    found = "responseElements.arn" if kind == "made-secret" else "requestParameters." + " and .".join(members)
+    return Template(places, template[at:], members, found)
 
 
-def filled(template: str, given: Dict[str, str], event: Dict[str, Any]) -> List[str]:
-    """The texts that a template stands for, with the members of an event's parameters; none where one is missing."""
-    pieces, rest = pieces_of(template)
-    texts = [""]
-    for before, name, default in pieces:
+def filled(kind: str, partition: str, place: str, account: str, values: Tuple[Tuple[str, ...], ...]) -> List[str]:
+    """The texts that the template of a kind stands for, with the values of its members; none where one is missing."""
+    template, given = template_of(kind), {"p": partition, "r": place, "a": account}
+    texts, left = [""], list(values)
+    for before, name, default in template.places:
         if name in given:
             texts = [f"{it}{before}{given[name]}" for it in texts]
             continue
-        values = values_of(event, name) or ([default] if default is not None else [])
-        texts = [joined(it + before, name, value, given) for it in texts for value in values][:MOST]
-    return [it + rest for it in texts if "\0" not in it]
+        some = left.pop(0) or ([default] if default is not None else [])
+        texts = [joined(it + before, name, value, given) for it in texts for value in some][:MOST]
+    found = [it + template.rest for it in texts if "\0" not in it]
+    return by_ids(found, given) if kind == "by-id" else found
+
+
+known_texts = functools.lru_cache(maxsize=4096)(filled)
 
 
 def joined(before: str, name: str, value: str, given: Dict[str, str]) -> str:
@@ -147,13 +172,16 @@ def joined(before: str, name: str, value: str, given: Dict[str, str]) -> str:
     return before + value
 
 
-def values_of(event: Dict[str, Any], name: str) -> List[str]:
+def values_of(event: Dict[str, Any], name: str) -> Tuple[str, ...]:
     """The texts of a member of the parameters, whose parts are joined by '.'; of lists of each item, of objects in the place
     of a text their keys. With '<' before it the member is of the answer."""
-    is_answer = name.startswith("<")
-    found: List[Any] = [event.get("responseElements" if is_answer else "requestParameters")]
+    given = event.get("responseElements" if name[0] == "<" else "requestParameters")
+    one = given.get(name) if isinstance(given, dict) else None
+    if isinstance(one, str) and "." not in name:
+        return (one,) if one and "\0" not in one else ()
+    found: List[Any] = [given]
     for part in name.lstrip("<").split("."):
         found = [it.get(part) for it in found if isinstance(it, dict)]
         found = [one for it in found for one in (it[:MOST] if isinstance(it, list) else [it])]
     texts = [one for it in found for one in (list(it)[:MOST] if isinstance(it, dict) else [it])]
-    return [it for it in texts if isinstance(it, str) and it and "\0" not in it]
+    return tuple([it for it in texts if isinstance(it, str) and it and "\0" not in it])

@@ -128,13 +128,16 @@ class Events:
         self.given, self.what = given, what
         self.text, self.at, self.count = "", 0, 0
         self.doubled, self.goes_on = 0, False
+        # No number of an event is wanted, however many digits it has: to look one up in nothing is fastest.
+        none: Any = {}.get
         self.decoder = json.JSONDecoder(
-            object_pairs_hook=self.members_of, parse_constant=files.no_constant, parse_int=nothing, parse_float=nothing
+            object_pairs_hook=self.members_of, parse_constant=files.no_constant, parse_int=none, parse_float=none
         )
 
     def members_of(self, pairs: List[Tuple[str, Any]]) -> Dict[str, Any]:
         made = dict(pairs)
-        self.doubled += len(made) < len(pairs)
+        if len(made) < len(pairs):
+            self.doubled += 1
         return made
 
     def fault(self, why: object) -> Fault:
@@ -150,10 +153,11 @@ class Events:
     def sign(self) -> str:
         """The next sign that is no white space, which stays; nothing at the end."""
         while True:
+            found = self.text[self.at : self.at + 1]
+            if found and found not in " \t\n\r":
+                return found
             self.at = SPACE.match(self.text, self.at).end()  # type: ignore[union-attr]
-            if self.at < len(self.text):
-                return self.text[self.at]
-            if not self.fill():
+            if self.at == len(self.text) and not self.fill():
                 return ""
 
     def value(self) -> Any:
@@ -237,10 +241,6 @@ class Events:
         for it in lists[0] if lists else [found]:
             self.count += 1
             yield event_of(self)(it)
-
-
-def nothing(_text: str) -> None:
-    """No number of an event is wanted, however many digits it has."""
 
 
 def event_of(events: Events) -> Any:

@@ -2,7 +2,7 @@
 
 from typing import Any, Dict, List, NamedTuple, Optional, Set, Tuple
 
-from ..arns import owner_of, service_of
+from ..arns import owner_of
 from ..reports import Answer
 from ..telling import BY, HINTS, LACKS, deciding
 from .counting import Made, Tally, ordered
@@ -12,8 +12,6 @@ from .sides import Request, Side
 
 # What a row says: refused by the change; refused before it too; and, without a change, where the log says otherwise.
 NEW, OLD, HERE, LOGGED = "refused then", "refused before too", "refused here", "allowed here"
-# The services whose resources have policies, of those that the table of events has.
-WITH_POLICIES = ("s3", "kms", "sqs", "sns", "lambda", "secretsmanager", "dynamodb")
 GONE, NO_ROLE = "the principal is no longer there", "the role is no longer there"
 
 
@@ -79,7 +77,7 @@ class Replay:
         elif some:
             self.test(some, cases)
         for side in filter(None, (self.before, self.after)):
-            side.made.clear()
+            side.let_go()
 
     def cases(self, tally: Tally) -> Dict[Request, List[Case]]:
         """The requests of the calls; sessions of a role that no policy tells apart are asked for as one."""
@@ -95,7 +93,7 @@ class Replay:
             found.setdefault(request, []).append(Case(call.outcome, call.found, made))
             thing = self.before.thing(request)
             self.taken += made.times if thing.is_taken else 0
-            self.bare += made.times if is_bare(thing.resource) else 0
+            self.bare += made.times if thing.is_bare else 0
         return found
 
     def request(self, call: Call, made: Made, sessions: Dict[str, str]) -> Optional[Request]:
@@ -120,7 +118,7 @@ class Replay:
         """Tells the calls that are refused after the change: first in short, and then those alone with their reasons."""
         assert self.after is not None
         gone = {it: why for it, why in ((it, self.gone(it)) for it in some) if why}
-        there = [it for it in some if it not in gone]
+        there = [it for it in some if it not in gone] if gone else some
         answers = self.asked(self.after, there, self.unused is not None)
         self.use(there, answers)
         refused = [it for it, answer in zip(there, answers) if answer.decision != "allowed"]
@@ -218,11 +216,6 @@ class Replay:
     def free(self) -> int:
         """How many calls want no permission."""
         return sum(count for reason, _, count in ordered(self.total.missed) if reason == FREE)
-
-
-def is_bare(resource: Dict[str, Any]) -> bool:
-    """Whether a resource may have a policy, and has none here."""
-    return "policy" not in resource and service_of(resource["arn"]) in WITH_POLICIES
 
 
 def hinted(side: Side, request: Request, answer: Answer) -> Tuple[str, ...]:

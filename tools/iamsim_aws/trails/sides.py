@@ -1,6 +1,7 @@
 """A source as a log wants it: its principals and resources by their names, sessions by the names they had, and the worlds of
 requests, within the limits."""
 
+import functools
 from typing import Any, Dict, Iterator, List, NamedTuple, Optional, Set, Tuple
 
 from .. import keys, kinds
@@ -18,6 +19,8 @@ TAKEN = "what another account grants by its resource (taken from the log)"
 GRANTS = Policy(
     TAKEN, {"Version": "2012-10-17", "Statement": {"Effect": "Allow", "Principal": "*", "Action": "*", "Resource": "*"}}
 )
+# The services whose resources have policies, of those that the table of events has.
+WITH_POLICIES = ("s3", "kms", "sqs", "sns", "lambda", "secretsmanager", "dynamodb")
 # What a document says where it tells the sessions of a role apart.
 OF_SESSIONS = ("assumed-role", "aws:userid", "rolesessionname")
 
@@ -49,10 +52,12 @@ class Base(NamedTuple):
 
 
 class Thing(NamedTuple):
-    """A resource as a world has it, and whether it is taken to grant, since nothing tells its policy."""
+    """A resource as a world has it; whether it is taken to grant, since nothing tells its policy, and whether it may have a
+    policy and has none here."""
 
     resource: Dict[str, Any]
     is_taken: bool
+    is_bare: bool
 
 
 class Side:
@@ -63,8 +68,9 @@ class Side:
         self.bases: Dict[Tuple[bool, bool], Base] = {}
         self.by_action: Dict[str, Base] = {}
         self.joined: Dict[Tuple[str, str], Dict[str, Any]] = {}
-        # The resources of one round.
+        # The resources of one round, and their accounts.
         self.made: Dict[Tuple[int, str, str, bool], Thing] = {}
+        self.homes: Dict[Tuple[int, str, str], str] = {}
 
     def base(self, action: str) -> Base:
         if action not in self.by_action:
@@ -94,11 +100,13 @@ class Side:
 
     def account_for(self, action: str, arn: str, hint: str, given: Optional[str]) -> str:
         """The account of a resource: by its ARN, by the world, by the event, or by --account."""
-        own = account_of(arn)
-        if ACCOUNT.fullmatch(own):
-            return own
-        known = kinds.owned(self.base(action).owners, arn, "")["account"]
-        return next((it for it in (known, hint, given or "") if ACCOUNT.fullmatch(it)), "")
+        base = self.base(action)
+        key = id(base), arn, hint
+        if key not in self.homes:
+            own = account_of(arn)
+            known = own if ACCOUNT.fullmatch(own) else kinds.owned(base.owners, arn, "")["account"]
+            self.homes[key] = next((it for it in (known, hint, given or "") if ACCOUNT.fullmatch(it)), "")
+        return self.homes[key]
 
     def is_absent(self, action: str, arn: str) -> bool:
         """Whether a role is assumed that the export of its account lacks, or of which no trust policy is known."""
@@ -123,21 +131,29 @@ class Side:
     def thing(self, request: Request) -> Thing:
         """The resource; where it is of another account, and nothing tells its policy, it is taken to grant."""
         base, arn = self.base(request.action), request.resource
-        is_own = account_of(request.who) == request.account
+        is_own = home_of(request.who) == request.account
         key = id(base), arn, request.account, is_own
-        if key not in self.made:
+        found = self.made.get(key)
+        if found is None:
             it = base.things.get(arn)
             if it is None or it["account"] != request.account:
-                self.made[key] = self.further(base, request, is_own)
+                found = self.further(base, request, is_own)
             else:
-                self.made[key] = Thing(it, False)
-        return self.made[key]
+                found = Thing(it, False, is_bare(it))
+            self.made[key] = found
+        return found
+
+    def let_go(self) -> None:
+        """Forgets the resources of a round."""
+        self.made.clear()
+        self.homes.clear()
 
     def further(self, base: Base, request: Request, is_own: bool) -> Thing:
         """A resource that the world does not name."""
         made = self.with_limits(kinds.owned(base.owners, request.resource, request.account))
         is_taken = not is_own and request.resource != "*" and "policy" not in made
-        return Thing({**made, "policy": GRANTS} if is_taken else made, is_taken)
+        made = {**made, "policy": GRANTS} if is_taken else made
+        return Thing(made, is_taken, is_bare(made))
 
     def with_limits(self, resource: Dict[str, Any]) -> Dict[str, Any]:
         """A resource with the keys and the limits that those of its account and service have."""
@@ -166,7 +182,7 @@ class Side:
                 people[it.who, it.session] = self.principal(it)
             if it.resource not in things:
                 things[it.resource] = self.thing(it).resource
-        ids = {some[0].account, *(account_of(who) for who, _ in people)}
+        ids = {some[0].account, *(home_of(who) for who, _ in people)}
         made = {
             **self.base(some[0].action).world,
             "accounts": [self.account(it) for it in sorted(ids)],
@@ -177,11 +193,25 @@ class Side:
         return with_callers(made) if self.source.estate else made
 
 
+# Of principals, which are few.
+home_of = functools.lru_cache(maxsize=65536)(account_of)
+
+
+@functools.lru_cache(maxsize=65536)
+def prefix_of(action: str) -> str:
+    return action.partition(":")[0].lower()
+
+
+def is_bare(resource: Dict[str, Any]) -> bool:
+    """Whether a resource may have a policy, and has none here."""
+    return "policy" not in resource and service_of(resource["arn"]) in WITH_POLICIES
+
+
 def grouped(some: List[Request]) -> Iterator[List[int]]:
     """The numbers of requests that one world may have, by accounts and service."""
     found: Dict[Tuple[str, str, str], List[int]] = {}
     for n, it in enumerate(some):
-        found.setdefault((account_of(it.who), it.action.partition(":")[0].lower(), it.account), []).append(n)
+        found.setdefault((home_of(it.who), prefix_of(it.action), it.account), []).append(n)
     yield from found.values()
 
 
