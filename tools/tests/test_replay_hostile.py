@@ -1,5 +1,6 @@
 """Logs that were made to do harm: each ends with an answer, or with status 1 and one line."""
 
+import gc
 import gzip
 import json
 import os
@@ -10,10 +11,11 @@ import time
 
 from harness import AWS, TOOLS, aws, document, file, same, statement
 from test_hostile import call, changed_bytes, changed_member
-from test_replay import EVENTS, EXPORT, GIVEN_WORDS, log, number, of, put, replayed, room
+from test_replay import EVENTS, EXPORT, GIVEN_WORDS, log, mapper, number, of, put, replayed, room
 
 sys.path.insert(0, TOOLS)
 from iamsim_aws.trails import reading  # noqa: E402
+from iamsim_aws.trails.counting import Tally  # noqa: E402
 
 HEADS = EVENTS[number("heads")]
 ONE = json.dumps(HEADS)
@@ -135,6 +137,27 @@ def test_names_without_an_end():
     found = replayed(log([*events, HEADS]), "--export", EXPORT)
     same((len(found["notMapped"]), sum(it["count"] for it in found["notMapped"])), (1001, 3000))
     same([it["count"] for it in found["notMapped"] if it["name"] == "others"], [2000])
+
+
+def test_events_are_let_go():
+    """The command looks for no garbage, so what an event leaves must not hold itself."""
+    own, tally = mapper(), Tally()
+    lacking = [
+        {**HEADS, "resources": [], "requestParameters": {}},
+        {**HEADS, "requestParameters": {"bucketName": "data", "key": "\ud800"}},
+        {**HEADS, "userIdentity": {"type": "Root"}},
+        {**HEADS, "eventName": "CopyObject"},
+        {**HEADS, "eventName": "Head Object"},
+    ]
+    gc.collect()
+    gc.disable()
+    try:
+        for _ in range(100):
+            for it in (HEADS, *lacking):
+                tally.count(it, own)
+        same((gc.collect(), tally.events, tally.mapped), (0, 600, 100))
+    finally:
+        gc.enable()
 
 
 def test_folders_that_were_made_to_do_harm():

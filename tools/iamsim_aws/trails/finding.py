@@ -77,7 +77,8 @@ def of_kind(event: Dict[str, Any], who: Any, kind: str) -> List[Found]:
     template, place = template_of(kind), region(event)
     values = tuple([values_of(event, it) for it in template.members])
     is_short = len(place) + sum([len(one) for of in values for one in of]) <= SHORT
-    texts = (known_texts if is_short else filled)(kind, who.partition, place, who.account, values)
+    given = kind, who.partition, place, who.account, values
+    texts = known_texts(*given) if is_short else filled(*given)
     return [(arn, *hinted(event, arn, "", template.found)) for arn in texts]
 
 

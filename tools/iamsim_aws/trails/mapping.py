@@ -187,11 +187,12 @@ class Mapper:
             try:
                 found += self.of_action(event, who, it, is_copy)
             except Missed as why:
-                lacking.append(why)
+                # Its traceback leads back here, and so to itself: nothing would ever free the event.
+                lacking.append(why.with_traceback(None))
         try:
             found += [self.source_of(event, who)] if is_copy else []
         except Missed as why:
-            lacking.append(why)
+            lacking.append(why.with_traceback(None))
         return who.session, found, lacking
 
     def who(self, event: Dict[str, Any]) -> Who:
@@ -371,10 +372,14 @@ def checked(call: Call) -> Call:
             raise Missed(THING, f"{call.action} (a key of over {4 * LONGEST} characters)")
         is_ascii = is_ascii and value.isascii()
     # The name of a session is ASCII.
-    if is_ascii:
-        return call
-    try:
-        "".join([arn, *(value for _, value in call.keys)]).encode()
-    except UnicodeEncodeError:
-        raise Missed(THING, f"{call.action} (half a character)") from None
+    if not is_ascii and not is_whole("".join([arn, *(value for _, value in call.keys)])):
+        raise Missed(THING, f"{call.action} (half a character)")
     return call
+
+
+def is_whole(given: str) -> bool:
+    try:
+        given.encode()
+    except UnicodeEncodeError:
+        return False
+    return True
