@@ -15,10 +15,6 @@ from .files import compact, encoded
 TOP = os.path.dirname(os.path.dirname(os.path.dirname(os.path.realpath(__file__))))
 
 
-# Each iamsim that was asked and has not answered.
-RUNNING: Set["subprocess.Popen[bytes]"] = set()
-
-
 class Refused(Fault):
     """The line of a fault of iamsim."""
 
@@ -33,29 +29,44 @@ def program() -> str:
     return found
 
 
+class Questions:
+    """What is asked of iamsim side by side. Once it is stopped, each that was asked and has not answered ends, and so does each
+    that begins later."""
+
+    def __init__(self) -> None:
+        self.running: Set["subprocess.Popen[bytes]"] = set()
+        self.is_stopped = False
+
+    def ask(self, words: List[str], world: bytes) -> bytes:
+        """What iamsim writes, or its fault."""
+        try:
+            ran = subprocess.Popen([program(), *words], stdin=PIPE, stdout=PIPE, stderr=PIPE)
+        except OSError as error:
+            raise Fault(f"iamsim cannot be run: {error.strerror or error}") from None
+        self.running.add(ran)
+        try:
+            # It may have begun while all were stopped: then it was not among those that were ended.
+            if self.is_stopped:
+                ran.kill()
+            out, said = ran.communicate(world)
+        except BaseException:
+            ran.kill()
+            raise
+        finally:
+            self.running.discard(ran)
+        if ran.returncode != 0:
+            raise Refused(said.decode(errors="replace").strip() or f"iamsim ended with status {ran.returncode}")
+        return out
+
+    def stop(self) -> None:
+        self.is_stopped = True
+        for it in list(self.running):
+            it.kill()
+
+
 def run(words: List[str], world: bytes) -> bytes:
     """What iamsim writes, or its fault."""
-    try:
-        ran = subprocess.Popen([program(), *words], stdin=PIPE, stdout=PIPE, stderr=PIPE)
-    except OSError as error:
-        raise Fault(f"iamsim cannot be run: {error.strerror or error}") from None
-    RUNNING.add(ran)
-    try:
-        out, said = ran.communicate(world)
-    except BaseException:
-        ran.kill()
-        raise
-    finally:
-        RUNNING.discard(ran)
-    if ran.returncode != 0:
-        raise Refused(said.decode(errors="replace").strip() or f"iamsim ended with status {ran.returncode}")
-    return out
-
-
-def stop() -> None:
-    """Ends each iamsim that was asked and has not answered."""
-    for it in list(RUNNING):
-        it.kill()
+    return Questions().ask(words, world)
 
 
 def world_bytes(world: World) -> bytes:
@@ -80,11 +91,12 @@ def each_of(jobs: Iterable[Tuple[List[str], bytes]], count: int) -> Iterator[byt
     together = max(1, min(count, processors()))
     share = ["--workers", str(max(1, processors() // together))]
     waiting: Deque[Any] = collections.deque()
+    questions = Questions()
     with concurrent.futures.ThreadPoolExecutor(together) as pool, Progress(count) as progress:
 
         def asked(words: List[str], world: bytes) -> None:
             more = [] if any(it.startswith("--workers") for it in words) else share
-            waiting.append(pool.submit(run, [*words, *more], world))
+            waiting.append(pool.submit(questions.ask, [*words, *more], world))
 
         def answer() -> bytes:
             while not concurrent.futures.wait([waiting[0]], 1).done:
@@ -103,5 +115,4 @@ def each_of(jobs: Iterable[Tuple[List[str], bytes]], count: int) -> Iterator[byt
         finally:
             for one in waiting:
                 one.cancel()
-            if any(not one.done() for one in waiting):
-                stop()
+            questions.stop()

@@ -116,6 +116,11 @@ def answer(words, given=b"", seconds=60, program=IAMSIM, **more):
     return ran.returncode, ran.stdout, ran.stderr
 
 
+def patience(seconds):
+    """So many seconds of a machine that has nothing else to do: more where more is to run than it has processors."""
+    return seconds * max(1, 2 * os.getloadavg()[0] / (os.cpu_count() or 1))
+
+
 def on_all_processors(work, jobs):
     """What `work` gives of each job, in their order."""
     with multiprocessing.Pool() as pool:

@@ -96,8 +96,8 @@ def slurm():
         with open(os.path.join(folder, "said"), "wb") as said:
             for words in commands(folder):
                 running.append(subprocess.Popen(words, stdout=said, stderr=said, env=environment))
-                within(5, lambda: words[0] != "munged" or os.path.exists(os.path.join(folder, "munge.socket")))
-        if not within(20, lambda: is_idle(environment)):
+                within(30, lambda: words[0] != "munged" or os.path.exists(os.path.join(folder, "munge.socket")))
+        if not within(30, lambda: is_idle(environment)):
             raise Skipped("Slurm's daemons do not start here")
         yield environment
     finally:

@@ -14,10 +14,11 @@ import signal
 import subprocess
 import sys
 import tempfile
+import threading
 import time
 from urllib.parse import quote
 
-from harness import AWS, IAMSIM, TOOLS, aws, data, document, file, load, same, small_world, statement
+from harness import AWS, IAMSIM, TOOLS, aws, data, document, file, load, patience, same, small_world, statement
 
 sys.path.insert(0, TOOLS)
 from iamsim_aws import command, files, patterns, program, reports  # noqa: E402
@@ -117,7 +118,8 @@ def test_folders_with_odd_names():
 
 
 def test_a_run_that_is_ended_ends_what_it_has_started():
-    """All has ended within two seconds, whatever the signal; then the folder is free, and a run goes on."""
+    """All has ended within two seconds, whatever the signal, and later only where the machine has more to do than it can; then
+    the folder is free, and a run goes on."""
     slow = f'#!/bin/sh\n[ "$*" = --version ] && exec {IAMSIM} --version\n> "$BEGUN"; sleep 61\n'
     for number in (signal.SIGTERM, signal.SIGHUP, signal.SIGINT, signal.SIGKILL):
         folder, begun = room(), os.path.join(room(), "begun")
@@ -126,10 +128,10 @@ def test_a_run_that_is_ended_ends_what_it_has_started():
         ran = subprocess.Popen(given, env=env, stderr=subprocess.PIPE, start_new_session=True)
         wait_for(lambda: os.path.exists(begun), 30)
         ran.send_signal(number)
-        at = time.monotonic()
-        ran.wait(2)
+        at, most = time.monotonic(), patience(2)
+        ran.wait(most)
         with open(os.path.join(folder, "lock"), "ab") as lock:
-            wait_for(lambda: is_free(lock), 2 - (time.monotonic() - at))
+            wait_for(lambda: is_free(lock), most - (time.monotonic() - at))
         said = ran.stderr.read().decode()
         assert number == signal.SIGKILL or said.endswith("iamsim-aws: stopped\n"), said
         same(ran.returncode, -9 if number == signal.SIGKILL else 1)
@@ -368,8 +370,48 @@ def test_a_question_that_is_ended_ends_the_program():
         with open(begun) as it:
             asked = int(it.read())
         ran.send_signal(number)
-        same((ran.wait(2), ran.stderr.read()), (1, "iamsim-aws: stopped\n"))
-        wait_for(lambda: not os.path.exists(f"/proc/{asked}"), 1)
+        # It would sleep for a minute.
+        same((ran.wait(30), ran.stderr.read()), (1, "iamsim-aws: stopped\n"))
+        wait_for(lambda: not os.path.exists(f"/proc/{asked}"), 30)
+
+
+def test_a_program_that_begins_while_all_is_stopped():
+    """Its start has not yet come back when the others are ended: it ends too, and later questions are asked."""
+    begun, stopped = threading.Event(), threading.Event()
+    started, real = [], (subprocess.Popen, program.Questions.stop, os.environ["IAMSIM"])
+
+    class Late(subprocess.Popen):
+        def __init__(self, *words, **more):
+            super().__init__(*words, **more)
+            started.append(self)
+            begun.set()
+            assert stopped.wait(30)
+
+    def stop(questions):
+        real[1](questions)
+        stopped.set()
+
+    def jobs():
+        yield ["decide"], b""
+        assert begun.wait(30)
+        raise KeyboardInterrupt
+
+    try:
+        os.environ["IAMSIM"] = put(room(), "iamsim", "#!/bin/sh\nexec sleep 60\n")
+        program.subprocess.Popen, program.Questions.stop = Late, stop
+        at = time.monotonic()
+        try:
+            list(program.each_of(jobs(), 2))
+            assert False, "it is not stopped"
+        except KeyboardInterrupt:
+            pass
+        assert time.monotonic() - at < 30 and [it.returncode for it in started] == [-signal.SIGKILL], started
+    finally:
+        program.subprocess.Popen, program.Questions.stop, os.environ["IAMSIM"] = real
+    asked = ["matrix"], json.dumps(small_world(document(statement()))).encode()
+    found = program.run(*asked)
+    assert b"allowed" in found, found
+    same(list(program.each_of([asked] * 3, 3)), [found] * 3)
 
 
 def test_a_terminal_is_told_how_far_it_is():

@@ -333,7 +333,9 @@ def test_what_is_wrong_is_found():
     ]:
         program = built(CARELESS.replace("OTHERWISE", otherwise), "-w")
         for later in (0, 1):
-            _, findings = refused(program, [("REFUSE_CALL", later, [], b"")], seconds=1)
+            # What has no end is waited for each time.
+            seconds = 1 if "for" in otherwise else 30
+            _, findings = refused(program, [("REFUSE_CALL", later, [], b"")], seconds)
             same(bool(findings), is_wrong, otherwise)
     # No line behind one that was told is wrong where that one call is refused.
     silent = built(CARELESS.replace("OTHERWISE", "if (wanted > 2) _exit(1)"), "-w")

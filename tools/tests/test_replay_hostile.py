@@ -56,7 +56,7 @@ def test_a_small_file_that_holds_much():
         assert os.path.getsize(path) < 1 << 16
         status, said = call("replay", path, "--export", EXPORT)
         assert status == 1 and "unpacked it has over" in said, said
-        assert time.monotonic() - at < 20
+        assert time.monotonic() - at < 30
     finally:
         reading.UNPACKED = real
     # What is no JSON is told long before the bound.
