@@ -250,7 +250,7 @@ def test_a_small_file_that_holds_much():
 
 def test_worlds_are_made_as_they_are_asked():
     """Of many questions no more are there at once than are asked and wait to be."""
-    there, most, real = 0, 0, program.run
+    there, most, real = 0, 0, program.Questions.ask
     together = program.processors()
 
     def jobs():
@@ -260,13 +260,13 @@ def test_worlds_are_made_as_they_are_asked():
             most = max(most, there)
             yield [str(n)], b""
 
-    program.run = lambda words, world: words[0].encode()
+    program.Questions.ask = lambda _, words, world: words[0].encode()
     try:
         for n, it in enumerate(program.each_of(jobs(), 50 * together)):
             there -= 1
             same(it, str(n).encode())
     finally:
-        program.run = real
+        program.Questions.ask = real
     assert most <= 2 * together, most
 
 

@@ -1,6 +1,7 @@
 """The decisions of 'iamsim ask' on requests of a log, each by itself, in as few worlds as the limits allow."""
 
 import bisect
+import itertools
 import os
 import tempfile
 from typing import Any, Dict, FrozenSet, Iterator, List, NamedTuple, Tuple
@@ -113,7 +114,8 @@ def decide(side: Side, some: List[Request], is_full: bool) -> Tuple[List[Answer]
             for n, it in enumerate(jobs):
                 path = os.path.join(room, str(n))
                 with open(path, "wb") as file:
-                    file.write(encoded("".join(f"{line}\n" for line in it.lines)))
+                    file.writelines(encoded(f"{line}\n") for line in it.lines)
+                it.lines.clear()
                 brief = [] if is_full else ["--brief"]
                 yield ["ask", "--format", "json", *brief, "--requests", path], world_bytes(it.world)
 
@@ -130,15 +132,18 @@ def decide(side: Side, some: List[Request], is_full: bool) -> Tuple[List[Answer]
 
 def fill(found: List[Answer], job: Job, text: str, is_full: bool) -> None:
     """Puts the answers of a report in their places."""
-    heads, tails = HEAD.findall(text), TAIL.findall(text) if is_full else []
-    if len(heads) != len(job.numbers) or (is_full and len(tails) != len(heads)):
-        raise Fault("iamsim has not answered each request of the log")
+    heads = HEAD.finditer(text)
+    none = itertools.repeat("", len(job.numbers))
+    tails: Iterator[str] = (str(it[1]) for it in TAIL.finditer(text)) if is_full else none
     known: Dict[Any, Answer] = {}
-    for n, head, tail in zip(job.numbers, heads, tails or [""] * len(heads)):
-        key = head, tail
+    count = 0
+    for count, (n, head, tail) in enumerate(zip(job.numbers, heads, tails), 1):
+        key = head[1], head[2], tail
         if key not in known:
-            known[key] = Answer(head[0], words(tail), words(head[1]))
+            known[key] = Answer(head[1], words(tail), words(head[2] or ""))
         found[n] = known[key]
+    if count != len(job.numbers) or any(True for _ in heads) or any(True for _ in tails):
+        raise Fault("iamsim has not answered each request of the log")
 
 
 def answers_of(side: Side, request: Request, answer: Answer) -> Answers:
