@@ -133,7 +133,7 @@ def filled(pattern: str, account: str, template: Optional[List[str]] = None) -> 
     template = template or [*OPEN[:4], account, OPEN[5]]
     made = []
     for n, part in enumerate(parts):
-        open_part = is_pattern(part) and n in (3, 4) and matcher(part)(template[n])
+        open_part = is_pattern(part) and 0 < n < 5 and matcher(part)(template[n])
         made.append(template[n] if open_part else common(part) or "")
     text = ":".join([*made, *template[len(made) :]])
     if matcher(pattern)(text):

@@ -408,6 +408,27 @@ def test_texts_that_stand_for_patterns():
     same({it["action"] for it in rows("who-can", "kms:*", key, "--world", file(made))}, {"kms:Decrypt"})
 
 
+def test_made_up_arns_are_as_those_of_their_service():
+    """Of parts that a pattern leaves open they have the partition of the account's others, the service and its region."""
+    for partition in ("aws", "aws-us-gov"):
+        export = json.loads(json.dumps(load(EXPORT)).replace("arn:aws:", f"arn:{partition}:"))
+        for action, rest, wanted in (
+            ("secretsmanager:GetSecretValue", "db*", "secretsmanager:us-east-1:111122223333:dbx"),
+            ("iam:GetPolicy", "policy/a*", "iam::111122223333:policy/ax"),
+            ("s3:GetObject", "logs/*", "s3:::logs/x"),
+        ):
+            own = [
+                {
+                    "PolicyName": "own",
+                    "PolicyDocument": document(statement(action=action, resource=f"arn:*:*:*:*:{rest}")),
+                }
+            ]
+            export["UserDetailList"][0]["UserPolicyList"] = own
+            found = {it["resource"] for it in rows("who-can", action, f"*:{rest}", file(export), "--kinds")}
+            assert f"arn:{partition}:{wanted}" in found, (action, found)
+            assert all(it.startswith(f"arn:{partition}:") for it in found), (action, found)
+
+
 def chained():
     """ann may assume the role a, whose session may assume b, and so c and d; d alone reads."""
     names = "abcd"
