@@ -42,7 +42,7 @@ pub fn ask_report<'a, R: Threads + Sync, G: Gate + Sync>(
     }
     let world = requests.world();
     let quoted = Quoted::of(alloc, world, format)?;
-    let index = Index::sparse(alloc, world)?;
+    let index = Index::numbered(alloc, world)?;
     let tiles = answered_tiles(
         rt, alloc, &index, requests, cut, workers, gate, format, brief,
     )?;

@@ -1,13 +1,19 @@
-// Which resource texts match which resources, as far as it is remembered.
+// Which resource texts match which resources, as far as it is remembered, and whether statements match by it.
 ghost use Rattle.std.specs.Prelude.{◌≡◌, ◌⊎◌, ◌↔◌, ◌≤◌, Contains, IfSome, IsTrue, IfOk};
 ghost use Rattle.std.specs.Str.{chars};
+ghost use Rattle.iam_context.specs.Context.{ContextValue};
 ghost use Rattle.iam_glob.specs.Glob.{Matches};
+ghost use Rattle.iam_match.specs.Request.{access_of};
+ghost use Rattle.iam_match.specs.Statement.{ResourceMatches, RestMatches};
 ghost use Rattle.iam_world.specs.World.{WorldValue};
 ghost use Rattle.iam_engine.specs.Cache.{Entry, HasArn, Remembers};
+ghost use Rattle.iam_engine.specs.Known.{TellsOfText, TellsOfTexts};
 
 use iam_index::Texts;
 use iam_layers::World;
-use iam_text::{Glob, OutOfMemory};
+use iam_match::{Access, rest_matches_with};
+use iam_policy::Statement;
+use iam_text::{Glob, OutOfMemory, Template, TemplateForm};
 use lru::LruCache;
 use std::alloc::Global;
 use std::marker::Model;
@@ -99,5 +105,59 @@ fn remember(kept: &mut Kept, text: usize, resource: u64, matched: bool)
     match kept.put((text, resource), matched) {
         Ok(_) => (),
         Err(_) => (),
+    }
+}
+
+/// Whether all elements of the statement but its action element match.
+pub fn rest_matches<'c>(
+    alloc: Global,
+    cache: &mut MatchCache<'_>,
+    statement: &'c Statement,
+    access: Access<'_, 'c>,
+    r: u64,
+) -> Result<bool, OutOfMemory>
+    requires { HasArn cache.old r access.resource.now }
+    ensures matched { IfOk result (λ matched. IsTrue matched ↔ RestMatches statement.now (access_of access.entry)) }
+    ensures same { cache.new ≡ cache.old }
+{
+    let known = known_match(cache, statement, r, access.resource);
+    rest_matches_with(alloc, statement, access, known)
+}
+
+/// Whether the resource element of the statement matches resource r, which has this ARN, whoever asks and in whatever context:
+/// `None` where it has variables, or where there is no such element.
+fn known_match(cache: &mut MatchCache<'_>, statement: &Statement, r: u64, arn: &str) -> Option<bool>
+    requires { HasArn cache.old r arn.now }
+    ensures known { IfSome result (λ known. (context : ContextValue) → IsTrue known ↔ ResourceMatches statement.now.resource arn.now context) }
+    ensures same { cache.new ≡ cache.old }
+{
+    let element = statement.resource()?;
+    let some = some_matches(cache, element.texts(), r, arn)?;
+    Some(element.is_negated() != some)
+}
+
+/// Whether some text of an element matches the resource; `None` where one with variables comes before.
+fn some_matches(cache: &mut MatchCache<'_>, texts: &[Template], r: u64, arn: &str) -> Option<bool>
+    requires { HasArn cache.old r arn.now }
+    ensures told { IfSome result (λ some. (context : ContextValue) → TellsOfTexts context arn.now texts.now some) }
+    ensures same { cache.new ≡ cache.old }
+{
+    for text in texts {
+        if text_matches(cache, text, r, arn)? {
+            return Some(true);
+        }
+    }
+    Some(false)
+}
+
+/// Whether the text matches the resource; `None` where it has variables.
+fn text_matches(cache: &mut MatchCache<'_>, text: &Template, r: u64, arn: &str) -> Option<bool>
+    requires { HasArn cache.old r arn.now }
+    ensures told { IfSome result (λ matched. (context : ContextValue) → TellsOfText context arn.now text.now matched) }
+    ensures same { cache.new ≡ cache.old }
+{
+    match text.form() {
+        TemplateForm::Fixed(pattern) => Some(cache.matches(pattern, r, arn)),
+        TemplateForm::Open(_) => None,
     }
 }

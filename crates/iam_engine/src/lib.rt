@@ -4,7 +4,6 @@
 
 mod cache;
 mod engine;
-mod known;
 mod own;
 mod walk;
 

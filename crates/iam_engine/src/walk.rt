@@ -2,7 +2,7 @@
 ghost use Rattle.std.specs.Prelude.{◌≡◌, ◌↔◌, ◌<◌, ℕ, IfOk, IsTrue, List, MatchBool, OnOk, length, map};
 ghost use Rattle.std.specs.List.{Any};
 ghost use Rattle.iam_match.specs.Request.{access_of};
-ghost use Rattle.iam_match.specs.Statement.{RestMatches, request_for};
+ghost use Rattle.iam_match.specs.Statement.{request_for};
 ghost use Rattle.iam_policy.specs.declared.effect.Effect.TheVariants.{Deny};
 ghost use Rattle.iam_decision.specs.Applicable.{ApplicableValue};
 ghost use Rattle.iam_decision.specs.Code.Scan.{placed_value};
@@ -14,16 +14,15 @@ ghost use Rattle.iam_index.specs.Index.{AllAct};
 ghost use Rattle.iam_engine.specs.Cache.{HasArn};
 ghost use Rattle.iam_engine.specs.Walk.{Finds, FindsAsked, FindsDeny, FindsOpen};
 
-use crate::cache::MatchCache;
-use crate::known::known_match;
+use crate::cache::{MatchCache, rest_matches};
 use iam_decision::{
     Findings, candidates_suffice, deny_decides, early_decision, early_verdict, is_open,
     suffices_one_by_one, tells_one_by_one,
 };
 use iam_index::Index;
 use iam_layers::{Decision, Matched, Standing, Verdict};
-use iam_match::{Access, Requester, grant_kind, rest_matches_with};
-use iam_policy::{Effect, Statement};
+use iam_match::{Access, Requester, grant_kind};
+use iam_policy::Effect;
 use iam_text::OutOfMemory;
 use std::alloc::Global;
 
@@ -210,22 +209,6 @@ fn add_match<'a: 'c, 'c>(
     }
     findings.add(matched_of(standing, access.requester))?;
     Ok(())
-}
-
-/// Whether all elements of the statement but its action element match.
-fn rest_matches<'c>(
-    alloc: Global,
-    cache: &mut MatchCache<'_>,
-    statement: &'c Statement,
-    access: Access<'_, 'c>,
-    r: u64,
-) -> Result<bool, OutOfMemory>
-    requires { HasArn cache.old r access.resource.now }
-    ensures matched { IfOk result (λ matched. IsTrue matched ↔ RestMatches statement.now (access_of access.entry)) }
-    ensures same { cache.new ≡ cache.old }
-{
-    let known = known_match(cache, statement, r, access.resource);
-    rest_matches_with(alloc, statement, access, known)
 }
 
 /// What is kept of a statement that matches.

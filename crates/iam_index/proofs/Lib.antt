@@ -6,3 +6,4 @@ pub mod IndexLemmas
 mod ListedLemmas
 mod MarkLemmas
 mod RowLemmas
+mod NumberLemmas

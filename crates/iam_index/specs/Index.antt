@@ -1,5 +1,6 @@
 -- An index of a world: of the statements that apply to requests those that may match one for some action of the world. LOGIC 1.1.
-use Rattle.std.specs.Prelude.{◌≡◌, ℕ, All, IfSome, List, [], ◌∷◌, Option, Some, length, map}
+use Rattle.std.specs.Prelude.{◌≡◌, ◌++◌, ℕ, All, IfSome, List, [], ◌∷◌, Option, Some, length, map}
+use Rattle.std.specs.Global.{Vec}
 use Rattle.std.specs.List.{slice_get}
 use Rattle.iam_unasked.specs.Names.{HasNames}
 use Rattle.iam_unasked.specs.declared.names.Names.{Names}
@@ -10,7 +11,7 @@ use Rattle.iam_decision.specs.Living.{AreCandidates}
 use Rattle.iam_decision.specs.Matched.{Placed, placed}
 use Rattle.iam_decision.specs.declared.place.Place.{Place}
 use Rattle.iam_decision.specs.declared.scan.Standing.{Standing}
-use Rattle.iam_layers.specs.Cell.{IsApplicableAt, IsCell, IsRequestAt}
+use Rattle.iam_layers.specs.Cell.{IsAction, IsApplicableAt, IsCell, IsRequestAt}
 use Rattle.iam_layers.specs.Code.Statements.{HasLevels}
 use Rattle.iam_world.specs.World.{WorldValue}
 use Rattle.iam_index.specs.Elements.{AreElements}
@@ -18,6 +19,7 @@ use Rattle.iam_columns.specs.Columns.{AreColumns}
 use Rattle.iam_columns.specs.Rows.{AreRows}
 use Rattle.iam_columns.specs.declared.rows.Row.{Row}
 use Rattle.iam_index.specs.Given.{given_keys}
+use Rattle.iam_index.specs.Numbers.{AreAllNumbered}
 use Rattle.iam_index.specs.Rows.{AreListRows}
 use Rattle.iam_index.specs.declared.elements.Element.{Element}
 use Rattle.iam_index.specs.declared.list_rows.ListRows.{ListRows}
@@ -74,7 +76,7 @@ AreResourceLists world lists numbers = (r n : ℕ) → slice_get numbers r ≡ S
 
 -- everything that an index has is right
 pub record IsIndex (world parts : WorldValue) (elements : List Element) (orgs : List Org) (numbers : List ℕ) (requesters resources : List Listed)
-    (resource_numbers : List ℕ) (rows : List Row) (org_rows requester_rows : List ListRows) (columns : List (Option ℕ)) (given : Option Names) : Type 0 where
+    (resource_numbers : List ℕ) (org_acts requester_acts resource_acts : List (Vec (Option ℕ))) (rows : List Row) (org_rows requester_rows : List ListRows) (columns : List (Option ℕ)) (given : Option Names) : Type 0 where
   pub parts_are : parts ≡ world
   pub elements_are : AreElements world elements
   pub orgs_are : HaveOrgs world orgs numbers
@@ -83,6 +85,9 @@ pub record IsIndex (world parts : WorldValue) (elements : List Element) (orgs : 
   pub requesters_count : length requesters ≡ length world.principals
   pub resources_are : AreResourceLists world resources resource_numbers
   pub resources_count : length resource_numbers ≡ length world.resources
+  pub org_acts_are : AreAllNumbered (λ org. org.statements.items) elements orgs org_acts
+  pub requester_acts_are : AreAllNumbered (λ listed. listed.statements.items) elements requesters requester_acts
+  pub resource_acts_are : AreAllNumbered (λ listed. listed.statements.items) elements resources resource_acts
   pub rows_are : AreRows world rows
   pub org_rows_are : AreListRows (λ org. org.statements.items) rows orgs org_rows
   pub requester_rows_are : AreListRows (λ listed. listed.statements.items) rows requesters requester_rows
@@ -99,3 +104,14 @@ AreCandidatesOf world cell places =
 -- the action element of each of these matches the action
 abbrev pub AllAct : List ℕ → List Standing → Type 0
 AllAct action statements = All (λ s. ActionMatches s.statement.now.action action) statements
+
+-- those of the listed statements whose action element matches the action came behind these
+abbrev pub Adds : List ℕ → List Standing → List Standing → List Standing → Type 0
+Adds action listed old new =
+    ((before : List Placed) → AreCandidates (action ∷ []) before (map placed_value old)
+    → AreCandidates (action ∷ []) (before ++ map placed_value listed) (map placed_value new))
+    × (AllAct action old → AllAct action new)
+
+-- so it is for action a
+abbrev pub AddsAt : WorldValue → ℕ → List Standing → List Standing → List Standing → Type 0
+AddsAt world a listed old new = (action : List ℕ) → IsAction world a action → Adds action listed old new

@@ -6,6 +6,7 @@ ghost use Rattle.iam_glob.specs.Glob.{MatchesFold};
 ghost use Rattle.iam_glob.specs.declared.sign.Sign.{Sign};
 ghost use Rattle.iam_services.specs.Services.{AreServices, TriesMatched, numbers_of};
 ghost use Rattle.iam_decision.specs.Living.{AreActing, LivingValue, living_value};
+ghost use Rattle.iam_element.specs.Reading.{ActionElement};
 ghost use Rattle.iam_layers.specs.Cell.{IsAction};
 ghost use Rattle.iam_match.specs.Statement.{ActionMatches};
 ghost use Rattle.iam_world.specs.World.{WorldValue};
@@ -132,10 +133,27 @@ impl<'a> Elements<'a> {
     fn row(&self, action: &Actions) -> &[bool]
         ensures { (world : WorldValue) → AreElements world self.now.elements.items → TellActs world action.now result.now }
     {
-        match self.known(action_print(action), action) {
+        match self.number(action) {
             Some(number) => self.elements[number].acts.as_slice(),
             None => &[],
         }
+    }
+
+    /// The number of an action element, where it is kept.
+    pub fn number(&self, action: &Actions) -> Option<usize>
+        ensures { IfSome result (λ n. HasElement self.now.elements.items n action.now) }
+    {
+        self.known(action_print(action), action)
+    }
+
+    /// Whether the element of this number matches action a, where it is kept.
+    #[inline(always)]
+    pub fn act(&self, number: usize, a: u64) -> Option<bool>
+        ensures { (world : WorldValue) (action : ActionElement) (text : List ℕ) → AreElements world self.now.elements.items
+            → HasElement self.now.elements.items number action → IsAction world a text → IfSome result (λ act. IsTrue act ↔ ActionMatches action text) }
+    {
+        let act = *self.elements.get(number)?.acts.get(a as usize)?;
+        Some(act)
     }
 
     /// The number of an element, which has this print, where it is kept.
@@ -207,7 +225,7 @@ fn with_act(word: u64, acts: bool) -> u64
 }
 
 /// Whether an action element matches an action, which has this text; it may be told already.
-fn acts(told: Option<bool>, action: &Actions, text: &str) -> bool
+pub fn acts(told: Option<bool>, action: &Actions, text: &str) -> bool
     ensures { IfSome told (λ act. IsTrue act ↔ ActionMatches action.now text.now) → IsTrue result ↔ ActionMatches action.now text.now }
 {
     match told {

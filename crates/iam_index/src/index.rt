@@ -4,17 +4,21 @@ ghost use Rattle.iam_decision.specs.Code.Scan.{placed_value};
 ghost use Rattle.iam_decision.specs.Living.{AreCandidates};
 ghost use Rattle.iam_decision.specs.Matched.{Placed, placed};
 ghost use Rattle.iam_world.specs.World.{WorldValue};
-ghost use Rattle.iam_index.specs.Index.{AllAct, AreCandidatesOf, AreResourceLists, IsOrg, ListsOrg, ListsRequester, ListsResource, IsIndex};
+ghost use Rattle.iam_decision.specs.declared.scan.Standing.{Standing};
+ghost use Rattle.iam_layers.specs.Cell.{IsAction};
+ghost use Rattle.iam_index.specs.Elements.{AreElements};
+ghost use Rattle.iam_index.specs.Numbers.{AreNumbered};
+ghost use Rattle.iam_index.specs.Index.{Adds, AddsAt, AllAct, AreCandidatesOf, AreResourceLists, IsOrg, ListsOrg, ListsRequester, ListsResource, IsIndex};
 
 use crate::elements::Elements;
 use crate::given::{given_keys, is_free};
 use crate::known::{Known, Theirs};
 use crate::list_rows::{ListRows, are_told, list_at, org_rows, requester_rows};
 use crate::lists::{Listed, Org, Orgs, ResourceLists, org_lists, requester_lists, resource_lists};
+use crate::numbers::{acts_at, list_numbers, numbers_at, org_numbers};
 use crate::parts::Parts;
 use iam_columns::{Columns, Rows};
 use iam_layers::{Frame, Place, Standing, World};
-use iam_match::action_matches;
 use iam_text::OutOfMemory;
 use iam_unasked::{Names, Statement};
 use std::alloc::Global;
@@ -31,6 +35,10 @@ pub struct Index<'a> {
     // Those of each principal, and those that stand with resources.
     requesters: Vec<Listed<'a>>,
     resources: ResourceLists<'a>,
+    // The action elements of all these, by number.
+    org_numbers: Vec<Vec<Option<usize>>>,
+    requester_numbers: Vec<Vec<Option<usize>>>,
+    resource_numbers: Vec<Vec<Option<usize>>>,
     // Which resources the resource elements match, and the rows of those of the listed statements.
     rows: Rows<'a>,
     org_rows: Vec<ListRows>,
@@ -47,7 +55,8 @@ impl<'a> Model for Index<'a> {
     ghost view = { λ index. index.world.now };
 
     ghost invariant = { λ index. IsIndex index.world.now index.parts index.elements.elements.items index.orgs.orgs.items index.orgs.numbers.items
-        index.requesters.items index.resources.lists.items index.resources.numbers.items index.rows.rows.items index.org_rows.items
+        index.requesters.items index.resources.lists.items index.resources.numbers.items index.org_numbers.items index.requester_numbers.items
+        index.resource_numbers.items index.rows.rows.items index.org_rows.items
         index.requester_rows.items index.columns.numbers.items index.given };
 }
 
@@ -84,12 +93,38 @@ impl<'a> Index<'a> {
             orgs,
             requesters,
             resources,
+            org_numbers: Vec::new(alloc),
+            requester_numbers: Vec::new(alloc),
+            resource_numbers: Vec::new(alloc),
             rows: Rows::new(alloc, world.resources()),
             org_rows: Vec::new(alloc),
             requester_rows: Vec::new(alloc),
             columns: Columns::none(alloc),
             given: None,
         })
+    }
+
+    /// The index of a world of which requests are asked one by one: whether an action element matches an action is looked up.
+    pub fn numbered(alloc: Global, world: &'a World) -> Result<Index<'a>, OutOfMemory>
+        ensures { IfOk result (λ index. index ≡ world.entry.now) }
+    {
+        let mut index = Index::sparse(alloc, world)?;
+        index.number(alloc)?;
+        Ok(index)
+    }
+
+    /// Numbers the action elements of the listed statements.
+    fn number(&mut self, alloc: Global) -> Result<(), OutOfMemory>
+        ensures { self.new ≡ self.old }
+    {
+        let elements = &self.elements;
+        let orgs = org_numbers(alloc, elements, self.orgs.orgs.as_slice())?;
+        let requesters = list_numbers(alloc, elements, self.requesters.as_slice())?;
+        let resources = list_numbers(alloc, elements, self.resources.lists.as_slice())?;
+        self.org_numbers = orgs;
+        self.requester_numbers = requesters;
+        self.resource_numbers = resources;
+        Ok(())
     }
 
     /// Finds which resources the resource elements match, which of them are alike, and the keys that they give. Where memory is
@@ -142,12 +177,59 @@ impl<'a> Index<'a> {
             → IfOk result (λ candidates. AreCandidates (action ∷ []) (placed applicable) (map placed_value candidates.items)) }
         ensures act { (action : List ℕ) → IsAction self.now a action → IfOk result (λ candidates. AllAct action candidates.items) }
     {
-        let action = self.world.action_text(a);
         let mut candidates = Vec::new(alloc);
-        add_candidates(&mut candidates, self.org(p).statements.as_slice(), action)?;
-        add_candidates(&mut candidates, self.resource_statements(r), action)?;
-        add_candidates(&mut candidates, self.requester(p), action)?;
+        self.add_org(&mut candidates, p, a)?;
+        self.add_resource(&mut candidates, r, a)?;
+        self.add_requester(&mut candidates, p, a)?;
         Ok(candidates)
+    }
+
+    /// Adds the candidates for action a among the statements of the organisation that binds principal p.
+    fn add_org(&self, candidates: &mut Vec<Standing<'a>>, p: u64, a: u64) -> Result<(), OutOfMemory>
+        requires principal { p < length self.now.principals }
+        requires action { a < length self.now.actions }
+        ensures { OnOk result ((listed : List Standing) × ListsOrg self.now p listed × AddsAt self.now a listed candidates.old.items candidates.new.items) }
+    {
+        let number = self.orgs.numbers[p as usize];
+        let statements = self.orgs.orgs[number].statements.as_slice();
+        let numbers = numbers_at(self.org_numbers.as_slice(), number);
+        let action = self.world.action_text(a);
+        add_candidates(candidates, &self.elements, statements, numbers, a, action)
+    }
+
+    /// Adds those among the statements that stand with resource r.
+    fn add_resource(
+        &self,
+        candidates: &mut Vec<Standing<'a>>,
+        r: u64,
+        a: u64,
+    ) -> Result<(), OutOfMemory>
+        requires action { a < length self.now.actions }
+        requires resource { r < length self.now.resources }
+        ensures { OnOk result ((listed : List Standing) × ListsResource self.now r listed × AddsAt self.now a listed candidates.old.items candidates.new.items) }
+    {
+        let number = self.resources.number(r);
+        let statements = self.resources.statements(number);
+        let numbers = numbers_at(self.resource_numbers.as_slice(), number);
+        let action = self.world.action_text(a);
+        add_candidates(candidates, &self.elements, statements, numbers, a, action)
+    }
+
+    /// Adds those among the statements of principal p.
+    fn add_requester(
+        &self,
+        candidates: &mut Vec<Standing<'a>>,
+        p: u64,
+        a: u64,
+    ) -> Result<(), OutOfMemory>
+        requires principal { p < length self.now.principals }
+        requires action { a < length self.now.actions }
+        ensures { OnOk result ((listed : List Standing) × ListsRequester self.now p listed × AddsAt self.now a listed candidates.old.items candidates.new.items) }
+    {
+        let statements = self.requesters[p as usize].statements.as_slice();
+        let numbers = numbers_at(self.requester_numbers.as_slice(), p as usize);
+        let action = self.world.action_text(a);
+        add_candidates(candidates, &self.elements, statements, numbers, a, action)
     }
 
     /// What is listed for all requests of principal p. Resources are alike where it is known of each of its statements which of them it
@@ -222,14 +304,6 @@ impl<'a> Index<'a> {
         &self.orgs.orgs[number]
     }
 
-    /// The statements of principal p.
-    fn requester(&self, p: u64) -> &[Standing<'a>]
-        requires { p < length self.now.principals }
-        ensures { ListsRequester self.now p result.now }
-    {
-        self.requesters[p as usize].statements.as_slice()
-    }
-
     /// The statements that stand with resource r.
     pub fn resource_statements(&self, r: u64) -> &[Standing<'a>]
         requires { r < length self.now.resources }
@@ -247,18 +321,20 @@ impl<'a> Index<'a> {
     }
 }
 
-/// Adds those of the statements whose action element matches the action.
+/// Adds those of the statements, whose action elements have these numbers, whose action element matches action a, which has this text.
 fn add_candidates<'a>(
     candidates: &mut Vec<Standing<'a>>,
+    elements: &Elements<'_>,
     statements: &[Standing<'a>],
+    numbers: &[Option<usize>],
+    a: u64,
     action: &str,
 ) -> Result<(), OutOfMemory>
-    ensures are { OnOk result ((before : List Placed) → AreCandidates (action.now ∷ []) before (map placed_value candidates.old.items)
-        → AreCandidates (action.now ∷ []) (before ++ map placed_value statements.now) (map placed_value candidates.new.items)) }
-    ensures act { OnOk result (AllAct action.now candidates.old.items → AllAct action.now candidates.new.items) }
+    ensures { (world : WorldValue) → AreElements world elements.now.elements.items → AreNumbered elements.now.elements.items statements.now numbers.now
+        → IsAction world a action.now → OnOk result (Adds action.now statements.now candidates.old.items candidates.new.items) }
 {
-    for &standing in statements {
-        if action_matches(standing.statement.action(), action) {
+    for (i, &standing) in statements.iter().enumerate() {
+        if acts_at(elements, numbers, i, standing, a, action) {
             candidates.push(standing)?;
         }
     }

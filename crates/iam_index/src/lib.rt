@@ -7,6 +7,7 @@ mod index;
 mod known;
 mod list_rows;
 mod lists;
+mod numbers;
 mod parts;
 mod signs;
 mod texts;

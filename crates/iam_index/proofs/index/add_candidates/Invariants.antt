@@ -1,12 +1,12 @@
-use Rattle.std.proofs.Common.{◌++◌, ◌∷◌, [], List, map, take}
-use Rattle.iam_decision.specs.Code.Scan.{placed_value}
-use Rattle.iam_decision.specs.Living.{AreCandidates}
-use Rattle.iam_decision.specs.Matched.{Placed}
-use Rattle.iam_index.specs.Index.{AllAct}
+use Rattle.std.proofs.Common.{take}
+use Rattle.iam_layers.specs.Cell.{IsAction}
+use Rattle.iam_world.specs.World.{WorldValue}
+use Rattle.iam_index.specs.Elements.{AreElements}
+use Rattle.iam_index.specs.Index.{Adds}
+use Rattle.iam_index.specs.Numbers.{AreNumbered}
 use Rattle.iam_index.proofs.index.add_candidates.Given as goal
 
-abbrev pub invariant-loop-standing : goal.invariant-loop-standing
-invariant-loop-standing l =
-    ((before : List Placed) → AreCandidates (l.action ∷ []) before (map placed_value l.initial.candidates.items)
-    → AreCandidates (l.action ∷ []) (before ++ map placed_value (take l.standing-index l.statements)) (map placed_value l.candidates.items))
-    × (AllAct l.action l.initial.candidates.items → AllAct l.action l.candidates.items)
+abbrev pub invariant-loop-i : goal.invariant-loop-i
+invariant-loop-i l =
+    (world : WorldValue) → AreElements world l.elements.elements.items → AreNumbered l.elements.elements.items l.statements l.numbers
+    → IsAction world l.a l.action → Adds l.action (take l.i l.statements) l.initial.candidates.items l.candidates.items

@@ -1,5 +1,5 @@
 use Rattle.iam_engine.proofs.WalkLemmas.{known_in}
-use Rattle.iam_engine.proofs.walk.rest_matches.Goals as goal
+use Rattle.iam_engine.proofs.cache.rest_matches.Goals as goal
 
 pub rest_matches_with-requires : goal.rest_matches_with-requires
 rest_matches_with-requires c =

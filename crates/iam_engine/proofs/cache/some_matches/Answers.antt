@@ -1,6 +1,6 @@
 use Rattle.std.proofs.Common.{◌∙◌, arith, sym}
 use Rattle.iam_engine.proofs.KnownLemmas.{Differs, all_differ, one_more}
-use Rattle.iam_engine.proofs.known.some_matches.Goals as goal
+use Rattle.iam_engine.proofs.cache.some_matches.Goals as goal
 
 pub loop-text-preserved : goal.loop-text-preserved
 loop-text-preserved c = (

@@ -3,7 +3,7 @@ use Rattle.std.proofs.Common.{◌↔◌, IsTrue, Option, not, subst}
 use Rattle.iam_element.specs.Reading.{ResourceElement}
 use Rattle.iam_match.specs.Statement.{ResourceMatches}
 use Rattle.iam_engine.proofs.KnownLemmas.{element_told}
-use Rattle.iam_engine.proofs.known.known_match.Goals as goal
+use Rattle.iam_engine.proofs.cache.known_match.Goals as goal
 
 pub returns-clause-known : goal.returns-clause-known
 returns-clause-known c = λ context.

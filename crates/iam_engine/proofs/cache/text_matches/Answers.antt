@@ -1,5 +1,5 @@
 use Rattle.iam_engine.proofs.KnownLemmas.{pattern_tells}
-use Rattle.iam_engine.proofs.known.text_matches.Goals as goal
+use Rattle.iam_engine.proofs.cache.text_matches.Goals as goal
 
 pub returns-in-Fixed-clause-told : goal.returns-in-Fixed-clause-told
 returns-in-Fixed-clause-told c = λ context.
