@@ -1,5 +1,5 @@
 // What an engine keeps: the classes of pairs, the acts of action elements, and verdicts by their numbers.
-ghost use Rattle.std.specs.Prelude.{◌≡◌, ◌<◌, ◌≤◌, ◌+◌, ◌*◌, [], IfOk, ℕ, IfSome, OnOk, Some, false, length, true};
+ghost use Rattle.std.specs.Prelude.{◌≡◌, ◌<◌, ◌≤◌, ◌+◌, ◌*◌, [], IfOk, ℕ, IfSome, None, OnOk, Some, false, length, true};
 ghost use Rattle.iam_slots.specs.Slots.{AreEmpty};
 ghost use Rattle.iam_classes.specs.Memo.{ArePairs, FindsAlike, HasClass, HasMore, HasNumber, HasRuling, HasShared, HasVerdict, HasSigned, IsFreeFor, IsSameMemo, IsSign, IsRight, MemoValue};
 
@@ -104,7 +104,7 @@ impl<'a> Model for Memo<'a> {
 impl<'a> Memo<'a> {
     ghost use Rattle.std.specs.List.{slice_get};
     ghost use Rattle.iam_layers.specs.Cell.{IsAction, IsSharedAt, IsVerdictAt};
-    ghost use Rattle.iam_classes.specs.Batches.{IsBatch};
+    ghost use Rattle.iam_classes.specs.Batches.{IsBatch, RowsTell};
     ghost use Rattle.iam_classes.specs.declared.memo.Class.{Class};
 
     /// A memo of the world of an index, one of so many that share the bounds, which keeps nothing yet.
@@ -362,11 +362,12 @@ impl<'a> Memo<'a> {
         keep_signed(&mut self.signs, class, word, number);
     }
 
-    /// What is decided on requests of the class for the batch of actions of this number, where the rows of its statements tell.
+    /// What is decided on requests of the class for the batch of actions of this number, where the rows of its statements tell; `None` only where they do not.
     pub fn decided(&self, class: usize, number: u64) -> Option<Decided>
         requires actions { 64 * number < length self.now.world.actions }
         requires class { class < length self.now.classes }
-        ensures { IfSome result (IsBatch self.now.world self.now.classes class number) }
+        ensures some { IfSome result (IsBatch self.now.world self.now.classes class number) }
+        ensures none { (it : Class) → slice_get self.now.classes class ≡ Some it → result ≡ None → ¬ RowsTell self.now.world it number }
     {
         let actions = self.world.actions();
         let from = number * TOGETHER;

@@ -9,4 +9,4 @@ returns-clause-right c =
     let batch : Batch = record { class = c.args.class; number = c.args.number; decided = c.in_ok-decided.decided } in
     let P : Batch → Type 0 = λ b. IsBatch memo.world memo.classes b.class b.number b.decided in
     all_gained P c.make_room.new.self.slots.items c.keep.new.slots.items batch c.keep.ensures.gains
-    (c.make_room.ensures memo.world memo.classes c.requires.right) c.in_ok-decided.ensures
+    (c.make_room.ensures memo.world memo.classes c.requires.right) c.in_ok-decided.ensures.some
