@@ -8,4 +8,6 @@ mod crew;
 #[cfg(test)]
 mod lanes;
 #[cfg(test)]
+mod rules;
+#[cfg(test)]
 mod work;

@@ -5,7 +5,7 @@ use crate::engine::{Decides, EACH, Way, answers_all};
 use crate::matrix::HOME;
 use iam_context::{ContextFault, KeyName, Part, Values};
 use iam_engine::{Engine, Index};
-use iam_layers::{Decision, Verdict, World};
+use iam_layers::{Decision, Layer, Place, Verdict, World};
 use iam_text::Text;
 use std::alloc::Global;
 use std::test::Fail;
@@ -100,8 +100,12 @@ fn are_plain(
     requires few { capacity ≤ 65536 }
 {
     let world = World::read(alloc, document.as_bytes())?;
-    let index = Index::build(alloc, &world)?;
-    are_plain_by(alloc, &index, cells, capacity, from, apart)
+    let built = Index::build(alloc, &world)?;
+    let numbered = Index::numbered(alloc, &world)?;
+    Ok(
+        are_plain_by(alloc, &built, cells, capacity, from, apart)?
+            && are_plain_by(alloc, &numbered, cells, capacity, from, apart)?,
+    )
 }
 
 fn are_plain_by(
@@ -196,6 +200,45 @@ fn cells_in_any_order_with_a_cache_of_one(rt: HostRuntime) -> Result<(), Fail> {
 #[test]
 fn cells_asked_again(rt: HostRuntime) -> Result<(), Fail> {
     assert!(rt; answers(rt.alloc(), Way::Both, &EACH)?);
+    Ok(())
+}
+
+/// What a new engine, which is asked for nothing else, says of the first cell of a world: its verdict, or its decision alone.
+fn first_verdict(alloc: Global, index: &Index<'_>) -> Result<Option<Verdict>, Fail> {
+    let mut engine = Engine::new(alloc, index.world(), index, 1024)?;
+    engine.verdict_on(alloc, 0)
+}
+
+fn first_decision(alloc: Global, index: &Index<'_>) -> Result<Option<Decision>, Fail> {
+    let mut engine = Engine::new(alloc, index.world(), index, 1024)?;
+    engine.decision_on(alloc, 0)
+}
+
+/// Whether a verdict is an explicit deny by the second and the third statement of the first identity policy.
+fn is_denied_twice(verdict: &Verdict) -> bool {
+    let places = verdict.statements.as_slice();
+    verdict.decision == Decision::ExplicitDeny
+        && verdict.lacks.as_slice().is_empty()
+        && places.len() == 2
+        && is_identity(places[0], 1)
+        && is_identity(places[1], 2)
+}
+
+fn is_identity(place: Place, statement: u32) -> bool {
+    place.layer == Layer::Identity && place.policy == 0 && place.statement == statement
+}
+
+#[test]
+fn a_deny_decides_in_full_and_in_brief(rt: HostRuntime) -> Result<(), Fail> {
+    let alloc = rt.alloc();
+    let world = World::read(alloc, DENIES.as_bytes())?;
+    for index in [
+        Index::build(alloc, &world)?,
+        Index::numbered(alloc, &world)?,
+    ] {
+        assert!(rt; first_verdict(alloc, &index)?.is_some_and(|verdict| is_denied_twice(&verdict)));
+        assert!(rt; first_decision(alloc, &index)? == Some(Decision::ExplicitDeny));
+    }
     Ok(())
 }
 
