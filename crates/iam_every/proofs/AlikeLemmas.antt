@@ -1,10 +1,9 @@
 -- On resources of texts that are alike the same statements decide, or others of their groups.
-use Rattle.std.proofs.Common.{◌≡◌, ◌⊎◌, inl, inr, ◌↔◌, ◌<◌, ◌≤◌, ℕ, All, Any, Bool, true, false, List, MatchBool, Option, None, Some, IsSome, length, get_or, refl, sym, subst, ◌∙◌}
+use Rattle.std.proofs.Common.{◌≡◌, inl, inr, ◌↔◌, ◌<◌, ◌≤◌, ℕ, All, Any, Bool, true, false, List, MatchBool, Option, None, Some, IsSome, length, get_or, refl, sym, subst, ◌∙◌}
 use Rattle.iam_context.specs.Context.{ContextValue}
 use Rattle.iam_context.specs.Resolve.{resolved}
 use Rattle.iam_element.specs.Reading.{ResourceElement}
-use Rattle.iam_policy.specs.declared.effect.Effect.{Effect}
-use Rattle.iam_policy.specs.declared.effect.Effect.TheVariants.{Allow, Deny}
+use Rattle.iam_policy.specs.declared.effect.Effect.TheVariants.{Allow}
 use Rattle.iam_match.specs.Principal.{grant_of, rank}
 use Rattle.iam_match.specs.Statement.{AccessValue, ActionMatches, RequestValue, ResourceMatches, TextMatches}
 use Rattle.iam_match.specs.declared.principal.Grant.{Grant}
@@ -174,7 +173,7 @@ any_map : {X : Type 0} (P Q : X → Type 0) → ((x : X) → P x → Q x) → (x
 any_map P Q on xs (k, x, below, at, p) = (k, x, below, at, on x p)
 
 -- the same of the texts the other way round
-turned : (a : ApplicableValue) (access : AccessValue) (action one other : List ℕ) → AreAlike a access action one other → AreAlike a access action other one
+pub turned : (a : ApplicableValue) (access : AccessValue) (action one other : List ℕ) → AreAlike a access action one other → AreAlike a access action other one
 turned a access action one other alike = record {
   denies = (alike.denies.1, alike.denies.0);
   allows = λ layer level. ((alike.allows layer level).1, (alike.allows layer level).0);

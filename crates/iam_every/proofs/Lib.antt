@@ -1,1 +1,15 @@
+mod ActionLemmas
 mod AlikeLemmas
+mod AtLemmas
+mod GroupLemmas
+mod LineLemmas
+mod ListLemmas
+mod MatchLemmas
+mod MeantLemmas
+mod MemberLemmas
+mod NamesLemmas
+mod ReportLemmas
+mod RowLemmas
+mod SideLemmas
+mod TextLemmas
+mod WalkLemmas

@@ -1,1 +1,7 @@
 pub mod Alike
+pub mod Code
+pub mod Elements
+pub mod Every
+pub mod Groups
+pub mod Names
+pub mod Report

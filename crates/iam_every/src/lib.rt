@@ -1,6 +1,34 @@
 //! Requests for all names: the kinds of actions and of texts of resources that the decisions of a principal tell apart.
 #![tactic(auto)]
 
+mod actions;
+mod asked;
+mod concerned;
+mod crew;
+mod given;
+mod groups;
 mod laws;
+mod lines;
+mod meant;
+mod pattern;
+mod report;
+mod row_text;
+mod rows;
+mod text;
+mod texts;
+mod verdict;
 
-pub use laws::{alike_actions_decide_alike, alike_texts_decide_alike};
+pub use actions::{action_groups, action_kinds};
+pub use asked::{Asked, Line, Which};
+pub use groups::{Side, text_groups};
+pub use laws::{
+    alike_actions_at_decide_alike, alike_actions_decide_alike, alike_names_decide_alike,
+    alike_texts_decide_alike,
+};
+pub use meant::meant_actions;
+pub use pattern::{Pattern, add_patterns};
+pub use report::{EveryFault, every_report};
+pub use rows::{Row, rows_of};
+pub use text::EveryText;
+pub use texts::text_kinds;
+pub use verdict::verdict_on;

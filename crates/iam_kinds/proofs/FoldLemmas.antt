@@ -12,6 +12,7 @@ use Rattle.std.specs.Global.{Vec}
 use Rattle.std.specs.Int.{is_in_range}
 use Rattle.std.specs.List.{Contains, list_all}
 use Rattle.std.specs.Str.{chars}
+use Rattle.std.specs.String.{string_bytes}
 use Rattle.iam_glob.specs.Glob.{Matches, folded, sign_by}
 use Rattle.iam_glob.specs.declared.sign.Sign.{Sign}
 use Rattle.iam_glob.specs.declared.signs.Signs.{Signs}
@@ -248,5 +249,5 @@ answer_folded grammar other within groups named kinds e a =
     (subst (λ q. IsAnswer q kinds) (asked_folded grammar within groups named) (subst (λ g. IsAnswer (question_in true g within groups named) kinds) e a))
   where
     by_kinds : (question : Question) (kinds : Kinds) → IsAnswer (folded_question question) kinds → IsAnswerFold question kinds
-    by_kinds question (Shown texts) a = (kinds_fold question (map (λ text. text.items) texts.items) a.0, a.1)
+    by_kinds question (Shown texts) a = (kinds_fold question (map (λ text. chars (string_bytes text)) texts.items) a.0, a.1)
     by_kinds question NotShown a = a

@@ -3,6 +3,7 @@ use Rattle.std.specs.Prelude.{ℕ, Bool, true, false, List, map}
 use Rattle.std.specs.Borrow.{Bor}
 use Rattle.std.specs.Global.{Vec}
 use Rattle.std.specs.Str.{chars}
+use Rattle.std.specs.String.{string_bytes}
 use Rattle.iam_glob.specs.Glob.{folded, sign_by}
 use Rattle.iam_glob.specs.Signs.{signs_in}
 use Rattle.iam_glob.specs.declared.sign.Sign.{Sign}
@@ -33,13 +34,13 @@ question_in fold grammar within groups named = record {
 
 -- the texts that are shown are one of each kind, and no limit is passed; or one is
 abbrev pub IsAnswer : Question → Kinds → Type 0
-IsAnswer question (Shown texts) = AreKinds question (map (λ text. text.items) texts.items) × ¬ PassesLimit question
+IsAnswer question (Shown texts) = AreKinds question (map (λ text. chars (string_bytes text)) texts.items) × ¬ PassesLimit question
 IsAnswer question NotShown = PassesLimit question
 
 -- the same without regard to case: what is counted are the states and kinds of folded patterns
 abbrev pub IsAnswerFold : Question → Kinds → Type 0
 IsAnswerFold question (Shown texts) =
-    AreKindsFold question (map (λ text. text.items) texts.items) × ¬ PassesLimit (folded_question question)
+    AreKindsFold question (map (λ text. chars (string_bytes text)) texts.items) × ¬ PassesLimit (folded_question question)
 IsAnswerFold question NotShown = PassesLimit (folded_question question)
 
 -- patterns with the numbers of their groups

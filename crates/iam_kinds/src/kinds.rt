@@ -1,6 +1,7 @@
 // One text of each kind.
 ghost use Rattle.std.specs.Prelude.{false, ◌≡◌, ◌+◌, ◌++◌, ◌∷◌, [], IfOk, OnOk, ◌<◌, ◌^◌, length, map};
 ghost use Rattle.std.specs.Str.{chars};
+ghost use Rattle.std.specs.String.{string_bytes};
 ghost use Rattle.iam_glob.specs.Glob.{folded, sign_by};
 ghost use Rattle.iam_glob.specs.Signs.{signs_in};
 ghost use Rattle.iam_kinds.specs.Answers.{IsAnswer, IsAnswerFold, characters_in, pairs_of, question_in, signs_of};
@@ -18,9 +19,9 @@ use std::alloc::Global;
 /// One text of each kind.
 #[derive(Debug, Drop)]
 pub enum Kinds {
-    /// These texts, each by its characters: no text of its kind is shorter, and they stand in order of their lengths, those of one
-    /// length by code points.
-    Shown(Vec<Vec<char>>),
+    /// These texts: no text of its kind has fewer characters, and they stand in order of their numbers of characters, those of one
+    /// number by code points.
+    Shown(Vec<String>),
     /// There are more than 65,536 states, 4,096 kinds or 4,194,304 places in all states.
     NotShown,
 }
@@ -78,7 +79,7 @@ fn found(
     };
     let found = find_texts(alloc, &asked)?;
     match found {
-        Some(texts) => Ok(Kinds::Shown(texts)),
+        Some(texts) => Ok(Kinds::Shown(strings_of(alloc, texts.as_slice())?)),
         None => Ok(Kinds::NotShown),
     }
 }
@@ -224,4 +225,26 @@ fn folded_characters(alloc: Global, text: &str) -> Result<Vec<char>, OutOfMemory
     text.chars()
         .map(|character| character.to_ascii_lowercase())
         .collect(alloc)
+}
+
+/// The texts of these characters.
+fn strings_of(alloc: Global, texts: &[Vec<char>]) -> Result<Vec<String>, OutOfMemory>
+    ensures { IfOk result (λ v. map (λ t. chars (string_bytes t)) v.items ≡ map (λ t. t.items) texts.now) }
+{
+    let mut strings = Vec::with_capacity(alloc, texts.len())?;
+    for text in texts {
+        strings.push(string_of(alloc, text)?)?;
+    }
+    Ok(strings)
+}
+
+/// The text of these characters.
+fn string_of(alloc: Global, characters: &[char]) -> Result<String, OutOfMemory>
+    ensures { IfOk result (λ text. chars (string_bytes text) ≡ characters.now) }
+{
+    let mut text = String::with_capacity(alloc, characters.len())?;
+    for &character in characters {
+        text.push(character)?;
+    }
+    Ok(text)
 }

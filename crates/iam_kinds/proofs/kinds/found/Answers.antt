@@ -1,6 +1,7 @@
-use Rattle.std.proofs.Common.{◌≡◌, ◌+◌, ◌∙◌, ap, drop, length, map, refl, sym}
+use Rattle.std.proofs.Common.{◌≡◌, ◌+◌, ◌∙◌, ap, drop, length, map, refl, subst, sym}
 use Rattle.std.proofs.lemmas.List.{length-map}
 use Rattle.iam_kinds.specs.Answers.{question_in, signs_of}
+use Rattle.iam_kinds.specs.Kinds.{AreKinds}
 use Rattle.iam_kinds.specs.Walk.{Query}
 use Rattle.iam_kinds.proofs.AnswerLemmas.{are_kinds, both_added, is_machine, is_question, is_ready, passes}
 use Rattle.iam_kinds.proofs.kinds.found.Goals as goal
@@ -32,7 +33,8 @@ returns-in-Some c =
     let is = is_question q c.in_ok-table.table.patterns.items table.0 patterns count (length c.args.within.now) c.args.grammar texts table.1 table.2 pairs many refl named in
     let machine = is_machine q c.in_ok-table.table.patterns.items table.0 patterns count c.args.grammar table.1 table.2 pairs
     (ap (λ n. n + length c.args.groups.now) many ∙ ap (λ n. length q.within + n) groups) refl in (
-      are_kinds q query _ is (rw c.in-Some.is at c.in_ok-found.ensures.some),
+      subst (AreKinds q) (sym (c.in_ok-strings_of-in-Some.ensures ∙ ap (λ l. map (λ t. t.items) l) c.as_slice.ensures.value))
+          (are_kinds q query (map (λ t. t.items) c.in-Some.texts.items) is (rw c.in-Some.is at c.in_ok-found.ensures.some)),
       λ past. (rw c.in-Some.is at c.in_ok-found.ensures.within) ((passes q query _ is machine).1 past),
     )
 

@@ -1,0 +1,376 @@
+-- One action of each kind is decided like each that the pattern matches.
+use Rattle.std.proofs.Common.{◌≡◌, ◌⊎◌, inl, inr, ◌↔◌, ◌<◌, ◌+◌, ◌∷◌, ◌++◌, [], ℕ, Bool, true, false, ◌&&◌, List, Option, None, Some, ◌∙◌, All, Any, Contains, arith, ap, chars, get_or, length, map, refl, subst, sym, take, string_bytes, String}
+use Rattle.std.proofs.lemmas.List.{length-map, map-append, take_more}
+use Rattle.std.proofs.lemmas.List.Elements.{All-contains, All-push, All-take, Contains-append_cases, Contains-append_left, Contains-append_right, Contains-get_or, Contains-push_cases}
+use Rattle.std.proofs.lemmas.Bool.{cases_lt}
+use Rattle.std.proofs.lemmas.Option.{get_or_from_slice_get, slice_get-get_or, slice_get_within}
+use Rattle.std.proofs.lemmas.Str.{IsUtf8-string_bytes, scalars-chars}
+use Rattle.std.proofs.Math.Utf8.{scalar, scalars}
+use Rattle.std.specs.Global.{Global}
+use Rattle.std.specs.List.{slice_get}
+use Rattle.std.specs.Option.{option_to_list}
+use Rattle.std.specs.Str.{IsUtf8}
+use Rattle.std.specs.Char.{IsScalar}
+use Rattle.iam_glob.specs.Glob.{Matches, MatchesFold, folded}
+use Rattle.iam_glob.specs.declared.sign.Sign.{Sign}
+use Rattle.iam_kinds.specs.Kinds.{AreKindsFold, IsText, folded_question}
+use Rattle.iam_kinds.specs.States.{PassesLimit}
+use Rattle.iam_match.specs.Statement.{ActionMatches}
+use Rattle.iam_decision.specs.Applicable.{ApplicableValue, IsNumbered, value_of}
+use Rattle.iam_decision.specs.declared.applicable.Applicable.{Applicable}
+use Rattle.iam_decision.specs.Code.Scan.{requester_placed}
+use Rattle.iam_decision.specs.Matched.{Placed, in_layer, in_level, placed}
+use Rattle.iam_decision.specs.declared.place.Layer.TheVariants.{Org, Control, Resource}
+use Rattle.iam_world.specs.World.{PrincipalValue, ResourceValue, WorldValue}
+use Rattle.iam_layers.specs.Applicable.{applicable_of}
+use Rattle.iam_layers.specs.Cell.{IsResource}
+use Rattle.iam_layers.specs.Unnamed.{AreUnnamedPolicies, IsSaid as IsSaidOf, IsThere, bare_resource}
+use Rattle.iam_layers.specs.declared.unnamed.Unnamed.{Unnamed}
+use Rattle.iam_layers.specs.declared.unnamed.Unnamed.TheVariants.{Like, Of}
+use Rattle.iam_every.specs.Alike.{AreAlikeActions}
+use Rattle.iam_every.specs.Code.Meant.{AreMore, AreSaid, CoverAll, Covers, IsOfFirst, IsPlain}
+use Rattle.iam_every.specs.Every.{ActionsPass, AreActions, AreThere, EveryValue, IsMeantBy, IsSaid, LineValue, Says, line_of}
+use Rattle.iam_every.specs.declared.asked.Line.{Line}
+use Rattle.iam_every.specs.Names.{AgreeOnFold, AreActionGroups, action_question}
+use Rattle.iam_every.proofs.ListLemmas.{first_or, here, mapped, none, of_mapped}
+use Rattle.iam_every.proofs.NamesLemmas.{alike_actions_by, one_some, policies_at}
+
+-- ---- members of lists
+at_contains : {X : Type 0} (xs : List X) (i : ℕ) (x : X) → slice_get xs i ≡ Some x → Contains xs x
+at_contains xs i x at = (i, slice_get_within xs i x at, get_or_from_slice_get xs i x x at)
+
+pub all_members : {X : Type 0} (P : X → Type 0) (xs : List X) → ((x : X) → Contains xs x → P x) → All P xs
+all_members P xs each k d below = each (get_or xs k d) (Contains-get_or xs k d below)
+
+-- one more of the first i
+pub take_next : (xs texts : List (List ℕ)) (i : ℕ) (text copy : List ℕ) → texts ≡ take i xs → slice_get xs i ≡ Some text → copy ≡ text
+    → texts ++ copy ∷ [] ≡ take (i + 1) xs
+take_next xs texts i text copy all at same =
+    ap (λ l. l ++ copy ∷ []) all ∙ ap (λ t. take i xs ++ t ∷ []) (same ∙ sym (get_or_from_slice_get xs i text text at))
+    ∙ sym (take_more xs i text (slice_get_within xs i text at))
+
+-- ---- what is said
+-- where a line says something of a text, it is said
+says_said : (every : EveryValue) (text : List ℕ) (unnamed : Unnamed) → Says every text unnamed → IsSaid every unnamed
+says_said every text unnamed (k, line, first, told) = elim told [
+  | inl (r, (resource, at, arn), is) ↦
+      let matches : Matches line.pattern (chars resource.arn) = subst (λ (t : List ℕ). Matches line.pattern (chars t)) (sym arn) first.matches in
+      let (i, below, is_at) = at_contains every.lines k line first.at in
+      inr (r, (resource, at, (i, line, below, is_at, matches)), is)
+  | inr (unknown, is) ↦ let (i, below, is_at) = at_contains every.lines k line first.at in inl (i, line, below, is_at, is)
+]
+
+-- resources of which something is said are there
+said_there : (every : EveryValue) (unnamed : Unnamed) → AreThere every → IsSaid every unnamed → IsThere every.world unnamed
+said_there every unnamed there said = elim said [
+  | inl (k, line, below, at, is) ↦
+      subst (IsThere every.world) (sym is) (All-contains (λ (line : LineValue). IsThere every.world line.unnamed) every.lines line there (k, below, at))
+  | inr (r, (resource, at, some), is) ↦ subst (IsThere every.world) (sym is) (slice_get_within every.world.resources r resource at)
+]
+
+pub all_there : (every : EveryValue) (said : List Unnamed) → AreThere every → AreSaid every said → All (IsThere every.world) said
+all_there every said there are = all_members (IsThere every.world) said (λ unnamed among. said_there every unnamed there ((are unnamed).0 among))
+
+-- ---- what is said of the first n resources
+pub any_mapped : {X Y : Type 0} (f : X → Y) (P : Y → Type 0) (xs : List X) → Any (λ x. P (f x)) xs ↔ Any P (map f xs)
+any_mapped {X} {Y} f P xs = (
+  λ (k, x, below, at, holds). let (i, inside, is) = mapped f x xs (k, below, at) in (i, f x, inside, is, holds),
+  λ (k, y, below, at, holds).
+      let (x, (i, inside, is), same) = of_mapped f y xs (k, below, at) in (i, x, inside, is, subst P (sym same) holds),
+)
+
+none_first : (world : WorldValue) (lines : List LineValue) (unnamed : Unnamed) → ¬ IsOfFirst world lines 0 unnamed
+none_first world lines unnamed (r, below, matched, is) = omega arith
+
+pub more_none : (world : WorldValue) (lines : List LineValue) (said : List Unnamed) → AreMore world lines 0 said said
+more_none world lines said unnamed = (
+  λ among. inl among,
+  λ either. elim either [ inl among ↦ among | inr first ↦ absurd (none_first world lines unnamed first) ],
+)
+
+-- one more
+first_more : (world : WorldValue) (lines : List LineValue) (n : ℕ) (unnamed : Unnamed) → IsOfFirst world lines n unnamed → IsOfFirst world lines (n + 1) unnamed
+first_more world lines n unnamed (r, below, matched, is) = (r, omega (arith, below), matched, is)
+
+IsMatchedAt : WorldValue → List LineValue → ℕ → Type 0
+IsMatchedAt world lines r = IsResource world r (λ resource. Any (λ line. Matches line.pattern (chars resource.arn)) lines)
+
+first_cases : (world : WorldValue) (lines : List LineValue) (n : ℕ) (unnamed : Unnamed) → IsOfFirst world lines (n + 1) unnamed
+    → IsOfFirst world lines n unnamed ⊎ (IsMatchedAt world lines n × (unnamed ≡ Like n))
+unfolding IsMatchedAt
+first_cases world lines n unnamed (r, below, matched, is) = elim (cases_lt r n) [
+  | inl before ↦ inl (r, before, matched, is)
+  | inr not ↦
+      let same : r ≡ n = omega (arith, below, not) in
+      inr (
+        subst (λ (k : ℕ). IsResource world k (λ resource. Any (λ line. Matches line.pattern (chars resource.arn)) lines)) same matched,
+        is ∙ ap Like same,
+      )
+]
+
+pub more_added : (world : WorldValue) (lines : List LineValue) (n : ℕ) (old new : List Unnamed) → AreMore world lines n old new
+    → IsResource world n (λ resource. Any (λ line. Matches line.pattern (chars resource.arn)) lines)
+    → AreMore world lines (n + 1) old (new ++ Like n ∷ [])
+unfolding IsMatchedAt
+more_added world lines n old new are matched unnamed = (
+  λ among. elim (Contains-push_cases new (Like n) unnamed among) [
+    | inl before ↦ elim ((are unnamed).0 before) [ inl was ↦ inl was | inr first ↦ inr (first_more world lines n unnamed first) ]
+    | inr is ↦ inr (n, omega arith, matched, sym is)
+  ],
+  λ either. elim either [
+    | inl was ↦ Contains-append_left new (Like n ∷ []) unnamed ((are unnamed).1 (inl was))
+    | inr first ↦ elim (first_cases world lines n unnamed first) [
+      | inl before ↦ Contains-append_left new (Like n ∷ []) unnamed ((are unnamed).1 (inr before))
+      | inr last ↦ Contains-append_right new (Like n ∷ []) unnamed (subst (Contains (Like n ∷ [])) (sym last.1) (here (Like n) []))
+    ]
+  ],
+)
+
+pub more_kept : (world : WorldValue) (lines : List LineValue) (n : ℕ) (old new : List Unnamed) → AreMore world lines n old new
+    → ¬ IsResource world n (λ resource. Any (λ line. Matches line.pattern (chars resource.arn)) lines) → AreMore world lines (n + 1) old new
+unfolding IsMatchedAt
+more_kept world lines n old new are unmatched unnamed = (
+  λ among. elim ((are unnamed).0 among) [ inl was ↦ inl was | inr first ↦ inr (first_more world lines n unnamed first) ],
+  λ either. elim either [
+    | inl was ↦ (are unnamed).1 (inl was)
+    | inr first ↦ elim (first_cases world lines n unnamed first) [
+      | inl before ↦ (are unnamed).1 (inr before)
+      | inr last ↦ absurd (unmatched last.0)
+    ]
+  ],
+)
+
+told : (lines : List Line) → map (λ (line : Line). line.unnamed) lines ≡ map (λ (line : LineValue). line.unnamed) (map line_of lines)
+told [] = refl
+told (line ∷ lines) = ap (λ rest. line.unnamed ∷ rest) (told lines)
+
+pub said_lines : (lines : List Line) (said : List Unnamed) → said ≡ map (λ (line : Line). line.unnamed) lines
+    → said ≡ map (λ (line : LineValue). line.unnamed) (map line_of lines)
+said_lines lines said is = is ∙ told lines
+
+-- some line matches the resource just where it matches its text
+pub matched_at : (world : WorldValue) (lines : List Line) (r : ℕ) (text : List ℕ) → IsResource world r (λ resource. text ≡ resource.arn)
+    → Any (λ (line : Line). Matches line.pattern.now (chars text)) lines
+    ↔ IsResource world r (λ resource. Any (λ (line : LineValue). Matches line.pattern (chars resource.arn)) (map line_of lines))
+matched_at world lines r text (resource, at, arn) =
+    let both = any_mapped line_of (λ (line : LineValue). Matches line.pattern (chars text)) lines in
+    let P : List ℕ → Type 0 = λ t. Any (λ (line : LineValue). Matches line.pattern (chars t)) (map line_of lines) in (
+      λ some. (resource, at, subst P arn (both.0 some)),
+      λ (other, found, some).
+          let same : other ≡ resource = one_some (slice_get world.resources r) other resource found at in
+          both.1 (subst P (sym (arn ∙ ap (λ (x : ResourceValue). x.arn) (sym same))) some),
+    )
+
+-- what the lines say, and what is said of all resources, is all
+pub all_said : (every : EveryValue) (old new : List Unnamed) → old ≡ map (λ (line : LineValue). line.unnamed) every.lines
+    → AreMore every.world every.lines (length every.world.resources) old new → AreSaid every new
+all_said every old new lines more unnamed = (
+  λ among. elim ((more unnamed).0 among) [
+    | inl was ↦
+        let (line, (k, below, at), is) = of_mapped (λ (line : LineValue). line.unnamed) unnamed every.lines (subst (λ (l : List Unnamed). Contains l unnamed) lines was) in
+        inl (k, line, below, at, sym is)
+    | inr (r, below, matched, is) ↦ inr (r, matched, is)
+  ],
+  λ said. (more unnamed).1 (elim said [
+    | inl (k, line, below, at, is) ↦
+        inl (subst (λ (l : List Unnamed). Contains l unnamed) (sym lines)
+        (subst (Contains (map (λ (line : LineValue). line.unnamed) every.lines)) (sym is)
+        (mapped (λ (line : LineValue). line.unnamed) line every.lines (k, below, at))))
+    | inr (r, (resource, at, some), is) ↦ inr (r, slice_get_within every.world.resources r resource at, (resource, at, some), is)
+  ]),
+)
+
+-- ---- policies that cover others
+-- there is such a resource of each text
+some_said : (world : WorldValue) (unnamed : Unnamed) (text : List ℕ) → IsThere world unnamed
+    → (resource : ResourceValue) × IsSaidOf world unnamed text resource
+some_said world (Like r) text there =
+    let like = get_or world.resources r (bare_resource [] text) in
+    (record like { arn = text }, (like, slice_get-get_or world.resources r (bare_resource [] text) there, refl))
+some_said world (Of account) text there = (bare_resource account.now text, refl)
+
+within : (x c r z : List Placed) (s : Placed) → Contains (x ++ z) s → Contains (x ++ (c ++ (r ++ z))) s
+within x c r z s among = elim (Contains-append_cases x z s among) [
+  | inl first ↦ Contains-append_left x (c ++ (r ++ z)) s first
+  | inr later ↦ Contains-append_right x (c ++ (r ++ z)) s (Contains-append_right c (r ++ z) s (Contains-append_right r z s later))
+]
+
+-- where no policies stand with the resource, each statement is of the organisation or of the principal
+plain_placed : (a : ApplicableValue) → IsPlain a → placed a ≡ in_layer Org a.org ++ requester_placed a
+plain_placed a plain =
+    ap (λ control. in_layer Org a.org ++ (in_layer Control control ++ (in_level Resource 0 (option_to_list a.resource) ++ requester_placed a))) plain.control
+    ∙ ap (λ resource. in_layer Org a.org ++ (in_level Resource 0 (option_to_list resource) ++ requester_placed a)) plain.resource
+
+covers : (a b : ApplicableValue) → ((s : Placed) → Contains (placed b) s → Contains (placed a) s) → Covers a b
+covers a b inside one other alike =
+    all_members (λ (s : Placed). ActionMatches s.statement.action one ↔ ActionMatches s.statement.action other) (placed b)
+    (λ s among.
+    All-contains (λ (s : Placed). ActionMatches s.statement.action one ↔ ActionMatches s.statement.action other) (placed a) s alike (inside s among))
+
+plain_covered : (world : WorldValue) (principal : PrincipalValue) (one other : ResourceValue) (a b : ApplicableValue)
+    → a ≡ applicable_of world principal one → b ≡ applicable_of world principal other → IsPlain b → Covers a b
+plain_covered world principal one other a b a_is b_is plain =
+    let own : ApplicableValue → List Placed = λ x. in_layer Org x.org ++ requester_placed x in
+    let same : own b ≡ own a = ap own b_is ∙ sym (ap own a_is) in
+    covers a b (λ s among.
+    within (in_layer Org a.org) (in_layer Control a.control) (in_level Resource 0 (option_to_list a.resource)) (requester_placed a) s
+    (subst (λ (l : List Placed). Contains l s) (plain_placed b plain ∙ same) among))
+
+pub cover_none : (world : WorldValue) (p : ℕ) → CoverAll world p [] []
+cover_none world p = record { own = λ a among. absurd (none a among); all = λ unnamed among. absurd (none unnamed among) }
+
+-- those of one more
+own_more : (world : WorldValue) (p : ℕ) (said : List Unnamed) (applicables : List ApplicableValue) (unnamed : Unnamed) → CoverAll world p said applicables
+    → (a : ApplicableValue) → Contains applicables a
+    → (u : Unnamed) × Contains (said ++ unnamed ∷ []) u × AreUnnamedPolicies world p u a
+own_more world p said applicables unnamed cover a among =
+    let (u, inside, are) = cover.own a among in (u, Contains-append_left said (unnamed ∷ []) u inside, are)
+
+pub cover_added : (world : WorldValue) (p : ℕ) (said : List Unnamed) (applicables : List ApplicableValue) (unnamed : Unnamed) (b : ApplicableValue)
+    → CoverAll world p said applicables → AreUnnamedPolicies world p unnamed b → CoverAll world p (said ++ unnamed ∷ []) (applicables ++ b ∷ [])
+cover_added world p said applicables unnamed b cover are = record {
+  own = λ a among. elim (Contains-push_cases applicables b a among) [
+    | inl before ↦ own_more world p said applicables unnamed cover a before
+    | inr is ↦ (
+      unnamed,
+      Contains-append_right said (unnamed ∷ []) unnamed (here unnamed []),
+      subst (AreUnnamedPolicies world p unnamed) is are,
+    )
+  ];
+  all = λ u among. elim (Contains-push_cases said unnamed u among) [
+    | inl before ↦
+        let (a, c, inside, are_c, reads) = cover.all u before in (a, c, Contains-append_left applicables (b ∷ []) a inside, are_c, reads)
+    | inr is ↦ (
+      b,
+      b,
+      Contains-append_right applicables (b ∷ []) b (here b []),
+      subst (λ (x : Unnamed). AreUnnamedPolicies world p x b) is are,
+      λ one other alike. alike,
+    )
+  ];
+}
+
+pub cover_kept : (world : WorldValue) (p : ℕ) (said : List Unnamed) (applicables : List ApplicableValue) (unnamed : Unnamed) (b : ApplicableValue)
+    → CoverAll world p said applicables → AreUnnamedPolicies world p unnamed b → All (IsThere world) said → IsThere world unnamed
+    → 0 < length applicables → IsPlain b → CoverAll world p (said ++ unnamed ∷ []) applicables
+cover_kept world p said applicables unnamed b cover (principal, at, each) there is_there some plain =
+    let a = get_or applicables 0 b in
+    let among : Contains applicables a = Contains-get_or applicables 0 b some in
+    let (u, inside, (other, other_at, other_each)) = cover.own a among in
+    let (resource, told) = some_said world unnamed [] is_there in
+    let (further, further_told) = some_said world u [] (All-contains (IsThere world) said u there inside) in
+    let who : other ≡ principal = one_some (slice_get world.principals p) other principal other_at at in
+    let a_is : a ≡ applicable_of world principal further =
+    other_each [] further further_told ∙ ap (λ (x : PrincipalValue). applicable_of world x further) who in
+    let reads = plain_covered world principal further resource a b a_is (each [] resource told) plain in record {
+      own = own_more world p said applicables unnamed cover;
+      all = λ v v_among. elim (Contains-push_cases said unnamed v v_among) [
+        | inl before ↦ cover.all v before
+        | inr is ↦ (a, b, among, subst (λ (x : Unnamed). AreUnnamedPolicies world p x b) is (principal, at, each), reads)
+      ];
+    }
+
+-- the policies that are looked at for the first i of what is said
+abbrev pub Looked : WorldValue → ℕ → List Unnamed → List ApplicableValue → Type 0
+Looked world p said applicables = All IsNumbered applicables × CoverAll world p said applicables
+
+pub looked_added : (world : WorldValue) (p : ℕ) (said : List Unnamed) (i : ℕ) (d : Unnamed) (before : List Applicable) (b : Applicable) → i < length said
+    → Looked world p (take i said) (map value_of before) → AreUnnamedPolicies world p (get_or said i d) (value_of b) → IsNumbered (value_of b)
+    → Looked world p (take (i + 1) said) (map value_of (before ++ b ∷ []))
+looked_added world p said i d before b below (numbered, cover) are is_numbered =
+    let more : Looked world p (take i said ++ get_or said i d ∷ []) (map value_of before ++ value_of b ∷ []) = (
+      All-push IsNumbered (map value_of before) (value_of b) numbered is_numbered,
+      cover_added world p (take i said) (map value_of before) (get_or said i d) (value_of b) cover are,
+    ) in
+    subst (λ (l : List Unnamed). Looked world p l (map value_of (before ++ b ∷ []))) (sym (take_more said i d below))
+    (subst (Looked world p (take i said ++ get_or said i d ∷ [])) (sym (map-append value_of before (b ∷ []))) more)
+
+pub looked_kept : (world : WorldValue) (p : ℕ) (said : List Unnamed) (i : ℕ) (d : Unnamed) (before : List Applicable) (b : Applicable) → i < length said
+    → Looked world p (take i said) (map value_of before) → AreUnnamedPolicies world p (get_or said i d) (value_of b) → All (IsThere world) said
+    → 0 < length before → IsPlain (value_of b) → Looked world p (take (i + 1) said) (map value_of before)
+looked_kept world p said i d before b below (numbered, cover) are there some plain =
+    let many = length-map before value_of in
+    subst (λ (l : List Unnamed). Looked world p l (map value_of before)) (sym (take_more said i d below)) (
+      numbered,
+      cover_kept world p (take i said) (map value_of before) (get_or said i d) (value_of b) cover are (All-take (IsThere world) i said there)
+          (All-contains (IsThere world) said (get_or said i d) there (Contains-get_or said i d below)) (omega (arith, many)) plain,
+    )
+
+-- ---- actions
+both_true : (a b : Bool) → (a && b) ≡ true → (a ≡ true) × (b ≡ true)
+both_true true b e = (refl, e)
+both_true false b e = absurd (let wrong : ⊥ = cc in wrong)
+
+scalar_in : (cs : List ℕ) (c : ℕ) → scalars cs ≡ true → Contains cs c → IsScalar c
+scalar_in [] c all among = absurd (none c among)
+scalar_in (d ∷ cs) c all among = elim (first_or d c cs among) [
+  | inl same ↦ subst IsScalar same (both_true (scalar d) (scalars cs) all).0
+  | inr rest ↦ scalar_in cs c (both_true (scalar d) (scalars cs) all).1 rest
+]
+
+only : (x y : List Sign) → Contains (x ∷ []) y → x ≡ y
+only x y among = elim (first_or x y [] among) [ inl same ↦ same | inr rest ↦ absurd (none y rest) ]
+
+is_text : (action : List ℕ) → IsUtf8 action → IsText (chars action)
+is_text action utf8 c among = scalar_in (chars action) c (scalars-chars action utf8) among
+
+-- the bytes of a string
+abbrev pub bytes_of : String Global → List ℕ
+bytes_of text = string_bytes text
+
+pub are_actions : (every : EveryValue) (p : ℕ) (pattern : List Sign) (said : List Unnamed) (applicables : List ApplicableValue)
+    (groups : List (List (List Sign))) (texts : List (String Global)) → every.actions ≡ Some pattern → AreSaid every said
+    → CoverAll every.world p said applicables → AreActionGroups applicables groups
+    → AreKindsFold (action_question groups pattern) (map (λ text. chars (string_bytes text)) texts) → AreActions every p (map string_bytes texts)
+are_actions every p pattern said applicables groups texts is are cover are_groups kinds = record {
+  meant = all_members (λ action. IsMeantBy every.actions every.world action) (map bytes_of texts) (λ action among.
+      let (text, inside, text_is) = of_mapped bytes_of action texts among in
+      let m = kinds.meant (chars (bytes_of text)) (mapped (λ (t : String Global). chars (bytes_of t)) text texts inside) in
+      subst (IsMeantBy every.actions every.world) text_is
+      (subst (λ (o : Option (List Sign)). IsMeantBy o every.world (bytes_of text)) (sym is)
+      (IsUtf8-string_bytes text, m.grammar, m.within pattern (here pattern []))));
+  whole = λ action meant.
+      let (action_utf8, grammar, matches) = subst (λ (o : Option (List Sign)). IsMeantBy o every.world action) is meant in
+      let (characters, among, agree) = kinds.whole (chars action) (is_text action action_utf8) (record {
+        grammar = grammar;
+        within = λ other inside. subst (λ (x : List Sign). MatchesFold x (chars action)) (only pattern other inside) matches;
+        unnamed = none (map folded (chars action));
+      }) in
+      let (text, inside, text_is) = of_mapped (λ (t : String Global). chars (bytes_of t)) characters texts among in
+      let shown = bytes_of text in
+      let alike : AgreeOnFold groups (chars shown) (chars action) = subst (λ (x : List ℕ). AgreeOnFold groups x (chars action)) (sym text_is) agree in (
+        shown,
+        mapped bytes_of text texts inside,
+        λ row unnamed decision says.
+            alike_actions_by every.world p unnamed shown action row decision (λ b access h.
+            let (a, c, a_among, c_are, reads) = cover.all unnamed ((are unnamed).1 (says_said every row unnamed says)) in
+            subst (λ (x : ApplicableValue). AreAlikeActions x shown action) (policies_at every.world p unnamed shown row c b access c_are h)
+            (reads shown action ((are_groups shown action).0 alike a a_among))),
+      );
+}
+
+pub actions_pass : (every : EveryValue) (p : ℕ) (pattern : List Sign) (said : List Unnamed) (applicables : List ApplicableValue)
+    (groups : List (List (List Sign))) → every.actions ≡ Some pattern → AreSaid every said → CoverAll every.world p said applicables
+    → AreActionGroups applicables groups → PassesLimit (folded_question (action_question groups pattern)) → ActionsPass every p
+actions_pass every p pattern said applicables groups is are cover are_groups passes = record {
+  pattern = pattern;
+  is = is;
+  applicables = applicables;
+  said = all_members (λ a. (unnamed : Unnamed) × IsSaid every unnamed × AreUnnamedPolicies every.world p unnamed a) applicables
+      (λ a among. let (unnamed, inside, policies) = cover.own a among in (unnamed, (are unnamed).0 inside, policies));
+  groups = groups;
+  are = are_groups;
+  passes = passes;
+}
+
+-- those of the world
+pub world_actions : (every : EveryValue) (p : ℕ) (actions : List (List ℕ)) → every.actions ≡ None → actions ≡ every.world.actions → AreActions every p actions
+world_actions every p actions is same = record {
+  meant = all_members (λ action. IsMeantBy every.actions every.world action) actions (λ action among.
+      subst (λ (o : Option (List Sign)). IsMeantBy o every.world action) (sym is) (subst (λ (l : List (List ℕ)). Contains l action) same among));
+  whole = λ action meant. (
+    action,
+    subst (λ (l : List (List ℕ)). Contains l action) (sym same) (subst (λ (o : Option (List Sign)). IsMeantBy o every.world action) is meant),
+    λ text unnamed decision says decided. decided,
+  );
+}

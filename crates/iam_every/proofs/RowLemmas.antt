@@ -1,0 +1,382 @@
+-- Rows are collected.
+use Rattle.std.proofs.Common.{◌≡◌, ◌<◌, ◌+◌, ◌⊎◌, ◌∷◌, [], ◌++◌, inl, inr, List, ℕ, Option, Some, None, All, Any, Contains, MatchOption, arith, chars, codes, get_or, length, map, refl, sym, ap, subst, ◌∙◌}
+use Rattle.std.proofs.lemmas.Bool.{cases_lt}
+use Rattle.std.proofs.lemmas.List.Elements.{All-append, All-cons, All-contains, All-nil, Contains-append_left, Contains-append_right, Contains-get_or, Contains-push, Contains-push_cases}
+use Rattle.std.proofs.lemmas.Option.{slice_get_within}
+use Rattle.std.proofs.lemmas.Str.{IsUtf8-from_ascii}
+use Rattle.std.specs.List.{slice_get}
+use Rattle.std.specs.Str.{IsUtf8}
+use Rattle.iam_glob.specs.Glob.{Matches}
+use Rattle.iam_glob.specs.declared.sign.Sign.{Sign}
+use Rattle.iam_kinds.specs.Kinds.{Agree, AreKinds}
+use Rattle.iam_kinds.specs.States.{PassesLimit}
+use Rattle.iam_decision.specs.declared.verdict.Verdict.{Verdict}
+use Rattle.iam_world.specs.World.{ResourceValue}
+use Rattle.iam_layers.specs.Unnamed.{IsUnnamedDecision, IsUnnamedVerdict}
+use Rattle.iam_layers.specs.declared.unnamed.Unnamed.{Unnamed}
+use Rattle.iam_layers.specs.declared.unnamed.Unnamed.TheVariants.{Like}
+use Rattle.iam_every.specs.Code.Rows.{AreRowsOfTexts, AreRowsOn, AreUnshown, IsFirstOf, IsLined, IsLinedBelow, IsNamedBelow, IsRowOf, IsStar, IsToldAs, line_question}
+use Rattle.iam_every.specs.Every.{ActionsPass, AreActions, AreDecidedAlike, AreOneKind, AreRows, AreRowsFor, EveryValue, HasVerdict, IsFirst, IsMeantAction, IsNamed, IsOver, IsResourceText, IsRight, IsToldBy, LineValue, RowValue, Says, Tells, TextsPass, arn_signs}
+use Rattle.iam_every.specs.Names.{AreGroupsAt}
+use Rattle.iam_every.proofs.LineLemmas.{ascii, asked_about, at_in, in_at, first_some, one_first, shown_agree, shown_first, shown_unnamed, text_scalars}
+use Rattle.iam_every.proofs.ListLemmas.{behind, here, mapped, none, of_mapped}
+use Rattle.iam_every.proofs.MemberLemmas.{left_fits, right_fits}
+use Rattle.iam_every.proofs.NamesLemmas.{alike_names, one_some}
+
+-- ---- of texts
+pub texts_more : (every : EveryValue) (p : ℕ) (action : List ℕ) (k : ℕ) (line : LineValue) (texts : List (List ℕ)) (rows : List RowValue)
+    (text : List ℕ) (row : RowValue) → AreRowsOfTexts every p action k line texts rows → IsFirst every.lines text k line
+    → IsRowOf every.world p line.unnamed action text row → AreRowsOfTexts every p action k line (texts ++ (text ∷ [])) (rows ++ (row ∷ []))
+texts_more every p action k line texts rows text row are first of = record {
+  only = λ found in'. elim (Contains-push_cases rows row found in') [
+    | inl was ↦ let (t, there, is, says) = are.only found was in (t, Contains-append_left texts (text ∷ []) t there, is, says)
+    | inr same ↦ (text, Contains-push texts text, first, subst (λ (x : RowValue). IsRowOf every.world p line.unnamed action text x) same of)
+  ];
+  whole = λ t in' is. elim (Contains-push_cases texts text t in') [
+    | inl was ↦ let (found, there, says) = are.whole t was is in (found, Contains-append_left rows (row ∷ []) found there, says)
+    | inr same ↦ (row, Contains-push rows row, subst (λ (x : List ℕ). IsRowOf every.world p line.unnamed action x row) same of)
+  ];
+}
+
+pub texts_skip : (every : EveryValue) (p : ℕ) (action : List ℕ) (k : ℕ) (line : LineValue) (texts : List (List ℕ)) (rows : List RowValue)
+    (text : List ℕ) → AreRowsOfTexts every p action k line texts rows → ¬ IsFirst every.lines text k line
+    → AreRowsOfTexts every p action k line (texts ++ (text ∷ [])) rows
+texts_skip every p action k line texts rows text are never = record {
+  only = λ found in'. let (t, there, is, says) = are.only found in' in (t, Contains-append_left texts (text ∷ []) t there, is, says);
+  whole = λ t in' is. elim (Contains-push_cases texts text t in') [
+    | inl was ↦ are.whole t was is
+    | inr same ↦ absurd (never (subst (λ (x : List ℕ). IsFirst every.lines x k line) (sym same) is))
+  ];
+}
+
+pub texts_none : (every : EveryValue) (p : ℕ) (action : List ℕ) (k : ℕ) (line : LineValue) → AreRowsOfTexts every p action k line [] []
+texts_none every p action k line = record {
+  only = λ found in'. absurd (none found in');
+  whole = λ t in' is. absurd (none t in');
+}
+
+-- ---- a row
+decided_by : (every : EveryValue) (p : ℕ) (unnamed : Unnamed) (action text : List ℕ) (verdict : Verdict)
+    → IsUnnamedVerdict every.world p unnamed action text verdict → IsUnnamedDecision every.world p unnamed action text verdict.decision
+decided_by every p unnamed action text verdict (resource, said, (a, request, at, is)) = (resource, said, (a, request, at, is.decided))
+
+pub told_row : (every : EveryValue) (p : ℕ) (unnamed : Unnamed) (action text : List ℕ) (row : RowValue) → IsRowOf every.world p unnamed action text row
+    → Tells every p action text unnamed row
+told_row every p unnamed action text row of = record {
+  verdict = of.verdict;
+  is = of.verdict_is;
+  decides = decided_by every p unnamed action text of.verdict of.right;
+  about = inl of.for_text;
+}
+
+abbrev CanBe : EveryValue → List ℕ → Type 0
+CanBe every text = IsNamed every.world text ⊎ IsResourceText text
+
+pub right_row : (every : EveryValue) (p : ℕ) (unnamed : Unnamed) (action text : List ℕ) (row : RowValue) → IsRowOf every.world p unnamed action text row
+    → CanBe every text → Says every text unnamed → IsMeantAction every action → IsRight every p row
+right_row every p unnamed action text row of can says meant =
+    let has : HasVerdict every p row of.verdict = record {
+      action = subst (IsMeantAction every) (sym of.for_action) meant;
+      resource = subst (CanBe every) (sym of.for_text) can;
+      unnamed = unnamed;
+      says = subst (λ (its : List ℕ). Says every its unnamed) (sym of.for_text) says;
+      is = subst (λ (act : List ℕ). IsUnnamedVerdict every.world p unnamed act row.resource of.verdict) (sym of.for_action)
+          (subst (λ (its : List ℕ). IsUnnamedVerdict every.world p unnamed action its of.verdict) (sym of.for_text) of.right);
+    } in
+    subst (λ (o : Option Verdict). MatchOption o (IsOver every p row) (HasVerdict every p row)) (sym of.verdict_is) has
+
+-- ---- of a line
+-- rows for the texts that are shown are rows for all texts
+pub rows_shown : (every : EveryValue) (p : ℕ) (action : List ℕ) (k : ℕ) (line : LineValue) (groups : List (List (List Sign)))
+    (texts : List (List ℕ)) (rows : List RowValue) → All IsUtf8 (map (λ resource. resource.arn) every.world.resources) → All IsUtf8 texts
+    → slice_get every.lines k ≡ Some line → AreGroupsAt every.world p line.unnamed action groups
+    → AreKinds (line_question every k line groups) (map chars texts) → AreRowsOfTexts every p action k line texts rows
+    → AreRowsOn every p action (IsLined every k) rows
+rows_shown every p action k line groups texts rows names spelled_well at are kinds of = record {
+  right = λ meant i d below.
+      let row = get_or rows i d in
+      let (text, among, first, its) = of.only row (Contains-get_or rows i d below) in
+      let shown = kinds.meant (chars text) (mapped chars text texts among) in
+      let unnamed = shown_unnamed every k line groups text shown in
+      let arn = shown.within arn_signs (behind line.pattern arn_signs (arn_signs ∷ []) (here arn_signs [])) in
+      right_row every p line.unnamed action text row its (inr (record { utf8 = All-contains IsUtf8 texts text spelled_well among; form = inr arn }))
+      (k, line, first, inr (unnamed, refl)) meant;
+  own = λ i d below. let (text, among, first, its) = of.only (get_or rows i d) (Contains-get_or rows i d below) in its.for_action;
+  whole = λ text unnamed resource says (never, arn, (other, is, same)).
+      let its : other ≡ line = one_some (slice_get every.lines k) other line is.at at in
+      let first : IsFirst every.lines text k line = subst (IsFirst every.lines text k) its is in
+      let said : unnamed ≡ line.unnamed = same ∙ ap (λ (x : LineValue). x.unnamed) its in
+      let about = asked_about every k line groups text names resource.utf8 first.matches arn never in
+      let (found, among, agree) = kinds.whole (chars text) (text_scalars text resource.utf8) about in
+      let (shown, inside, spelled) = of_mapped chars found texts among in
+      let alike : Agree (line_question every k line groups) (chars shown) (chars text) =
+      subst (λ (x : List ℕ). Agree (line_question every k line groups) x (chars text)) (sym spelled) agree in
+      let meant = kinds.meant (chars shown) (mapped chars shown texts inside) in
+      let shown_is = shown_first every k line groups shown text meant alike first in
+      let (row, there, of_it) = of.whole shown inside shown_is in
+      let verdict = of_it.verdict in
+      let decided = decided_by every p line.unnamed action shown verdict of_it.right in
+      let told = alike_names every.world p line.unnamed action shown text groups verdict.decision are (shown_agree every k line groups shown text alike) decided in
+      let one_kind : AreOneKind every p action shown text = record {
+        number = k;
+        line = line;
+        one_first = shown_is;
+        other_first = first;
+        one_unnamed = shown_unnamed every k line groups shown meant;
+        other_unnamed = never;
+        groups = groups;
+        are = are;
+        agree = shown_agree every k line groups shown text alike;
+      } in
+      let tells : Tells every p action text unnamed row = record {
+        verdict = verdict;
+        is = of_it.verdict_is;
+        decides = subst (λ (u : Unnamed). IsUnnamedDecision every.world p u action text verdict.decision) (sym said) told;
+        about = inr (subst (λ (a : List ℕ). AreOneKind every p a row.resource text) (sym of_it.for_action)
+            (subst (λ (x : List ℕ). AreOneKind every p action x text) (sym of_it.for_text) one_kind));
+      } in
+      (row, there, inl tells);
+}
+
+-- or one row says that they are too many
+pub rows_unshown : (every : EveryValue) (p : ℕ) (action : List ℕ) (k : ℕ) (line : LineValue) (groups : List (List (List Sign))) (rows : List RowValue)
+    → slice_get every.lines k ≡ Some line → AreGroupsAt every.world p line.unnamed action groups → PassesLimit (line_question every k line groups)
+    → rows ≡ record { action = action; resource = line.text; verdict = None } ∷ [] → AreRowsOn every p action (IsLined every k) rows
+rows_unshown every p action k line groups rows at are passes is =
+    let row : RowValue = record { action = action; resource = line.text; verdict = None } in
+    let over : TextsPass every p action k line = record { at = at; groups = groups; are = are; passes = passes } in
+    subst (AreRowsOn every p action (IsLined every k)) (sym is) (record {
+      right = λ meant. All-cons (IsRight every p) row [] (k, line, at, refl, inl (meant, over)) (All-nil (IsRight every p));
+      own = All-cons (λ (x : RowValue). x.action ≡ action) row [] refl (All-nil (λ (x : RowValue). x.action ≡ action));
+      whole = λ text unnamed resource says (never, arn, (other, first, same)).
+          let its : line ≡ other = one_some (slice_get every.lines k) line other at first.at in
+          (row, here row [], inr (never, (refl, (k, other, first, ap (λ (x : LineValue). x.text) its))));
+    })
+
+-- ---- one after the other
+lt_or_eq : (j k : ℕ) → j < k + 1 → (j < k) ⊎ (j ≡ k)
+lt_or_eq j k below = elim (cases_lt j k) [ inl before ↦ inl before | inr late ↦ inr (omega (arith, below, late)) ]
+
+told_left : (every : EveryValue) (p : ℕ) (action : List ℕ) (xs ys : List RowValue) (text : List ℕ) (unnamed : Unnamed)
+    → IsToldAs every p xs action text unnamed → IsToldAs every p (xs ++ ys) action text unnamed
+told_left every p action xs ys text unnamed (row, there, how) = (row, Contains-append_left xs ys row there, how)
+
+told_right : (every : EveryValue) (p : ℕ) (action : List ℕ) (xs ys : List RowValue) (text : List ℕ) (unnamed : Unnamed)
+    → IsToldAs every p ys action text unnamed → IsToldAs every p (xs ++ ys) action text unnamed
+told_right every p action xs ys text unnamed (row, there, how) = (row, Contains-append_right xs ys row there, how)
+
+pub rows_joined : (every : EveryValue) (p : ℕ) (action : List ℕ) (P Q R : List ℕ → Unnamed → Type 0) (xs ys : List RowValue)
+    → AreRowsOn every p action P xs → AreRowsOn every p action Q ys
+    → ((text : List ℕ) (unnamed : Unnamed) → R text unnamed → P text unnamed ⊎ Q text unnamed) → AreRowsOn every p action R (xs ++ ys)
+rows_joined every p action P Q R xs ys one other either = record {
+  right = λ meant. All-append (IsRight every p) xs ys (one.right meant) (other.right meant);
+  own = All-append (λ (x : RowValue). x.action ≡ action) xs ys one.own other.own;
+  whole = λ text unnamed resource says r. elim (either text unnamed r) [
+    | inl here ↦ told_left every p action xs ys text unnamed (one.whole text unnamed resource says here)
+    | inr there ↦ told_right every p action xs ys text unnamed (other.whole text unnamed resource says there)
+  ];
+}
+
+pub rows_on_less : (every : EveryValue) (p : ℕ) (action : List ℕ) (P Q : List ℕ → Unnamed → Type 0) (rows : List RowValue)
+    → AreRowsOn every p action P rows → ((text : List ℕ) (unnamed : Unnamed) → Says every text unnamed → Q text unnamed → P text unnamed)
+    → AreRowsOn every p action Q rows
+rows_on_less every p action P Q rows are less = record {
+  right = are.right;
+  own = are.own;
+  whole = λ text unnamed resource says q. are.whole text unnamed resource says (less text unnamed says q);
+}
+
+pub rows_none : (every : EveryValue) (p : ℕ) (action : List ℕ) (P : List ℕ → Unnamed → Type 0)
+    → ((text : List ℕ) (unnamed : Unnamed) → Says every text unnamed → ¬ P text unnamed) → AreRowsOn every p action P []
+rows_none every p action P never = record {
+  right = λ meant. All-nil (IsRight every p);
+  own = All-nil (λ (x : RowValue). x.action ≡ action);
+  whole = λ text unnamed resource says holds. absurd (never text unnamed says holds);
+}
+
+-- a row for one text, of which this alone can be said
+pub row_alone : (every : EveryValue) (p : ℕ) (action : List ℕ) (P : List ℕ → Unnamed → Type 0) (text : List ℕ) (unnamed : Unnamed) (row : RowValue)
+    → IsRowOf every.world p unnamed action text row → CanBe every text → Says every text unnamed
+    → ((its : List ℕ) (said : Unnamed) → Says every its said → P its said → (its ≡ text) × (said ≡ unnamed))
+    → AreRowsOn every p action P (row ∷ [])
+row_alone every p action P text unnamed row of can says only = record {
+  right = λ meant. All-cons (IsRight every p) row [] (right_row every p unnamed action text row of can says meant) (All-nil (IsRight every p));
+  own = All-cons (λ (x : RowValue). x.action ≡ action) row [] of.for_action (All-nil (λ (x : RowValue). x.action ≡ action));
+  whole = λ its said resource says_it holds.
+      let (same, alike) = only its said says_it holds in (
+        row,
+        here row [],
+        inl (subst (λ (x : List ℕ). Tells every p action x said row) (sym same)
+            (subst (λ (u : Unnamed). Tells every p action text u row) (sym alike) (told_row every p unnamed action text row of))),
+      );
+}
+
+-- ---- of the resources of the world, of `*` and of the lines
+pub named_more : (every : EveryValue) (p : ℕ) (action : List ℕ) (r : ℕ) (resource : ResourceValue) (text : List ℕ) (k : ℕ) (rows : List RowValue) (row : RowValue)
+    → AreRowsOn every p action (IsNamedBelow every r) rows → slice_get every.world.resources r ≡ Some resource → text ≡ resource.arn
+    → IsFirstOf every.lines text k → (unnamed : Unnamed) → unnamed ≡ Like r → IsRowOf every.world p unnamed action text row
+    → AreRowsOn every p action (IsNamedBelow every (r + 1)) (rows ++ (row ∷ []))
+named_more every p action r resource text k rows row are at is (line, first) unnamed like of =
+    let At : List ℕ → Unnamed → Type 0 = λ its said. (its ≡ text) × (said ≡ unnamed) in
+    rows_joined every p action (IsNamedBelow every r) At (IsNamedBelow every (r + 1)) rows (row ∷ []) are
+    (row_alone every p action At text unnamed row of (inl (r, (resource, at, sym is))) (k, line, first, inl (r, (resource, at, sym is), like)) (λ its said says same. same))
+    (λ its said (s, below, (found, there, named), alike). elim (lt_or_eq s r below) [
+      | inl before ↦ inl (s, before, (found, there, named), alike)
+      | inr same ↦
+          let one : found ≡ resource =
+          one_some (slice_get every.world.resources r) found resource (subst (λ n. slice_get every.world.resources n ≡ Some found) same there) at in
+          inr (sym named ∙ ap (λ (x : ResourceValue). x.arn) one ∙ sym is, alike ∙ ap (λ n. Like n) same ∙ sym like)
+    ])
+
+pub named_skip : (every : EveryValue) (p : ℕ) (action : List ℕ) (r : ℕ) (resource : ResourceValue) (text : List ℕ) (rows : List RowValue)
+    → AreRowsOn every p action (IsNamedBelow every r) rows → slice_get every.world.resources r ≡ Some resource → text ≡ resource.arn
+    → ¬ ((k : ℕ) × IsFirstOf every.lines text k) → AreRowsOn every p action (IsNamedBelow every (r + 1)) rows
+named_skip every p action r resource text rows are at is never =
+    rows_on_less every p action (IsNamedBelow every r) (IsNamedBelow every (r + 1)) rows are
+    (λ its said says (s, below, (found, there, named), alike). elim (lt_or_eq s r below) [
+      | inl before ↦ (s, before, (found, there, named), alike)
+      | inr same ↦
+          let one : found ≡ resource =
+          one_some (slice_get every.world.resources r) found resource (subst (λ n. slice_get every.world.resources n ≡ Some found) same there) at in
+          let its_text : its ≡ text = sym named ∙ ap (λ (x : ResourceValue). x.arn) one ∙ sym is in
+          let (k, line, first, how) = says in
+          absurd (never (k, (line, subst (λ (x : List ℕ). IsFirst every.lines x k line) its_text first)))
+    ])
+
+pub star_row : (every : EveryValue) (p : ℕ) (action : List ℕ) (k : ℕ) (line : LineValue) (unnamed : Unnamed) (row : RowValue)
+    → ¬ IsNamed every.world (codes "*") → IsFirst every.lines (codes "*") k line → unnamed ≡ line.unnamed
+    → IsRowOf every.world p unnamed action (codes "*") row → AreRowsOn every p action (IsStar every) (row ∷ [])
+star_row every p action k line unnamed row never first same of =
+    row_alone every p action (IsStar every) (codes "*") unnamed row of
+    (inr (record { utf8 = IsUtf8-from_ascii (codes "*") (ascii (codes "*") refl); form = inl refl })) (k, line, first, inr (never, same))
+    (λ its said (j, other, other_first, how) (no_name, star).
+    let its_first : IsFirst every.lines (codes "*") j other = subst (λ (x : List ℕ). IsFirst every.lines x j other) star other_first in
+    let number : j ≡ k = one_first every.lines (codes "*") j k other line its_first first in
+    let one : other ≡ line =
+    one_some (slice_get every.lines k) other line (subst (λ n. slice_get every.lines n ≡ Some other) number its_first.at) first.at in (
+      star,
+      elim how [
+        | inl (r, named, like) ↦ absurd (no_name (r, named))
+        | inr (unheard, said_is) ↦ said_is ∙ ap (λ (x : LineValue). x.unnamed) one ∙ sym same
+      ],
+    ))
+
+pub star_unlined : (every : EveryValue) (p : ℕ) (action : List ℕ) → ¬ Any (λ line. Matches line.pattern (chars (codes "*"))) every.lines
+    → AreRowsOn every p action (IsStar every) []
+star_unlined every p action never =
+    rows_none every p action (IsStar every) (λ text unnamed (k, line, first, how) (no_name, star).
+    never (first_some every.lines (codes "*") k line (subst (λ (x : List ℕ). IsFirst every.lines x k line) star first)))
+
+pub star_named : (every : EveryValue) (p : ℕ) (action : List ℕ) → IsNamed every.world (codes "*") → AreRowsOn every p action (IsStar every) []
+star_named every p action named =
+    rows_none every p action (IsStar every)
+    (λ text unnamed says (no_name, star). no_name (subst (IsNamed every.world) (sym star) named))
+
+pub lined_more : (every : EveryValue) (p : ℕ) (action : List ℕ) (k : ℕ) (rows more : List RowValue)
+    → AreRowsOn every p action (IsLinedBelow every k) rows → AreRowsOn every p action (IsLined every k) more
+    → AreRowsOn every p action (IsLinedBelow every (k + 1)) (rows ++ more)
+lined_more every p action k rows more are further =
+    rows_joined every p action (IsLinedBelow every k) (IsLined every k) (IsLinedBelow every (k + 1)) rows more are further
+    (λ text unnamed (j, below, lined). elim (lt_or_eq j k below) [
+      | inl before ↦ inl (j, before, lined)
+      | inr same ↦ inr (subst (λ i. IsLined every i text unnamed) same lined)
+    ])
+
+-- the rows for an action
+pub rows_for_one : (every : EveryValue) (p : ℕ) (action : List ℕ) (named star lined : List RowValue)
+    → AreRowsOn every p action (IsNamedBelow every (length every.world.resources)) named → AreRowsOn every p action (IsStar every) star
+    → AreRowsOn every p action (IsLinedBelow every (length every.lines)) lined → AreRowsFor every p action ((named ++ star) ++ lined)
+rows_for_one every p action named star lined is_named is_star is_lined = record {
+  right = λ meant. All-append (IsRight every p) (named ++ star) lined
+      (All-append (IsRight every p) named star (is_named.right meant) (is_star.right meant)) (is_lined.right meant);
+  own =
+      All-append (λ (x : RowValue). x.action ≡ action) (named ++ star) lined
+      (All-append (λ (x : RowValue). x.action ≡ action) named star is_named.own is_star.own) is_lined.own;
+  whole = λ text resource unnamed says.
+      let (k, line, first, how) = says in
+      elim how [
+        | inl (r, (found, at, is), like) ↦
+            told_left every p action (named ++ star) lined text unnamed (told_left every p action named star text unnamed
+            (is_named.whole text unnamed resource says (r, slice_get_within every.world.resources r found at, (found, at, is), like)))
+        | inr (never, same) ↦ elim resource.form [
+          | inl only ↦
+              told_left every p action (named ++ star) lined text unnamed (told_right every p action named star text unnamed
+              (is_star.whole text unnamed resource says (never, only)))
+          | inr arn ↦
+              told_right every p action (named ++ star) lined text unnamed
+              (is_lined.whole text unnamed resource says (k, slice_get_within every.lines k line first.at, (never, arn, (line, first, same))))
+        ]
+      ];
+}
+
+-- ---- of actions
+abbrev pub IsToldFor : EveryValue → ℕ → List RowValue → List ℕ → List ℕ → Unnamed → Type 0
+IsToldFor every p rows action text unnamed =
+    (row : RowValue) × Contains rows row × (row.action ≡ action) × IsToldBy every p action text unnamed row
+
+pub record AreRowsOfActions (every : EveryValue) (p : ℕ) (actions : List (List ℕ)) (rows : List RowValue) : Type 0 where
+  pub right : All (IsRight every p) rows
+  pub whole : (action text : List ℕ) (unnamed : Unnamed) → Contains actions action → IsResourceText text → Says every text unnamed
+      → IsToldFor every p rows action text unnamed
+
+pub actions_more : (every : EveryValue) (p : ℕ) (actions : List (List ℕ)) (rows more : List RowValue) (action : List ℕ)
+    → AreRowsOfActions every p actions rows → IsMeantAction every action → AreRowsFor every p action more
+    → AreRowsOfActions every p (actions ++ (action ∷ [])) (rows ++ more)
+actions_more every p actions rows more action are meant further = record {
+  right = All-append (IsRight every p) rows more are.right (further.right meant);
+  whole = λ its text unnamed in' resource says. elim (Contains-push_cases actions action its in') [
+    | inl was ↦
+        let (row, there, same, how) = are.whole its text unnamed was resource says in
+        (row, Contains-append_left rows more row there, same, how)
+    | inr same ↦
+        let (row, there, how) = further.whole text resource unnamed says in
+        let own = All-contains (λ (x : RowValue). x.action ≡ action) more row further.own there in
+        subst (λ (x : List ℕ). IsToldFor every p (rows ++ more) x text unnamed) same (row, Contains-append_right rows more row there, own, how)
+  ];
+}
+
+pub actions_none : (every : EveryValue) (p : ℕ) → AreRowsOfActions every p [] []
+actions_none every p = record {
+  right = All-nil (IsRight every p);
+  whole = λ action text unnamed in' resource says. absurd (none action in');
+}
+
+-- what is told of an action is told of one that is decided alike
+told_alike : (every : EveryValue) (p : ℕ) (shown action text : List ℕ) (unnamed : Unnamed) (row : RowValue) → AreDecidedAlike every p shown action
+    → Says every text unnamed → IsToldBy every p shown text unnamed row → IsToldBy every p action text unnamed row
+told_alike every p shown action text unnamed row alike says (inl tells) = inl (record {
+  verdict = tells.verdict;
+  is = tells.is;
+  decides = alike text unnamed tells.verdict.decision says tells.decides;
+  about = tells.about;
+})
+told_alike every p shown action text unnamed row alike says (inr unshown) = inr unshown
+
+-- each action that is meant is decided like one of them
+pub actions_all : (every : EveryValue) (p : ℕ) (actions : List (List ℕ)) (rows : List RowValue) → AreActions every p actions
+    → AreRowsOfActions every p actions rows → AreRows every p rows
+actions_all every p actions rows actions_are are = record {
+  right = are.right;
+  whole = λ action text unnamed meant resource says.
+      let (shown, among, alike) = actions_are.whole action meant in
+      let (row, there, same, how) = are.whole shown text unnamed among resource says in (
+        row,
+        there,
+        inl (subst (λ (x : List ℕ). AreDecidedAlike every p x action) (sym same) alike, told_alike every p shown action text unnamed row alike says how),
+      );
+}
+
+-- where the actions are too many no line is shown
+pub unshown_all : (every : EveryValue) (p : ℕ) (rows : List RowValue) → AreUnshown every.lines rows → ActionsPass every p → AreRows every p rows
+unshown_all every p rows are passes =
+    let R : LineValue → RowValue → Type 0 = λ x y. (y.resource ≡ x.text) × (y.verdict ≡ None) in
+    record {
+      right = λ i d below.
+          let row = get_or rows i d in
+          let (line, there, (text, verdict)) = right_fits R every.lines rows row are (Contains-get_or rows i d below) in
+          let (k, at) = in_at every.lines line there in
+          subst (λ (o : Option Verdict). MatchOption o (IsOver every p row) (HasVerdict every p row)) (sym verdict) (k, line, at, text, inr passes);
+      whole = λ action text unnamed meant resource (k, line, first, how).
+          let (row, among, (its, verdict)) = left_fits R every.lines rows line are (at_in every.lines k line first.at) in
+          (row, among, inr (passes, (verdict, (k, line, first, its))));
+    }

@@ -1,0 +1,84 @@
+use Rattle.std.proofs.Common.{◌≡◌, ◌∷◌, [], List, ℕ, Some, arith, get_or, length, map, sym, ap, subst, take, ◌∙◌}
+use Rattle.std.proofs.lemmas.List.{length-map, length-take-le, take-map}
+use Rattle.std.proofs.lemmas.Option.{slice_get_within}
+use Rattle.std.proofs.lemmas.Result.{IfOk-weaker}
+use Rattle.std.specs.List.{slice_get}
+use Rattle.iam_context.specs.Context.{ContextValue}
+use Rattle.iam_glob.specs.Signs.{signs_in}
+use Rattle.iam_glob.specs.declared.sign.Sign.{Sign}
+use Rattle.iam_kinds.specs.Answers.{IsAnswer}
+use Rattle.iam_kinds.specs.Kinds.{Question}
+use Rattle.iam_kinds.specs.declared.kinds.Kinds.{Kinds}
+use Rattle.iam_match.specs.Request.{access_of}
+use Rattle.iam_decision.specs.Applicable.{value_of}
+use Rattle.iam_layers.specs.Unnamed.{AreUnnamedKeys, AreUnnamedPolicies, IsUnnamedAccess, IsUnnamedContext}
+use Rattle.iam_every.specs.Code.Rows.{AreLineKinds, line_question, patterns_of}
+use Rattle.iam_every.specs.Every.{LineValue, arn_signs, every_of, line_of}
+use Rattle.iam_every.specs.Groups.{groups_of}
+use Rattle.iam_every.specs.Names.{text_question}
+use Rattle.iam_every.proofs.AtLemmas.{groups_at}
+use Rattle.iam_every.proofs.LineLemmas.{line_there}
+use Rattle.iam_every.proofs.lines.line_kinds.Goals as goal
+
+pub unnamed_access-access-requires-clause-context : goal.unnamed_access-access-requires-clause-context
+unnamed_access-access-requires-clause-context c =
+    let given = c.args.given in
+    let world = given.asked.world.now in
+    let scene = c.requires.scene in
+    let same = line_there given.asked.lines.now c.args.k c.index-given-k.result scene.line scene.at in
+    subst (λ (x : LineValue). (derived : ContextValue) × AreUnnamedKeys world given.p x.unnamed derived
+    × IsUnnamedContext world given.p x.unnamed derived c.args.context.now) (sym same) (scene.derived, scene.keys, scene.within)
+
+pub slice_bounds-text_kinds-end-2 : goal.slice_bounds-text_kinds-end-2
+slice_bounds-text_kinds-end-2 c =
+    let given = c.args.given in
+    let scene = c.requires.scene in
+    let lines = map line_of given.asked.lines.now in
+    let inside = slice_get_within lines c.args.k scene.line scene.at in
+    let long : length given.patterns.now ≡ length lines =
+    sym (length-map given.patterns.now signs_in) ∙ ap (λ (l : List (List Sign)). length l) c.requires.given.patterns
+    ∙ length-map lines (λ (x : LineValue). x.pattern) in
+    sym (length-take-le c.args.k given.patterns.now (omega (arith, inside, long)))
+
+pub returns : goal.returns
+returns c =
+    let given = c.args.given in
+    let every = every_of given.asked in
+    let world = every.world in
+    let p = given.p in
+    let k = c.args.k in
+    let action = c.args.action.now in
+    let scene = c.requires.scene in
+    let found = get_or given.asked.lines.now k c.index-given-k.result in
+    let a = value_of c.args.applicable.now in
+    let access = access_of c.unnamed_access-access.result in
+    let own = found.text.now in
+    let groups = groups_of c.in_ok-groups.groups.items in
+    let arns = map (λ resource. resource.arn) world.resources in
+    let policies : AreUnnamedPolicies world p found.unnamed a =
+    subst (λ (x : LineValue). AreUnnamedPolicies world p x.unnamed a)
+    (sym (line_there given.asked.lines.now k c.index-given-k.result scene.line scene.at)) scene.policies in
+    let asks : IsUnnamedAccess world p found.unnamed action own a access = c.unnamed_access-access.ensures action a policies in
+    let ask = λ (gs : List (List (List Sign))) (pattern arn : List Sign) (before : List (List Sign)) (names : List (List ℕ)).
+    text_question gs (pattern ∷ (arn ∷ [])) before names in
+    let before : map signs_in (take k given.patterns.now) ≡ patterns_of (take k every.lines) =
+    sym (take-map signs_in k given.patterns.now) ∙ ap (take k) c.requires.given.patterns
+    ∙ take-map (λ (x : LineValue). x.pattern) k every.lines in
+    let question : (line : LineValue) → line_of found ≡ line
+    → ask (groups_of c.as_slice.result.now) (signs_in c.signs.result) (signs_in given.arn) (map signs_in (take k given.patterns.now)) (map (λ name. name.now) given.names.now)
+    ≡ line_question every k line groups = λ line same.
+    ap (λ gs. ask (groups_of gs) (signs_in c.signs.result) (signs_in given.arn) (map signs_in (take k given.patterns.now)) (map (λ name. name.now) given.names.now)) c.as_slice.ensures.value
+    ∙ ap (λ (x : List Sign). ask groups x (signs_in given.arn) (map signs_in (take k given.patterns.now)) (map (λ name. name.now) given.names.now)) (c.signs.ensures ∙ ap (λ (x : LineValue). x.pattern) same)
+    ∙ ap (λ (x : List Sign). ask groups line.pattern x (map signs_in (take k given.patterns.now)) (map (λ name. name.now) given.names.now)) c.requires.given.arn
+    ∙ ap (λ (x : List (List Sign)). ask groups line.pattern arn_signs x (map (λ name. name.now) given.names.now)) before
+    ∙ ap (λ (x : List (List ℕ)). ask groups line.pattern arn_signs (patterns_of (take k every.lines)) x) c.requires.given.names.are in
+    IfOk-weaker c.text_kinds.result _ (λ kinds. (line : LineValue) → slice_get every.lines k ≡ Some line → AreLineKinds every p action k line kinds)
+    (λ (kinds : Kinds) answer line at.
+    let same = line_there given.asked.lines.now k c.index-given-k.result line at in
+    record {
+      groups = groups;
+      are = groups_at c.one_request.ensures world p line.unnamed action own a access groups
+          (subst (λ (x : LineValue). IsUnnamedAccess world p x.unnamed action own a access) same asks) c.in_ok-groups.ensures;
+      answer = subst (λ (q : Question). IsAnswer q kinds) (question line same) answer;
+    })
+    c.text_kinds.ensures

@@ -1,0 +1,29 @@
+use Rattle.std.proofs.Common.{MatchOption, codes, map, refl, sym, ap, subst, ◌∙◌, string_bytes}
+use Rattle.std.proofs.lemmas.Str.{chars-IsAscii}
+use Rattle.std.proofs.lemmas.Result.{IfOk-weaker}
+use Rattle.iam_glob.specs.Glob.{wild_sign}
+use Rattle.iam_glob.specs.Signs.{signs_in}
+use Rattle.iam_every.specs.Code.Rows.{AreNames, AreUnshown}
+use Rattle.iam_every.specs.Every.{ActionsPass, AreActions, AreRows, every_of, row_of}
+use Rattle.iam_every.proofs.LineLemmas.{ascii}
+use Rattle.iam_every.proofs.RowLemmas.{unshown_all}
+use Rattle.iam_every.proofs.rows.rows_of.Goals as goal
+
+pub returns-in_default : goal.returns-in_default
+returns-in_default c =
+    let every = every_of c.args.asked in
+    let p = c.args.p in
+    let passes : ActionsPass every p =
+    subst (λ o. MatchOption o (ActionsPass every p) (λ actions. AreActions every p (map string_bytes actions.items))) c.in_default.is c.in_ok-actions.ensures in
+    IfOk-weaker c.unshown_lines.result (λ rows. AreUnshown every.lines (map row_of rows.items)) (λ rows. AreRows every p (map row_of rows.items))
+    (λ rows are. unshown_all every p (map row_of rows.items) are passes) c.unshown_lines.ensures
+
+pub rows_for_all-requires-clause-given : goal.rows_for_all-requires-clause-given
+rows_for_all-requires-clause-given c = record {
+  principal = c.requires.principal;
+  there = c.requires.there;
+  arn = c.signs.ensures ∙ c.in_ok-arn.ensures ∙ ap (map wild_sign) (chars-IsAscii (codes "arn:*:*:*:*:*") (ascii (codes "arn:*:*:*:*:*") refl));
+  none = c.new-none.ensures.items;
+  names = subst (λ names. AreNames c.args.asked.world.now (map (λ name. name.now) names)) (sym c.as_slice.ensures.value) c.in_ok-names.ensures;
+  patterns = ap (λ patterns. map signs_in patterns) c.as_slice-2.ensures.value ∙ c.in_ok-patterns.ensures;
+}

@@ -1,0 +1,4 @@
+pub mod Meant
+pub mod Rows
+pub mod Sides
+pub mod Texts

@@ -1,0 +1,115 @@
+-- Rows for some of the texts that lines match, as they are collected.
+use Rattle.std.specs.Prelude.{◌≡◌, ◌<◌, ◌∷◌, [], ℕ, List, Contains, None, Some, codes, length, map, take}
+use Rattle.std.specs.List.{All, AllZip, slice_get}
+use Rattle.std.specs.Str.{IsUtf8, chars}
+use Rattle.iam_glob.specs.Glob.{Matches}
+use Rattle.iam_glob.specs.Signs.{signs_in}
+use Rattle.iam_glob.specs.declared.sign.Sign.{Sign}
+use Rattle.iam_context.specs.Context.{ContextValue}
+use Rattle.iam_decision.specs.Applicable.{ApplicableValue, IsNumbered}
+use Rattle.iam_decision.specs.declared.verdict.Verdict.{Verdict}
+use Rattle.iam_kinds.specs.Answers.{IsAnswer}
+use Rattle.iam_kinds.specs.Kinds.{Question}
+use Rattle.iam_kinds.specs.declared.kinds.Kinds.{Kinds}
+use Rattle.iam_world.specs.World.{WorldValue}
+use Rattle.iam_layers.specs.Cell.{IsResource}
+use Rattle.iam_layers.specs.Unnamed.{AreUnnamedKeys, AreUnnamedPolicies, IsThere, IsUnnamedContext, IsUnnamedVerdict}
+use Rattle.iam_layers.specs.declared.unnamed.Unnamed.{Unnamed}
+use Rattle.iam_layers.specs.declared.unnamed.Unnamed.TheVariants.{Like}
+use Rattle.iam_every.specs.Every.{AreThere, EveryValue, IsFirst, IsMeantAction, IsNamed, IsResourceText, IsRight, IsToldBy, LineValue, RowValue, Says, arn_signs, every_of}
+use Rattle.iam_every.specs.Names.{AreGroupsAt, text_question}
+use Rattle.iam_every.specs.declared.given.Given.{Given}
+
+-- ---- what is worked out once
+-- the texts of all resources
+pub record AreNames (world : WorldValue) (names : List (List ℕ)) : Type 0 where
+  pub are : names ≡ map (λ resource. resource.arn) world.resources
+  pub utf8 : All IsUtf8 names
+
+abbrev pub patterns_of : List LineValue → List (List Sign)
+patterns_of lines = map (λ line. line.pattern) lines
+
+pub record IsGiven (given : Given) : Type 0 where
+  pub principal : given.p < length given.asked.world.now.principals
+  pub there : AreThere (every_of given.asked)
+  pub arn : signs_in given.arn ≡ arn_signs
+  pub none : given.none.now.items ≡ []
+  pub names : AreNames given.asked.world.now (map (λ name. name.now) given.names.now)
+  pub patterns : map signs_in given.patterns.now ≡ patterns_of (every_of given.asked).lines
+
+-- what requests of principal p share for resources of which line k speaks: the policies that apply, and the context
+pub record IsSceneOf (given : Given) (k : ℕ) (applicable : ApplicableValue) (context : ContextValue) : Type 0 where
+  pub line : LineValue
+  pub at : slice_get (every_of given.asked).lines k ≡ Some line
+  pub there : IsThere given.asked.world.now line.unnamed
+  pub policies : AreUnnamedPolicies given.asked.world.now given.p line.unnamed applicable
+  pub numbered : IsNumbered applicable
+  pub derived : ContextValue
+  pub keys : AreUnnamedKeys given.asked.world.now given.p line.unnamed derived
+  pub within : IsUnnamedContext given.asked.world.now given.p line.unnamed derived context
+
+-- line k is the first whose pattern matches the text
+abbrev pub IsFirstOf : List LineValue → List ℕ → ℕ → Type 0
+IsFirstOf lines text k = (line : LineValue) × IsFirst lines text k line
+
+-- ---- rows
+-- some row tells the resource of this text, of which this is said
+abbrev pub IsToldAs : EveryValue → ℕ → List RowValue → List ℕ → List ℕ → Unnamed → Type 0
+IsToldAs every p rows action text unnamed = (row : RowValue) × Contains rows row × IsToldBy every p action text unnamed row
+
+-- rows for one action, and for texts of which P holds together with what is said of them
+pub record AreRowsOn (every : EveryValue) (p : ℕ) (action : List ℕ) (P : List ℕ → Unnamed → Type 0) (rows : List RowValue) : Type 0 where
+  pub right : IsMeantAction every action → All (IsRight every p) rows
+  pub own : All (λ row. row.action ≡ action) rows
+  pub whole : (text : List ℕ) (unnamed : Unnamed) → IsResourceText text → Says every text unnamed → P text unnamed
+      → IsToldAs every p rows action text unnamed
+
+-- one of the first so many resources has the text, and the text is like it
+abbrev pub IsNamedBelow : EveryValue → ℕ → List ℕ → Unnamed → Type 0
+IsNamedBelow every i text unnamed =
+    (r : ℕ) × (r < i) × IsResource every.world r (λ resource. resource.arn ≡ text) × (unnamed ≡ Like r)
+
+-- the text `*`, which no resource has
+abbrev pub IsStar : EveryValue → List ℕ → Unnamed → Type 0
+IsStar every text unnamed = ¬ IsNamed every.world text × (text ≡ codes "*")
+
+-- the text of an ARN that no resource has, of which line k is the first to speak
+abbrev pub IsLined : EveryValue → ℕ → List ℕ → Unnamed → Type 0
+IsLined every k text unnamed =
+    ¬ IsNamed every.world text × Matches arn_signs (chars text)
+    × ((line : LineValue) × IsFirst every.lines text k line × (unnamed ≡ line.unnamed))
+
+-- or one of the first so many lines is
+abbrev pub IsLinedBelow : EveryValue → ℕ → List ℕ → Unnamed → Type 0
+IsLinedBelow every i text unnamed = (k : ℕ) × (k < i) × IsLined every k text unnamed
+
+-- the row has the verdict on the request for the resource of this text, of which this is said
+pub record IsRowOf (world : WorldValue) (p : ℕ) (unnamed : Unnamed) (action text : List ℕ) (row : RowValue) : Type 0 where
+  pub for_action : row.action ≡ action
+  pub for_text : row.resource ≡ text
+  pub verdict : Verdict
+  pub verdict_is : row.verdict ≡ Some verdict
+  pub right : IsUnnamedVerdict world p unnamed action text verdict
+
+-- ---- the rows of a line
+-- a row for each of the texts of which line k is the first to speak
+pub record AreRowsOfTexts (every : EveryValue) (p : ℕ) (action : List ℕ) (k : ℕ) (line : LineValue) (texts : List (List ℕ)) (rows : List RowValue) : Type 0 where
+  pub only : (row : RowValue) → Contains rows row
+      → (text : List ℕ) × Contains texts text × IsFirst every.lines text k line × IsRowOf every.world p line.unnamed action text row
+  pub whole : (text : List ℕ) → Contains texts text → IsFirst every.lines text k line
+      → (row : RowValue) × Contains rows row × IsRowOf every.world p line.unnamed action text row
+
+-- which texts of line k are asked about, by these groups
+abbrev pub line_question : EveryValue → ℕ → LineValue → List (List (List Sign)) → Question
+line_question every k line groups =
+    text_question groups (line.pattern ∷ (arn_signs ∷ [])) (patterns_of (take k every.lines)) (map (λ resource. resource.arn) every.world.resources)
+
+-- one text of each kind of texts that line k speaks of
+pub record AreLineKinds (every : EveryValue) (p : ℕ) (action : List ℕ) (k : ℕ) (line : LineValue) (kinds : Kinds) : Type 0 where
+  pub groups : List (List (List Sign))
+  pub are : AreGroupsAt every.world p line.unnamed action groups
+  pub answer : IsAnswer (line_question every k line groups) kinds
+
+-- a row for each line, which does not show it
+abbrev pub AreUnshown : List LineValue → List RowValue → Type 0
+AreUnshown lines rows = AllZip (λ line row. (row.resource ≡ line.text) × (row.verdict ≡ None)) lines rows

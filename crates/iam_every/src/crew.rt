@@ -1,0 +1,155 @@
+// The rows of principals that are asked for, found by many workers.
+ghost use Rattle.std.specs.Prelude.{◌↔◌, ◌<◌, ◌≤◌, All, IfOk, IsTrue, length, map, slice_index};
+ghost use Rattle.std.specs.List.{AllZip};
+ghost use Rattle.iam_decision.specs.Matched.{Selects};
+ghost use Rattle.iam_every.specs.Every.{AreThere, every_of, row_of};
+ghost use Rattle.iam_every.specs.Report.{IsWanted};
+ghost use Rattle.iam_every.specs.Code.Texts.{IsChosen, IsTile};
+
+use crate::asked::Asked;
+use crate::rows::{Row, rows_of};
+use iam_crew::{Bound, Crew, Gate, gather};
+use iam_decision::Decision;
+use iam_match::OutOfMemory;
+use iam_text::Items;
+use std::alloc::Global;
+use std::thread::Threads;
+
+/// How many principals a crew works off at most.
+const TILES: usize = 4096;
+
+/// A principal, and those of its rows that are asked for.
+#[derive(Debug, Drop)]
+pub struct Chosen {
+    pub principal: u64,
+    pub rows: Items<Row>,
+}
+
+/// Those who find the rows of principals.
+#[derive(Clone, Copy)]
+pub struct Principals<'a> {
+    pub asked: Asked<'a>,
+    pub principals: &'a [u64],
+    pub decisions: &'a [Decision],
+}
+
+impl<'a> Crew for Principals<'a> {
+    ghost use Rattle.std.specs.Prelude.{⊤};
+
+    type Output = Chosen;
+
+    type Tools = ();
+
+    ghost fits = { λ _ _. ⊤ };
+
+    ghost takes = { λ crew tile. IsTile crew tile };
+
+    ghost gives = { λ crew tile output _. IsChosen (every_of crew.asked) crew.decisions.now (slice_index crew.principals.now tile) output };
+
+    fn tools(&self, _alloc: Global) -> Result<(), OutOfMemory> {
+        Ok(())
+    }
+
+    fn work(
+        &self,
+        alloc: Global,
+        _tools: &mut (),
+        _bound: &mut Bound<'_>,
+        tile: u64,
+    ) -> Result<Chosen, OutOfMemory> {
+        chosen_of(
+            alloc,
+            self.asked,
+            self.decisions,
+            self.principals[tile as usize],
+        )
+    }
+
+    ghost lasts = { λ _ _ _ _ _ _ given. given };
+}
+
+/// Whether a row is asked for.
+fn is_wanted(row: &Row, decisions: &[Decision]) -> bool
+    ensures { IsTrue result ↔ IsWanted decisions.now (row_of row.now) }
+{
+    match &row.verdict {
+        Some(verdict) => decisions.is_empty() || decisions.contains(&verdict.decision),
+        None => true,
+    }
+}
+
+/// Those of the rows that are asked for.
+fn wanted(mut rows: Vec<Row>, decisions: &[Decision]) -> Vec<Row>
+    ensures { Selects (IsWanted decisions.now) (map row_of rows.items) (map row_of result.items) }
+{
+    rows.retain(|row| is_wanted(row, decisions));
+    rows
+}
+
+/// The rows of principal p that are asked for.
+fn chosen_of(
+    alloc: Global,
+    asked: Asked<'_>,
+    decisions: &[Decision],
+    p: u64,
+) -> Result<Chosen, OutOfMemory>
+    requires principal { p < length asked.world.now.principals }
+    requires there { AreThere (every_of asked) }
+    ensures { IfOk result (IsChosen (every_of asked.entry) decisions.now p) }
+{
+    let rows = rows_of(alloc, asked, p)?;
+    Ok(Chosen {
+        principal: p,
+        rows: Items::from_vec(wanted(rows, decisions)),
+    })
+}
+
+/// The rows of a few principals that are asked for, in the order of these.
+fn chosen_of_few<R: Threads + Sync, G: Gate + Sync>(
+    rt: &R,
+    alloc: Global,
+    asked: Asked<'_>,
+    principals: &[u64],
+    decisions: &[Decision],
+    workers: u32,
+    gate: &G,
+) -> Result<Vec<Chosen>, OutOfMemory>
+    requires tiles { length principals.now ≤ 4096 }
+    requires known { All (λ p. p < length asked.world.now.principals) principals.now }
+    requires there { AreThere (every_of asked) }
+    requires some { 1 ≤ workers }
+    requires few { workers ≤ 64 }
+    ensures { IfOk result (λ all. AllZip (IsChosen (every_of asked.entry) decisions.now) principals.now all.items) }
+{
+    let crew = Principals {
+        asked,
+        principals,
+        decisions,
+    };
+    let gathered = gather(rt, alloc, &crew, principals.len() as u64, workers, gate)?;
+    Ok(gathered.outputs)
+}
+
+/// The rows of principals that are asked for, in the order of these.
+pub fn chosen_of_all<R: Threads + Sync, G: Gate + Sync>(
+    rt: &R,
+    alloc: Global,
+    asked: Asked<'_>,
+    principals: &[u64],
+    decisions: &[Decision],
+    workers: u32,
+    gate: &G,
+) -> Result<Vec<Chosen>, OutOfMemory>
+    requires known { All (λ p. p < length asked.world.now.principals) principals.now }
+    requires there { AreThere (every_of asked) }
+    requires some { 1 ≤ workers }
+    requires few { workers ≤ 64 }
+    ensures { IfOk result (λ all. AllZip (IsChosen (every_of asked.entry) decisions.now) principals.now all.items) }
+{
+    let mut all = Vec::new(alloc);
+    for some in principals.chunks(TILES) {
+        let mut more = chosen_of_few(rt, alloc, asked, some, decisions, workers, gate)?;
+        all.append(&mut more)?;
+    }
+    Ok(all)
+}

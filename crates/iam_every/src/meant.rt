@@ -1,0 +1,140 @@
+// Actions of which one is decided like each that is in question.
+ghost use Rattle.std.specs.Prelude.{◌≡◌, ◌<◌, ◌↔◌, All, Any, IfOk, IsTrue, MatchOption, OnOk, Some, false, length, map, string_bytes};
+ghost use Rattle.std.specs.Str.{chars};
+ghost use Rattle.iam_glob.specs.Glob.{Matches};
+ghost use Rattle.iam_decision.specs.Applicable.{IsNumbered, value_of};
+ghost use Rattle.iam_layers.specs.Unnamed.{IsThere};
+ghost use Rattle.iam_every.specs.Code.Meant.{AreMore, AreSaid, CoverAll, IsPlain};
+ghost use Rattle.iam_every.specs.Every.{ActionsPass, AreActions, AreThere, every_of, line_of, pattern_in};
+
+use crate::actions::{action_groups, action_kinds};
+use crate::asked::{Asked, Line, Which};
+use iam_decision::Applicable;
+use iam_glob::Glob;
+use iam_kinds::Kinds;
+use iam_layers::{Unnamed, World};
+use iam_match::OutOfMemory;
+use std::alloc::Global;
+
+/// Actions of which one is decided like each that is in question, whatever the resource, where principal p asks, which has to be below
+/// `principals()`: those of the world, or one of each kind that the pattern matches; `None` where there are too many kinds.
+///
+/// AWS IAM User Guide, "IAM JSON policy elements: Action" and "NotAction".
+pub fn meant_actions(
+    alloc: Global,
+    asked: Asked<'_>,
+    p: u64,
+) -> Result<Option<Vec<String>>, OutOfMemory>
+    requires principal { p < length asked.world.now.principals }
+    requires there { AreThere (every_of asked) }
+    ensures { IfOk result (λ found. MatchOption found (ActionsPass (every_of asked.entry) p)
+        (λ actions. AreActions (every_of asked.entry) p (map string_bytes actions.items))) }
+{
+    match asked.actions {
+        Which::OfWorld => Ok(Some(world_actions(alloc, asked.world)?)),
+        Which::Matching(pattern, _) => kinds_of(alloc, asked, p, pattern),
+    }
+}
+
+/// The actions of the world.
+fn world_actions(alloc: Global, world: &World) -> Result<Vec<String>, OutOfMemory>
+    ensures { IfOk result (λ actions. map string_bytes actions.items ≡ world.now.actions) }
+{
+    let mut actions = Vec::new(alloc);
+    for a in 0..world.actions() {
+        actions.push(String::from_str(alloc, world.action_text(a))?)?;
+    }
+    Ok(actions)
+}
+
+/// One action of each kind that the pattern matches, which has to be that of what is asked; `None` where there are too many kinds.
+fn kinds_of(
+    alloc: Global,
+    asked: Asked<'_>,
+    p: u64,
+    pattern: &Glob,
+) -> Result<Option<Vec<String>>, OutOfMemory>
+    requires principal { p < length asked.world.now.principals }
+    requires there { AreThere (every_of asked) }
+    requires pattern { pattern_in asked.actions ≡ Some pattern.now }
+    ensures { IfOk result (λ found. MatchOption found (ActionsPass (every_of asked.entry) p)
+        (λ actions. AreActions (every_of asked.entry) p (map string_bytes actions.items))) }
+{
+    let said = all_said(alloc, asked)?;
+    let policies = policies_of(alloc, asked.world, p, said.as_slice())?;
+    let groups = action_groups(alloc, policies.as_slice())?;
+    match action_kinds(alloc, groups.as_slice(), pattern.signs())? {
+        Kinds::Shown(actions) => Ok(Some(actions)),
+        Kinds::NotShown => Ok(None),
+    }
+}
+
+/// What the lines say, and what is said of the resources of the world that some line matches.
+fn all_said<'a>(alloc: Global, asked: Asked<'a>) -> Result<Vec<Unnamed<'a>>, OutOfMemory>
+    ensures { IfOk result (λ said. AreSaid (every_of asked.entry) said.items) }
+{
+    let mut said = of_lines(alloc, asked.lines)?;
+    add_resources(&mut said, asked.world, asked.lines)?;
+    Ok(said)
+}
+
+/// What each line says.
+fn of_lines<'a>(alloc: Global, lines: &[Line<'a>]) -> Result<Vec<Unnamed<'a>>, OutOfMemory>
+    ensures { IfOk result (λ said. said.items ≡ map (λ line. line.unnamed) lines.now) }
+{
+    lines.iter().map(|line| line.unnamed).collect(alloc)
+}
+
+/// Adds what is said of each resource of the world that some line matches.
+fn add_resources(
+    said: &mut Vec<Unnamed<'_>>,
+    world: &World,
+    lines: &[Line<'_>],
+) -> Result<(), OutOfMemory>
+    ensures { OnOk result (AreMore world.now (map line_of lines.now) (length world.now.resources) said.old.items said.new.items) }
+{
+    for r in 0..world.resources() {
+        if is_matched(lines, world.resource_text(r)) {
+            said.push(Unnamed::Like(r))?;
+        }
+    }
+    Ok(())
+}
+
+/// Whether some line matches the text.
+fn is_matched(lines: &[Line<'_>], text: &str) -> bool
+    ensures { IsTrue result ↔ Any (λ line. Matches line.pattern.now (chars text.now)) lines.now }
+{
+    lines.iter().any(|line| line.pattern.matches(text))
+}
+
+/// Policies that tell apart all actions that those do which apply where principal p asks for a resource of which some of this is said;
+/// p has to be below `principals()`.
+fn policies_of<'a>(
+    alloc: Global,
+    world: &'a World,
+    p: u64,
+    said: &[Unnamed<'_>],
+) -> Result<Vec<Applicable<'a>>, OutOfMemory>
+    requires principal { p < length world.now.principals }
+    requires there { All (IsThere world.now) said.now }
+    ensures numbered { IfOk result (λ policies. All IsNumbered (map value_of policies.items)) }
+    ensures cover { IfOk result (λ policies. CoverAll world.entry.now p said.now (map value_of policies.items)) }
+{
+    let mut policies = Vec::new(alloc);
+    for &unnamed in said {
+        let applicable = world.unnamed_applicable(p, unnamed);
+        if is_needed(policies.as_slice(), &applicable) {
+            policies.push(applicable)?;
+        }
+    }
+    Ok(policies)
+}
+
+/// `false` only where no policies stand with the resource and some are there: the statements of the organisation and of the principal
+/// stand in each.
+fn is_needed(policies: &[Applicable<'_>], applicable: &Applicable<'_>) -> bool
+    ensures { result ≡ false → (0 < length policies.now) × IsPlain (value_of applicable.now) }
+{
+    policies.is_empty() || !applicable.control.is_empty() || applicable.resource.is_some()
+}

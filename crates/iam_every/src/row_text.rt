@@ -1,0 +1,136 @@
+// The texts of the rows of one principal.
+ghost use Rattle.std.specs.Prelude.{◌≡◌, ◌+◌, ◌≤◌, ℕ, IfOk, List, length, string_bytes};
+ghost use Rattle.iam_row.specs.Piece.{quote_of};
+ghost use Rattle.iam_every.specs.Every.{row_of};
+ghost use Rattle.iam_every.specs.Report.{row_text, rows_text, texts_of};
+ghost use Rattle.iam_every.specs.Code.Texts.{named_rows, quoted_row, tail_in, unshown_back, unshown_front, unshown_tail};
+
+use crate::rows::Row;
+use iam_decision::Verdict;
+use iam_match::OutOfMemory;
+use iam_row::{Format, Tail, comma_before, quote};
+use iam_text::Text;
+use std::alloc::Global;
+
+/// What stands before the principal in a row that is not shown.
+fn unshown_front(format: Format, brief: bool) -> &'static str
+    ensures { result.now ≡ unshown_front format brief }
+{
+    match (format, brief) {
+        (Format::Csv, _) => "",
+        (Format::Json, true) => ",\"decision\":\"notShown\",\"principal\":",
+        (Format::Json, false) => ",\"decision\":\"notShown\",\"lacks\":[],\"principal\":",
+    }
+}
+
+/// What stands behind the resource in a row that is not shown.
+fn unshown_back(format: Format, brief: bool) -> &'static str
+    ensures { result.now ≡ unshown_back format brief }
+{
+    match (format, brief) {
+        (Format::Csv, true) => ",notShown\n",
+        (Format::Csv, false) => ",notShown,,\n",
+        (Format::Json, true) => "}",
+        (Format::Json, false) => ",\"statements\":[]}",
+    }
+}
+
+/// The tail of a row that is not shown.
+fn unshown(alloc: Global, format: Format, brief: bool) -> Result<Tail, OutOfMemory>
+    ensures { IfOk result (λ tail. tail ≡ unshown_tail format brief) }
+{
+    Ok(Tail {
+        front: Text::read(alloc, unshown_front(format, brief))?,
+        back: Text::read(alloc, unshown_back(format, brief))?,
+    })
+}
+
+/// The tail of a row with this verdict, or of one that is not shown.
+fn tail_of(
+    alloc: Global,
+    format: Format,
+    brief: bool,
+    verdict: &Option<Verdict>,
+) -> Result<Tail, OutOfMemory>
+    ensures { IfOk result (λ tail. tail ≡ tail_in format brief verdict.now) }
+{
+    match verdict {
+        Some(verdict) => Tail::of(alloc, format, brief, verdict),
+        None => unshown(alloc, format, brief),
+    }
+}
+
+/// A row of this number, of texts as they stand in it.
+fn joined(
+    alloc: Global,
+    format: Format,
+    cell: u64,
+    principal: &str,
+    action: &str,
+    resource: &str,
+    tail: &Tail,
+) -> Result<String, OutOfMemory>
+    ensures { IfOk result (λ text. string_bytes text ≡ quoted_row format cell
+        (record { principal = principal.now; action = action.now; resource = resource.now }) tail.now) }
+{
+    let comma = comma_before(cell);
+    let front = tail.front.as_str();
+    let back = tail.back.as_str();
+    match format {
+        Format::Csv => { format!(in alloc; "{cell},{principal},{action},{resource}{back}") }
+        Format::Json => {
+            format!(in alloc;
+                "{comma}{{\"action\":{action},\"cell\":{cell}{front}{principal},\"resource\":{resource}{back}"
+            )
+        }
+    }
+}
+
+/// The row of this number, of a principal whose text stands so in rows.
+fn row_text(
+    alloc: Global,
+    format: Format,
+    brief: bool,
+    cell: u64,
+    principal: &str,
+    row: &Row,
+) -> Result<String, OutOfMemory>
+    ensures { IfOk result (λ text. (named : List ℕ) → principal.now ≡ quote_of format named
+        → string_bytes text ≡ row_text format brief cell (texts_of (record { principal = named; row = row_of row.now })) row.now.verdict) }
+{
+    let action = quote(alloc, format, row.action.as_str())?;
+    let resource = quote(alloc, format, row.resource.as_str())?;
+    let tail = tail_of(alloc, format, brief, &row.verdict)?;
+    joined(
+        alloc,
+        format,
+        cell,
+        principal,
+        action.as_str(),
+        resource.as_str(),
+        &tail,
+    )
+}
+
+/// The rows of the principal of this text, one behind the other, numbered from the first on.
+pub fn rows_text(
+    alloc: Global,
+    format: Format,
+    brief: bool,
+    first: u64,
+    principal: &str,
+    rows: &[Row],
+) -> Result<String, OutOfMemory>
+    requires { first + length rows.now ≤ 16777216 }
+    ensures { IfOk result (λ text. string_bytes text ≡ rows_text format brief first (named_rows principal.now rows.now)) }
+{
+    let quoted = quote(alloc, format, principal)?;
+    let mut text = String::new(alloc);
+    let mut cell = first;
+    for row in rows {
+        let next = row_text(alloc, format, brief, cell, quoted.as_str(), row)?;
+        text.push_str(next.as_str())?;
+        cell += 1;
+    }
+    Ok(text)
+}
