@@ -1,5 +1,5 @@
--- What is asked of all names, and the rows that answer it for a principal: AWS IAM User Guide, "Policy evaluation logic". LOGIC 11.2 and
--- 11.6.
+-- What is asked of all names, and the rows that answer it for a principal: AWS IAM User Guide, "Policy evaluation logic".
+-- LOGIC 11.2 and 11.6.
 use Rattle.std.specs.Prelude.{◌≡◌, ◌⊎◌, ◌<◌, ◌∷◌, ℕ, false, List, [], All, Any, Contains, MatchOption, Option, Some, None, codes, map, string_bytes, take}
 use Rattle.std.specs.List.{slice_get}
 use Rattle.std.specs.Str.{IsUtf8, chars}
