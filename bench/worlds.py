@@ -396,15 +396,15 @@ def managed_statement(dice):
     )
 
 
-def managed(named, things):
-    """An account's export: sessions that share managed policies."""
+def managed(named, things, shared=4, most=None):
+    """An account's export: sessions that share managed policies, up to so many each; so many sessions, where that is said."""
     dice = random.Random(len(named) * 7 + 1)
     policies = [document(*[managed_statement(dice) for _ in range(dice.randint(2, 8))]) for _ in range(180)]
     people, count = [], 0
-    while count < 3400:
+    while len(people) < most if most else count < 3400:
         n, team = len(people), dice.choice(TEAMS)
         own = [document(*[managed_statement(dice) for _ in range(dice.randint(1, 3))])] if dice.random() < 0.5 else []
-        identity = dice.sample(policies, dice.randint(1, 4)) + own
+        identity = dice.sample(policies, dice.randint(1, shared)) + own
         count += sum(len(it["Statement"]) for it in identity)
         people.append(
             session(
@@ -486,6 +486,11 @@ WORLDS = {
         "the same kind, 150 actions, 200 resources",
         MATRIX,
         lambda: managed(actions(150), plain_resources(200)),
+    ),
+    "requests": (
+        "the same kind, 300 principals, 10 actions, 5,000 resources",
+        READING,
+        lambda: managed([*EIGHT, "s3:PutObject", "kms:Decrypt"], plain_resources(5000), shared=3, most=300),
     ),
     "resources": (
         "120,000 resources",
