@@ -55,7 +55,12 @@ fn version(alloc: Global, text: &str) -> Result<Option<Version>, Fail> {
 }
 
 /// Whether the first statement of a document matches where user ann asks for the action on the resource.
-fn matches(alloc: Global, text: &str, action: &str, resource: &str) -> Result<bool, Fail> {
+fn matches<'a>(
+    alloc: Global,
+    text: &str,
+    action: &'a str,
+    resource: &'a str,
+) -> Result<bool, Fail> {
     let found = Requester::user(alloc, "arn:aws:iam::111122223333:user/ann")?;
     let (Some(policy), Some(requester)) = (policy(alloc, text)?, found) else {
         return Ok(false);
