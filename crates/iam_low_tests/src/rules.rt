@@ -1,8 +1,6 @@
-// Patterns, documents and statements by their own calls.
-use iam_context::{Context, Derived, DerivedKey, KeyName, Part, Values};
-use iam_match::{Request, Requester, statement_matches};
+// Patterns and documents by their own calls.
 use iam_policy::{Kind, Policy, Version};
-use iam_text::{Compiled, Glob, Text};
+use iam_text::{Compiled, Glob};
 use serde_json::Value;
 use std::alloc::Global;
 use std::test::Fail;
@@ -54,58 +52,10 @@ fn version(alloc: Global, text: &str) -> Result<Option<Version>, Fail> {
     Ok(policy(alloc, text)?.map(|policy| policy.version()))
 }
 
-/// Whether the first statement of a document matches where user ann asks for the action on the resource.
-fn matches<'a>(
-    alloc: Global,
-    text: &str,
-    action: &'a str,
-    resource: &'a str,
-) -> Result<bool, Fail> {
-    let found = Requester::user(alloc, "arn:aws:iam::111122223333:user/ann")?;
-    let (Some(policy), Some(requester)) = (policy(alloc, text)?, found) else {
-        return Ok(false);
-    };
-    let mut derived: Derived = Vec::new(alloc);
-    derived.push((
-        KeyName::derived(DerivedKey::Username),
-        Values::one(Text::read(alloc, "ann")?),
-    ))?;
-    let given: Part = Vec::new(alloc);
-    let context = Context::join(alloc, &[&given], &derived)?;
-    let request = Request {
-        requester: &requester,
-        action,
-        resource,
-        context: &context,
-    };
-    match policy.statements().first() {
-        Some(statement) => Ok(statement_matches(alloc, statement, &request)?),
-        None => Ok(false),
-    }
-}
-
 #[test]
 fn a_document_has_its_version(rt: HostRuntime) -> Result<(), Fail> {
     assert!(rt; version(rt.alloc(), DOCUMENT)? == Some(Version::V2012));
     assert!(rt; version(rt.alloc(), BARE)? == Some(Version::V2008));
     assert!(rt; version(rt.alloc(), "{}")?.is_none());
-    Ok(())
-}
-
-#[test]
-fn a_statement_matches_its_requests(rt: HostRuntime) -> Result<(), Fail> {
-    let alloc = rt.alloc();
-    assert!(rt; matches(alloc, DOCUMENT, "S3:GETOBJECT", "arn:aws:s3:::b/ann/x")?);
-    assert!(rt; !matches(alloc, DOCUMENT, "s3:PutObject", "arn:aws:s3:::b/ann/x")?);
-    assert!(rt; !matches(alloc, DOCUMENT, "s3:GetObject", "arn:aws:s3:::b/bob/x")?);
-    assert!(rt; !matches(alloc, BARE, "s3:GetObject", "arn:aws:s3:::b/ann/x")?);
-    assert!(rt;
-        matches(
-            alloc,
-            BARE,
-            "s3:GetObject",
-            "arn:aws:s3:::b/${aws:username}/x"
-        )?
-    );
     Ok(())
 }
