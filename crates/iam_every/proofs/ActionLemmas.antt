@@ -1,5 +1,5 @@
 -- The patterns of the action elements of statements are the groups by which they read an action.
-use Rattle.std.proofs.Common.{◌≡◌, inl, inr, ◌↔◌, ℕ, Bool, true, false, List, ◌++◌, Any, MatchBool, append_assoc, get_or, map, subst}
+use Rattle.std.proofs.Common.{◌≡◌, inl, inr, ◌↔◌, ℕ, Bool, true, false, List, ◌++◌, Any, MatchBool, get_or, map, subst}
 use Rattle.std.proofs.lemmas.List.Elements.{Contains-append_cases, Contains-append_left, Contains-append_right, Contains-get_or}
 use Rattle.std.specs.List.{Contains, flat_map}
 use Rattle.std.specs.Str.{chars}
@@ -9,7 +9,6 @@ use Rattle.iam_element.specs.Reading.{ActionElement}
 use Rattle.iam_kinds.specs.Kinds.{GroupMatchesFold}
 use Rattle.iam_match.specs.Statement.{ActionMatches}
 use Rattle.iam_decision.specs.Applicable.{ApplicableValue}
-use Rattle.iam_decision.specs.Code.Scan.{org_placed, requester_placed, resource_placed}
 use Rattle.iam_decision.specs.Matched.{Placed, placed}
 use Rattle.iam_every.specs.Elements.{HaveSame, elements_of}
 use Rattle.iam_every.specs.Names.{AreActionGroups}
@@ -80,10 +79,6 @@ added old new before more whole was now is =
         | inr further ↦ (now element).1 (Contains-append_right old more element further)
       ],
     ))
-
--- the statements of all layers
-pub all_placed : (a : ApplicableValue) → (org_placed a ++ resource_placed a) ++ requester_placed a ≡ placed a
-all_placed a = simp append_assoc
 
 pub are_groups : (applicables : List ApplicableValue) (elements : List ActionElement) → HaveSame elements (flat_map elements_of applicables)
     → AreActionGroups applicables (map (λ e. e.patterns) elements)

@@ -50,6 +50,6 @@ side_of requester s = side_by s.statement.effect s.place.layer s.place.level (gr
 abbrev pub AgreeOn : List (List (List Sign)) → List ℕ → List ℕ → Type 0
 AgreeOn groups one other = (group : List (List Sign)) → Contains groups group → GroupMatches group one ↔ GroupMatches group other
 
--- the groups tell apart just what decisions on requests for the action do
+-- the groups tell apart just the texts that are not alike for requests for the action, of which decisions may tell apart fewer
 abbrev pub AreGroups : ApplicableValue → AccessValue → List ℕ → List (List (List Sign)) → Type 0
 AreGroups a access action groups = (one other : List ℕ) → AgreeOn groups (chars one) (chars other) ↔ AreAlike a access action one other

@@ -24,7 +24,7 @@ text_question groups within apart named = record {
   named = map chars named;
 }
 
--- the groups tell apart just what the decisions do on requests of principal p for the action, on resources that the world does not name
+-- so it is on requests of principal p for the action, on resources that the world does not name
 abbrev pub AreGroupsAt : WorldValue → ℕ → Unnamed → List ℕ → List (List (List Sign)) → Type 0
 AreGroupsAt world p unnamed action groups =
     (text : List ℕ) (a : ApplicableValue) (access : AccessValue) → IsUnnamedAccess world p unnamed action text a access

@@ -6,6 +6,7 @@ ghost use Rattle.iam_kinds.specs.Answers.{IsAnswerFold};
 ghost use Rattle.iam_every.specs.Elements.{HaveSame, elements_in, elements_of};
 ghost use Rattle.iam_every.specs.Names.{AreActionGroups, action_question};
 
+use crate::concerned::statements;
 use iam_decision::{Actions, Applicable};
 use iam_glob::{Glob, Signs};
 use iam_kinds::{Grammar, Kinds, find_kinds_fold};
@@ -73,10 +74,7 @@ impl<'a> Elements<'a> {
         requires { IsNumbered (value_of applicable.now) }
         ensures { OnOk result (HaveSame (elements_in self.new) (elements_in self.old ++ elements_of (value_of applicable.now))) }
     {
-        let mut statements = Vec::new(alloc);
-        applicable.add_org(&mut statements)?;
-        applicable.add_resource(&mut statements)?;
-        applicable.add_requester(&mut statements)?;
+        let statements = statements(alloc, applicable)?;
         for &standing in statements.as_slice() {
             self.add(standing.statement.action())?;
         }

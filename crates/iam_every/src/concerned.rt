@@ -35,8 +35,8 @@ pub fn concerned<'a: 'c, 'c>(
     Ok(found)
 }
 
-/// All statements of the policies, in place order.
-fn statements<'a>(
+/// All statements of the policies, in place order. Their lists have to have fewer than 2^32 members.
+pub fn statements<'a>(
     alloc: Global,
     applicable: &Applicable<'a>,
 ) -> Result<Vec<Standing<'a>>, OutOfMemory>

@@ -1,4 +1,5 @@
-//! Requests for all names: the kinds of actions and of texts of resources that the decisions of a principal tell apart.
+//! Requests for all names: the kinds of actions and of texts of resources that the decisions of a principal tell apart, rows that answer
+//! for all of them by one of each kind, and the report of such rows.
 #![tactic(auto)]
 
 mod actions;
@@ -26,9 +27,8 @@ pub use laws::{
     alike_texts_decide_alike,
 };
 pub use meant::meant_actions;
-pub use pattern::{Pattern, add_patterns};
+pub use pattern::Pattern;
 pub use report::{EveryFault, every_report};
 pub use rows::{Row, rows_of};
 pub use text::EveryText;
 pub use texts::text_kinds;
-pub use verdict::verdict_on;

@@ -1,11 +1,11 @@
 use Rattle.std.proofs.Common.{◌≡◌, ◌+◌, ◌++◌, ◌∷◌, [], ◌∙◌, List, ap, append_assoc, map, subst, take}
 use Rattle.std.proofs.lemmas.List.{take_all}
 use Rattle.iam_element.specs.Reading.{ActionElement}
-use Rattle.iam_decision.specs.Code.Scan.{org_placed, placed_value, requester_placed, resource_placed}
+use Rattle.iam_decision.specs.Code.Scan.{placed_value}
 use Rattle.iam_decision.specs.Applicable.{value_of}
 use Rattle.iam_decision.specs.Matched.{Placed, placed}
 use Rattle.iam_every.specs.Elements.{HaveSame, elements_in}
-use Rattle.iam_every.proofs.ActionLemmas.{added, all_placed}
+use Rattle.iam_every.proofs.ActionLemmas.{added}
 use Rattle.iam_every.proofs.ListLemmas.{map_more}
 use Rattle.iam_every.proofs.actions.Elements.add_policies.Goals as goal
 
@@ -28,9 +28,7 @@ pub returns : goal.returns
 returns c =
     let a = value_of c.args.applicable.now in
     let all = c.as_slice-standing-items.result.now in
-    let org = c.in_ok-add_org.ensures ∙ ap (λ l. map placed_value l ++ org_placed a) c.new-statements.ensures.items in
-    let resource = c.in_ok-add_resource.ensures ∙ ap (λ l. l ++ resource_placed a) org in
     let whole : map placed_value all ≡ placed a =
-    ap (map placed_value) c.as_slice-standing-items.ensures.value ∙ c.in_ok-add_requester.ensures ∙ ap (λ l. l ++ requester_placed a) resource ∙ all_placed a in
+    ap (map placed_value) c.as_slice-standing-items.ensures.value ∙ c.in_ok-statements.ensures in
     subst (λ (l : List Placed). HaveSame (elements_in c.loop-standing.self) (elements_in c.args.self.now ++ map (λ s. s.statement.action) l))
     (ap (map placed_value) (take_all c.loop-standing.standing-index all c.loop-standing-test.false) ∙ whole) c.loop-standing.invariant
