@@ -1,12 +1,12 @@
 -- Resources that a world does not name. Each is decided as in a world that names it too, with what is said of it: AWS IAM User Guide,
 -- "Policy evaluation logic". LOGIC 11.6.
-use Rattle.std.specs.Prelude.{◌≡◌, ◌<◌, ◌++◌, ◌∷◌, ℕ, List, [], ⊤, None, false, length}
+use Rattle.std.specs.Prelude.{◌≡◌, ◌≢◌, ◌<◌, ◌++◌, ◌∷◌, ℕ, List, [], ⊤, None, false, length}
 use Rattle.iam_context.specs.Context.{ContextValue}
 use Rattle.iam_decision.specs.Applicable.{ApplicableValue}
 use Rattle.iam_decision.specs.declared.verdict.Decision.{Decision}
 use Rattle.iam_decision.specs.declared.verdict.Verdict.{Verdict}
 use Rattle.iam_match.specs.Statement.{AccessValue}
-use Rattle.iam_world.specs.World.{PrincipalValue, ResourceValue, WorldValue}
+use Rattle.iam_world.specs.World.{PrincipalValue, ResourceValue, WorldValue, account_with}
 use Rattle.iam_layers.specs.Applicable.{applicable_of}
 use Rattle.iam_layers.specs.Cell.{IsAccessAt, IsDecisionAt, IsPrincipal, IsResource, IsVerdictAt}
 use Rattle.iam_layers.specs.Derived.{IsDerived, context_of}
@@ -33,6 +33,10 @@ IsSaid world (Of account) text resource = resource ≡ bare_resource account.now
 abbrev pub IsThere : WorldValue → Unnamed → Type 0
 IsThere world (Like r) = r < length world.resources
 IsThere world (Of account) = ⊤
+
+-- the world has an account of this id
+abbrev pub HasAccount : WorldValue → List ℕ → Type 0
+HasAccount world id = account_with id world ≢ None
 
 -- P holds of principal p and of a resource of each text of which this is said
 abbrev pub OfUnnamed : WorldValue → ℕ → Unnamed → (PrincipalValue → ResourceValue → Type 0) → Type 0

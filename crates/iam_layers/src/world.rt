@@ -1,5 +1,5 @@
 // A world: what it has, which policies apply to a request, and the verdict on it.
-ghost use Rattle.std.specs.Prelude.{◌≡◌, ◌≢◌, ◌<◌, ◌≤◌, IsTrue, ℕ, IfOk, IfErr, Some, length, pos, string_bytes};
+ghost use Rattle.std.specs.Prelude.{◌≡◌, ◌≢◌, ◌↔◌, ◌<◌, ◌≤◌, IsTrue, ℕ, IfOk, IfErr, Some, length, pos, string_bytes};
 ghost use Rattle.iam_value.specs.Moment.{IsStamp};
 ghost use Rattle.iam_decision.specs.Applicable.{IsNumbered, value_of, ApplicableValue, frame_of};
 ghost use Rattle.iam_world.specs.World.{WorldValue};
@@ -47,7 +47,7 @@ impl World {
     ghost use Rattle.iam_world.specs.Invariants.{HasFewPolicies};
     ghost use Rattle.iam_world.specs.declared.fault.WorldFault.TheVariants as w;
     ghost use Rattle.iam_match.specs.Request.{access_of};
-    ghost use Rattle.iam_layers.specs.Unnamed.{AreUnnamedKeys, AreUnnamedPolicies};
+    ghost use Rattle.iam_layers.specs.Unnamed.{AreUnnamedKeys, AreUnnamedPolicies, HasAccount};
     ghost use Rattle.iam_layers.specs.declared.unnamed.Unnamed.TheVariants.{Of};
     ghost use Rattle.iam_layers.specs.Cell.{IsAccessAt, IsAction, IsApplicableAt, IsCell, IsContextAt, IsDerivedAt, IsPrincipal, IsRequestContext, IsResource, IsSharedAt, IsVerdictAt, principal_text};
 
@@ -105,6 +105,13 @@ impl World {
         ensures { result ≡ length self.now.resources }
     {
         self.parts.resources().len() as u64
+    }
+
+    /// Whether there is an account with this id.
+    pub fn has_account(&self, id: &str) -> bool
+        ensures { IsTrue result ↔ HasAccount self.now id.now }
+    {
+        self.parts.account(id).is_some()
     }
 
     /// How many cells the matrix has: one for each principal, action and resource; at most 16,777,216.
