@@ -9,8 +9,10 @@ use Rattle.iam_glob.specs.declared.sign.Sign.TheVariants.{Any}
 use Rattle.iam_kinds.specs.Answers.{pairs_of}
 use Rattle.iam_kinds.specs.States.{GoesOn, HasManyKinds, HasManyStates, Machine, PassesLimit, goal_of, group_count, machine_of, numbered_groups, numbered_within, pattern_of, with_number}
 use Rattle.iam_kinds.specs.Code.{AreGoals, HasGoal, IsTable, group_at}
-use Rattle.iam_kinds.specs.Kinds.{Agree, AreKinds, GroupMatches, IsIn, IsMeant, Question}
-use Rattle.iam_kinds.specs.Walk.{Alike, AreTexts, Has, HasManyTexts, IsCounted, IsReady, IsSought, Query}
+use Rattle.iam_kinds.specs.Kinds.{Agree, GroupMatches, IsIn, IsMeant, Question}
+use Rattle.iam_kinds.specs.Shown.{AreKinds}
+use Rattle.iam_kinds.specs.Spelled.{IsSpelledBy}
+use Rattle.iam_kinds.specs.Walk.{Alike, AreLeast, AreTexts, Has, HasManyTexts, IsCounted, IsNotAfter, IsReady, IsSought, Query}
 use Rattle.iam_kinds.specs.declared.asked.Asked.{Asked}
 use Rattle.iam_kinds.specs.declared.grammar.Grammar.{Grammar}
 use Rattle.iam_kinds.specs.declared.table.Pattern.{Pattern}
@@ -18,6 +20,7 @@ use Rattle.iam_kinds.proofs.FewerLemmas.{apart_by, only_one, pairs_weaker}
 use Rattle.iam_kinds.proofs.GoLemmas.{slice_at, slice_below, slice_in, slice_more}
 use Rattle.iam_kinds.proofs.Members.{In, from_map, in_append, in_left, in_map, in_of, in_right, of_in}
 use Rattle.iam_kinds.proofs.NodeLemmas.{element}
+use Rattle.iam_kinds.proofs.OrderLemmas.{not_before}
 
 -- ---- the table
 abbrev pub AreBelow : ℕ → List Pattern → Type 0
@@ -60,7 +63,8 @@ from_within first (q ∷ within) g p (inl e) = (0, (let s : first ≡ g = ap (λ
 from_within first (q ∷ within) g p (inr h) =
     let r = from_within (first + 1) within g p h in (suc r.0, (let s : g ≡ first + 1 + r.0 = r.1 in omega arith), r.2)
 
-pub in_within : (first : ℕ) (within : List (List Sign)) (i : ℕ) (p : List Sign) → slice_get within i ≡ Some p → In (first + i, p) (numbered_within first within)
+pub in_within : (first : ℕ) (within : List (List Sign)) (i : ℕ) (p : List Sign) → slice_get within i ≡ Some p
+    → In (first + i, p) (numbered_within first within)
 in_within first [] i p e = absurd (let wrong : ⊥ = cc in wrong)
 in_within first (q ∷ within) zero p e =
     let n : first ≡ first + 0 = omega arith in let s : q ≡ p = cc in inl (ap (λ k. (k, q)) n ∙ ap (λ r. (first + 0, r)) s)
@@ -80,7 +84,8 @@ from_groups first (group ∷ groups) g p h = elim (in_append (with_number first 
       let r = from_groups (first + 1) groups g p later in (suc r.0, r.1, (let s : g ≡ first + 1 + r.0 = r.2 in omega arith), r.3, r.4)
 ]
 
-pub in_groups : (first : ℕ) (groups : List (List (List Sign))) (i : ℕ) (group : List (List Sign)) (p : List Sign) → slice_get groups i ≡ Some group → In p group
+pub in_groups : (first : ℕ) (groups : List (List (List Sign))) (i : ℕ) (group : List (List Sign)) (p : List Sign)
+    → slice_get groups i ≡ Some group → In p group
     → In (first + i, p) (numbered_groups first groups)
 in_groups first [] i group p e h = absurd (let wrong : ⊥ = cc in wrong)
 in_groups first (q ∷ groups) zero group p e h =
@@ -100,7 +105,8 @@ pub record IsQuestion (question : Question) (query : Query) : Type 0 where
   pub within : query.within ≡ length question.within
   pub patterns : pairs_of query.patterns ≡ numbered_within 0 question.within ++ numbered_groups (length question.within) question.groups
 
-pub has_pair : (query : Query) (g : ℕ) (text : List ℕ) → Has query g text ↔ ((p : List Sign) × In (g, p) (pairs_of query.patterns) × Matches p text)
+pub has_pair : (query : Query) (g : ℕ) (text : List ℕ)
+    → Has query g text ↔ ((p : List Sign) × In (g, p) (pairs_of query.patterns) × Matches p text)
 has_pair query g text = (
   λ (p, h, own, m).
       (p.signs, subst (λ n. In (n, p.signs) (pairs_of query.patterns)) own (in_map (λ (q : Pattern). (q.group, q.signs)) query.patterns p (in_of _ p h)), m),
@@ -144,7 +150,8 @@ pub at_slice : {A : Type 0} (xs : List A) (x : A) → Contains xs x → (i : ℕ
 at_slice xs x (k, below, e) =
     let r = element xs k below in (k, r.1 ∙ ap Some (sym (slice_at xs k r.0 x r.1) ∙ e))
 
-pub meant : (question : Question) (query : Query) → IsQuestion question query → (text : List ℕ) → IsSought query text → IsMeant question text
+pub meant : (question : Question) (query : Query) → IsQuestion question query → (text : List ℕ) → IsSought query text
+    → IsMeant question text
 meant question query is text s = record {
   grammar = subst (λ g. IsIn g text) is.grammar s.fits.grammar;
   within = λ p h.
@@ -157,7 +164,8 @@ meant question query is text s = record {
   unnamed = λ h. s.unnamed (subst (λ (l : List (List ℕ)). Contains l text) (sym is.named) h);
 }
 
-pub sought : (question : Question) (query : Query) → IsQuestion question query → (text : List ℕ) → IsMeant question text → IsSought query text
+pub sought : (question : Question) (query : Query) → IsQuestion question query → (text : List ℕ) → IsMeant question text
+    → IsSought query text
 sought question query is text m = record {
   fits = record {
     grammar = subst (λ g. IsIn g text) (sym is.grammar) m.grammar;
@@ -168,7 +176,8 @@ sought question query is text m = record {
   unnamed = λ h. m.unnamed (subst (λ (l : List (List ℕ)). Contains l text) is.named h);
 }
 
-pub agree : (question : Question) (query : Query) → IsQuestion question query → (one other : List ℕ) → Alike query one other → Agree question one other
+pub agree : (question : Question) (query : Query) → IsQuestion question query → (one other : List ℕ) → Alike query one other
+    → Agree question one other
 agree question query is one other alike = λ group h.
     let i = at_slice question.groups group h in (
       λ m. matched question query is i.0 group other i.1 ((alike (length question.within + i.0)).0 (group_has question query is i.0 group one i.1 m)),
@@ -185,14 +194,16 @@ agree question query is one other alike = λ group h.
           subst (λ (l : List (List Sign)). GroupMatches l text) (let same : r.1 ≡ group = cc in same) r.4
     ]
 
-pub alike : (question : Question) (query : Query) → IsQuestion question query → (one other : List ℕ) → IsMeant question one → IsMeant question other
+pub alike : (question : Question) (query : Query) → IsQuestion question query → (one other : List ℕ) → IsMeant question one
+    → IsMeant question other
     → Agree question one other → Alike query one other
 alike question query is one other m n agrees = λ g. (
   λ h. over question query is one other n agrees g h,
   λ h. over question query is other one m (λ group k. ((agrees group k).1, (agrees group k).0)) g h,
 )
   where
-    over : (question : Question) (query : Query) → IsQuestion question query → (one other : List ℕ) → IsMeant question other → Agree question one other
+    over : (question : Question) (query : Query) → IsQuestion question query → (one other : List ℕ) → IsMeant question other
+        → Agree question one other
         → (g : ℕ) → Has query g one → Has query g other
     over question query is one other n agrees g h = elim (has_cases question query is g one h) [
       | inl r ↦ within_has question query is g r.0 other r.1 (n.within r.0 (slice_in question.within g r.0 r.1))
@@ -201,29 +212,53 @@ alike question query is one other m n agrees = λ g. (
           (group_has question query is r.0 r.1 other r.3 ((agrees r.1 (slice_in question.groups r.0 r.1 r.3)).0 r.4))
     ]
 
-pub are_kinds : (question : Question) (query : Query) (texts : List (List ℕ)) → IsQuestion question query → AreTexts query texts → AreKinds question texts
-are_kinds question query texts is are = record {
-  meant = λ text h. meant question query is text (are.sought text h);
-  whole = λ text scalars m.
-      let r = are.whole text scalars (sought question query is text m) in (r.0, r.1, agree question query is r.0 text r.2);
-  apart = λ i j d less below agrees.
-      let first = Contains-get_or texts i d (omega (arith, less, below)) in
-      let second = Contains-get_or texts j d below in
-      are.apart i j d less below
-      (alike question query is _ _ (meant question query is _ (are.sought _ first)) (meant question query is _ (are.sought _ second)) agrees);
-  shortest = λ shown text h scalars m agrees.
-      let r = are.whole text scalars (sought question query is text m) in
-      let same = alike question query is shown text (meant question query is shown (are.sought shown h)) m agrees in
-      let one : shown ≡ r.0 =
-      only_one (Alike query) texts shown r.0 (λ a b s. (λ g. ((s g).1, (s g).0))) (apart_by (λ a b. ¬ Alike query a b) texts are.apart)
-      (in_of texts shown h) (in_of texts r.0 r.1) (λ g. (λ k. (r.2 g).1 ((same g).0 k), λ k. (same g).1 ((r.2 g).0 k))) in
-      omega (arith, ap length one, r.3);
-  order = are.order;
-}
+-- of the texts the one that is like another is the one that is there for it
+pub like_one : (question : Question) (query : Query) (texts : List (List ℕ)) → IsQuestion question query → AreTexts query texts
+    → (shown other text : List ℕ) → Contains texts shown → Contains texts other → Alike query other text → IsMeant question text
+    → Agree question shown text
+    → shown ≡ other
+like_one question query texts is are shown other text h k like m agrees =
+    let same = alike question query is shown text (meant question query is shown (are.sought shown h)) m agrees in
+    only_one (Alike query) texts shown other (λ a b s. (λ g. ((s g).1, (s g).0))) (apart_by (λ a b. ¬ Alike query a b) texts are.apart)
+    (in_of texts shown h) (in_of texts other k) (λ g. (λ l. (like g).1 ((same g).0 l), λ l. (same g).1 ((like g).0 l)))
+
+pub are_kinds : (question : Question) (query : Query) (machine : Machine) (texts : List (List ℕ)) → IsQuestion question query
+    → machine ≡ machine_of question
+    → AreTexts query texts → AreLeast machine query texts → AreKinds question texts
+are_kinds question query machine texts is same are least =
+    let spelled : (text : List ℕ) → IsSpelledBy machine query.named text → IsSpelledBy (machine_of question) question.named text =
+    λ text s. subst (λ (m : Machine). IsSpelledBy m question.named text) same
+    (subst (λ (n : List (List ℕ)). IsSpelledBy machine n text) is.named s) in
+    let back : (text : List ℕ) → IsSpelledBy (machine_of question) question.named text → IsSpelledBy machine query.named text =
+    λ text s.
+    subst (λ (m : Machine). IsSpelledBy m query.named text) (sym same)
+    (subst (λ (n : List (List ℕ)). IsSpelledBy (machine_of question) n text) (sym is.named) s) in record {
+      characters = λ text h. (least.spelled text h).0;
+      meant = λ text h. meant question query is text (are.sought text h);
+      whole = λ text scalars m.
+          let r = are.whole text scalars (sought question query is text m) in (r.0, r.1, agree question query is r.0 text r.2);
+      apart = λ i j d less below agrees.
+          let first = Contains-get_or texts i d (omega (arith, less, below)) in
+          let second = Contains-get_or texts j d below in
+          are.apart i j d less below
+          (alike question query is _ _ (meant question query is _ (are.sought _ first))
+          (meant question query is _ (are.sought _ second)) agrees);
+      shortest = λ shown text h scalars m agrees.
+          let r = are.whole text scalars (sought question query is text m) in
+          let one = like_one question query texts is are shown r.0 text h r.1 r.2 m agrees in
+          omega (arith, ap length one, r.3);
+      order = are.order;
+      spelled = λ text h. spelled text (least.spelled text h).1;
+      least = λ shown text h scalars m spells agrees.
+          let r = least.least text (sought question query is text m) (back text spells) in
+          let one = like_one question query texts is are shown r.0 text h r.1 r.2 m agrees in
+          not_before shown text (subst (λ (t : List ℕ). IsNotAfter t text) (sym one) r.3);
+    }
 
 -- ---- what is asked
 pub below_pairs : (within : List (List Sign)) (groups : List (List (List Sign))) (patterns : List Pattern) (count : ℕ)
-    → pairs_of patterns ≡ numbered_within 0 within ++ numbered_groups (length within) groups → count ≡ length within + length groups → AreBelow count patterns
+    → pairs_of patterns ≡ numbered_within 0 within ++ numbered_groups (length within) groups → count ≡ length within + length groups
+    → AreBelow count patterns
 below_pairs within groups patterns count pairs many = λ p h.
     let listed = subst (In (p.group, p.signs)) pairs (in_map (λ (q : Pattern). (q.group, q.signs)) patterns p h) in
     elim (in_append (numbered_within 0 within) (numbered_groups (length within) groups) (p.group, p.signs) listed) [
@@ -238,7 +273,8 @@ below_pairs within groups patterns count pairs many = λ p h.
     ]
 
 -- the patterns behind those where groups stand
-pub queried : (table goals patterns : List Pattern) (count : ℕ) → table ≡ goals ++ patterns → AreGoals count goals → drop count table ≡ patterns
+pub queried : (table goals patterns : List Pattern) (count : ℕ) → table ≡ goals ++ patterns → AreGoals count goals
+    → drop count table ≡ patterns
 queried table goals patterns count is are =
     ap (drop count) is ∙ ap (λ n. drop n (goals ++ patterns)) (sym are.many) ∙ behind_goals goals patterns
 
@@ -273,7 +309,8 @@ is_question question table goals patterns count within grammar named is are pair
     }
 
 pub both_added : (first second third : List Pattern) (within : List (List Sign)) (groups : List (List (List Sign))) (count : ℕ) → first ≡ []
-    → pairs_of second ≡ pairs_of first ++ numbered_within 0 within → pairs_of third ≡ pairs_of second ++ numbered_groups count groups → count ≡ length within
+    → pairs_of second ≡ pairs_of first ++ numbered_within 0 within → pairs_of third ≡ pairs_of second ++ numbered_groups count groups
+    → count ≡ length within
     → pairs_of third ≡ numbered_within 0 within ++ numbered_groups (length within) groups
 both_added first second third within groups count none one two many =
     two ∙ ap (λ l. l ++ numbered_groups count groups) (one ∙ ap (λ (l : List Pattern). pairs_of l ++ numbered_within 0 within) none)
@@ -301,7 +338,8 @@ paired (p ∷ patterns) = ap (λ l. p ∷ l) (paired patterns)
 abbrev pub machine_with : Grammar → List Pattern → ℕ → Machine
 machine_with grammar patterns count = record { grammar = grammar; patterns = patterns; count = count }
 
-pub is_machine : (question : Question) (table goals patterns : List Pattern) (count : ℕ) (grammar : Grammar) → table ≡ goals ++ patterns → AreGoals count goals
+pub is_machine : (question : Question) (table goals patterns : List Pattern) (count : ℕ) (grammar : Grammar) → table ≡ goals ++ patterns
+    → AreGoals count goals
     → pairs_of patterns ≡ numbered_within 0 question.within ++ numbered_groups (length question.within) question.groups
     → count ≡ group_count question → grammar ≡ question.grammar
     → machine_with grammar table count ≡ machine_of question
@@ -315,13 +353,15 @@ is_machine question table goals patterns count grammar is are pairs many same =
     is ∙ ap (λ l. l ++ patterns) first ∙ ap (λ l. map goal_of (range_with_len 0 (group_count question)) ++ l) second in
     machine_at_once grammar question.grammar table _ count (group_count question) same all many
   where
-    machine_at_once : (grammar other : Grammar) (patterns others : List Pattern) (count many : ℕ) → grammar ≡ other → patterns ≡ others → count ≡ many
+    machine_at_once : (grammar other : Grammar) (patterns others : List Pattern) (count many : ℕ) → grammar ≡ other → patterns ≡ others
+        → count ≡ many
         → machine_with grammar patterns count ≡ machine_with other others many
     machine_at_once grammar other patterns others count many g p c =
         ap (λ x. machine_with x patterns count) g ∙ ap (λ x. machine_with other x count) p ∙ ap (λ x. machine_with other others x) c
 
 -- a text is gone on with
-pub goes_on : (question : Question) (query : Query) → IsQuestion question query → (text : List ℕ) → IsCounted query text → GoesOn question text
+pub goes_on : (question : Question) (query : Query) → IsQuestion question query → (text : List ℕ) → IsCounted query text
+    → GoesOn question text
 goes_on question query is text (characters, live, free) = record {
   characters = characters;
   grammar = (let (rest, h) = live.grammar in (rest, subst (λ g. IsIn g (text ++ rest)) is.grammar h));
@@ -338,7 +378,8 @@ goes_on question query is text (characters, live, free) = record {
   unnamed = λ rest h. free rest (subst (λ (l : List (List ℕ)). Contains l (text ++ rest)) (sym is.named) h);
 }
 
-pub counted : (question : Question) (query : Query) → IsQuestion question query → (text : List ℕ) → GoesOn question text → IsCounted query text
+pub counted : (question : Question) (query : Query) → IsQuestion question query → (text : List ℕ) → GoesOn question text
+    → IsCounted query text
 counted question query is text goes = (
   goes.characters,
   record {
@@ -351,7 +392,8 @@ counted question query is text goes = (
   λ rest h. goes.unnamed rest (subst (λ (l : List (List ℕ)). Contains l (text ++ rest)) is.named h),
 )
 
-pub states_as : (one other : List ℕ → Type 0) (machine : Machine) → ((text : List ℕ) → one text → other text) → HasManyStates one machine → HasManyStates other machine
+pub states_as : (one other : List ℕ → Type 0) (machine : Machine) → ((text : List ℕ) → one text → other text) → HasManyStates one machine
+    → HasManyStates other machine
 states_as one other machine to (states, are, many) =
     (states, record { behind = λ s h. (let b = are.behind s h in (b.0, to b.0 b.1, b.2)); apart = are.apart }, many)
 

@@ -4,7 +4,7 @@ use Rattle.std.proofs.Common.{◌≡◌, ◌≢◌, inl, inr, ℕ, suc, ◌<◌,
 use Rattle.std.specs.List.{AllPairs, Contains, sum_by}
 use Rattle.std.proofs.lemmas.List.Kept.{AllPairs-cons}
 use Rattle.std.proofs.lemmas.List.Sums.{sum_by-append, sum_by-cons}
-use Rattle.iam_kinds.proofs.Members.{In, all_of, from_map, in_append, in_left, in_of, in_right, of_in}
+use Rattle.iam_kinds.proofs.Members.{In, all_of, from_map, in_append, in_left, in_map, in_of, in_right, of_in}
 
 -- `AllPairs` by recursion
 abbrev pub ApartBy : {A : Type 0} → (A → A → Type 0) → List A → Type 0
@@ -43,6 +43,10 @@ apart_map {A} {B} f R (x ∷ xs) apart = (
       subst P r.2 (apart.0 r.0 r.1),
   apart_map f R xs apart.1,
 )
+
+pub apart_unmap : {A B : Type 0} (f : A → B) (R : B → B → Type 0) (xs : List A) → ApartBy R (map f xs) → ApartBy (λ x y. R (f x) (f y)) xs
+apart_unmap f R [] apart = tt
+apart_unmap f R (x ∷ xs) apart = (λ y h. apart.0 (f y) (in_map f xs y h), apart_unmap f R xs apart.1)
 
 -- pairs stay as they are where the relation is another one of elements
 pub pairs_weaker : {A : Type 0} (R S : A → A → Type 0) (xs : List A) → ((x y : A) → In x xs → In y xs → R x y → S x y) → AllPairs R xs → AllPairs S xs

@@ -6,7 +6,7 @@ use Rattle.std.proofs.lemmas.List.Elements.{Contains-append_left, Contains-get_o
 use Rattle.std.proofs.lemmas.List.Quantifiers.{all_pairs_push}
 use Rattle.iam_kinds.specs.Kinds.{IsBefore, IsIn, IsText}
 use Rattle.iam_kinds.specs.Lists.{lists_in}
-use Rattle.iam_kinds.specs.Walk.{Alike, AreTexts, Describes, Fits, Grows, Has, IsAt, IsBelow, IsCovered, IsExpandedAt, IsLive, IsMet, IsReady, IsSought, IsTried, IsWalk, Query, StandsFor, StaysBelow, StaysBelowBehind, TriesAll, machine_at, query_of, shown_in}
+use Rattle.iam_kinds.specs.Walk.{Alike, AreLetters, AreTexts, Describes, Fits, Grows, Has, IsAt, IsBelow, IsCovered, IsExpandedAt, IsLive, IsMet, IsMetFirst, IsNotAfter, IsReady, IsSpelledFor, IsSought, IsTried, IsWalk, Query, StandsFor, StaysBelow, StaysBelowBehind, TriesAll, machine_at, query_of, shown_in}
 use Rattle.iam_kinds.specs.declared.asked.Asked.{Asked}
 use Rattle.iam_kinds.specs.declared.asked.Node.{Node}
 use Rattle.iam_kinds.specs.declared.walk.Walk.{Walk}
@@ -21,7 +21,7 @@ use Rattle.std.specs.Option.{option_and_then}
 use Rattle.iam_kinds.specs.Code.{SameElements, first_stage, next_stage, waited_at, waited_in}
 use Rattle.iam_kinds.specs.Letters.{Stands}
 use Rattle.iam_kinds.proofs.NodeLemmas.{element, stage_more}
-use Rattle.iam_kinds.proofs.OrderLemmas.{before_length, before_on, before_trans, longer}
+use Rattle.iam_kinds.proofs.OrderLemmas.{before_on, before_trans, longer, not_after_length}
 use Rattle.iam_kinds.proofs.PlaceLemmas.{get_or_any}
 use Rattle.iam_kinds.proofs.ReachLemmas.{places_on}
 use Rattle.std.specs.List.Sorted.{IsStrictlyIncreasing}
@@ -48,18 +48,26 @@ slice_more [] ys i below = absurd (omega arith)
 slice_more (x ∷ xs) ys zero below = refl
 slice_more (x ∷ xs) ys (suc i) below = slice_more xs ys i (omega arith)
 
+pub at_slice : {A : Type 0} (xs : List A) (i : ℕ) (x : A) → i < length xs → get_or xs i x ≡ x → slice_get xs i ≡ Some x
+at_slice [] i x below e = absurd (omega arith)
+at_slice (y ∷ xs) zero x below e = ap Some e
+at_slice (y ∷ xs) (suc i) x below e = at_slice xs i x (omega arith) e
+
 -- two texts that one list of numbers describes are alike
-pub described_alike : (asked : Asked) (numbers one other : List ℕ) → Describes (query_of asked) numbers one → Describes (query_of asked) numbers other
+pub described_alike : (asked : Asked) (numbers one other : List ℕ) → Describes (query_of asked) numbers one
+    → Describes (query_of asked) numbers other
     → Alike (query_of asked) one other
 described_alike asked numbers one other d e = λ g. (λ h. (e.groups g).0 ((d.groups g).1 h), λ h. (d.groups g).0 ((e.groups g).1 h))
 
-pub alike_described : (asked : Asked) (numbers others one other : List ℕ) → Describes (query_of asked) numbers one → Describes (query_of asked) others other
+pub alike_described : (asked : Asked) (numbers others one other : List ℕ) → Describes (query_of asked) numbers one
+    → Describes (query_of asked) others other
     → Alike (query_of asked) one other → numbers ≡ others
 alike_described asked numbers others one other d e alike =
     same_numbers numbers others d.rising e.rising (λ g h. (e.groups g).1 ((alike g).0 ((d.groups g).0 h))) (λ g h. (d.groups g).1 ((alike g).1 ((e.groups g).0 h)))
 
 -- ---- showing a text
-pub shown_before : (asked : Asked) (old new : Walk) (text numbers : List ℕ) → IsWalk asked old → IsBelow old text → Contains (lists_in old.kinds) numbers
+pub shown_before : (asked : Asked) (old new : Walk) (text numbers : List ℕ) → IsWalk asked old → IsBelow old text
+    → Contains (lists_in old.kinds) numbers
     → Describes (query_of asked) numbers text → new.nodes.items ≡ old.nodes.items → shown_in new ≡ shown_in old
     → ((list : List ℕ) → Contains (lists_in new.kinds) list ↔ (Contains (lists_in old.kinds) list ⊎ (list ≡ numbers)))
     → IsWalk asked new × IsCovered asked new text
@@ -75,6 +83,7 @@ shown_before asked old new text numbers walk below has d nodes shown lists =
         order = subst (AllPairs IsBefore) (sym shown) walk.order;
         apart = subst (AllPairs (λ one other. ¬ Alike (query_of asked) one other)) (sym shown) walk.apart;
         few = subst (λ (l : List (List ℕ)). length l ≤ 4096) (sym shown) walk.few;
+        spelled = λ x h. walk.spelled x (back x h);
         kinds = λ list h.
             let k = walk.kinds list (elim ((lists list).0 h) [
               | inl o ↦ o
@@ -83,22 +92,25 @@ shown_before asked old new text numbers walk below has d nodes shown lists =
             (k.0, keep k.0 k.1, k.2);
         described = λ x h. let r = walk.described x (back x h) in (r.0, (lists r.0).1 (inl r.1), r.2);
       },
-      (let k = walk.kinds numbers has in (k.0, keep k.0 k.1, described_alike asked numbers k.0 text k.2 d, before_length k.0 text (below.shown k.0 k.1))),
+      (let k = walk.kinds numbers has in (k.0, keep k.0 k.1, described_alike asked numbers k.0 text k.2 d, inr (below.shown k.0 k.1))),
     )
 
 -- a text with other numbers is unlike those that are shown
 pub unlike : (asked : Asked) (old : Walk) (text numbers : List ℕ) → IsWalk asked old → (¬ Contains (lists_in old.kinds) numbers)
-    → Describes (query_of asked) numbers text → (k : ℕ) (e : List ℕ) → k < length (shown_in old) → ¬ Alike (query_of asked) (get_or (shown_in old) k e) text
+    → Describes (query_of asked) numbers text → (k : ℕ) (e : List ℕ) → k < length (shown_in old)
+    → ¬ Alike (query_of asked) (get_or (shown_in old) k e) text
 unlike asked old text numbers walk lacks d = λ k e below alike.
     let r = walk.described (get_or (shown_in old) k e) (Contains-get_or (shown_in old) k e below) in
     let same = alike_described asked r.0 numbers (get_or (shown_in old) k e) text r.2 d alike in
     lacks (subst (λ (l : List ℕ). Contains (lists_in old.kinds) l) same r.1)
 
-pub shown_now : (asked : Asked) (old new : Walk) (text numbers : List ℕ) → IsWalk asked old → IsBelow old text → (¬ Contains (lists_in old.kinds) numbers)
-    → Describes (query_of asked) numbers text → IsText text × IsSought (query_of asked) text → length (shown_in old) < 4096 → new.nodes.items ≡ old.nodes.items → shown_in new ≡ shown_in old ++ (text ∷ [])
+pub shown_now : (asked : Asked) (old new : Walk) (text numbers : List ℕ) → IsWalk asked old → IsBelow old text
+    → (¬ Contains (lists_in old.kinds) numbers)
+    → Describes (query_of asked) numbers text → IsText text × IsSought (query_of asked) text → IsSpelledFor asked text
+    → length (shown_in old) < 4096 → new.nodes.items ≡ old.nodes.items → shown_in new ≡ shown_in old ++ (text ∷ [])
     → ((list : List ℕ) → Contains (lists_in new.kinds) list ↔ (Contains (lists_in old.kinds) list ⊎ (list ≡ numbers)))
     → IsWalk asked new × IsCovered asked new text
-shown_now asked old new text numbers walk below lacks d s room nodes shown lists =
+shown_now asked old new text numbers walk below lacks d s spelled room nodes shown lists =
     let q = query_of asked in
     let keep : (x : List ℕ) → Contains (shown_in old) x → Contains (shown_in new) x =
     λ x h. subst (λ (l : List (List ℕ)). Contains l x) (sym shown) (Contains-append_left (shown_in old) (text ∷ []) x h) in
@@ -118,6 +130,7 @@ shown_now asked old new text numbers walk below lacks d s room nodes shown lists
         apart =
             subst (AllPairs (λ one other. ¬ Alike q one other)) (sym shown)
             (all_pairs_push (λ one other. ¬ Alike q one other) (shown_in old) text walk.apart (unlike asked old text numbers walk lacks d));
+        spelled = λ x h. elim (back x h) [ inl o ↦ walk.spelled x o | inr e ↦ subst (IsSpelledFor asked) e spelled ];
         kinds = λ list h. elim ((lists list).0 h) [
           | inl o ↦ let r = walk.kinds list o in (r.0, keep r.0 r.1, r.2)
           | inr e ↦ (text, here, subst (λ (l : List ℕ). Describes q l text) (sym e) d)
@@ -127,7 +140,7 @@ shown_now asked old new text numbers walk below lacks d s room nodes shown lists
           | inr e ↦ (numbers, (lists numbers).1 (inr refl), subst (Describes q numbers) e d)
         ];
       },
-      (text, here, (λ g. (λ h. h, λ h. h)), omega arith),
+      (text, here, (λ g. (λ h. h, λ h. h)), inl refl),
     )
 
 -- ---- a node more
@@ -146,7 +159,7 @@ node_more asked old new node walk at below covers nodes shown lists =
         | inl o ↦ let r = walk.covered n o s in (r.0, keep r.0 r.1, r.2, r.3)
         | inr e ↦
             let r = covers (subst (λ (n : Node). IsSought (query_of asked) n.text.items) (sym e) s) in
-            let p = subst (λ (n : Node). Alike (query_of asked) r.0 n.text.items × (length r.0 ≤ length n.text.items)) e (r.2, r.3) in
+            let p = subst (λ (n : Node). Alike (query_of asked) r.0 n.text.items × IsNotAfter r.0 n.text.items) e (r.2, r.3) in
             (r.0, keep r.0 r.1, p.0, p.1)
       ];
       rising =
@@ -156,13 +169,15 @@ node_more asked old new node walk at below covers nodes shown lists =
       order = subst (AllPairs IsBefore) (sym shown) walk.order;
       apart = subst (AllPairs (λ one other. ¬ Alike (query_of asked) one other)) (sym shown) walk.apart;
       few = subst (λ (l : List (List ℕ)). length l ≤ 4096) (sym shown) walk.few;
+      spelled = λ x h. walk.spelled x (back x h);
       kinds = λ list h. let r = walk.kinds list (subst (λ (l : List (List ℕ)). Contains l list) lists h) in (r.0, keep r.0 r.1, r.2);
       described = λ x h. let r = walk.described x (back x h) in (r.0, subst (λ (l : List (List ℕ)). Contains l r.0) (sym lists) r.1, r.2);
     }
 
 -- what is below stays below where a node came
 pub stays_below : (old new : Walk) (node : Node) → new.nodes.items ≡ old.nodes.items ++ (node ∷ [])
-    → ((shown : List ℕ) → Contains (shown_in new) shown → Contains (shown_in old) shown ⊎ (node.text.items ≡ shown)) → StaysBelow old new node.text.items
+    → ((shown : List ℕ) → Contains (shown_in new) shown → Contains (shown_in old) shown ⊎ (node.text.items ≡ shown))
+    → StaysBelow old new node.text.items
 stays_below old new node nodes only = λ text below before. record {
   nodes = λ n h. elim (Contains-push_cases old.nodes.items node n (subst (λ (l : List Node). Contains l n) nodes h)) [
     | inl o ↦ below.nodes n o
@@ -175,7 +190,8 @@ stays_below old new node nodes only = λ text below before. record {
 }
 
 -- or where none did
-pub same_below : (old new : Walk) (text : List ℕ) → new.nodes.items ≡ old.nodes.items → shown_in new ≡ shown_in old → IsBelow old text → IsBelow new text
+pub same_below : (old new : Walk) (text : List ℕ) → new.nodes.items ≡ old.nodes.items → shown_in new ≡ shown_in old → IsBelow old text
+    → IsBelow new text
 same_below old new text nodes shown below = record {
   nodes = λ n h. below.nodes n (subst (λ (l : List Node). Contains l n) nodes h);
   shown = λ s h. below.shown s (subst (λ (l : List (List ℕ)). Contains l s) shown h);
@@ -187,9 +203,20 @@ grown old new (more, e) node h = subst (λ (l : List Node). Contains l node) (sy
 pub met_more : (asked : Asked) (old new : Walk) (text : List ℕ) → Grows old new → IsMet asked old text → IsMet asked new text
 met_more asked old new text grows (node, h, s) = (node, grown old new grows node h, s)
 
-pub met_now : (asked : Asked) (old new : Walk) (node : Node) → new.nodes.items ≡ old.nodes.items ++ (node ∷ []) → IsMet asked new node.text.items
-met_now asked old new node e =
-    (node, subst (λ (l : List Node). Contains l node) (sym e) (Contains-push old.nodes.items node), stands_itself asked node.text.items)
+pub met_first_more : (asked : Asked) (old new : Walk) (text : List ℕ) → Grows old new → IsMetFirst asked old text
+    → IsMetFirst asked new text
+met_first_more asked old new text grows (node, h, s) = (node, grown old new grows node h, s)
+
+pub met_now : (asked : Asked) (old new : Walk) (node : Node) → new.nodes.items ≡ old.nodes.items ++ (node ∷ [])
+    → IsMetFirst asked new node.text.items
+met_now asked old new node e = (
+  node,
+  subst (λ (l : List Node). Contains l node) (sym e) (Contains-push old.nodes.items node),
+  (stands_itself asked node.text.items, inl refl),
+)
+
+pub is_met : (asked : Asked) (walk : Walk) (text : List ℕ) → IsMetFirst asked walk text → IsMet asked walk text
+is_met asked walk text (node, h, s) = (node, h, s.0)
 
 -- ---- going on
 pub tried_more : (asked : Asked) (old new : Walk) (head : ℕ) (letters : List ℕ) → head < length old.nodes.items → Grows old new
@@ -197,23 +224,29 @@ pub tried_more : (asked : Asked) (old new : Walk) (head : ℕ) (letters : List �
 tried_more asked old new head letters below grows tried = λ node at c h live.
     let same : slice_get new.nodes.items head ≡ slice_get old.nodes.items head =
     ap (λ l. slice_get l head) grows.1 ∙ slice_more old.nodes.items grows.0 head below in
-    met_more asked old new (node.text.items ++ (c ∷ [])) grows (tried node (sym same ∙ at) c h live)
+    met_first_more asked old new (node.text.items ++ (c ∷ [])) grows (tried node (sym same ∙ at) c h live)
 
 pub expanded_more : (asked : Asked) (old new : Walk) (head : ℕ) → head < length old.nodes.items → Grows old new
     → IsExpandedAt asked old head → IsExpandedAt asked new head
-expanded_more asked old new head below grows expanded = λ node at c scalar live.
+expanded_more asked old new head below grows expanded = λ node at.
     let same : slice_get new.nodes.items head ≡ slice_get old.nodes.items head =
     ap (λ l. slice_get l head) grows.1 ∙ slice_more old.nodes.items grows.0 head below in
-    met_more asked old new (node.text.items ++ (c ∷ [])) grows (expanded node (sym same ∙ at) c scalar live)
+    let was = expanded node (sym same ∙ at) in record {
+      all = λ c scalar live. met_more asked old new (node.text.items ++ (c ∷ [])) grows (was.all c scalar live);
+      letters = λ c letter live. met_first_more asked old new (node.text.items ++ (c ∷ [])) grows (was.letters c letter live);
+    }
 
 pub tried_all : (asked : Asked) (old new : Walk) (letters : List ℕ) (head : ℕ) → head < length old.nodes.items → Grows old new
-    → TriesAll asked old letters head → IsTried asked new head letters → IsExpandedAt asked new head
-tried_all asked old new letters head below grows all tried = λ node at c scalar live.
+    → TriesAll asked old letters head → AreLetters asked old letters head → IsTried asked new head letters → IsExpandedAt asked new head
+tried_all asked old new letters head below grows all are tried = λ node at.
     let same : slice_get new.nodes.items head ≡ slice_get old.nodes.items head =
-    ap (λ l. slice_get l head) grows.1 ∙ slice_more old.nodes.items grows.0 head below in
-    let r = all node (sym same ∙ at) c scalar live in
-    let m = tried node at r.0 r.1 r.2 in
-    (m.0, m.1, r.3 m.0.text.items m.2)
+    ap (λ l. slice_get l head) grows.1 ∙ slice_more old.nodes.items grows.0 head below in record {
+      all = λ c scalar live.
+          let r = all node (sym same ∙ at) c scalar live in
+          let m = is_met asked new (node.text.items ++ (r.0 ∷ [])) (tried node at r.0 r.1 r.2) in
+          (m.0, m.1, r.3 m.0.text.items m.2);
+      letters = λ c letter live. tried node at c ((are node (sym same ∙ at) c).1 letter) live;
+    }
 
 pub grows_on : (one two three : Walk) → Grows one two → Grows two three → Grows one three
 grows_on one two three (m, e) (n, f) = (m ++ n, f ∙ ap (λ l. l ++ n) e ∙ append_assoc one.nodes.items m n)
@@ -222,7 +255,8 @@ pub grows_none : (old new : Walk) → new.nodes.items ≡ old.nodes.items → Gr
 grows_none old new e = ([], e ∙ sym (append-nil old.nodes.items))
 
 -- ---- the end
-pub stands_on : (asked : Asked) (node : Node) (two text : List ℕ) (c : ℕ) → IsReady asked → IsAt asked node → StandsFor asked node.text.items text
+pub stands_on : (asked : Asked) (node : Node) (two text : List ℕ) (c : ℕ) → IsReady asked → IsAt asked node
+    → StandsFor asked node.text.items text
     → StandsFor asked two (node.text.items ++ (c ∷ [])) → StandsFor asked two (text ++ (c ∷ []))
 stands_on asked node two text c ready at s r =
     let q = query_of asked in
@@ -252,7 +286,8 @@ stands_on asked node two text c ready at s r =
       shorter = omega (arith, r.shorter, s.shorter, longer one c, longer text c);
     }
 
-pub stands_live : (asked : Asked) (one text w : List ℕ) → StandsFor asked one text → IsLive (query_of asked) (text ++ w) → IsLive (query_of asked) (one ++ w)
+pub stands_live : (asked : Asked) (one text w : List ℕ) → StandsFor asked one text → IsLive (query_of asked) (text ++ w)
+    → IsLive (query_of asked) (one ++ w)
 stands_live asked one text w s live =
     let q = query_of asked in record {
       grammar =
@@ -287,50 +322,58 @@ reaches asked walk ready is all (c ∷ w) text scalars (node, h, s) live =
     let at : slice_get walk.nodes.items h.0 ≡ Some node = at_slice walk.nodes.items h.0 node h.1 h.2 in
     let longer : (text ++ (c ∷ [])) ++ w ≡ text ++ (c ∷ w) = append_assoc text (c ∷ []) w in
     let on = subst (IsLive (query_of asked)) (sym longer) live in
-    let next = all h.0 h.1 node at c (scalars c (of_in (c ∷ w) c (inl refl)))
+    let next = (all h.0 h.1 node at).all c (scalars c (of_in (c ∷ w) c (inl refl)))
     (stands_live asked node.text.items text (c ∷ []) s (live_before (query_of asked) (text ++ (c ∷ [])) w on)) in
     subst (IsMet asked walk) longer
     (reaches asked walk ready is all w (text ++ (c ∷ [])) (λ d k. scalars d (of_in (c ∷ w) d (inr (in_of w d k))))
     (next.0, next.1, stands_on asked node next.0.text.items text c ready (is.nodes node h) s next.2) on)
-  where
-    at_slice : (xs : List Node) (i : ℕ) (x : Node) → i < length xs → get_or xs i x ≡ x → slice_get xs i ≡ Some x
-    at_slice [] i x below e = absurd (omega arith)
-    at_slice (y ∷ xs) zero x below e = ap Some e
-    at_slice (y ∷ xs) (suc i) x below e = at_slice xs i x (omega arith) e
+
+-- what stands for a text that is asked about is asked about
+pub stands_sought : (asked : Asked) (one text : List ℕ) → StandsFor asked one text → IsSought (query_of asked) text
+    → IsSought (query_of asked) one
+stands_sought asked one text stands s =
+    let q = query_of asked in
+    let same : (x : List ℕ) → x ++ [] ≡ x = λ x. append-nil x in record {
+      fits = record {
+        grammar = subst (IsIn asked.grammar) (same one)
+            ((stands.grammar []).0 (subst (IsIn asked.grammar) (sym (same text)) s.fits.grammar));
+        within = λ g below. subst (Has q g) (same one) ((stands.groups g []).0 (subst (Has q g) (sym (same text)) (s.fits.within g below)));
+      };
+      unnamed = elim stands.named [
+        | inl free ↦ (λ h. free [] (subst (λ (x : List ℕ). Contains q.named x) (sym (same one)) h))
+        | inr e ↦ (λ h. s.unnamed (subst (λ (x : List ℕ). Contains q.named x) e h))
+      ];
+    }
+
+pub stands_alike : (asked : Asked) (shown one text : List ℕ) → StandsFor asked one text → Alike (query_of asked) shown one
+    → Alike (query_of asked) shown text
+stands_alike asked shown one text stands alike =
+    let q = query_of asked in
+    let same : (x : List ℕ) → x ++ [] ≡ x = λ x. append-nil x in
+    λ g. (
+      λ h. subst (Has q g) (same text) ((stands.groups g []).1 (subst (Has q g) (sym (same one)) ((alike g).0 h))),
+      λ h. (alike g).1 (subst (Has q g) (same one) ((stands.groups g []).0 (subst (Has q g) (sym (same text)) h))),
+    )
 
 pub are_texts : (asked : Asked) (walk : Walk) → IsReady asked → IsWalk asked walk → IsMet asked walk [] → AllExpanded asked walk
     → AreTexts (query_of asked) (shown_in walk)
 are_texts asked walk ready is root all = record {
   sought = λ text h. (is.sought text h).1;
   whole = λ text scalars s.
-      let q = query_of asked in
-      let r = reaches asked walk ready is all text [] scalars root (fits_live q text s.fits) in
-      let same : (x : List ℕ) → x ++ [] ≡ x = λ x. append-nil x in
-      let fits : Fits q r.0.text.items = record {
-        grammar = subst (IsIn asked.grammar) (same r.0.text.items) ((r.2.grammar []).0 (subst (IsIn asked.grammar) (sym (same text)) s.fits.grammar));
-        within = λ g below. subst (Has q g) (same r.0.text.items) ((r.2.groups g []).0 (subst (Has q g) (sym (same text)) (s.fits.within g below)));
-      } in
-      let unnamed : ¬ Contains q.named r.0.text.items = elim r.2.named [
-        | inl free ↦ (λ h. free [] (subst (λ (x : List ℕ). Contains q.named x) (sym (same r.0.text.items)) h))
-        | inr e ↦ (λ h. s.unnamed (subst (λ (x : List ℕ). Contains q.named x) e h))
-      ] in
-      let shown = is.covered r.0 r.1 (record { fits = fits; unnamed = unnamed }) in (
-        shown.0,
-        shown.1,
-        (λ g. (
-          λ h. subst (Has q g) (same text) ((r.2.groups g []).1 (subst (Has q g) (sym (same r.0.text.items)) ((shown.2 g).0 h))),
-          λ h. (shown.2 g).1 (subst (Has q g) (same r.0.text.items) ((r.2.groups g []).0 (subst (Has q g) (sym (same text)) h))),
-        )),
-        omega (arith, shown.3, r.2.shorter),
-      );
+      let r = reaches asked walk ready is all text [] scalars root (fits_live (query_of asked) text s.fits) in
+      let shown = is.covered r.0 r.1 (stands_sought asked r.0.text.items text r.2 s) in
+      let less = not_after_length shown.0 r.0.text.items shown.3 in
+      (shown.0, shown.1, stands_alike asked shown.0 r.0.text.items text r.2 shown.2, omega (arith, less, r.2.shorter));
   apart = is.apart;
   order = is.order;
 }
 
 -- the letters of a node of the walk
-pub tries_node : (asked : Asked) (walk : Walk) (head : ℕ) (node : Node) (kept waited : List ℕ) (tails : List (Bor (List ℕ))) (letters : List ℕ) → IsReady asked → IsWalk asked walk
+pub tries_node : (asked : Asked) (walk : Walk) (head : ℕ) (node : Node) (kept waited : List ℕ) (tails : List (Bor (List ℕ))) (letters : List ℕ)
+    → IsReady asked → IsWalk asked walk
     → head < length walk.nodes.items → get_or walk.nodes.items head node ≡ node
-    → SameElements kept (waited_at asked.table.now.patterns.items node.places.items ++ waited_in node.stage.part) → waited ≡ kept → tails ≡ node.tails.items
+    → SameElements kept (waited_at asked.table.now.patterns.items node.places.items ++ waited_in node.stage.part) → waited ≡ kept
+    → tails ≡ node.tails.items
     → ((c : ℕ) → IsScalar c → is_some (next_stage node.stage c) ≡ true → Stands node.stage waited (map (λ t. t.now) tails) letters c)
     → TriesAll asked walk letters head
 tries_node asked walk head node kept waited tails letters ready is below here same kept_is tails_is stands = λ other at c scalar live.
@@ -348,7 +391,8 @@ if_fits (Ok true) go a = go a
 if_fits (Ok false) go a = tt
 if_fits (Err e) go a = tt
 
-pub if_both_fit : {E A B C : Type 0} (r : Result Bool E) → (A → B → C) → IfOk r (λ f. OnTrue f A) → IfOk r (λ f. OnTrue f B) → IfOk r (λ f. OnTrue f C)
+pub if_both_fit : {E A B C : Type 0} (r : Result Bool E) → (A → B → C) → IfOk r (λ f. OnTrue f A) → IfOk r (λ f. OnTrue f B)
+    → IfOk r (λ f. OnTrue f C)
 if_both_fit (Ok true) go a b = go a b
 if_both_fit (Ok false) go a b = tt
 if_both_fit (Err e) go a b = tt
@@ -361,14 +405,15 @@ if_four_fit (Err e) go a b c d = tt
 
 -- a letter was tried at a node
 pub tried_one : (asked : Asked) (old new : Walk) (head : ℕ) (node child : Node) (letter : ℕ) → head < length old.nodes.items
-    → get_or old.nodes.items head node ≡ node → child.text.items ≡ node.text.items ++ (letter ∷ []) → Grows old new → IsMet asked new child.text.items
+    → get_or old.nodes.items head node ≡ node → child.text.items ≡ node.text.items ++ (letter ∷ []) → Grows old new
+    → IsMetFirst asked new child.text.items
     → IsTried asked new head (letter ∷ [])
 tried_one asked old new head node child letter below here text grows met = λ other at c h live.
     let same : slice_get new.nodes.items head ≡ slice_get old.nodes.items head =
     ap (λ l. slice_get l head) grows.1 ∙ slice_more old.nodes.items grows.0 head below in
     let e : node ≡ other = sym here ∙ slice_at old.nodes.items head other node (sym same ∙ at) in
     let l : letter ≡ c = elim (in_of (letter ∷ []) c h) [ inl s ↦ s | inr none ↦ absurd none ] in
-    subst (IsMet asked new) (text ∙ ap (λ d. node.text.items ++ (d ∷ [])) l ∙ ap (λ (n : Node). n.text.items ++ (c ∷ [])) e) met
+    subst (IsMetFirst asked new) (text ∙ ap (λ d. node.text.items ++ (d ∷ [])) l ∙ ap (λ (n : Node). n.text.items ++ (c ∷ [])) e) met
 
 pub tried_none : (asked : Asked) (walk : Walk) (head : ℕ) (node : Node) (letter : ℕ) → get_or walk.nodes.items head node ≡ node
     → ¬ IsLive (query_of asked) (node.text.items ++ (letter ∷ [])) → IsTried asked walk head (letter ∷ [])
@@ -394,17 +439,20 @@ grown_length old new (more, e) = omega (arith, ap length e, length-append old.no
 
 -- what is below stays below where a letter was tried
 pub below_one : (old new : Walk) (head : ℕ) (node child : Node) (letter : ℕ) → get_or old.nodes.items head node ≡ node
-    → child.text.items ≡ node.text.items ++ (letter ∷ []) → StaysBelow old new child.text.items → StaysBelowBehind old new head (letter ∷ [])
+    → child.text.items ≡ node.text.items ++ (letter ∷ []) → StaysBelow old new child.text.items
+    → StaysBelowBehind old new head (letter ∷ [])
 below_one old new head node child letter here text stays = λ other at above below before.
     let e : node ≡ other = sym here ∙ slice_at old.nodes.items head other node at in
     let child_is : child.text.items ≡ other.text.items ++ (letter ∷ []) = text ∙ ap (λ (n : Node). n.text.items ++ (letter ∷ [])) e in
     stays above below (subst (λ (l : List ℕ). IsBefore l above) (sym child_is) (before letter (of_in (letter ∷ []) letter (inl refl))))
 
-pub at_before : (old new : Walk) (head : ℕ) (node : Node) → head < length old.nodes.items → Grows old new → slice_get new.nodes.items head ≡ Some node
+pub at_before : (old new : Walk) (head : ℕ) (node : Node) → head < length old.nodes.items → Grows old new
+    → slice_get new.nodes.items head ≡ Some node
     → slice_get old.nodes.items head ≡ Some node
 at_before old new head node below grows at = sym (ap (λ l. slice_get l head) grows.1 ∙ slice_more old.nodes.items grows.0 head below) ∙ at
 
-pub at_after : (old new : Walk) (head : ℕ) (node : Node) → head < length old.nodes.items → Grows old new → slice_get old.nodes.items head ≡ Some node
+pub at_after : (old new : Walk) (head : ℕ) (node : Node) → head < length old.nodes.items → Grows old new
+    → slice_get old.nodes.items head ≡ Some node
     → slice_get new.nodes.items head ≡ Some node
 at_after old new head node below grows at = ap (λ l. slice_get l head) grows.1 ∙ slice_more old.nodes.items grows.0 head below ∙ at
 

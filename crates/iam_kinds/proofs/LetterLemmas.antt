@@ -1,5 +1,5 @@
 -- The letters that are tried stand for all.
-use Rattle.std.proofs.Common.{◌≡◌, ◌⊎◌, inl, inr, ℕ, Bool, true, false, ◌==◌, List, refl, sym, subst, is_some}
+use Rattle.std.proofs.Common.{◌≡◌, ◌↔◌, ◌⊎◌, inl, inr, ℕ, Bool, true, false, ◌==◌, List, refl, sym, subst, is_some}
 use Rattle.std.specs.Char.{IsScalar}
 use Rattle.std.specs.List.{Contains}
 use Rattle.std.proofs.lemmas.Bool.{eqb-true}
@@ -29,3 +29,17 @@ stands stage waited tails first new letters same kept others sorted c scalar goe
           | inl h ↦ inl ((sorted c).1 h)
           | inr free ↦ inr (e, (free.0, (sorted free.0).1 free.1, free.2))
         ]
+
+pub sorted_exact : (added : ℕ → Type 0) (waited first new letters : List ℕ) → first ≡ waited
+    → ((c : ℕ) → Contains new c ↔ (Contains first c ⊎ added c))
+    → SameElements letters new → (c : ℕ) → Contains letters c ↔ (Contains waited c ⊎ added c)
+sorted_exact added waited first new letters same exact sorted c = (
+  λ h. elim ((exact c).0 ((sorted c).0 h)) [
+    | inl w ↦ inl (subst (λ (l : List ℕ). Contains l c) same w)
+    | inr a ↦ inr a
+  ],
+  λ h. (sorted c).1 ((exact c).1 (elim h [
+    | inl w ↦ inl (subst (λ (l : List ℕ). Contains l c) (sym same) w)
+    | inr a ↦ inr a
+  ])),
+)

@@ -4,6 +4,7 @@ pub mod PlaceLemmas
 pub mod StepLemmas
 pub mod MatchLemmas
 pub mod LetterLemmas
+pub mod SpelledLemmas
 pub mod GrammarLemmas
 pub mod FewerLemmas
 pub mod OrderLemmas
@@ -11,7 +12,12 @@ pub mod ReachLemmas
 pub mod NodeLemmas
 pub mod SetLemmas
 pub mod StateLemmas
+pub mod BehindLemmas
 pub mod GoLemmas
+pub mod LeastLemmas
 pub mod LimitLemmas
 pub mod AnswerLemmas
+pub mod AskedLemmas
+pub mod CasedLemmas
 pub mod FoldLemmas
+pub mod LawLemmas

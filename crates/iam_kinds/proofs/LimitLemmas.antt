@@ -10,7 +10,7 @@ use Rattle.iam_kinds.specs.Kinds.{IsText}
 use Rattle.iam_kinds.specs.Lists.{lists_in}
 use Rattle.iam_kinds.specs.Places.{IsRising, place_cmp}
 use Rattle.iam_kinds.specs.States.{AreStates, HasManyStates, IsSame, IsState, State}
-use Rattle.iam_kinds.specs.Walk.{Alike, AreTexts, Counts, Describes, HasManyTexts, HasSeen, IsAt, IsBelow, IsCounted, IsFree, IsMet, IsOver, IsReady, IsSought, IsWalk, key_of, machine_at, place_numbers, query_of, shown_in, state_of, tails_at}
+use Rattle.iam_kinds.specs.Walk.{Alike, AreTexts, Counts, Describes, HasManyTexts, HasSeen, IsAt, IsBelow, IsCounted, IsFree, IsMet, IsMetFirst, IsOver, IsReady, IsSought, IsWalk, key_of, machine_at, place_numbers, query_of, shown_in, state_of, tails_at}
 use Rattle.iam_kinds.specs.declared.asked.Asked.{Asked}
 use Rattle.iam_kinds.specs.declared.asked.Node.{Node}
 use Rattle.iam_kinds.specs.declared.table.Place.{Place}
@@ -77,16 +77,19 @@ seen_before old new key nodes states places has lists (free, counts) = (
 )
 
 -- a node more with a state of its own
-pub apart_push : (walk : Walk) (free : List Node) (node : Node) (key : List ℕ) → Counts walk free → key ≡ key_of node → (¬ Contains (lists_in walk.seen) key)
+pub apart_push : (walk : Walk) (free : List Node) (node : Node) (key : List ℕ) → Counts walk free → key ≡ key_of node
+    → (¬ Contains (lists_in walk.seen) key)
     → AllPairs (λ one other. key_of one ≢ key_of other) (free ++ (node ∷ []))
 apart_push walk free node key counts is lacks =
     all_pairs_push (λ one other. key_of one ≢ key_of other) free node counts.apart (λ k d below same.
     lacks (subst (λ (l : List ℕ). Contains (lists_in walk.seen) l) (same ∙ sym is) (counts.back (get_or free k d) (Contains-get_or free k d below))))
 
-pub seen_now : (old new : Walk) (node : Node) (key : List ℕ) → new.nodes.items ≡ old.nodes.items ++ (node ∷ []) → key ≡ key_of node → tails_at node ≡ []
+pub seen_now : (old new : Walk) (node : Node) (key : List ℕ) → new.nodes.items ≡ old.nodes.items ++ (node ∷ []) → key ≡ key_of node
+    → tails_at node ≡ []
     → (¬ Contains (lists_in old.seen) key)
     → ((list : List ℕ) → Contains (lists_in new.seen) list ↔ (Contains (lists_in old.seen) list ⊎ (list ≡ key)))
-    → new.states ≡ old.states + 1 → new.states ≤ 65536 → new.places ≡ old.places + length node.places.items → new.places ≤ 4194304 → HasSeen old → HasSeen new
+    → new.states ≡ old.states + 1 → new.states ≤ 65536 → new.places ≡ old.places + length node.places.items → new.places ≤ 4194304
+    → HasSeen old → HasSeen new
 seen_now old new node key nodes is none lacks lists states few places held (free, counts) =
     let here : Contains new.nodes.items node = subst (λ (l : List Node). Contains l node) (sym nodes) (Contains-push old.nodes.items node) in (
       free ++ (node ∷ []),
@@ -119,13 +122,25 @@ seen_now old new node key nodes is none lacks lists states few places held (free
       },
     )
 
--- the state of a node was seen
-pub met_before : (asked : Asked) (walk : Walk) (node : Node) (key : List ℕ) → IsWalk asked walk → IsBelow walk node.text.items → HasSeen walk → IsAt asked node → key ≡ key_of node
-    → Contains (lists_in walk.seen) key → IsMet asked walk node.text.items
-met_before asked walk node key is below (free, counts) at same h =
+pub free_text : (asked : Asked) (node : Node) → IsAt asked node → tails_at node ≡ [] → IsFree (query_of asked) node.text.items
+free_text asked node at none = λ rest h. in_of [] rest (subst (λ (l : List (List ℕ)). Contains l rest) none ((at.tails rest).0 h))
+
+-- the state of a node with which no named text begins was seen
+pub met_before : (asked : Asked) (walk : Walk) (node : Node) (key : List ℕ) → IsWalk asked walk → IsBelow walk node.text.items
+    → HasSeen walk → IsAt asked node → tails_at node ≡ []
+    → key ≡ key_of node → Contains (lists_in walk.seen) key → IsMetFirst asked walk node.text.items
+met_before asked walk node key is below (free, counts) at none same h =
     let r = counts.seen key h in
     let n = counts.nodes r.0 r.1 in
-    (r.0, n.0, same_state asked r.0 node (is.nodes r.0 n.0) at (sym r.2 ∙ same) n.1 (before_length r.0.text.items node.text.items (below.nodes r.0 n.0)))
+    let before = below.nodes r.0 n.0 in
+    let first = is.nodes r.0 n.0 in (
+      r.0,
+      n.0,
+      (
+        same_state asked r.0 node first at (sym r.2 ∙ same) n.1 (before_length r.0.text.items node.text.items before),
+        inr (free_text asked r.0 first n.1, free_text asked node at none, before),
+      ),
+    )
 
 -- ---- a limit is passed
 pub once_of : (places : List Place) → IsRising places → AllPairs (λ one other. one ≢ other) places
@@ -140,9 +155,6 @@ once_of places rising = by_apart (λ one other. one ≢ other) places (apart pla
       apart places (sorted_tail _ k places rising),
     )
 
-pub free_text : (asked : Asked) (node : Node) → IsAt asked node → tails_at node ≡ [] → IsFree (query_of asked) node.text.items
-free_text asked node at none = λ rest h. in_of [] rest (subst (λ (l : List (List ℕ)). Contains l rest) none ((at.tails rest).0 h))
-
 pub text_free : (asked : Asked) (node : Node) → IsAt asked node → IsFree (query_of asked) node.text.items → tails_at node ≡ []
 text_free asked node at free = empty (tails_at node) (λ w h. free w ((at.tails w).1 h))
   where
@@ -153,7 +165,8 @@ text_free asked node at free = empty (tails_at node) (λ w h. free w ((at.tails 
 pub node_state : (asked : Asked) (node : Node) → IsAt asked node → IsState (machine_at asked) node.text.items (state_of node)
 node_state asked node at = record { stage = at.read; places = at.placed; once = once_of node.places.items at.rising }
 
-pub same_keys : (asked : Asked) (one other : Node) → IsAt asked one → IsAt asked other → IsSame (state_of one) (state_of other) → key_of one ≡ key_of other
+pub same_keys : (asked : Asked) (one other : Node) → IsAt asked one → IsAt asked other → IsSame (state_of one) (state_of other)
+    → key_of one ≡ key_of other
 same_keys asked one other at at' (stage, places) =
     let same = same_elements place_total one.places.items other.places.items at.rising at'.rising
     (λ k h. in_of other.places.items k ((places k).0 (of_in one.places.items k h)))
@@ -170,7 +183,8 @@ sum_map f g (x ∷ xs) =
 
 -- the states of these nodes are states behind texts
 pub node_states : (asked : Asked) (nodes : List Node) → ((node : Node) → Contains nodes node → IsAt asked node × (tails_at node ≡ []))
-    → AllPairs (λ one other. key_of one ≢ key_of other) nodes → AreStates (IsCounted (query_of asked)) (machine_at asked) (map state_of nodes)
+    → AllPairs (λ one other. key_of one ≢ key_of other) nodes
+    → AreStates (IsCounted (query_of asked)) (machine_at asked) (map state_of nodes)
 node_states asked nodes are apart = record {
   behind = λ state h.
       let r = from_map state_of nodes state (in_of _ state h) in
@@ -187,7 +201,8 @@ node_states asked nodes are apart = record {
       (apart_by (λ one other. key_of one ≢ key_of other) nodes apart)));
 }
 
-pub many_states : (asked : Asked) (walk : Walk) (node : Node) (key : List ℕ) → IsWalk asked walk → HasSeen walk → IsAt asked node → tails_at node ≡ []
+pub many_states : (asked : Asked) (walk : Walk) (node : Node) (key : List ℕ) → IsWalk asked walk → HasSeen walk → IsAt asked node
+    → tails_at node ≡ []
     → key ≡ key_of node → (¬ Contains (lists_in walk.seen) key)
     → (65536 ≤ walk.states) ⊎ (4194304 < walk.places + length node.places.items) → IsOver asked
 many_states asked walk node key is (free, counts) at none same lacks past =
@@ -230,7 +245,8 @@ many_texts asked walk text numbers is lacks d s full =
 
 -- ---- no limit is passed
 -- the state of a text that is gone on with is that of a counted node
-pub counted_node : (asked : Asked) (walk : Walk) (free : List Node) → IsReady asked → IsWalk asked walk → Counts walk free → IsMet asked walk [] → AllExpanded asked walk
+pub counted_node : (asked : Asked) (walk : Walk) (free : List Node) → IsReady asked → IsWalk asked walk → Counts walk free
+    → IsMet asked walk [] → AllExpanded asked walk
     → (text : List ℕ) → IsCounted (query_of asked) text → (state : State) → IsState (machine_at asked) text state
     → (node : Node) × In node free × IsSame state (state_of node)
 counted_node asked walk free ready is counts root all text (characters, live, unnamed) state behind =
@@ -256,7 +272,8 @@ counted_node asked walk free ready is counts root all text (characters, live, un
       ),
     )
 
-pub few_states : (asked : Asked) (walk : Walk) → IsReady asked → IsWalk asked walk → HasSeen walk → IsMet asked walk [] → AllExpanded asked walk
+pub few_states : (asked : Asked) (walk : Walk) → IsReady asked → IsWalk asked walk → HasSeen walk → IsMet asked walk []
+    → AllExpanded asked walk
     → ¬ HasManyStates (IsCounted (query_of asked)) (machine_at asked)
 few_states asked walk ready is (free, counts) root all (states, are, past) =
     let T : State → Node → Type 0 = λ s n. IsSame s (state_of n) × AllPairs (λ one other. one ≢ other) s.places in
@@ -279,7 +296,8 @@ few_states asked walk ready is (free, counts) root all (states, are, past) =
           absurd (omega (arith, many, r, counts.places, counts.held))
     ]
 
-pub few_texts : (asked : Asked) (walk : Walk) → IsWalk asked walk → AreTexts (query_of asked) (shown_in walk) → ¬ HasManyTexts (query_of asked)
+pub few_texts : (asked : Asked) (walk : Walk) → IsWalk asked walk → AreTexts (query_of asked) (shown_in walk)
+    → ¬ HasManyTexts (query_of asked)
 few_texts asked walk is texts (others, are, many) =
     let q = query_of asked in
     let T : List ℕ → List ℕ → Type 0 = λ text shown. Alike q shown text in
@@ -290,7 +308,8 @@ few_texts asked walk is texts (others, are, many) =
     differ (λ g. (λ h. (t g).0 ((s g).1 h), λ h. (s g).0 ((t g).1 h)))) (apart_by (λ one other. ¬ Alike q one other) others are.apart)) in
     absurd (let few = is.few in omega (arith, many, r, few))
 
-pub not_over : (asked : Asked) (walk : Walk) → IsReady asked → IsWalk asked walk → HasSeen walk → IsMet asked walk [] → AllExpanded asked walk
+pub not_over : (asked : Asked) (walk : Walk) → IsReady asked → IsWalk asked walk → HasSeen walk → IsMet asked walk []
+    → AllExpanded asked walk
     → AreTexts (query_of asked) (shown_in walk) → ¬ IsOver asked
 not_over asked walk ready is seen root all texts (inl many) = few_states asked walk ready is seen root all many
 not_over asked walk ready is seen root all texts (inr many) = few_texts asked walk is texts many

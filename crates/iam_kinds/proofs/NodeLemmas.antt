@@ -7,12 +7,12 @@ use Rattle.std.proofs.lemmas.List.Elements.{Contains-push_cases}
 use Rattle.iam_glob.specs.Glob.{Matches}
 use Rattle.iam_glob.specs.declared.sign.Sign.{Sign}
 use Rattle.iam_glob.specs.declared.sign.Sign.TheVariants.{Given, One, Any}
-use Rattle.iam_kinds.specs.Code.{Leads, SameElements, first_stage, stage_at, group_at, has_group, next_stage, place_at, rest_at, settled_places, starts_from, stepped}
+use Rattle.iam_kinds.specs.Code.{AreIn, Leads, SameElements, first_stage, stage_at, group_at, has_group, next_stage, place_at, rest_at, settled_places, starts_from, stepped}
 use Rattle.iam_kinds.specs.Kinds.{IsIn}
 use Rattle.iam_kinds.specs.Letters.{tails_of}
 use Rattle.iam_kinds.specs.Places.{IsRising}
 use Rattle.iam_kinds.specs.States.{Machine, stage_behind}
-use Rattle.iam_kinds.specs.Walk.{Has, IsAt, IsLive, IsReady, completes, query_of, machine_at, tails_at}
+use Rattle.iam_kinds.specs.Walk.{Has, IsAt, IsLive, IsReady, IsSpelledFor, IsTriedBehind, completes, query_of, machine_at, tails_at}
 use Rattle.iam_kinds.specs.declared.asked.Asked.{Asked}
 use Rattle.iam_kinds.specs.declared.asked.Node.{Node}
 use Rattle.iam_kinds.specs.declared.grammar.Part.{Part}
@@ -25,6 +25,7 @@ use Rattle.iam_kinds.proofs.GrammarLemmas.{started}
 use Rattle.iam_kinds.proofs.MatchLemmas.{any_skip, anys_end, given_on, in_same, one_on, leads_same, leads_settled, leads_stepped, settled_in, settled_leads}
 use Rattle.iam_kinds.proofs.Members.{In, in_of, of_in, in_any, from_any}
 use Rattle.iam_kinds.proofs.ReachLemmas.{AreExactly, starts_exactly, stepped_exactly}
+use Rattle.iam_kinds.proofs.SpelledLemmas.{each_more, each_none}
 use Rattle.iam_kinds.proofs.StepLemmas.{from_starts, in_starts, moves_in, starts_in}
 
 pub turn : {A : Type 0} (xs ys : List A) → SameElements xs ys → SameElements ys xs
@@ -71,7 +72,8 @@ in_drop (y ∷ xs) zero (suc i) x behind e = inr (in_drop xs zero i x (omega ari
 in_drop (y ∷ xs) (suc first) zero x behind e = absurd (omega arith)
 in_drop (y ∷ xs) (suc first) (suc i) x behind e = in_drop xs first i x (omega arith) e
 
-pub from_drop : {A : Type 0} (xs : List A) (first : ℕ) (x : A) → In x (drop first xs) → (i : ℕ) × (first ≤ i) × (i < length xs) × (slice_get xs i ≡ Some x)
+pub from_drop : {A : Type 0} (xs : List A) (first : ℕ) (x : A) → In x (drop first xs)
+    → (i : ℕ) × (first ≤ i) × (i < length xs) × (slice_get xs i ≡ Some x)
 from_drop [] zero x h = absurd h
 from_drop [] (suc first) x h = absurd h
 from_drop (y ∷ xs) zero x (inl e) = (0, omega arith, omega arith, ap Some e)
@@ -124,7 +126,8 @@ some_end stage = by_part stage.part stage.fold
     by_part Colon false = (97 ∷ [], refl)
     by_part Name fold = ([], refl)
 
-pub stage_more : (text : List ℕ) (c : ℕ) (stage : Stage) → stage_behind (text ++ (c ∷ [])) stage ≡ option_and_then (λ s. next_stage s c) (stage_behind text stage)
+pub stage_more : (text : List ℕ) (c : ℕ) (stage : Stage)
+    → stage_behind (text ++ (c ∷ [])) stage ≡ option_and_then (λ s. next_stage s c) (stage_behind text stage)
 stage_more [] c stage = by_option (next_stage stage c)
   where
     by_option : (o : Option Stage) → option_and_then (stage_behind []) o ≡ o
@@ -138,8 +141,33 @@ stage_more (d ∷ text) c stage = by_option text c (next_stage stage d) (λ s. s
     by_option text c None later = refl
     by_option text c (Some s) later = later s
 
-pub same_exactly : (machine : Machine) (text : List ℕ) (xs ys : List Place) → SameElements xs ys → AreExactly machine text ys → AreExactly machine text xs
+pub same_exactly : (machine : Machine) (text : List ℕ) (xs ys : List Place) → SameElements xs ys → AreExactly machine text ys
+    → AreExactly machine text xs
 same_exactly machine text xs ys same exact = λ k. (λ h. (exact k).0 ((same k).0 h), λ p. (same k).1 ((exact k).1 p))
+
+-- the places where the patterns begin, and those behind one more character, are those of the state
+pub starts_placed : (asked : Asked) (places : List Place) → IsReady asked
+    → SameElements places (settled_places asked.table.now.patterns.items (starts_from asked.count (length asked.table.now.patterns.items - asked.count)))
+    → AreIn asked.table.now.patterns.items places × AreExactly (machine_at asked) [] places
+starts_placed asked places ready same =
+    let t = asked.table.now.patterns.items in
+    let starts = starts_from asked.count (length t - asked.count) in
+    let counted : asked.count ≤ length t = ready.count in
+    let within = starts_in t asked.count (length t - asked.count) (omega arith) in (
+      in_same t places (settled_places t starts) same (settled_in t starts ready.table within),
+      same_exactly (machine_at asked) [] places (settled_places t starts) same (starts_exactly (machine_at asked) ready.table counted),
+    )
+
+pub step_placed : (asked : Asked) (text : List ℕ) (places next : List Place) (c : ℕ) → IsReady asked
+    → AreIn asked.table.now.patterns.items places
+    → AreExactly (machine_at asked) text places → SameElements next (stepped asked.table.now.patterns.items places c)
+    → AreIn asked.table.now.patterns.items next × AreExactly (machine_at asked) (text ++ (c ∷ [])) next
+step_placed asked text places next c ready within exact same =
+    let t = asked.table.now.patterns.items in (
+      in_same t next (stepped t places c) same (settled_in t _ ready.table (moves_in t places c within)),
+      same_exactly (machine_at asked) (text ++ (c ∷ [])) next (stepped t places c) same
+          (stepped_exactly (machine_at asked) text places c ready.table within exact),
+    )
 
 pub root_is : (asked : Asked) (node : Node) → IsReady asked → node.text.items ≡ [] → node.stage ≡ first_stage asked.grammar
     → IsRising node.places.items
@@ -156,7 +184,7 @@ root_is asked node ready empty stage rising same named =
             λ h. ap (completes w) stage ∙ s.0 (subst (IsIn asked.grammar) (text w) h),
             λ e. subst (IsIn asked.grammar) (sym (text w)) (s.1 (ap (completes w) (sym stage) ∙ e)),
           );
-      places_in = in_same t node.places.items (settled_places t starts) same (settled_in t starts ready.table within);
+      places_in = (starts_placed asked node.places.items ready same).0;
       places = λ g w. (
         λ l. subst (Has (query_of asked) g) (sym (text w)) (starts_lead t asked.count g w counted
             (settled_leads t starts g w ready.table within (leads_same t node.places.items (settled_places t starts) g w same l))),
@@ -180,17 +208,18 @@ root_is asked node ready empty stage rising same named =
       read = ap (λ l. stage_behind l (first_stage asked.grammar)) empty ∙ ap Some (sym stage);
       rising = rising;
       placed =
-          subst (λ l. AreExactly (machine_at asked) l node.places.items) (sym empty)
-          (same_exactly (machine_at asked) [] node.places.items (settled_places t starts) same (starts_exactly (machine_at asked) ready.table counted));
+          subst (λ l. AreExactly (machine_at asked) l node.places.items) (sym empty) (starts_placed asked node.places.items ready same).1;
+      spelled = each_none (IsTriedBehind asked) node.text.items empty;
     }
 
 -- ---- one letter more
-pub child_is : (asked : Asked) (node child : Node) (c : ℕ) → IsReady asked → IsAt asked node → child.text.items ≡ node.text.items ++ (c ∷ [])
+pub child_is : (asked : Asked) (node child : Node) (c : ℕ) → IsReady asked → IsAt asked node
+    → child.text.items ≡ node.text.items ++ (c ∷ [])
     → IsScalar c → next_stage node.stage c ≡ Some child.stage → IsRising child.places.items
     → SameElements child.places.items (stepped asked.table.now.patterns.items node.places.items c)
     → ((g : ℕ) → g < asked.within → has_group asked.table.now.patterns.items child.places.items g ≡ true)
-    → tails_at child ≡ tails_of c (tails_at node) → IsAt asked child
-child_is asked node child c ready at text scalar stage rising same all tails =
+    → tails_at child ≡ tails_of c (tails_at node) → IsTriedBehind asked node.text.items c → IsAt asked child
+child_is asked node child c ready at text scalar stage rising same all tails letter =
     let t = asked.table.now.patterns.items in
     let longer : (w : List ℕ) → child.text.items ++ w ≡ node.text.items ++ (c ∷ w) =
     λ w. ap (λ l. l ++ w) text ∙ append_assoc node.text.items (c ∷ []) w in
@@ -202,7 +231,7 @@ child_is asked node child c ready at text scalar stage rising same all tails =
     let step = leads_stepped t node.places.items c g w ready.table at.places_in in
     subst (Has (query_of asked) g) (sym (longer w)) ((at.places g (c ∷ w)).0 (step.1 (leads_same t _ _ g w same l))) in record {
       stage = λ w. (λ h. sym (behind w) ∙ (at.stage (c ∷ w)).0 (subst (IsIn asked.grammar) (longer w) h), is_in w);
-      places_in = in_same t child.places.items (stepped t node.places.items c) same (settled_in t _ ready.table (moves_in t node.places.items c at.places_in));
+      places_in = (step_placed asked node.text.items node.places.items child.places.items c ready at.places_in at.placed same).0;
       places = λ g w.
           let step = leads_stepped t node.places.items c g w ready.table at.places_in in (
             has g w,
@@ -231,8 +260,8 @@ child_is asked node child c ready at text scalar stage rising same all tails =
       rising = rising;
       placed =
           subst (λ l. AreExactly (machine_at asked) l child.places.items) (sym text)
-          (same_exactly (machine_at asked) (node.text.items ++ (c ∷ [])) child.places.items (stepped t node.places.items c) same
-          (stepped_exactly (machine_at asked) node.text.items node.places.items c ready.table at.places_in at.placed));
+          (step_placed asked node.text.items node.places.items child.places.items c ready at.places_in at.placed same).1;
+      spelled = subst (IsSpelledFor asked) (sym text) (each_more (IsTriedBehind asked) node.text.items c at.spelled letter);
     }
 
 -- no text goes on with a letter that the grammar does not have there

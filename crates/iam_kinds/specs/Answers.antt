@@ -1,5 +1,5 @@
 -- What the answer says (`Kinds`) of patterns and texts as they are passed. LOGIC 2.1 and 2.2.
-use Rattle.std.specs.Prelude.{ℕ, Bool, true, false, List, map}
+use Rattle.std.specs.Prelude.{ℕ, Bool, true, false, List, [], map}
 use Rattle.std.specs.Borrow.{Bor}
 use Rattle.std.specs.Global.{Vec}
 use Rattle.std.specs.Str.{chars}
@@ -8,9 +8,11 @@ use Rattle.iam_glob.specs.Glob.{folded, sign_by}
 use Rattle.iam_glob.specs.Signs.{signs_in}
 use Rattle.iam_glob.specs.declared.sign.Sign.{Sign}
 use Rattle.iam_glob.specs.declared.signs.Signs.{Signs}
-use Rattle.iam_kinds.specs.Kinds.{AreKinds, AreKindsFold, Question, folded_question}
-use Rattle.iam_kinds.specs.States.{PassesLimit}
+use Rattle.iam_kinds.specs.Kinds.{Question, folded_question}
+use Rattle.iam_kinds.specs.Shown.{AreKinds, AreKindsFold}
+use Rattle.iam_kinds.specs.States.{PassesLimit, machine_of}
 use Rattle.iam_kinds.specs.declared.grammar.Grammar.{Grammar}
+use Rattle.iam_kinds.specs.declared.grammar.Grammar.TheVariants.{AnyText}
 use Rattle.iam_kinds.specs.declared.kinds.Kinds.{Kinds}
 use Rattle.iam_kinds.specs.declared.kinds.Kinds.TheVariants.{Shown, NotShown}
 use Rattle.iam_kinds.specs.declared.table.Pattern.{Pattern}
@@ -31,6 +33,10 @@ question_in fold grammar within groups named = record {
   groups = map (λ group. map (signs_of fold) group.items) groups;
   named = map (λ text. characters_in fold (chars text.now)) named;
 }
+
+-- their patterns, behind those where groups stand
+abbrev pub patterns_in : Bool → List Signs → List (Vec Signs) → List Pattern
+patterns_in fold within groups = (machine_of (question_in fold AnyText within groups [])).patterns
 
 -- the texts that are shown are one of each kind, and no limit is passed; or one is
 abbrev pub IsAnswer : Question → Kinds → Type 0

@@ -2,7 +2,7 @@
 use Rattle.std.specs.Prelude.{◌≡◌, ◌↔◌, ◌<◌, ◌+◌, ◌==◌, ◌&&◌, ℕ, Bool, true, false, List, [], ◌∷◌, length, map, drop, All, Contains, filter, Option, Some, None, if◌then◌else◌}
 use Rattle.std.specs.Option.{option_map_or}
 use Rattle.std.specs.List.{filter_map, flat_map, list_any, range_with_len, slice_get, slice_index_or}
-use Rattle.iam_glob.specs.Glob.{Matches}
+use Rattle.iam_glob.specs.Glob.{Matches, folded, sign_by}
 use Rattle.iam_glob.specs.declared.sign.Sign.{Sign}
 use Rattle.iam_glob.specs.declared.sign.Sign.TheVariants.{Given, One, Any}
 use Rattle.iam_kinds.specs.Kinds.{is_any_in, is_name_in, is_service_in}
@@ -61,6 +61,10 @@ stage_number stage = if stage.fold then part_number stage.part + 5 else part_num
 -- a place of a pattern
 abbrev pub place_at : ℕ → ℕ → Place
 place_at pattern at = record { pattern = pattern; at = at }
+
+-- the pattern as folding leaves it
+abbrev pub folded_pattern : Pattern → Pattern
+folded_pattern p = record { group = p.group; signs = map (sign_by folded) p.signs }
 
 -- the pattern of a place, what is left of it there, and its group
 abbrev pub rest_at : List Pattern → Place → List Sign

@@ -1,6 +1,6 @@
 -- The kinds of texts that patterns tell apart: AWS IAM User Guide, "IAM JSON policy elements reference", the elements `Action` and
 -- `Resource`, which read a text by patterns alone. A text is the list of its characters. LOGIC 2.1, 2.2 and 12.4.
-use Rattle.std.specs.Prelude.{◌≡◌, ◌↔◌, ◌<◌, ◌≤◌, ◌⊎◌, [], ◌==◌, ◌||◌, ◌&&◌, ℕ, Bool, true, false, map, List, ◌∷◌, ◌++◌, ⊤, length, IsTrue, AllPairs, Contains}
+use Rattle.std.specs.Prelude.{◌≡◌, ◌↔◌, ◌<◌, ◌⊎◌, [], ◌==◌, ◌||◌, ◌&&◌, ℕ, Bool, true, false, map, List, ◌∷◌, ◌++◌, ⊤, length, IsTrue, Contains}
 use Rattle.std.specs.Char.{IsScalar, is_ascii_alphanumeric}
 use Rattle.std.specs.List.{list_all}
 use Rattle.iam_glob.specs.Glob.{Matches, MatchesFold, folded, sign_by}
@@ -89,16 +89,6 @@ IsLess (c ∷ text) (d ∷ other) = (c < d) ⊎ ((c ≡ d) × IsLess text other)
 abbrev pub IsBefore : List ℕ → List ℕ → Type 0
 IsBefore one other = (length one < length other) ⊎ ((length one ≡ length other) × IsLess one other)
 
--- one text of each kind, in order: each is asked about, each text that is asked about agrees with one of them, no two agree, and none
--- that agrees with one of them is shorter
-pub record AreKinds (question : Question) (texts : List (List ℕ)) : Type 0 where
-  pub meant : (text : List ℕ) → Contains texts text → IsMeant question text
-  pub whole : (text : List ℕ) → IsText text → IsMeant question text → (shown : List ℕ) × Contains texts shown × Agree question shown text
-  pub apart : AllPairs (λ one other. ¬ Agree question one other) texts
-  pub shortest : (shown text : List ℕ) → Contains texts shown → IsText text → IsMeant question text → Agree question shown text
-      → length shown ≤ length text
-  pub order : AllPairs IsBefore texts
-
 -- ---- without regard to case
 pub record IsMeantFold (question : Question) (text : List ℕ) : Type 0 where
   pub grammar : IsIn question.grammar text
@@ -120,14 +110,3 @@ folded_question question = record {
   groups = map (map (map (sign_by folded))) question.groups;
   named = map (map folded) question.named;
 }
-
--- the same without regard to case, by texts that folding leaves
-pub record AreKindsFold (question : Question) (texts : List (List ℕ)) : Type 0 where
-  pub folds : (text : List ℕ) → Contains texts text → map folded text ≡ text
-  pub meant : (text : List ℕ) → Contains texts text → IsMeantFold question text
-  pub whole : (text : List ℕ) → IsText text → IsMeantFold question text
-      → (shown : List ℕ) × Contains texts shown × AgreeFold question shown text
-  pub apart : AllPairs (λ one other. ¬ AgreeFold question one other) texts
-  pub shortest : (shown text : List ℕ) → Contains texts shown → IsText text → IsMeantFold question text → AgreeFold question shown text
-      → length shown ≤ length text
-  pub order : AllPairs IsBefore texts

@@ -2,7 +2,9 @@
 -- go on. LOGIC 2.2.
 use Rattle.std.specs.Prelude.{◌≡◌, ◌==◌, ◌&&◌, ◌⊎◌, ℕ, Bool, true, false, List, [], ◌∷◌, Contains, is_some, not, if◌then◌else◌}
 use Rattle.std.specs.List.{list_any}
+use Rattle.std.specs.Char.{IsScalar}
 use Rattle.iam_kinds.specs.Code.{next_stage}
+use Rattle.iam_kinds.specs.Spelled.{IsFirst}
 use Rattle.iam_kinds.specs.declared.grammar.Stage.{Stage}
 
 abbrev pub is_waited : List ℕ → ℕ → Bool
@@ -24,7 +26,19 @@ goes_on tails c = list_any (begins_with c) tails
 abbrev pub is_free : Stage → List ℕ → List (List ℕ) → ℕ → Bool
 is_free stage waited tails c = is_other stage waited c && not (goes_on tails c)
 
--- one of the letters is such a one
+-- a character that is such a letter
+abbrev pub IsOtherAt : Stage → List ℕ → ℕ → Type 0
+IsOtherAt stage waited c = IsScalar c × (is_other stage waited c ≡ true)
+
+abbrev pub IsFreeAt : Stage → List ℕ → List (List ℕ) → ℕ → Type 0
+IsFreeAt stage waited tails c = IsScalar c × (is_free stage waited tails c ≡ true)
+
+-- the letter is tried though nothing waits for it: it is the first free one, or none is free
+abbrev pub IsAdded : Stage → List ℕ → List (List ℕ) → ℕ → Type 0
+IsAdded stage waited tails c =
+    IsFirst (IsFreeAt stage waited tails) c ⊎ (((d : ℕ) → ¬ IsFreeAt stage waited tails d) × IsOtherAt stage waited c)
+
+-- one of the letters is a free one
 abbrev pub HasFree : Stage → List ℕ → List (List ℕ) → List ℕ → Type 0
 HasFree stage waited tails letters = (o : ℕ) × Contains letters o × (is_free stage waited tails o ≡ true)
 

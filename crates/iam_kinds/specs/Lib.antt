@@ -1,8 +1,11 @@
 pub mod Answers
 pub mod Code
 pub mod Kinds
+pub mod Laws
 pub mod Letters
 pub mod Lists
 pub mod Places
+pub mod Shown
+pub mod Spelled
 pub mod States
 pub mod Walk

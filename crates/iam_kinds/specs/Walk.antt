@@ -5,12 +5,13 @@ use Rattle.std.specs.Char.{IsScalar}
 use Rattle.std.specs.List.{slice_get, sum_by}
 use Rattle.std.specs.List.Sorted.{IsStrictlyIncreasing}
 use Rattle.std.specs.Option.{option_map_or}
-use Rattle.iam_glob.specs.Glob.{Matches}
+use Rattle.iam_glob.specs.Glob.{Matches, folded}
 use Rattle.iam_kinds.specs.Code.{AreIn, IsTable, Leads, first_stage, is_last_stage, next_stage, stage_number}
-use Rattle.iam_kinds.specs.Kinds.{IsBefore, IsIn, IsText}
+use Rattle.iam_kinds.specs.Kinds.{IsBefore, IsIn, IsText, Question}
 use Rattle.iam_kinds.specs.Lists.{lists_in}
 use Rattle.iam_kinds.specs.Places.{IsRising}
-use Rattle.iam_kinds.specs.States.{HasManyStates, IsPlace, Machine, State, stage_behind}
+use Rattle.iam_kinds.specs.Spelled.{EachBehind, IsCasedAt, IsLetter, IsSpelledBy}
+use Rattle.iam_kinds.specs.States.{HasManyStates, IsPlace, Machine, State, machine_of, stage_behind}
 use Rattle.iam_kinds.specs.declared.grammar.Grammar.{Grammar}
 use Rattle.iam_kinds.specs.declared.grammar.Stage.{Stage}
 use Rattle.iam_kinds.specs.declared.table.Pattern.{Pattern}
@@ -36,6 +37,17 @@ query_of asked = record {
 
 abbrev pub machine_at : Asked → Machine
 machine_at asked = record { grammar = asked.grammar; patterns = asked.table.now.patterns.items; count = asked.count }
+
+-- each character of the text is as these patterns have it, which are not folded, behind the text so far
+abbrev pub IsCasedFor : Asked → List Pattern → List ℕ → Type 0
+IsCasedFor asked own text =
+    EachBehind (λ before c. IsCasedAt (IsPlace (machine_at asked) (map folded before)) asked.table.now.patterns.items own c) text
+
+-- what is asked is the question
+pub record Asks (asked : Asked) (question : Question) : Type 0 where
+  pub machine : machine_at asked ≡ machine_of question
+  pub within : asked.within ≡ length question.within
+  pub named : (query_of asked).named ≡ question.named
 
 -- its table has a place for each group that has matched for good, and a pattern of each group that has to match
 pub record IsReady (asked : Asked) : Type 0 where
@@ -73,12 +85,22 @@ IsCounted query text = IsText text × IsLive query text × IsFree query text
 abbrev pub Alike : Query → List ℕ → List ℕ → Type 0
 Alike query one other = (g : ℕ) → Has query g one ↔ Has query g other
 
+-- one text is the other, or before it
+abbrev pub IsNotAfter : List ℕ → List ℕ → Type 0
+IsNotAfter one other = (one ≡ other) ⊎ IsBefore one other
+
 pub record AreTexts (query : Query) (texts : List (List ℕ)) : Type 0 where
   pub sought : (text : List ℕ) → Contains texts text → IsSought query text
   pub whole : (text : List ℕ) → IsText text → IsSought query text
       → (shown : List ℕ) × Contains texts shown × Alike query shown text × (length shown ≤ length text)
   pub apart : AllPairs (λ one other. ¬ Alike query one other) texts
   pub order : AllPairs IsBefore texts
+
+-- each is spelled by letters that are tried, and not after any that is like it and so spelled
+pub record AreLeast (machine : Machine) (query : Query) (texts : List (List ℕ)) : Type 0 where
+  pub spelled : (text : List ℕ) → Contains texts text → IsText text × IsSpelledBy machine query.named text
+  pub least : (text : List ℕ) → IsSought query text → IsSpelledBy machine query.named text
+      → (shown : List ℕ) × Contains texts shown × Alike query shown text × IsNotAfter shown text
 
 -- whether characters complete a text of the grammar that is read as far as this
 abbrev pub completes : List ℕ → Stage → Bool
@@ -87,6 +109,13 @@ completes (c ∷ text) stage = option_map_or (completes text) (next_stage stage 
 
 abbrev pub tails_at : Node → List (List ℕ)
 tails_at node = map (λ tail. tail.now) node.tails.items
+
+-- a letter that is tried behind a text, and a text of such letters
+abbrev pub IsTriedBehind : Asked → List ℕ → ℕ → Type 0
+IsTriedBehind asked text c = IsLetter (machine_at asked) (query_of asked).named text c
+
+abbrev pub IsSpelledFor : Asked → List ℕ → Type 0
+IsSpelledFor asked text = IsSpelledBy (machine_at asked) (query_of asked).named text
 
 -- a node says of its text how every text goes on that begins with it
 pub record IsAt (asked : Asked) (node : Node) : Type 0 where
@@ -99,6 +128,7 @@ pub record IsAt (asked : Asked) (node : Node) : Type 0 where
   pub read : stage_behind node.text.items (first_stage asked.grammar) ≡ Some node.stage
   pub rising : IsRising node.places.items
   pub placed : (k : Place) → Contains node.places.items k ↔ IsPlace (machine_at asked) node.text.items k
+  pub spelled : IsSpelledFor asked node.text.items
 
 -- the numbers of a state
 abbrev pub place_numbers : List Place → List ℕ
@@ -129,10 +159,10 @@ pub record Describes (query : Query) (numbers text : List ℕ) : Type 0 where
 abbrev pub shown_in : Walk → List (List ℕ)
 shown_in walk = map (λ text. text.items) walk.shown.items
 
--- a text like this one is shown that is not longer
+-- a text like this one is shown that is not after it
 abbrev pub IsCovered : Asked → Walk → List ℕ → Type 0
 IsCovered asked walk text =
-    (shown : List ℕ) × Contains (shown_in walk) shown × Alike (query_of asked) shown text × (length shown ≤ length text)
+    (shown : List ℕ) × Contains (shown_in walk) shown × Alike (query_of asked) shown text × IsNotAfter shown text
 
 -- the texts of the walk are before this one
 pub record IsBelow (walk : Walk) (text : List ℕ) : Type 0 where
@@ -157,6 +187,7 @@ pub record IsWalk (asked : Asked) (walk : Walk) : Type 0 where
   pub apart : AllPairs (λ one other. ¬ Alike (query_of asked) one other) (shown_in walk)
   pub rising : AllPairs (λ one other. IsBefore one.text.items other.text.items) walk.nodes.items
   pub order : AllPairs IsBefore (shown_in walk)
+  pub spelled : (shown : List ℕ) → Contains (shown_in walk) shown → IsSpelledFor asked shown
   pub kinds : (numbers : List ℕ) → Contains (lists_in walk.kinds) numbers
       → (shown : List ℕ) × Contains (shown_in walk) shown × Describes (query_of asked) numbers shown
   pub described : (shown : List ℕ) → Contains (shown_in walk) shown
@@ -200,13 +231,28 @@ Grows old new = (more : List Node) × (new.nodes.items ≡ old.nodes.items ++ mo
 abbrev pub IsMet : Asked → Walk → List ℕ → Type 0
 IsMet asked walk text = (node : Node) × Contains walk.nodes.items node × StandsFor asked node.text.items text
 
--- so it is for the text and each letter more with which it is gone on with
-abbrev pub IsExpanded : Asked → Walk → List ℕ → Type 0
-IsExpanded asked walk text =
-    (c : ℕ) → IsScalar c → IsLive (query_of asked) (text ++ (c ∷ [])) → IsMet asked walk (text ++ (c ∷ []))
+-- a text stands for one that is spelled, and is not after it: it is the same, or no named text begins with either
+abbrev pub IsFirstFor : Asked → List ℕ → List ℕ → Type 0
+IsFirstFor asked other text =
+    StandsFor asked other text
+    × ((other ≡ text) ⊎ (IsFree (query_of asked) other × IsFree (query_of asked) text × IsBefore other text))
+
+-- the text of some node is such a one
+abbrev pub IsMetFirst : Asked → Walk → List ℕ → Type 0
+IsMetFirst asked walk text = (node : Node) × Contains walk.nodes.items node × IsFirstFor asked node.text.items text
+
+-- some node stands for the text and each character more with which it is gone on with, the first one where that is a letter
+pub record IsExpanded (asked : Asked) (walk : Walk) (text : List ℕ) : Type 0 where
+  pub all : (c : ℕ) → IsScalar c → IsLive (query_of asked) (text ++ (c ∷ [])) → IsMet asked walk (text ++ (c ∷ []))
+  pub letters : (c : ℕ) → IsTriedBehind asked text c → IsLive (query_of asked) (text ++ (c ∷ [])) → IsMetFirst asked walk (text ++ (c ∷ []))
 
 abbrev pub IsExpandedAt : Asked → Walk → ℕ → Type 0
 IsExpandedAt asked walk head = (node : Node) → slice_get walk.nodes.items head ≡ Some node → IsExpanded asked walk node.text.items
+
+-- these are the letters of a node
+abbrev pub AreLetters : Asked → Walk → List ℕ → ℕ → Type 0
+AreLetters asked walk letters head =
+    (node : Node) → slice_get walk.nodes.items head ≡ Some node → (c : ℕ) → Contains letters c ↔ IsTriedBehind asked node.text.items c
 
 -- once each of these letters is tried at a node, it is expanded
 abbrev pub TriesAll : Asked → Walk → List ℕ → ℕ → Type 0
@@ -220,4 +266,4 @@ TriesAll asked walk letters head =
 abbrev pub IsTried : Asked → Walk → ℕ → List ℕ → Type 0
 IsTried asked walk head letters =
     (node : Node) → slice_get walk.nodes.items head ≡ Some node → (c : ℕ) → Contains letters c
-    → IsLive (query_of asked) (node.text.items ++ (c ∷ [])) → IsMet asked walk (node.text.items ++ (c ∷ []))
+    → IsLive (query_of asked) (node.text.items ++ (c ∷ [])) → IsMetFirst asked walk (node.text.items ++ (c ∷ []))

@@ -1,7 +1,9 @@
 // What is asked, and the texts that a walk comes to.
-ghost use Rattle.std.specs.Prelude.{[], ◌∷◌, ◌++◌, ◌≡◌, ◌≤◌, IfOk, IfNone, IfSome, List, ℕ, map};
+ghost use Rattle.std.specs.Prelude.{[], ◌∷◌, ◌++◌, ◌≡◌, ◌≤◌, ◌<◌, ◌+◌, ◌^◌, IfOk, IfNone, IfSome, List, ℕ, length, map};
 ghost use Rattle.iam_kinds.specs.Code.{SameElements, waited_at, waited_in};
-ghost use Rattle.iam_kinds.specs.Walk.{IsAt, IsLive, IsReady, key_of, query_of, tails_at};
+ghost use Rattle.iam_kinds.specs.Kinds.{Question};
+ghost use Rattle.iam_kinds.specs.States.{machine_of};
+ghost use Rattle.iam_kinds.specs.Walk.{Asks, IsAt, IsLive, IsReady, IsTriedBehind, key_of, query_of, tails_at};
 
 use crate::OutOfMemory;
 use crate::grammar::{Grammar, Part, Stage};
@@ -47,6 +49,28 @@ impl Node<'_> {
 }
 
 impl<'a> Asked<'a> {
+    /// What is asked of the patterns of a table, of which so many have to match, and so many groups are told apart.
+    pub fn of(
+        table: &'a Table,
+        within: usize,
+        groups: usize,
+        grammar: Grammar,
+        named: &'a [Vec<char>],
+    ) -> Asked<'a>
+        requires { within + groups < 2 ^ 64 }
+        ensures { (question : Question) → table.entry.now.patterns.items ≡ (machine_of question).patterns → within ≡ length question.within
+            → groups ≡ length question.groups → grammar ≡ question.grammar → map (λ t. t.items) named.entry.now ≡ question.named
+            → Asks result question }
+    {
+        Asked {
+            table,
+            count: within + groups,
+            within,
+            grammar,
+            named,
+        }
+    }
+
     /// The empty text.
     pub fn root(&self, alloc: Global) -> Result<Node<'a>, OutOfMemory>
         requires { IsReady self.now }
@@ -71,6 +95,7 @@ impl<'a> Asked<'a> {
     ) -> Result<Option<Node<'a>>, OutOfMemory>
         requires ready { IsReady self.now }
         requires at { IsAt self.now node.now }
+        requires letter { IsTriedBehind self.now node.now.text.items letter }
         ensures none { IfOk result (λ o. IfNone o (¬ IsLive (query_of self.now) (node.now.text.items ++ (letter ∷ [])))) }
         ensures at { IfOk result (λ o. IfSome o (λ child. IsAt self.now child)) }
         ensures text { IfOk result (λ o. IfSome o (λ child. child.text.items ≡ node.now.text.items ++ (letter ∷ []))) }

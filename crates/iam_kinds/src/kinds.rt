@@ -4,12 +4,12 @@ ghost use Rattle.std.specs.Str.{chars};
 ghost use Rattle.std.specs.String.{string_bytes};
 ghost use Rattle.iam_glob.specs.Glob.{folded, sign_by};
 ghost use Rattle.iam_glob.specs.Signs.{signs_in};
-ghost use Rattle.iam_kinds.specs.Answers.{IsAnswer, IsAnswerFold, characters_in, pairs_of, question_in, signs_of};
+ghost use Rattle.iam_kinds.specs.Answers.{IsAnswer, IsAnswerFold, characters_in, pairs_of, patterns_in, question_in, signs_of};
 ghost use Rattle.iam_kinds.specs.States.{numbered_groups, numbered_within, with_number};
-ghost use Rattle.iam_kinds.specs.Walk.{IsReady};
 
 use crate::OutOfMemory;
 use crate::asked::Asked;
+use crate::cased::cased_texts;
 use crate::grammar::Grammar;
 use crate::table::{Pattern, SignList, Table};
 use crate::walk::find_texts;
@@ -19,8 +19,9 @@ use std::alloc::Global;
 /// One text of each kind.
 #[derive(Debug, Drop)]
 pub enum Kinds {
-    /// These texts: no text of its kind has fewer characters, and they stand in order of their numbers of characters, those of one
-    /// number by code points.
+    /// These texts: each is the first of its kind of those that are spelled by the characters that the patterns wait for and, of the
+    /// others, the first free one: of `x`, `a` to `w`, `y`, `z` and the digits in this order, or else by code point. No text of its
+    /// kind has fewer characters. They stand in order of their numbers of characters, those of one number by code points.
     Shown(Vec<String>),
     /// There are more than 65,536 states, 4,096 kinds or 4,194,304 places in all states.
     NotShown,
@@ -37,10 +38,18 @@ pub fn find_kinds(
 ) -> Result<Kinds, OutOfMemory>
     ensures { IfOk result (IsAnswer (question_in false grammar within.now groups.now named.now)) }
 {
-    found(alloc, grammar, within, groups, named, false)
+    let table = table_of(alloc, within, groups, false)?;
+    let named = characters(alloc, named, false)?;
+    let asked = Asked::of(&table, within.len(), groups.len(), grammar, &named);
+    match find_texts(alloc, &asked)? {
+        Some(texts) => Ok(Kinds::Shown(strings_of(alloc, texts.as_slice())?)),
+        None => Ok(Kinds::NotShown),
+    }
 }
 
-/// The same without regard to case, by texts that have none of the letters A to Z.
+/// The same without regard to case: kinds, first texts and their order are those of patterns and texts that folding leaves. Each
+/// character that is shown is as the first pattern has it that waits for it there, those of `within` before those of groups; one that
+/// no pattern waits for, and each where the grammar has none of the letters A to Z, is as folding leaves it.
 pub fn find_kinds_fold(
     alloc: Global,
     grammar: Grammar,
@@ -50,38 +59,33 @@ pub fn find_kinds_fold(
 ) -> Result<Kinds, OutOfMemory>
     ensures { IfOk result (IsAnswerFold (question_in false grammar within.now groups.now named.now)) }
 {
-    found(alloc, grammar.folded(), within, groups, named, true)
+    let table = table_of(alloc, within, groups, true)?;
+    let named = characters(alloc, named, true)?;
+    let asked = Asked::of(&table, within.len(), groups.len(), grammar.folded(), &named);
+    let Some(texts) = find_texts(alloc, &asked)? else {
+        return Ok(Kinds::NotShown);
+    };
+    if grammar.first().fold {
+        return Ok(Kinds::Shown(strings_of(alloc, texts.as_slice())?));
+    }
+    let own = table_of(alloc, within, groups, false)?;
+    let cased = cased_texts(alloc, &asked, &own, texts.as_slice())?;
+    Ok(Kinds::Shown(strings_of(alloc, cased.as_slice())?))
 }
 
-/// One text of each kind by patterns and named texts that are folded where `fold` says so.
-fn found(
+/// The patterns, folded where `fold` says so, with the numbers of their groups: each of `within` is a group of its own.
+fn table_of(
     alloc: Global,
-    grammar: Grammar,
     within: &[Signs<'_>],
     groups: &[Vec<Signs<'_>>],
-    named: &[&str],
     fold: bool,
-) -> Result<Kinds, OutOfMemory>
-    ensures { IfOk result (IsAnswer (question_in fold grammar within.now groups.now named.now)) }
+) -> Result<Table, OutOfMemory>
+    ensures { IfOk result (λ t. t.patterns.items ≡ patterns_in fold within.now groups.now) }
 {
     let mut patterns = Vec::new(alloc);
     add_within(alloc, &mut patterns, within, fold)?;
     add_groups(alloc, &mut patterns, groups, within.len(), fold)?;
-    let named = characters(alloc, named, fold)?;
-    let count = within.len() + groups.len();
-    let table = Table::of(alloc, count, patterns)?;
-    let asked = Asked {
-        table: &table,
-        count,
-        within: within.len(),
-        grammar,
-        named: &named,
-    };
-    let found = find_texts(alloc, &asked)?;
-    match found {
-        Some(texts) => Ok(Kinds::Shown(strings_of(alloc, texts.as_slice())?)),
-        None => Ok(Kinds::NotShown),
-    }
+    Table::of(alloc, within.len() + groups.len(), patterns)
 }
 
 /// Adds each of the patterns that have to match, as a group of its own.

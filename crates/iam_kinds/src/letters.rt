@@ -1,9 +1,10 @@
 // The letters that a walk tries behind a text.
-ghost use Rattle.std.specs.Prelude.{[], ◌≡◌, ◌==◌, ◌↔◌, ◌⊎◌, ℕ, Contains, IfNone, IfOk, IfSome, IsTrue, OnOk, false, is_some, map, true};
+ghost use Rattle.std.specs.Prelude.{[], ◌≡◌, ◌==◌, ◌↔◌, ◌⊎◌, ◌<◌, ℕ, Contains, IfNone, IfOk, IfSome, IsTrue, OnOk, false, is_some, map, true};
 ghost use Rattle.std.specs.List.{list_any};
 ghost use Rattle.std.specs.List.Sorted.{IsStrictlyIncreasing};
 ghost use Rattle.std.specs.Char.{IsScalar};
-ghost use Rattle.iam_kinds.specs.Letters.{HasFree, Stands, begins_with, goes_on, is_free, is_other, tails_of};
+ghost use Rattle.iam_kinds.specs.Letters.{HasFree, IsAdded, IsFreeAt, IsOtherAt, Stands, begins_with, goes_on, is_free, is_other, tails_of};
+ghost use Rattle.iam_kinds.specs.Spelled.{IsFirst, first_letters};
 ghost use Rattle.iam_kinds.specs.Code.{SameElements, next_stage};
 
 use crate::OutOfMemory;
@@ -42,9 +43,12 @@ impl Behind<'_> {
 
     /// The first such letter of those that are tried first.
     fn first_free(&self) -> Option<char>
-        ensures { IfSome result (λ c. is_free self.now.stage self.now.waited.now (map (λ t. t.now) self.now.tails.now) c ≡ true) }
+        ensures some { IfSome result (IsFirst (IsFreeAt self.now.stage self.now.waited.now (map (λ t. t.now) self.now.tails.now))) }
+        ensures none { IfNone result ((c : ℕ) → Contains first_letters c
+            → is_free self.now.stage self.now.waited.now (map (λ t. t.now) self.now.tails.now) c ≡ false) }
     {
-        for letter in FIRST_OTHERS.chars() {
+        for &code in FIRST_OTHERS.as_bytes() {
+            let letter = char::from(code);
             if self.is_free(letter) {
                 return Some(letter);
             }
@@ -55,6 +59,8 @@ impl Behind<'_> {
     /// The first such letter of all characters.
     fn any_free(&self) -> Option<char>
         ensures some { IfSome result (λ c. is_free self.now.stage self.now.waited.now (map (λ t. t.now) self.now.tails.now) c ≡ true) }
+        ensures least { IfSome result (λ c. (d : ℕ) → d < c → IsScalar d
+            → is_free self.now.stage self.now.waited.now (map (λ t. t.now) self.now.tails.now) d ≡ false) }
         ensures none { IfNone result ((c : ℕ) → IsScalar c → is_free self.now.stage self.now.waited.now (map (λ t. t.now) self.now.tails.now) c ≡ false) }
     {
         for code in 0..CODES {
@@ -69,7 +75,7 @@ impl Behind<'_> {
 
     /// The first such letter.
     fn free_letter(&self) -> Option<char>
-        ensures some { IfSome result (λ c. is_free self.now.stage self.now.waited.now (map (λ t. t.now) self.now.tails.now) c ≡ true) }
+        ensures some { IfSome result (IsFirst (IsFreeAt self.now.stage self.now.waited.now (map (λ t. t.now) self.now.tails.now))) }
         ensures none { IfNone result ((c : ℕ) → IsScalar c → is_free self.now.stage self.now.waited.now (map (λ t. t.now) self.now.tails.now) c ≡ false) }
     {
         match self.first_free() {
@@ -82,6 +88,8 @@ impl Behind<'_> {
     fn add_others(&self, letters: &mut Vec<char>) -> Result<(), OutOfMemory>
         ensures kept { OnOk result ((c : ℕ) → Contains letters.old.items c → Contains letters.new.items c) }
         ensures others { OnOk result ((c : ℕ) → IsScalar c → is_other self.now.stage self.now.waited.now c ≡ true → Contains letters.new.items c) }
+        ensures only { OnOk result ((c : ℕ) → Contains letters.new.items c
+            → Contains letters.old.items c ⊎ IsOtherAt self.now.stage self.now.waited.now c) }
     {
         for code in 0..CODES {
             if let Some(letter) = char::from_u32(code) {
@@ -98,6 +106,8 @@ impl Behind<'_> {
         ensures kept { OnOk result ((c : ℕ) → Contains letters.old.items c → Contains letters.new.items c) }
         ensures others { OnOk result ((c : ℕ) → IsScalar c → is_other self.now.stage self.now.waited.now c ≡ true
             → Contains letters.new.items c ⊎ HasFree self.now.stage self.now.waited.now (map (λ t. t.now) self.now.tails.now) letters.new.items) }
+        ensures exact { OnOk result ((c : ℕ) → Contains letters.new.items c
+            ↔ (Contains letters.old.items c ⊎ IsAdded self.now.stage self.now.waited.now (map (λ t. t.now) self.now.tails.now) c)) }
     {
         match self.free_letter() {
             Some(letter) => {
@@ -112,6 +122,8 @@ impl Behind<'_> {
     pub fn letters(&self, alloc: Global) -> Result<Vec<char>, OutOfMemory>
         ensures stand { IfOk result (λ v. (c : ℕ) → IsScalar c → is_some (next_stage self.now.stage c) ≡ true
             → Stands self.now.stage self.now.waited.now (map (λ t. t.now) self.now.tails.now) v.items c) }
+        ensures exact { IfOk result (λ v. (c : ℕ) → Contains v.items c
+            ↔ (Contains self.now.waited.now c ⊎ IsAdded self.now.stage self.now.waited.now (map (λ t. t.now) self.now.tails.now) c)) }
         ensures rising { IfOk result (λ v. IsStrictlyIncreasing v.items) }
     {
         let mut letters = Vec::from_slice(alloc, self.waited)?;

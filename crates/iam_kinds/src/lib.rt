@@ -3,8 +3,10 @@
 #![tactic(auto)]
 
 mod asked;
+mod cased;
 mod grammar;
 mod kinds;
+mod laws;
 mod letters;
 mod lists;
 mod table;
@@ -13,3 +15,4 @@ mod walk;
 pub use grammar::Grammar;
 pub use iam_glob::{OutOfMemory, Sign, Signs};
 pub use kinds::{Kinds, find_kinds, find_kinds_fold};
+pub use laws::{one_list_of_kinds, one_list_of_kinds_fold};

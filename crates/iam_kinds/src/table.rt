@@ -1,9 +1,11 @@
 // The patterns of all groups, and the places in them.
-ghost use Rattle.std.specs.Prelude.{◌-◌, List, ◌≡◌, ◌↔◌, ◌<◌, ◌≤◌, ◌+◌, ◌^◌, ◌==◌, ◌&&◌, ◌++◌, ℕ, IfOk, OnOk, IsTrue, Contains, drop, length, map, if◌then◌else◌};
+ghost use Rattle.std.specs.Prelude.{◌-◌, List, Some, MatchBool, IfNone, IfSome, ◌≢◌, ◌≡◌, ◌↔◌, ◌<◌, ◌≤◌, ◌+◌, ◌^◌, ◌==◌, ◌&&◌, ◌++◌, ℕ, IfOk, OnOk, IsTrue, Contains, drop, length, map, if◌then◌else◌};
 ghost use Rattle.std.specs.List.{flat_map, list_any, slice_get};
 ghost use Rattle.std.specs.List.Sorted.{IsStrictlyIncreasing};
 ghost use Rattle.iam_kinds.specs.declared.table.Pattern.{Pattern};
 ghost use Rattle.iam_kinds.specs.Places.{IsRising};
+ghost use Rattle.iam_kinds.specs.Spelled.{IsFirstPlace};
+ghost use Rattle.iam_kinds.specs.declared.table.Place.{Place};
 ghost use Rattle.iam_kinds.specs.Code.{AreGoals, AreIn, IsTable, SameElements, are_any, group_at, has_group, is_good, is_last_any, moves_from, moves_of, place_at, matched_groups, rest_at, settled_places, starts_from, stepped, waited_at, waits_for};
 
 use crate::OutOfMemory;
@@ -198,6 +200,41 @@ impl Table {
             }
         }
         Ok(waited)
+    }
+
+    /// The character that is waited for at a place.
+    pub fn waited_at(&self, place: Place) -> Option<char>
+        requires { place.pattern < length self.now.patterns.items }
+        ensures { result ≡ waits_for (rest_at self.now.patterns.items place) }
+    {
+        waits_for(self.rest(place))
+    }
+
+    /// Whether it is this letter.
+    fn is_waited_at(&self, place: Place, letter: char) -> bool
+        requires { place.pattern < length self.now.patterns.items }
+        ensures { MatchBool result (waits_for (rest_at self.now.patterns.items place) ≡ Some letter)
+            (waits_for (rest_at self.now.patterns.items place) ≢ Some letter) }
+    {
+        match self.waited_at(place) {
+            Some(waited) => waited == letter,
+            None => false,
+        }
+    }
+
+    /// The first of the places at which the letter is waited for.
+    pub fn first_waiting(&self, places: &[Place], letter: char) -> Option<Place>
+        requires places_in { AreIn self.now.patterns.items places.now }
+        requires rising { IsRising places.now }
+        ensures some { IfSome result (IsFirstPlace (Contains places.now) self.now.patterns.items letter) }
+        ensures none { IfNone result ((k : Place) → Contains places.now k → waits_for (rest_at self.now.patterns.items k) ≢ Some letter) }
+    {
+        for &place in places {
+            if self.is_waited_at(place, letter) {
+                return Some(place);
+            }
+        }
+        None
     }
 
     /// Whether each group below this number has a place.

@@ -8,7 +8,7 @@ ghost use Rattle.iam_kinds.specs.declared.asked.Node.{Node};
 ghost use Rattle.iam_kinds.specs.Kinds.{IsText};
 ghost use Rattle.iam_kinds.specs.Lists.{lists_in};
 ghost use Rattle.iam_kinds.specs.declared.asked.Asked.{Asked};
-ghost use Rattle.iam_kinds.specs.Walk.{AreTexts, Describes, Grows, HasSeen, IsAt, IsBelow, IsExpandedAt, IsMet, IsOver, IsReady, IsSought, IsCovered, IsTried, IsWalk, StaysBelow, StaysBelowBehind, TriesAll, query_of, shown_in};
+ghost use Rattle.iam_kinds.specs.Walk.{AreLeast, AreLetters, AreTexts, Describes, Grows, HasSeen, IsAt, IsBelow, IsCovered, IsExpandedAt, IsMetFirst, IsOver, IsReady, IsSought, IsSpelledFor, IsTried, IsTriedBehind, IsWalk, StaysBelow, StaysBelowBehind, TriesAll, machine_at, query_of, shown_in};
 
 use crate::OutOfMemory;
 use crate::asked::{Asked, Node};
@@ -88,6 +88,7 @@ impl<'a> Walk<'a> {
         requires walk { IsWalk asked.now self.old }
         requires described { Describes (query_of asked.now) numbers.items text.now }
         requires sought { IsText text.now × IsSought (query_of asked.now) text.now }
+        requires spelled { IsSpelledFor asked.now text.now }
         requires below { IsBelow self.old text.now }
         ensures only { IfOk result (λ fits. OnTrue fits ((shown : List ℕ) → Contains (shown_in self.new) shown
             → Contains (shown_in self.old) shown ⊎ (text.now ≡ shown))) }
@@ -147,7 +148,7 @@ impl<'a> Walk<'a> {
         ensures walk { IfOk result (λ fits. OnTrue fits (IsWalk asked.now self.new)) }
         ensures seen { IfOk result (λ fits. OnTrue fits (HasSeen self.new)) }
         ensures grows { IfOk result (λ fits. OnTrue fits (Grows self.old self.new)) }
-        ensures met { IfOk result (λ fits. OnTrue fits (IsMet asked.now self.new node.entry.text.items)) }
+        ensures met { IfOk result (λ fits. OnTrue fits (IsMetFirst asked.now self.new node.entry.text.items)) }
         ensures only { IfOk result (λ fits. OnTrue fits (StaysBelow self.old self.new node.entry.text.items)) }
         ensures over { IfOk result (λ fits. OnFalse fits (IsOver asked.now)) }
     {
@@ -215,6 +216,7 @@ impl<'a> Walk<'a> {
         requires walk { IsWalk asked.now self.old }
         requires seen { HasSeen self.old }
         requires head { head < length self.old.nodes.items }
+        requires letter { (node : Node) → slice_get self.old.nodes.items head ≡ Some node → IsTriedBehind asked.now node.text.items letter }
         requires below { (node : Node) → slice_get self.old.nodes.items head ≡ Some node → IsBelow self.old (node.text.items ++ (letter ∷ [])) }
         ensures walk { IfOk result (λ fits. OnTrue fits (IsWalk asked.now self.new)) }
         ensures seen { IfOk result (λ fits. OnTrue fits (HasSeen self.new)) }
@@ -240,6 +242,7 @@ impl<'a> Walk<'a> {
         requires walk { IsWalk asked.now self.now }
         requires head { head < length self.now.nodes.items }
         ensures tries { IfOk result (λ v. TriesAll asked.now self.now v.items head) }
+        ensures letters { IfOk result (λ v. AreLetters asked.now self.now v.items head) }
         ensures rising { IfOk result (λ v. IsStrictlyIncreasing v.items) }
     {
         let node = &self.nodes[head];
@@ -269,6 +272,8 @@ fn has_below(numbers: &[usize], count: usize) -> bool
 pub fn find_texts(alloc: Global, asked: &Asked<'_>) -> Result<Option<Vec<Vec<char>>>, OutOfMemory>
     requires { IsReady asked.now }
     ensures some { IfOk result (λ o. IfSome o (λ texts. AreTexts (query_of asked.now) (map (λ text. text.items) texts.items))) }
+    ensures least { IfOk result (λ o. IfSome o (λ texts. AreLeast (machine_at asked.now) (query_of asked.now)
+        (map (λ text. text.items) texts.items))) }
     ensures within { IfOk result (λ o. IfSome o (λ texts. ¬ IsOver asked.now)) }
     ensures none { IfOk result (λ o. IfNone o (IsOver asked.now)) }
 {

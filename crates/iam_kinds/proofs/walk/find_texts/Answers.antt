@@ -1,8 +1,9 @@
 use Rattle.std.proofs.Common.{◌<◌, [], ◌∷◌, ◌++◌, List, arith, sym, subst, ℕ, length, below_more}
 use Rattle.iam_kinds.specs.Kinds.{IsBefore}
 use Rattle.iam_kinds.proofs.OrderLemmas.{before_any}
-use Rattle.iam_kinds.specs.Walk.{IsExpandedAt, IsMet}
-use Rattle.iam_kinds.proofs.GoLemmas.{AllExpanded, are_texts, below_head, expanded_more, grown_length, met_more}
+use Rattle.iam_kinds.specs.Walk.{IsExpandedAt, IsMetFirst}
+use Rattle.iam_kinds.proofs.GoLemmas.{AllExpanded, are_texts, below_head, expanded_more, grown_length, is_met, met_first_more}
+use Rattle.iam_kinds.proofs.LeastLemmas.{are_least}
 use Rattle.iam_kinds.proofs.LimitLemmas.{not_over}
 use Rattle.iam_kinds.proofs.walk.find_texts.Goals as goal
 
@@ -13,7 +14,7 @@ pub loop-head-init : goal.loop-head-init
 loop-head-init c = record {
   walk = rw c.if-not-branch.false at c.in_ok-put.ensures.walk;
   seen = rw c.if-not-branch.false at c.in_ok-put.ensures.seen;
-  root = subst (IsMet c.args.asked.now c.put.new.self) c.in_ok-root.ensures.text (rw c.if-not-branch.false at c.in_ok-put.ensures.met);
+  root = subst (IsMetFirst c.args.asked.now c.put.new.self) c.in_ok-root.ensures.text (rw c.if-not-branch.false at c.in_ok-put.ensures.met);
   below = omega arith;
   expanded = λ i below. absurd (omega (arith, below));
   behind = λ node at d.
@@ -31,7 +32,7 @@ loop-head-preserved c =
     let P : ℕ → Type 0 = λ i. IsExpandedAt c.args.asked.now new i in record {
       walk = rw c.if-not-branch-2.false at c.in_ok-expand.ensures.walk;
       seen = rw c.if-not-branch-2.false at c.in_ok-expand.ensures.seen;
-      root = met_more c.args.asked.now old new [] grows c.loop-head.invariant.root;
+      root = met_first_more c.args.asked.now old new [] grows c.loop-head.invariant.root;
       below = omega (arith, longer, within);
       expanded = below_more P c.loop-head.head
           (λ i below. expanded_more c.args.asked.now old new i (omega (arith, below, within)) grows (c.loop-head.invariant.expanded i below))
@@ -43,11 +44,18 @@ loop-head-preserved c =
 
 pub returns-then-head-len-clause-some : goal.returns-then-head-len-clause-some
 returns-then-head-len-clause-some c =
-    are_texts c.args.asked.now c.loop-head.walk c.requires c.loop-head.invariant.walk c.loop-head.invariant.root
+    are_texts c.args.asked.now c.loop-head.walk c.requires c.loop-head.invariant.walk
+    (is_met c.args.asked.now c.loop-head.walk [] c.loop-head.invariant.root)
+    (λ i below. c.loop-head.invariant.expanded i (omega (arith, below)))
+
+pub returns-then-head-len-clause-least : goal.returns-then-head-len-clause-least
+returns-then-head-len-clause-least c =
+    are_least c.args.asked.now c.loop-head.walk c.requires c.loop-head.invariant.walk c.loop-head.invariant.root
     (λ i below. c.loop-head.invariant.expanded i (omega (arith, below)))
 
 pub returns-then-head-len-clause-within : goal.returns-then-head-len-clause-within
 returns-then-head-len-clause-within c =
     let all : AllExpanded c.args.asked.now c.loop-head.walk = λ i below. c.loop-head.invariant.expanded i (omega (arith, below)) in
-    not_over c.args.asked.now c.loop-head.walk c.requires c.loop-head.invariant.walk c.loop-head.invariant.seen c.loop-head.invariant.root all
-    (are_texts c.args.asked.now c.loop-head.walk c.requires c.loop-head.invariant.walk c.loop-head.invariant.root all)
+    let root = is_met c.args.asked.now c.loop-head.walk [] c.loop-head.invariant.root in
+    not_over c.args.asked.now c.loop-head.walk c.requires c.loop-head.invariant.walk c.loop-head.invariant.seen root all
+    (are_texts c.args.asked.now c.loop-head.walk c.requires c.loop-head.invariant.walk root all)

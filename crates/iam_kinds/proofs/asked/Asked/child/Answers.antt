@@ -36,4 +36,4 @@ returns-clause-at c =
     child_is c.args.self.now c.args.node.now
     (record { text = c.push.new.self; stage = c.in-Some.stage; places = c.in_ok-places.places; tails = c.in_ok-tails.tails }) c.args.letter
     c.requires.ready c.requires.at text c.ranges.letter.0 (sym c.in-Some.ensures) c.in_ok-places.ensures.rising same
-    (subst Q c.deref-2.ensures.value (c.has_below.ensures.0 c.if-not-has_below.false)) tails
+    (subst Q c.deref-2.ensures.value (c.has_below.ensures.0 c.if-not-has_below.false)) tails c.requires.letter

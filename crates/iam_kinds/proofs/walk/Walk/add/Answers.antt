@@ -1,7 +1,7 @@
 use Rattle.std.proofs.Common.{◌≡◌, ◌∷◌, [], ◌++◌, ◌∙◌, ◌⊎◌, inl, ap, refl, sym, subst, List, ℕ}
 use Rattle.std.specs.List.{Contains}
 use Rattle.iam_kinds.specs.Kinds.{IsText}
-use Rattle.iam_kinds.specs.Walk.{IsBelow, IsCovered, IsSought, query_of, shown_in}
+use Rattle.iam_kinds.specs.Walk.{IsBelow, IsCovered, IsSought, IsSpelledFor, query_of, shown_in}
 use Rattle.iam_kinds.specs.declared.asked.Node.{Node}
 use Rattle.iam_kinds.proofs.GoLemmas.{node_more, stays_below}
 use Rattle.iam_kinds.proofs.walk.Walk.add.Goals as goal
@@ -38,3 +38,6 @@ show-requires-clause-sought c =
 
 pub show-requires-clause-below : goal.show-requires-clause-below
 show-requires-clause-below c = subst (IsBelow c.args.self.now) (sym c.deref.ensures.value) c.requires.below
+
+pub show-requires-clause-spelled : goal.show-requires-clause-spelled
+show-requires-clause-spelled c = subst (IsSpelledFor c.args.asked.now) (sym c.deref.ensures.value) c.requires.at.spelled

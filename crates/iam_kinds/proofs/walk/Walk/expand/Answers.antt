@@ -24,6 +24,13 @@ go-requires c = record {
   walk = c.loop-letter.invariant.walk;
   seen = c.loop-letter.invariant.seen;
   head = (let g = grown_length c.args.self.now c.loop-letter.self c.loop-letter.invariant.grows in let h = c.requires.head in omega (arith, g, h));
+  letter = λ node at.
+      let items = c.deref-letter-items.result.now in
+      let letter = c.letter-item.result in
+      let first = at_before c.args.self.now c.loop-letter.self c.args.head node c.requires.head c.loop-letter.invariant.grows at in
+      let here : Contains items letter = (c.loop-letter.letter-index, c.loop-letter-test.true, sym c.letter-item.is) in
+      (c.in_ok-letters.ensures.letters node first letter).0
+      (subst (λ (l : List ℕ). Contains l letter) c.deref-letter-items.ensures.value here);
   below = λ node at.
       let items = c.deref-letter-items.result.now in
       let i = c.loop-letter.letter-index in
@@ -67,6 +74,6 @@ returns-clause-only c = λ node at text below before. c.loop-letter.invariant.on
 pub returns-clause-expanded : goal.returns-clause-expanded
 returns-clause-expanded c =
     tried_all c.args.asked.now c.args.self.now c.loop-letter.self c.in_ok-letters.letters.items c.args.head c.requires.head c.loop-letter.invariant.grows
-    c.in_ok-letters.ensures.tries
+    c.in_ok-letters.ensures.tries c.in_ok-letters.ensures.letters
     (subst (IsTried c.args.asked.now c.loop-letter.self c.args.head)
     (take_all c.loop-letter.letter-index c.deref-letter-items.result.now c.loop-letter-test.false ∙ c.deref-letter-items.ensures.value) c.loop-letter.invariant.tried)

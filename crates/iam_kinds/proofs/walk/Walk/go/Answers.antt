@@ -1,11 +1,13 @@
 use Rattle.std.proofs.Common.{sym}
-use Rattle.iam_kinds.proofs.GoLemmas.{below_one, if_both_fit, if_fits, tried_none, tried_one}
+use Rattle.iam_kinds.proofs.GoLemmas.{at_slice, below_one, if_both_fit, if_fits, tried_none, tried_one}
 use Rattle.iam_kinds.proofs.walk.Walk.go.Goals as goal
 
 pub child-requires : goal.child-requires
 child-requires c = record {
   ready = c.requires.ready;
   at = c.requires.walk.nodes c.index.result.now (c.args.head, c.requires.head, sym c.index.ensures);
+  letter = c.requires.letter c.index.result.now
+      (at_slice c.args.self.now.nodes.items c.args.head c.index.result.now c.requires.head (sym c.index.ensures));
 }
 
 pub returns-in-Some-clause-tried : goal.returns-in-Some-clause-tried

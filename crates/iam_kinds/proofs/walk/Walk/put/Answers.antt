@@ -10,7 +10,8 @@ has_room-requires c = c.requires.seen.1.held
 
 pub returns-then-not-has_room-clause-over : goal.returns-then-not-has_room-clause-over
 returns-then-not-has_room-clause-over c =
-    let none : c.args.node.tails.items ≡ [] = nil_from_length c.args.node.tails.items (omega (arith, eqb-true _ _ (sym c.is_empty.ensures ∙ c.if-not-is_empty.false))) in
+    let none : c.args.node.tails.items ≡ [] = nil_from_length c.args.node.tails.items
+    (omega (arith, eqb-true _ _ (sym c.is_empty.ensures ∙ c.if-not-is_empty.false))) in
     let one : c.len.result ≡ length c.args.node.places.items = omega (arith, c.len.ensures) in
     many_states c.args.asked.now c.args.self.now c.args.node c.in_ok-key.key.items c.requires.walk c.requires.seen c.requires.at
     (ap (map (λ tail. tail.now)) none) c.in_ok-key.ensures (rw c.if-not-is_new.false at c.in_ok-is_new.ensures.0)
@@ -21,7 +22,8 @@ returns-clause-grows c = if_fits c.add-3.result (λ nodes. (c.args.node ∷ [], 
 
 pub returns-clause-seen : goal.returns-clause-seen
 returns-clause-seen c =
-    let none : c.args.node.tails.items ≡ [] = nil_from_length c.args.node.tails.items (omega (arith, eqb-true _ _ (sym c.is_empty.ensures ∙ c.if-not-is_empty.false))) in
+    let none : c.args.node.tails.items ≡ [] = nil_from_length c.args.node.tails.items
+    (omega (arith, eqb-true _ _ (sym c.is_empty.ensures ∙ c.if-not-is_empty.false))) in
     let room = rw c.if-not-has_room.false at c.has_room.ensures in
     let first : c.args.self.now.states < 65536 = room.0 in
     let second : c.args.self.now.places + c.len.result ≤ 4194304 = room.1 in
@@ -54,8 +56,10 @@ returns-then-not-is_new-clause-seen c =
 
 pub returns-then-not-is_new-clause-met : goal.returns-then-not-is_new-clause-met
 returns-then-not-is_new-clause-met c =
-    met_before c.args.asked.now c.args.self.now c.args.node c.in_ok-key.key.items c.requires.walk c.requires.below c.requires.seen c.requires.at c.in_ok-key.ensures
-    (rw c.if-not-is_new.true at c.in_ok-is_new.ensures.0)
+    let none : c.args.node.tails.items ≡ [] = nil_from_length c.args.node.tails.items
+    (omega (arith, eqb-true _ _ (sym c.is_empty.ensures ∙ c.if-not-is_empty.false))) in
+    met_before c.args.asked.now c.args.self.now c.args.node c.in_ok-key.key.items c.requires.walk c.requires.below c.requires.seen c.requires.at
+    (ap (map (λ tail. tail.now)) none) c.in_ok-key.ensures (rw c.if-not-is_new.true at c.in_ok-is_new.ensures.0)
 
 pub returns-clause-met : goal.returns-clause-met
 returns-clause-met c =

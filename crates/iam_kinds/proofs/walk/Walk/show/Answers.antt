@@ -22,7 +22,8 @@ returns-clause-walk c =
     let shown = ap (map (λ t. t.items)) c.in_ok-push.ensures.items ∙ map-append (λ t. t.items) c.args.self.now.shown.items (c.in_ok-shown.shown ∷ [])
     ∙ ap (λ (t : List ℕ). shown_in c.args.self.now ++ (t ∷ [])) c.in_ok-shown.ensures.items in
     (shown_now c.args.asked.now c.args.self.now (record c.args.self.now { kinds = c.add.new.self; shown = c.push.new.self }) c.args.text.now c.args.numbers.items
-    c.requires.walk c.requires.below (rw c.if-not-branch.false at c.in_ok-add.ensures.0) c.requires.described c.requires.sought
+    c.requires.walk c.requires.below
+    (rw c.if-not-branch.false at c.in_ok-add.ensures.0) c.requires.described c.requires.sought c.requires.spelled
     (let many = length-map c.args.self.now.shown.items (λ t. t.items) in omega (arith, many)) refl shown c.in_ok-add.ensures.1).0
 
 pub returns-clause-covered : goal.returns-clause-covered
@@ -30,7 +31,8 @@ returns-clause-covered c =
     let shown = ap (map (λ t. t.items)) c.in_ok-push.ensures.items ∙ map-append (λ t. t.items) c.args.self.now.shown.items (c.in_ok-shown.shown ∷ [])
     ∙ ap (λ (t : List ℕ). shown_in c.args.self.now ++ (t ∷ [])) c.in_ok-shown.ensures.items in
     (shown_now c.args.asked.now c.args.self.now (record c.args.self.now { kinds = c.add.new.self; shown = c.push.new.self }) c.args.text.now c.args.numbers.items
-    c.requires.walk c.requires.below (rw c.if-not-branch.false at c.in_ok-add.ensures.0) c.requires.described c.requires.sought
+    c.requires.walk c.requires.below
+    (rw c.if-not-branch.false at c.in_ok-add.ensures.0) c.requires.described c.requires.sought c.requires.spelled
     (let many = length-map c.args.self.now.shown.items (λ t. t.items) in omega (arith, many)) refl shown c.in_ok-add.ensures.1).1
 
 pub returns-then-len-ge-MOST_KINDS-clause-over : goal.returns-then-len-ge-MOST_KINDS-clause-over
