@@ -22,12 +22,12 @@ begins : (c : ℕ) (cs : List ℕ) → (c == 10) ≡ false → lines_of (c ∷ c
 begins c cs other = ap (λ b. if b then [] ∷ lines_of cs else begin_with c (lines_of cs)) other
 
 -- a line that ends
-ended : (line bytes : List ℕ) → IsUnbroken line → lines_of (line ++ 10 ∷ bytes) ≡ line ∷ lines_of bytes
+pub ended : (line bytes : List ℕ) → IsUnbroken line → lines_of (line ++ 10 ∷ bytes) ≡ line ∷ lines_of bytes
 ended [] bytes unbroken = refl
 ended (c ∷ cs) bytes unbroken = begins c (cs ++ 10 ∷ bytes) unbroken.0 ∙ ap (begin_with c) (ended cs bytes unbroken.1)
 
 -- the last line
-last : (rest : List ℕ) → IsUnbroken rest → rest ≢ [] → lines_of rest ≡ rest ∷ []
+pub last : (rest : List ℕ) → IsUnbroken rest → rest ≢ [] → lines_of rest ≡ rest ∷ []
 last [] unbroken some = absurd (some refl)
 last (c ∷ []) unbroken some = begins c [] unbroken.0
 last (c ∷ d ∷ cs) unbroken some = begins c (d ∷ cs) unbroken.0 ∙ ap (begin_with c) (last (d ∷ cs) unbroken.1 (λ none. let wrong : ⊥ = cc in wrong))
@@ -84,7 +84,7 @@ read_tail bytes rest tail requests has unbroken = record {
 
 -- ---- faults
 
-at_seam : {X : Type 0} (xs : List X) (x : X) (ys : List X) (n : ℕ) → n ≡ length xs → slice_get (xs ++ x ∷ ys) n ≡ Some x
+pub at_seam : {X : Type 0} (xs : List X) (x : X) (ys : List X) (n : ℕ) → n ≡ length xs → slice_get (xs ++ x ∷ ys) n ≡ Some x
 at_seam [] x ys zero e = refl
 at_seam [] x ys (suc n) e = absurd (omega (arith, e))
 at_seam (z ∷ xs) x ys zero e = absurd (omega (arith, e))

@@ -2,4 +2,6 @@ pub mod Cutting
 pub mod Faults
 pub mod Kept
 pub mod Meanings
+pub mod TextCutting
+pub mod TextLineFaults
 pub mod TextPlaces

@@ -22,10 +22,10 @@ use Rattle.iam_asked.proofs.Faults.{least_numbered, least_said}
 
 -- ---- one meaning
 
-some_same : {X : Type 0} (x y : X) → Some x ≡ Some y → x ≡ y
+pub some_same : {X : Type 0} (x y : X) → Some x ≡ Some y → x ≡ y
 some_same x y e = let same : x ≡ y = cc in same
 
-one_json : (line : List ℕ) (d e : Data) → IsJson line d → IsJson line e → d ≡ e
+pub one_json : (line : List ℕ) (d e : Data) → IsJson line d → IsJson line e → d ≡ e
 one_json line d e one two = some_same d e (sym one.1 ∙ two.1)
 
 said_same : (a b : SaidValue) → a.principal ≡ b.principal → a.action ≡ b.action → a.resource ≡ b.resource → a.own ≡ b.own → a ≡ b

@@ -1,10 +1,14 @@
--- That a line is at most one request, and has no fault then. LOGIC 13.8.
+-- That a line is at most one request, or says one thing at most of texts, and has no fault then. LOGIC 13.8 and 13.9.
 use Rattle.std.specs.Prelude.{◌≡◌, ◌⊎◌, ℕ, List}
 use Rattle.iam_world.specs.World.{WorldValue}
 use Rattle.iam_asked.specs.Fault.{LineHasFault}
 use Rattle.iam_asked.specs.Request.{AskedValue, IsRequest, RequestsValue}
+use Rattle.iam_asked.specs.TextFault.{TextHasFault}
+use Rattle.iam_asked.specs.TextLines.{IsTextLine, TextLineValue}
 use Rattle.iam_asked.specs.declared.fault.LineFault.{LineFault}
 use Rattle.iam_asked.specs.declared.fault.LineFault.TheVariants.{TooMany, ContextsTooLarge}
+use Rattle.iam_asked.specs.declared.text_fault.TextFault.{TextFault}
+use Rattle.iam_asked.specs.declared.text_fault.TextFault.TheVariants as t
 
 -- one request at most fits a line
 abbrev pub OneAsked : Type 0
@@ -17,3 +21,15 @@ abbrev pub NoFaultOfRequest : Type 0
 NoFaultOfRequest =
     (before : RequestsValue) (line : List ℕ) (asked : AskedValue) (fault : LineFault) → IsRequest before.world line asked
     → LineHasFault before line fault → (fault ≡ TooMany) ⊎ (fault ≡ ContextsTooLarge)
+
+-- a line says one thing at most of texts
+abbrev pub OneTextLine : Type 0
+OneTextLine =
+    (world : WorldValue) (line : List ℕ) (value other : TextLineValue) → IsTextLine world line value → IsTextLine world line other
+    → value ≡ other
+
+-- a line that says something of texts has no fault but that it is one too many
+abbrev pub NoFaultOfTextLine : Type 0
+NoFaultOfTextLine =
+    (world : WorldValue) (n : ℕ) (line : List ℕ) (value : TextLineValue) (fault : TextFault) → IsTextLine world line value
+    → TextHasFault world n line fault → fault ≡ t.TooMany

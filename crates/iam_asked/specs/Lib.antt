@@ -5,4 +5,6 @@ pub mod Laws
 pub mod Request
 pub mod Said
 pub mod Size
+pub mod TextFault
+pub mod TextLines
 pub mod Texts

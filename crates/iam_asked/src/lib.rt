@@ -1,8 +1,11 @@
-//! Requests that a file asks of a world, one a line.
+//! Requests that a file asks of a world, one a line; and lines of which each says something of texts that a world does not name.
 //!
 //! `read_requests` (`read.rt`) reads a file in blocks, and `Reading` (`reading.rt`) a line: `said.rt` has what a line says,
 //! `finder.rt` finds what it names, by the maps of `places.rt`, and `requests.rt` keeps the requests, by numbers, with the keys that
 //! they give themselves (`own.rt`). `fault.rt` says why a line is no request.
+//!
+//! `read_texts` (`texts.rt`) reads what lines say of texts that a world does not name, and `text_fault.rt` says why a line says nothing
+//! of them.
 #![tactic(auto)]
 
 mod asked;
@@ -16,13 +19,17 @@ mod read;
 mod reading;
 mod requests;
 mod said;
+mod text_fault;
+mod texts;
 
 pub use asked::Asked;
 pub use fault::{AskFault, FaultyLine, LineFault};
 pub use iam_context::{ContextFault, Part};
 pub use iam_layers::World;
 pub use iam_text::OutOfMemory;
-pub use laws::{no_fault_of_request, one_asked};
+pub use laws::{no_fault_of_request, no_fault_of_text_line, one_asked, one_text_line};
 pub use read::read_requests;
 pub use reading::Reading;
 pub use requests::Requests;
+pub use text_fault::{FaultyText, TextFault};
+pub use texts::{SaidOf, TextLine, check_said, read_texts};

@@ -24,7 +24,7 @@ struct Lines<'a> {
 }
 
 /// The bytes before the first line feed and those behind it; `None` where there is none.
-fn cut(bytes: &[u8]) -> Option<(&[u8], &[u8])>
+pub(crate) fn cut(bytes: &[u8]) -> Option<(&[u8], &[u8])>
     ensures { MatchOption result (IsUnbroken bytes.entry.now)
         (λ parts. IsUnbroken parts.0.now × (bytes.entry.now ≡ parts.0.now ++ 10 ∷ parts.1.now)) }
 {

@@ -47,7 +47,7 @@ pub fn parse(alloc: Global, line: &[u8]) -> Result<Value, LineFault>
 }
 
 /// The text that stands under this name.
-fn text_at<'v>(of: &'v Value, name: &str) -> Option<&'v str>
+pub fn text_at<'v>(of: &'v Value, name: &str) -> Option<&'v str>
     ensures { option_map (λ text. text.now) result ≡ text_at name.now (view of.entry.now) }
 {
     of.get(name)?.as_str()
