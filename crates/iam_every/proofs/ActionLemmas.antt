@@ -1,6 +1,6 @@
 -- The patterns of the action elements of statements are the groups by which they read an action.
-use Rattle.std.proofs.Common.{◌≡◌, inl, inr, ◌↔◌, ℕ, Bool, true, false, List, ◌++◌, Any, MatchBool, get_or, map, subst}
-use Rattle.std.proofs.lemmas.List.Elements.{Contains-append_cases, Contains-append_left, Contains-append_right, Contains-get_or}
+use Rattle.std.proofs.Common.{◌∙◌, inl, inr, ◌↔◌, ℕ, Bool, true, false, List, [], Any, MatchBool, ap, get_or, map, subst, sym}
+use Rattle.std.proofs.lemmas.List.Elements.{Contains-get_or}
 use Rattle.std.specs.List.{Contains, flat_map}
 use Rattle.std.specs.Str.{chars}
 use Rattle.iam_glob.specs.Glob.{MatchesFold}
@@ -10,8 +10,9 @@ use Rattle.iam_kinds.specs.Kinds.{GroupMatchesFold}
 use Rattle.iam_match.specs.Statement.{ActionMatches}
 use Rattle.iam_decision.specs.Applicable.{ApplicableValue}
 use Rattle.iam_decision.specs.Matched.{Placed, placed}
-use Rattle.iam_every.specs.Elements.{HaveSame, elements_of}
 use Rattle.iam_every.specs.Names.{AreActionGroups}
+use Rattle.iam_every.specs.OwnActions.{OneListOfActionGroups, OwnActionGroupsAreGroups, elements_of}
+use Rattle.iam_every.proofs.FirstLemmas.{in_firsts, of_firsts, one_firsts}
 use Rattle.iam_every.proofs.MatchLemmas.{known_fold}
 use Rattle.iam_every.proofs.ListLemmas.{joined, mapped, of_joined, of_mapped, some_or_none}
 
@@ -63,39 +64,35 @@ elements_alike element one other (on, back) =
 abbrev swapped : {A B : Type 0} → A ↔ B → B ↔ A
 swapped h = (h.1, h.0)
 
--- ---- what is collected
--- those that were there, and more
-pub added : (old new before more whole : List ActionElement) → HaveSame old before → HaveSame new (old ++ more) → before ++ more ≡ whole
-    → HaveSame new whole
-added old new before more whole was now is =
-    subst (HaveSame new) is
-    (λ element. (
-      λ there. elim (Contains-append_cases old more element ((now element).0 there)) [
-        | inl first ↦ Contains-append_left before more element ((was element).0 first)
-        | inr further ↦ Contains-append_right before more element further
-      ],
-      λ there. elim (Contains-append_cases before more element there) [
-        | inl first ↦ (now element).1 (Contains-append_left old more element ((was element).1 first))
-        | inr further ↦ (now element).1 (Contains-append_right old more element further)
-      ],
-    ))
-
-pub are_groups : (applicables : List ApplicableValue) (elements : List ActionElement) → HaveSame elements (flat_map elements_of applicables)
+-- ---- the groups
+are_groups : (applicables : List ApplicableValue) (elements : List ActionElement)
+    → ((element : ActionElement) → Contains (flat_map elements_of applicables) element → Contains elements element)
+    → ((element : ActionElement) → Contains elements element → Contains (flat_map elements_of applicables) element)
     → AreActionGroups applicables (map (λ e. e.patterns) elements)
-are_groups applicables elements same one other = (
+are_groups applicables elements listed own_of one other = (
   λ agree a among k d below.
       let s = get_or (placed a) k d in
       let element = s.statement.action in
       let own : Contains (elements_of a) element = mapped (λ (s : Placed). s.statement.action) s (placed a) (Contains-get_or (placed a) k d below) in
-      let there : Contains elements element = (same element).1 (joined elements_of a element applicables among own) in
+      let there : Contains elements element = listed element (joined elements_of a element applicables among own) in
       let both = agree element.patterns (mapped (λ (e : ActionElement). e.patterns) element elements there) in
       (elements_alike element one other both, elements_alike element other one (swapped both)),
   λ alike group among.
       let (element, there, patterns) = of_mapped (λ (e : ActionElement). e.patterns) group elements among in
-      let (a, here, own) = of_joined elements_of element applicables ((same element).0 there) in
+      let (a, here, own) = of_joined elements_of element applicables (own_of element there) in
       let (s, (k, below, at), is) = of_mapped (λ (s : Placed). s.statement.action) element (placed a) own in
       let acts = subst (λ (x : Placed). ActionMatches x.statement.action one ↔ ActionMatches x.statement.action other) at (alike a here k s below) in
       let both = subst (λ (x : ActionElement). ActionMatches x one ↔ ActionMatches x other) is acts in
       subst (λ (g : List (List Sign)). GroupMatchesFold g (chars one) ↔ GroupMatchesFold g (chars other)) patterns
       (groups_alike element one other both, groups_alike element other one (swapped both)),
 )
+
+pub own_action_groups : OwnActionGroupsAreGroups
+own_action_groups applicables groups (elements, firsts, is) =
+    subst (AreActionGroups applicables) (sym is) (are_groups applicables elements
+    (λ element among. in_firsts [] (flat_map elements_of applicables) elements element firsts among)
+    (λ element among. of_firsts [] (flat_map elements_of applicables) elements element firsts among))
+
+pub one_list_of_action_groups : OneListOfActionGroups
+one_list_of_action_groups applicables one other (elements, firsts, is) (found, too, same) =
+    is ∙ ap (map (λ (e : ActionElement). e.patterns)) (one_firsts [] (flat_map elements_of applicables) elements found firsts too) ∙ sym same

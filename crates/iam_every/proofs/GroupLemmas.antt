@@ -15,8 +15,9 @@ use Rattle.iam_decision.specs.Matched.{Placed, Selects, in_layer, in_level, in_p
 use Rattle.iam_decision.specs.declared.place.Layer.{Layer}
 use Rattle.iam_decision.specs.declared.place.Layer.TheVariants.{Org, Control, Resource, Identity, Boundary, Session}
 use Rattle.iam_every.specs.Alike.{AreAlike, Concerns, GroupMeets, IsAllowAt, IsDeny, IsGrant, Meets}
-use Rattle.iam_every.specs.Code.Sides.{AreNegatedGroups, AreSideGroups, HasElement, SideMeets}
+use Rattle.iam_every.specs.Code.Sides.{ReadNegated, ReadSides, SideMeets}
 use Rattle.iam_every.specs.Groups.{AgreeOn, AreGroups, side_at, side_by, side_of}
+use Rattle.iam_every.specs.OwnGroups.{HasElement}
 use Rattle.iam_every.specs.declared.groups.Side.{Side}
 use Rattle.iam_every.specs.declared.groups.Side.TheVariants.{Denies, Allows, Grants}
 use Rattle.iam_every.proofs.AlikeLemmas.{turned}
@@ -140,11 +141,11 @@ allow_kept a requester Session level s t in' there same is =
 
 -- ---- texts on which the groups agree are alike
 
-has_element : (access : AccessValue) (text : List ℕ) (negated : Bool) (s : Placed) → Meets access.context negated text s → HasElement negated s
+pub has_element : (access : AccessValue) (text : List ℕ) (negated : Bool) (s : Placed) → Meets access.context negated text s → HasElement negated s
 has_element access text negated s (element, is, sign, some) = (element, is, sign)
 
 moved : (a : ApplicableValue) (access : AccessValue) (action : List ℕ) (concerned : List Placed) (groups : List (List (List Sign)))
-    → Selects (Concerns access action) (placed a) concerned → AreSideGroups access concerned groups
+    → Selects (Concerns access action) (placed a) concerned → ReadSides access concerned groups
     → (one other : List ℕ) → AgreeOn groups (chars one) (chars other) → (P : Placed → Type 0) → IsKept a access.requester P
     → GroupMeets a access action P one → GroupMeets a access action P other
 moved a access action concerned groups chosen are one other agree P kept meets =
@@ -162,7 +163,7 @@ moved a access action concerned groups chosen are one other agree P kept meets =
 agree_back : (groups : List (List (List Sign))) (one other : List ℕ) → AgreeOn groups one other → AgreeOn groups other one
 agree_back groups one other agree group in' = let both = agree group in' in (both.1, both.0)
 
-negated_moved : (access : AccessValue) (concerned : List Placed) (groups : List (List (List Sign))) → AreNegatedGroups access.context concerned groups
+negated_moved : (access : AccessValue) (concerned : List Placed) (groups : List (List (List Sign))) → ReadNegated access.context concerned groups
     → (one other : List ℕ) → AgreeOn groups (chars one) (chars other) → (s : Placed) → Contains concerned s
     → Meets access.context true one s → Meets access.context true other s
 negated_moved access concerned groups are one other agree s in' meets =
@@ -176,7 +177,7 @@ agree_right : (sides negated : List (List (List Sign))) (one other : List ℕ) �
 agree_right sides negated one other agree group in' = agree group (Contains-append_right sides negated group in')
 
 alike : (a : ApplicableValue) (access : AccessValue) (action : List ℕ) (concerned : List Placed) (sides negated : List (List (List Sign)))
-    → Selects (Concerns access action) (placed a) concerned → AreSideGroups access concerned sides → AreNegatedGroups access.context concerned negated
+    → Selects (Concerns access action) (placed a) concerned → ReadSides access concerned sides → ReadNegated access.context concerned negated
     → (one other : List ℕ) → AgreeOn (sides ++ negated) (chars one) (chars other) → AreAlike a access action one other
 alike a access action concerned sides negated chosen are are_negated one other agree =
     let left = agree_left sides negated (chars one) (chars other) agree in
@@ -240,7 +241,7 @@ side_moves a access action concerned chosen one other are side some = by_side si
         s in' allow meets
 
 agrees : (a : ApplicableValue) (access : AccessValue) (action : List ℕ) (concerned : List Placed) (sides negated : List (List (List Sign)))
-    → Selects (Concerns access action) (placed a) concerned → AreSideGroups access concerned sides → AreNegatedGroups access.context concerned negated
+    → Selects (Concerns access action) (placed a) concerned → ReadSides access concerned sides → ReadNegated access.context concerned negated
     → (one other : List ℕ) → AreAlike a access action one other → AgreeOn (sides ++ negated) (chars one) (chars other)
 agrees a access action concerned sides negated chosen are are_negated one other alike group in' =
     elim (Contains-append_cases sides negated group in') [
@@ -261,7 +262,7 @@ agrees a access action concerned sides negated chosen are are_negated one other 
     ]
 
 pub are_groups : (a : ApplicableValue) (access : AccessValue) (action : List ℕ) (concerned : List Placed) (sides negated : List (List (List Sign)))
-    → Selects (Concerns access action) (placed a) concerned → AreSideGroups access concerned sides → AreNegatedGroups access.context concerned negated
+    → Selects (Concerns access action) (placed a) concerned → ReadSides access concerned sides → ReadNegated access.context concerned negated
     → AreGroups a access action (sides ++ negated)
 are_groups a access action concerned sides negated chosen are are_negated one other = (
   alike a access action concerned sides negated chosen are are_negated one other,

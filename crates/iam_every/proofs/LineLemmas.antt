@@ -14,8 +14,7 @@ use Rattle.iam_glob.specs.Glob.{Matches}
 use Rattle.iam_glob.specs.declared.sign.Sign.{Sign}
 use Rattle.iam_kinds.specs.Kinds.{Agree, IsMeant, IsText}
 use Rattle.iam_world.specs.World.{ResourceValue, WorldValue}
-use Rattle.iam_every.specs.Code.Rows.{line_question, patterns_of}
-use Rattle.iam_every.specs.Every.{EveryValue, IsFirst, IsNamed, LineValue, arn_signs, line_of}
+use Rattle.iam_every.specs.Every.{EveryValue, IsFirst, IsNamed, LineValue, arn_signs, line_of, line_question, patterns_of}
 use Rattle.iam_every.specs.Groups.{AgreeOn}
 use Rattle.iam_every.specs.declared.asked.Line.{Line}
 use Rattle.iam_every.proofs.ListLemmas.{first_or, here, mapped, none, of_mapped}
@@ -115,7 +114,7 @@ scalars_in (d ∷ cs) all c in' = elim (first_or d c cs in') [
 pub text_scalars : (text : List ℕ) → IsUtf8 text → IsText (chars text)
 text_scalars text utf8 = scalars_in (chars text) (scalars-chars text utf8)
 
-same_text : (one other : List ℕ) → IsUtf8 one → IsUtf8 other → chars one ≡ chars other → one ≡ other
+pub same_text : (one other : List ℕ) → IsUtf8 one → IsUtf8 other → chars one ≡ chars other → one ≡ other
 same_text one other u w same = sym (encodes-chars one u) ∙ ap encodes same ∙ encodes-chars other w
 
 -- ---- names

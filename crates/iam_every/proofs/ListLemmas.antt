@@ -61,7 +61,7 @@ some_or_none P known (x ∷ xs) = elim (known x) [
     first P x xs unlike never (suc k, y, below, at, holds) = never (k, y, omega (arith, below), at, holds)
 
 -- ---- one more element of a list that is walked
-flat_behind : {X Y : Type 0} (f : X → List Y) (xs : List X) (x : X) → flat_map f (xs ++ x ∷ []) ≡ flat_map f xs ++ f x
+pub flat_behind : {X Y : Type 0} (f : X → List Y) (xs : List X) (x : X) → flat_map f (xs ++ x ∷ []) ≡ flat_map f xs ++ f x
 flat_behind f [] x = append-nil (f x)
 flat_behind f (y ∷ xs) x = ap (λ t. f y ++ t) (flat_behind f xs x) ∙ sym (append_assoc (f y) (flat_map f xs) (f x))
 

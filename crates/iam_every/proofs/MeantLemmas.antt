@@ -1,25 +1,23 @@
 -- One action of each kind is decided like each that the pattern matches.
-use Rattle.std.proofs.Common.{◌≡◌, ◌⊎◌, inl, inr, ◌↔◌, ◌<◌, ◌+◌, ◌∷◌, ◌++◌, [], ℕ, Bool, true, false, ◌&&◌, List, Option, None, Some, ◌∙◌, All, Any, Contains, arith, ap, chars, get_or, length, map, refl, subst, sym, take, string_bytes, String}
+use Rattle.std.proofs.Common.{◌≡◌, ◌⊎◌, inl, inr, ◌↔◌, ◌<◌, ◌+◌, ◌∷◌, ◌++◌, [], ℕ, suc, zero, List, Option, None, Some, ◌∙◌, All, Any, Contains, append_assoc, arith, ap, chars, get_or, length, map, refl, subst, sym, take, string_bytes, String}
 use Rattle.std.proofs.lemmas.List.{length-map, map-append, take_more}
+use Rattle.std.proofs.lemmas.List.FromFn.{get_or-range_with_len, length-range_with_len}
 use Rattle.std.proofs.lemmas.List.Elements.{All-contains, All-push, All-take, Contains-append_cases, Contains-append_left, Contains-append_right, Contains-get_or, Contains-push_cases}
-use Rattle.std.proofs.lemmas.Bool.{cases_lt}
 use Rattle.std.proofs.lemmas.Option.{get_or_from_slice_get, slice_get-get_or, slice_get_within}
-use Rattle.std.proofs.lemmas.Str.{IsUtf8-string_bytes, scalars-chars}
-use Rattle.std.proofs.Math.Utf8.{scalar, scalars}
+use Rattle.std.proofs.lemmas.Str.{IsUtf8-string_bytes}
 use Rattle.std.specs.Global.{Global}
-use Rattle.std.specs.List.{slice_get}
+use Rattle.std.specs.List.{range_with_len, slice_get}
 use Rattle.std.specs.Option.{option_to_list}
-use Rattle.std.specs.Str.{IsUtf8}
-use Rattle.std.specs.Char.{IsScalar}
 use Rattle.iam_glob.specs.Glob.{Matches, MatchesFold, folded}
 use Rattle.iam_glob.specs.declared.sign.Sign.{Sign}
-use Rattle.iam_kinds.specs.Kinds.{AreKindsFold, IsText, folded_question}
+use Rattle.iam_kinds.specs.Kinds.{folded_question}
+use Rattle.iam_kinds.specs.Shown.{AreKindsFold}
 use Rattle.iam_kinds.specs.States.{PassesLimit}
 use Rattle.iam_match.specs.Statement.{ActionMatches}
 use Rattle.iam_decision.specs.Applicable.{ApplicableValue, IsNumbered, value_of}
 use Rattle.iam_decision.specs.declared.applicable.Applicable.{Applicable}
 use Rattle.iam_decision.specs.Code.Scan.{requester_placed}
-use Rattle.iam_decision.specs.Matched.{Placed, in_layer, in_level, placed}
+use Rattle.iam_decision.specs.Matched.{Placed, Selects, in_layer, in_level, placed}
 use Rattle.iam_decision.specs.declared.place.Layer.TheVariants.{Org, Control, Resource}
 use Rattle.iam_world.specs.World.{PrincipalValue, ResourceValue, WorldValue}
 use Rattle.iam_layers.specs.Applicable.{applicable_of}
@@ -28,18 +26,20 @@ use Rattle.iam_layers.specs.Unnamed.{AreUnnamedPolicies, IsSaid as IsSaidOf, IsT
 use Rattle.iam_layers.specs.declared.unnamed.Unnamed.{Unnamed}
 use Rattle.iam_layers.specs.declared.unnamed.Unnamed.TheVariants.{Like, Of}
 use Rattle.iam_every.specs.Alike.{AreAlikeActions}
-use Rattle.iam_every.specs.Code.Meant.{AreMore, AreSaid, CoverAll, Covers, IsOfFirst, IsPlain}
-use Rattle.iam_every.specs.Every.{ActionsPass, AreActions, AreThere, EveryValue, IsMeantBy, IsSaid, LineValue, Says, line_of}
+use Rattle.iam_every.specs.Code.Meant.{AreMore, CoverAll, Covers, IsSaid}
+use Rattle.iam_every.specs.Every.{ActionsPass, AreActions, AreOwnActionGroupsAt, AreSaid, AreThere, EveryValue, IsMatched, IsMeantBy, LineValue, Says, line_of}
 use Rattle.iam_every.specs.declared.asked.Line.{Line}
 use Rattle.iam_every.specs.Names.{AgreeOnFold, AreActionGroups, action_question}
+use Rattle.iam_every.specs.OwnActions.{ApplyTo, AreNeeded, AreOwnPolicies, IsPlain}
+use Rattle.iam_every.proofs.LineLemmas.{at_in, text_scalars}
 use Rattle.iam_every.proofs.ListLemmas.{first_or, here, mapped, none, of_mapped}
+use Rattle.iam_every.proofs.MemberLemmas.{chosen_in, in_chosen}
+use Rattle.iam_every.proofs.SideLemmas.{both_more}
+use Rattle.iam_every.proofs.WalkLemmas.{select_pass, select_push}
 use Rattle.iam_every.proofs.NamesLemmas.{alike_actions_by, one_some, policies_at}
 
 -- ---- members of lists
-at_contains : {X : Type 0} (xs : List X) (i : ℕ) (x : X) → slice_get xs i ≡ Some x → Contains xs x
-at_contains xs i x at = (i, slice_get_within xs i x at, get_or_from_slice_get xs i x x at)
-
-pub all_members : {X : Type 0} (P : X → Type 0) (xs : List X) → ((x : X) → Contains xs x → P x) → All P xs
+all_members : {X : Type 0} (P : X → Type 0) (xs : List X) → ((x : X) → Contains xs x → P x) → All P xs
 all_members P xs each k d below = each (get_or xs k d) (Contains-get_or xs k d below)
 
 -- one more of the first i
@@ -55,9 +55,9 @@ says_said : (every : EveryValue) (text : List ℕ) (unnamed : Unnamed) → Says 
 says_said every text unnamed (k, line, first, told) = elim told [
   | inl (r, (resource, at, arn), is) ↦
       let matches : Matches line.pattern (chars resource.arn) = subst (λ (t : List ℕ). Matches line.pattern (chars t)) (sym arn) first.matches in
-      let (i, below, is_at) = at_contains every.lines k line first.at in
+      let (i, below, is_at) = at_in every.lines k line first.at in
       inr (r, (resource, at, (i, line, below, is_at, matches)), is)
-  | inr (unknown, is) ↦ let (i, below, is_at) = at_contains every.lines k line first.at in inl (i, line, below, is_at, is)
+  | inr (unknown, is) ↦ let (i, below, is_at) = at_in every.lines k line first.at in inl (i, line, below, is_at, is)
 ]
 
 -- resources of which something is said are there
@@ -68,76 +68,48 @@ said_there every unnamed there said = elim said [
   | inr (r, (resource, at, some), is) ↦ subst (IsThere every.world) (sym is) (slice_get_within every.world.resources r resource at)
 ]
 
-pub all_there : (every : EveryValue) (said : List Unnamed) → AreThere every → AreSaid every said → All (IsThere every.world) said
-all_there every said there are = all_members (IsThere every.world) said (λ unnamed among. said_there every unnamed there ((are unnamed).0 among))
-
 -- ---- what is said of the first n resources
-pub any_mapped : {X Y : Type 0} (f : X → Y) (P : Y → Type 0) (xs : List X) → Any (λ x. P (f x)) xs ↔ Any P (map f xs)
+any_mapped : {X Y : Type 0} (f : X → Y) (P : Y → Type 0) (xs : List X) → Any (λ x. P (f x)) xs ↔ Any P (map f xs)
 any_mapped {X} {Y} f P xs = (
   λ (k, x, below, at, holds). let (i, inside, is) = mapped f x xs (k, below, at) in (i, f x, inside, is, holds),
   λ (k, y, below, at, holds).
       let (x, (i, inside, is), same) = of_mapped f y xs (k, below, at) in (i, x, inside, is, subst P (sym same) holds),
 )
 
-none_first : (world : WorldValue) (lines : List LineValue) (unnamed : Unnamed) → ¬ IsOfFirst world lines 0 unnamed
-none_first world lines unnamed (r, below, matched, is) = omega arith
+-- one more number
+range_more : (a n : ℕ) → range_with_len a (n + 1) ≡ range_with_len a n ++ (a + n) ∷ []
+range_more a zero = ap (λ (i : ℕ). i ∷ []) (let same : a ≡ a + 0 = omega arith in same)
+range_more a (suc n) =
+    let step : a + 1 + n ≡ a + suc n = omega arith in
+    let last : suc n + 1 ≡ suc (n + 1) = omega arith in
+    ap (range_with_len a) last ∙ ap (λ rest. a ∷ rest) (range_more (a + 1) n) ∙ ap (λ (i : ℕ). a ∷ (range_with_len (a + 1) n ++ i ∷ [])) step
 
-pub more_none : (world : WorldValue) (lines : List LineValue) (said : List Unnamed) → AreMore world lines 0 said said
-more_none world lines said unnamed = (
-  λ among. inl among,
-  λ either. elim either [ inl among ↦ among | inr first ↦ absurd (none_first world lines unnamed first) ],
-)
+pub next_range : (n : ℕ) → range_with_len 0 (n + 1) ≡ range_with_len 0 n ++ n ∷ []
+next_range n = range_more 0 n ∙ ap (λ (i : ℕ). range_with_len 0 n ++ i ∷ []) (let same : 0 + n ≡ n = omega arith in same)
 
--- one more
-first_more : (world : WorldValue) (lines : List LineValue) (n : ℕ) (unnamed : Unnamed) → IsOfFirst world lines n unnamed → IsOfFirst world lines (n + 1) unnamed
-first_more world lines n unnamed (r, below, matched, is) = (r, omega (arith, below), matched, is)
+in_range : (n r : ℕ) → r < n → Contains (range_with_len 0 n) r
+in_range n r below =
+    (r, omega (arith, below, length-range_with_len 0 n), get_or-range_with_len 0 n r r below ∙ (let same : 0 + r ≡ r = omega arith in same))
 
-IsMatchedAt : WorldValue → List LineValue → ℕ → Type 0
-IsMatchedAt world lines r = IsResource world r (λ resource. Any (λ line. Matches line.pattern (chars resource.arn)) lines)
-
-first_cases : (world : WorldValue) (lines : List LineValue) (n : ℕ) (unnamed : Unnamed) → IsOfFirst world lines (n + 1) unnamed
-    → IsOfFirst world lines n unnamed ⊎ (IsMatchedAt world lines n × (unnamed ≡ Like n))
-unfolding IsMatchedAt
-first_cases world lines n unnamed (r, below, matched, is) = elim (cases_lt r n) [
-  | inl before ↦ inl (r, before, matched, is)
-  | inr not ↦
-      let same : r ≡ n = omega (arith, below, not) in
-      inr (
-        subst (λ (k : ℕ). IsResource world k (λ resource. Any (λ line. Matches line.pattern (chars resource.arn)) lines)) same matched,
-        is ∙ ap Like same,
-      )
-]
+abbrev pub like : ℕ → Unnamed
+like r = Like r
 
 pub more_added : (world : WorldValue) (lines : List LineValue) (n : ℕ) (old new : List Unnamed) → AreMore world lines n old new
-    → IsResource world n (λ resource. Any (λ line. Matches line.pattern (chars resource.arn)) lines)
-    → AreMore world lines (n + 1) old (new ++ Like n ∷ [])
-unfolding IsMatchedAt
-more_added world lines n old new are matched unnamed = (
-  λ among. elim (Contains-push_cases new (Like n) unnamed among) [
-    | inl before ↦ elim ((are unnamed).0 before) [ inl was ↦ inl was | inr first ↦ inr (first_more world lines n unnamed first) ]
-    | inr is ↦ inr (n, omega arith, matched, sym is)
-  ],
-  λ either. elim either [
-    | inl was ↦ Contains-append_left new (Like n ∷ []) unnamed ((are unnamed).1 (inl was))
-    | inr first ↦ elim (first_cases world lines n unnamed first) [
-      | inl before ↦ Contains-append_left new (Like n ∷ []) unnamed ((are unnamed).1 (inr before))
-      | inr last ↦ Contains-append_right new (Like n ∷ []) unnamed (subst (Contains (Like n ∷ [])) (sym last.1) (here (Like n) []))
-    ]
-  ],
+    → IsMatched world lines n → AreMore world lines (n + 1) old (new ++ Like n ∷ [])
+more_added world lines n old new (matched, chosen, is) here = (
+  matched ++ n ∷ [],
+  subst (λ (l : List ℕ). Selects (IsMatched world lines) l (matched ++ n ∷ [])) (sym (next_range n))
+      (select_push (IsMatched world lines) (range_with_len 0 n) n matched chosen here),
+  ap (λ l. l ++ Like n ∷ []) is ∙ append_assoc old (map like matched) (Like n ∷ []) ∙ ap (λ l. old ++ l) (sym (map-append like matched (n ∷ []))),
 )
 
 pub more_kept : (world : WorldValue) (lines : List LineValue) (n : ℕ) (old new : List Unnamed) → AreMore world lines n old new
-    → ¬ IsResource world n (λ resource. Any (λ line. Matches line.pattern (chars resource.arn)) lines) → AreMore world lines (n + 1) old new
-unfolding IsMatchedAt
-more_kept world lines n old new are unmatched unnamed = (
-  λ among. elim ((are unnamed).0 among) [ inl was ↦ inl was | inr first ↦ inr (first_more world lines n unnamed first) ],
-  λ either. elim either [
-    | inl was ↦ (are unnamed).1 (inl was)
-    | inr first ↦ elim (first_cases world lines n unnamed first) [
-      | inl before ↦ (are unnamed).1 (inr before)
-      | inr last ↦ absurd (unmatched last.0)
-    ]
-  ],
+    → ¬ IsMatched world lines n → AreMore world lines (n + 1) old new
+more_kept world lines n old new (matched, chosen, is) not = (
+  matched,
+  subst (λ (l : List ℕ). Selects (IsMatched world lines) l matched) (sym (next_range n))
+      (select_pass (IsMatched world lines) (range_with_len 0 n) n matched chosen not),
+  is,
 )
 
 told : (lines : List Line) → map (λ (line : Line). line.unnamed) lines ≡ map (λ (line : LineValue). line.unnamed) (map line_of lines)
@@ -164,25 +136,40 @@ matched_at world lines r text (resource, at, arn) =
 -- what the lines say, and what is said of all resources, is all
 pub all_said : (every : EveryValue) (old new : List Unnamed) → old ≡ map (λ (line : LineValue). line.unnamed) every.lines
     → AreMore every.world every.lines (length every.world.resources) old new → AreSaid every new
-all_said every old new lines more unnamed = (
-  λ among. elim ((more unnamed).0 among) [
-    | inl was ↦
-        let (line, (k, below, at), is) = of_mapped (λ (line : LineValue). line.unnamed) unnamed every.lines (subst (λ (l : List Unnamed). Contains l unnamed) lines was) in
-        inl (k, line, below, at, sym is)
-    | inr (r, below, matched, is) ↦ inr (r, matched, is)
-  ],
-  λ said. (more unnamed).1 (elim said [
-    | inl (k, line, below, at, is) ↦
-        inl (subst (λ (l : List Unnamed). Contains l unnamed) (sym lines)
-        (subst (Contains (map (λ (line : LineValue). line.unnamed) every.lines)) (sym is)
-        (mapped (λ (line : LineValue). line.unnamed) line every.lines (k, below, at))))
-    | inr (r, (resource, at, some), is) ↦ inr (r, slice_get_within every.world.resources r resource at, (resource, at, some), is)
-  ]),
-)
+all_said every old new lines (matched, chosen, is) = (matched, chosen, is ∙ ap (λ l. l ++ map like matched) lines)
+
+is_said : (every : EveryValue) (said : List Unnamed) (unnamed : Unnamed) → AreSaid every said → Contains said unnamed → IsSaid every unnamed
+is_said every said unnamed (matched, chosen, is) among =
+    let unnamed_of : LineValue → Unnamed = λ line. line.unnamed in
+    elim (Contains-append_cases (map unnamed_of every.lines) (map like matched) unnamed (subst (λ (l : List Unnamed). Contains l unnamed) is among)) [
+      | inl told ↦ let (line, (k, below, at), same) = of_mapped unnamed_of unnamed every.lines told in inl (k, line, below, at, sym same)
+      | inr further ↦
+          let (r, there, same) = of_mapped like unnamed matched further in
+          let numbers = range_with_len 0 (length every.world.resources) in
+          inr (r, (chosen_in (IsMatched every.world every.lines) numbers matched r chosen there).1, sym same)
+    ]
+
+said_in : (every : EveryValue) (said : List Unnamed) (unnamed : Unnamed) → AreSaid every said → IsSaid every unnamed → Contains said unnamed
+said_in every said unnamed (matched, chosen, is) told =
+    let unnamed_of : LineValue → Unnamed = λ line. line.unnamed in
+    subst (λ (l : List Unnamed). Contains l unnamed) (sym is) (elim told [
+      | inl (k, line, below, at, same) ↦
+          Contains-append_left (map unnamed_of every.lines) (map like matched) unnamed
+          (subst (Contains (map unnamed_of every.lines)) (sym same) (mapped unnamed_of line every.lines (k, below, at)))
+      | inr (r, (resource, at, some), same) ↦
+          let inside = in_range (length every.world.resources) r (slice_get_within every.world.resources r resource at) in
+          let numbers = range_with_len 0 (length every.world.resources) in
+          let there = in_chosen (IsMatched every.world every.lines) numbers matched r chosen inside (resource, at, some) in
+          Contains-append_right (map unnamed_of every.lines) (map like matched) unnamed
+          (subst (Contains (map like matched)) (sym same) (mapped like r matched there))
+    ])
+
+pub all_there : (every : EveryValue) (said : List Unnamed) → AreThere every → AreSaid every said → All (IsThere every.world) said
+all_there every said there are = all_members (IsThere every.world) said (λ unnamed among. said_there every unnamed there (is_said every said unnamed are among))
 
 -- ---- policies that cover others
 -- there is such a resource of each text
-some_said : (world : WorldValue) (unnamed : Unnamed) (text : List ℕ) → IsThere world unnamed
+pub some_said : (world : WorldValue) (unnamed : Unnamed) (text : List ℕ) → IsThere world unnamed
     → (resource : ResourceValue) × IsSaidOf world unnamed text resource
 some_said world (Like r) text there =
     let like = get_or world.resources r (bare_resource [] text) in
@@ -216,9 +203,6 @@ plain_covered world principal one other a b a_is b_is plain =
     within (in_layer Org a.org) (in_layer Control a.control) (in_level Resource 0 (option_to_list a.resource)) (requester_placed a) s
     (subst (λ (l : List Placed). Contains l s) (plain_placed b plain ∙ same) among))
 
-pub cover_none : (world : WorldValue) (p : ℕ) → CoverAll world p [] []
-cover_none world p = record { own = λ a among. absurd (none a among); all = λ unnamed among. absurd (none unnamed among) }
-
 -- those of one more
 own_more : (world : WorldValue) (p : ℕ) (said : List Unnamed) (applicables : List ApplicableValue) (unnamed : Unnamed) → CoverAll world p said applicables
     → (a : ApplicableValue) → Contains applicables a
@@ -226,7 +210,7 @@ own_more : (world : WorldValue) (p : ℕ) (said : List Unnamed) (applicables : L
 own_more world p said applicables unnamed cover a among =
     let (u, inside, are) = cover.own a among in (u, Contains-append_left said (unnamed ∷ []) u inside, are)
 
-pub cover_added : (world : WorldValue) (p : ℕ) (said : List Unnamed) (applicables : List ApplicableValue) (unnamed : Unnamed) (b : ApplicableValue)
+cover_added : (world : WorldValue) (p : ℕ) (said : List Unnamed) (applicables : List ApplicableValue) (unnamed : Unnamed) (b : ApplicableValue)
     → CoverAll world p said applicables → AreUnnamedPolicies world p unnamed b → CoverAll world p (said ++ unnamed ∷ []) (applicables ++ b ∷ [])
 cover_added world p said applicables unnamed b cover are = record {
   own = λ a among. elim (Contains-push_cases applicables b a among) [
@@ -250,7 +234,7 @@ cover_added world p said applicables unnamed b cover are = record {
   ];
 }
 
-pub cover_kept : (world : WorldValue) (p : ℕ) (said : List Unnamed) (applicables : List ApplicableValue) (unnamed : Unnamed) (b : ApplicableValue)
+cover_kept : (world : WorldValue) (p : ℕ) (said : List Unnamed) (applicables : List ApplicableValue) (unnamed : Unnamed) (b : ApplicableValue)
     → CoverAll world p said applicables → AreUnnamedPolicies world p unnamed b → All (IsThere world) said → IsThere world unnamed
     → 0 < length applicables → IsPlain b → CoverAll world p (said ++ unnamed ∷ []) applicables
 cover_kept world p said applicables unnamed b cover (principal, at, each) there is_there some plain =
@@ -270,49 +254,71 @@ cover_kept world p said applicables unnamed b cover (principal, at, each) there 
       ];
     }
 
+-- ---- which they are
+needed_added : (applicables needed : List ApplicableValue) (a : ApplicableValue) → AreNeeded applicables needed → (needed ≡ []) ⊎ ¬ IsPlain a
+    → AreNeeded (applicables ++ a ∷ []) (needed ++ a ∷ [])
+needed_added [] needed a is either = ([], ap (λ l. l ++ a ∷ []) is, refl)
+needed_added (b ∷ applicables) needed a (rest, is, chosen) (inl empty) = absurd (let wrong : ⊥ = cc in wrong)
+needed_added (b ∷ applicables) needed a (rest, is, chosen) (inr stands) =
+    (rest ++ a ∷ [], ap (λ l. l ++ a ∷ []) is, select_push (λ x. ¬ IsPlain x) applicables a rest chosen stands)
+
+needed_kept : (applicables needed : List ApplicableValue) (a : ApplicableValue) → AreNeeded applicables needed → 0 < length needed → IsPlain a
+    → AreNeeded (applicables ++ a ∷ []) needed
+needed_kept [] needed a is some plain = absurd (let none = ap length is in omega (arith, some, none))
+needed_kept (b ∷ applicables) needed a (rest, is, chosen) some plain =
+    (rest, is, select_pass (λ x. ¬ IsPlain x) applicables a rest chosen (λ stands. stands plain))
+
+own_added : (world : WorldValue) (p : ℕ) (said : List Unnamed) (needed : List ApplicableValue) (unnamed : Unnamed) (a : ApplicableValue)
+    → AreOwnPolicies world p said needed → ApplyTo world p unnamed a → (needed ≡ []) ⊎ ¬ IsPlain a
+    → AreOwnPolicies world p (said ++ unnamed ∷ []) (needed ++ a ∷ [])
+own_added world p said needed unnamed a (applicables, fit, are) apply either =
+    (applicables ++ a ∷ [], both_more (ApplyTo world p) said applicables unnamed a fit apply, needed_added applicables needed a are either)
+
+own_kept : (world : WorldValue) (p : ℕ) (said : List Unnamed) (needed : List ApplicableValue) (unnamed : Unnamed) (a : ApplicableValue)
+    → AreOwnPolicies world p said needed → ApplyTo world p unnamed a → 0 < length needed → IsPlain a
+    → AreOwnPolicies world p (said ++ unnamed ∷ []) needed
+own_kept world p said needed unnamed a (applicables, fit, are) apply some plain =
+    (applicables ++ a ∷ [], both_more (ApplyTo world p) said applicables unnamed a fit apply, needed_kept applicables needed a are some plain)
+
 -- the policies that are looked at for the first i of what is said
-abbrev pub Looked : WorldValue → ℕ → List Unnamed → List ApplicableValue → Type 0
-Looked world p said applicables = All IsNumbered applicables × CoverAll world p said applicables
+pub record Looked (world : WorldValue) (p : ℕ) (said : List Unnamed) (applicables : List ApplicableValue) : Type 0 where
+  pub numbered : All IsNumbered applicables
+  pub cover : CoverAll world p said applicables
+  pub own : AreOwnPolicies world p said applicables
 
 pub looked_added : (world : WorldValue) (p : ℕ) (said : List Unnamed) (i : ℕ) (d : Unnamed) (before : List Applicable) (b : Applicable) → i < length said
     → Looked world p (take i said) (map value_of before) → AreUnnamedPolicies world p (get_or said i d) (value_of b) → IsNumbered (value_of b)
-    → Looked world p (take (i + 1) said) (map value_of (before ++ b ∷ []))
-looked_added world p said i d before b below (numbered, cover) are is_numbered =
-    let more : Looked world p (take i said ++ get_or said i d ∷ []) (map value_of before ++ value_of b ∷ []) = (
-      All-push IsNumbered (map value_of before) (value_of b) numbered is_numbered,
-      cover_added world p (take i said) (map value_of before) (get_or said i d) (value_of b) cover are,
-    ) in
+    → All (IsThere world) said → (before ≡ []) ⊎ ¬ IsPlain (value_of b) → Looked world p (take (i + 1) said) (map value_of (before ++ b ∷ []))
+looked_added world p said i d before b below looked are is_numbered there either =
+    let unnamed = get_or said i d in
+    let apply : ApplyTo world p unnamed (value_of b) =
+    record { there = All-contains (IsThere world) said unnamed there (Contains-get_or said i d below); policies = are } in
+    let none : (map value_of before ≡ []) ⊎ ¬ IsPlain (value_of b) = elim either [ inl empty ↦ inl (ap (map value_of) empty) | inr stands ↦ inr stands ] in
+    let more : Looked world p (take i said ++ unnamed ∷ []) (map value_of before ++ value_of b ∷ []) = record {
+      numbered = All-push IsNumbered (map value_of before) (value_of b) looked.numbered is_numbered;
+      cover = cover_added world p (take i said) (map value_of before) unnamed (value_of b) looked.cover are;
+      own = own_added world p (take i said) (map value_of before) unnamed (value_of b) looked.own apply none;
+    } in
     subst (λ (l : List Unnamed). Looked world p l (map value_of (before ++ b ∷ []))) (sym (take_more said i d below))
-    (subst (Looked world p (take i said ++ get_or said i d ∷ [])) (sym (map-append value_of before (b ∷ []))) more)
+    (subst (Looked world p (take i said ++ unnamed ∷ [])) (sym (map-append value_of before (b ∷ []))) more)
 
 pub looked_kept : (world : WorldValue) (p : ℕ) (said : List Unnamed) (i : ℕ) (d : Unnamed) (before : List Applicable) (b : Applicable) → i < length said
     → Looked world p (take i said) (map value_of before) → AreUnnamedPolicies world p (get_or said i d) (value_of b) → All (IsThere world) said
     → 0 < length before → IsPlain (value_of b) → Looked world p (take (i + 1) said) (map value_of before)
-looked_kept world p said i d before b below (numbered, cover) are there some plain =
-    let many = length-map before value_of in
-    subst (λ (l : List Unnamed). Looked world p l (map value_of before)) (sym (take_more said i d below)) (
-      numbered,
-      cover_kept world p (take i said) (map value_of before) (get_or said i d) (value_of b) cover are (All-take (IsThere world) i said there)
-          (All-contains (IsThere world) said (get_or said i d) there (Contains-get_or said i d below)) (omega (arith, many)) plain,
-    )
+looked_kept world p said i d before b below looked are there some plain =
+    let unnamed = get_or said i d in
+    let is_there = All-contains (IsThere world) said unnamed there (Contains-get_or said i d below) in
+    let many : 0 < length (map value_of before) = omega (arith, some, length-map before value_of) in
+    subst (λ (l : List Unnamed). Looked world p l (map value_of before)) (sym (take_more said i d below)) (record {
+      numbered = looked.numbered;
+      cover = cover_kept world p (take i said) (map value_of before) unnamed (value_of b) looked.cover are (All-take (IsThere world) i said there)
+          is_there many plain;
+      own = own_kept world p (take i said) (map value_of before) unnamed (value_of b) looked.own (record { there = is_there; policies = are }) many plain;
+    })
 
 -- ---- actions
-both_true : (a b : Bool) → (a && b) ≡ true → (a ≡ true) × (b ≡ true)
-both_true true b e = (refl, e)
-both_true false b e = absurd (let wrong : ⊥ = cc in wrong)
-
-scalar_in : (cs : List ℕ) (c : ℕ) → scalars cs ≡ true → Contains cs c → IsScalar c
-scalar_in [] c all among = absurd (none c among)
-scalar_in (d ∷ cs) c all among = elim (first_or d c cs among) [
-  | inl same ↦ subst IsScalar same (both_true (scalar d) (scalars cs) all).0
-  | inr rest ↦ scalar_in cs c (both_true (scalar d) (scalars cs) all).1 rest
-]
-
 only : (x y : List Sign) → Contains (x ∷ []) y → x ≡ y
 only x y among = elim (first_or x y [] among) [ inl same ↦ same | inr rest ↦ absurd (none y rest) ]
-
-is_text : (action : List ℕ) → IsUtf8 action → IsText (chars action)
-is_text action utf8 c among = scalar_in (chars action) c (scalars-chars action utf8) among
 
 -- the bytes of a string
 abbrev pub bytes_of : String Global → List ℕ
@@ -331,7 +337,7 @@ are_actions every p pattern said applicables groups texts is are cover are_group
       (IsUtf8-string_bytes text, m.grammar, m.within pattern (here pattern []))));
   whole = λ action meant.
       let (action_utf8, grammar, matches) = subst (λ (o : Option (List Sign)). IsMeantBy o every.world action) is meant in
-      let (characters, among, agree) = kinds.whole (chars action) (is_text action action_utf8) (record {
+      let (characters, among, agree) = kinds.whole (chars action) (text_scalars action action_utf8) (record {
         grammar = grammar;
         within = λ other inside. subst (λ (x : List Sign). MatchesFold x (chars action)) (only pattern other inside) matches;
         unnamed = none (map folded (chars action));
@@ -343,25 +349,15 @@ are_actions every p pattern said applicables groups texts is are cover are_group
         mapped bytes_of text texts inside,
         λ row unnamed decision says.
             alike_actions_by every.world p unnamed shown action row decision (λ b access h.
-            let (a, c, a_among, c_are, reads) = cover.all unnamed ((are unnamed).1 (says_said every row unnamed says)) in
+            let (a, c, a_among, c_are, reads) = cover.all unnamed (said_in every said unnamed are (says_said every row unnamed says)) in
             subst (λ (x : ApplicableValue). AreAlikeActions x shown action) (policies_at every.world p unnamed shown row c b access c_are h)
             (reads shown action ((are_groups shown action).0 alike a a_among))),
       );
 }
 
-pub actions_pass : (every : EveryValue) (p : ℕ) (pattern : List Sign) (said : List Unnamed) (applicables : List ApplicableValue)
-    (groups : List (List (List Sign))) → every.actions ≡ Some pattern → AreSaid every said → CoverAll every.world p said applicables
-    → AreActionGroups applicables groups → PassesLimit (folded_question (action_question groups pattern)) → ActionsPass every p
-actions_pass every p pattern said applicables groups is are cover are_groups passes = record {
-  pattern = pattern;
-  is = is;
-  applicables = applicables;
-  said = all_members (λ a. (unnamed : Unnamed) × IsSaid every unnamed × AreUnnamedPolicies every.world p unnamed a) applicables
-      (λ a among. let (unnamed, inside, policies) = cover.own a among in (unnamed, (are unnamed).0 inside, policies));
-  groups = groups;
-  are = are_groups;
-  passes = passes;
-}
+pub actions_pass : (every : EveryValue) (p : ℕ) (pattern : List Sign) (groups : List (List (List Sign))) → every.actions ≡ Some pattern
+    → AreOwnActionGroupsAt every p groups → PassesLimit (folded_question (action_question groups pattern)) → ActionsPass every p
+actions_pass every p pattern groups is own passes = record { pattern = pattern; is = is; groups = groups; own = own; passes = passes }
 
 -- those of the world
 pub world_actions : (every : EveryValue) (p : ℕ) (actions : List (List ℕ)) → every.actions ≡ None → actions ≡ every.world.actions → AreActions every p actions

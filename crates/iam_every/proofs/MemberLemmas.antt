@@ -1,8 +1,7 @@
 -- Members of lists, and groups of patterns as lists of them.
-use Rattle.std.proofs.Common.{◌≡◌, ◌⊎◌, inl, inr, ◌↔◌, ℕ, List, [], ◌∷◌, ◌++◌, Option, None, Some, Any, Contains, chars, filter_map, flat_map, refl, sym, ap, ◌∙◌, subst, arith}
-use Rattle.std.proofs.lemmas.List.Elements.{Contains-append_cases, Contains-append_left, Contains-append_right, Contains-push_cases}
+use Rattle.std.proofs.Common.{◌≡◌, ◌⊎◌, inl, inr, ◌↔◌, ℕ, List, [], ◌∷◌, Option, None, Some, Any, Contains, chars, filter_map, flat_map, refl, sym, ap, ◌∙◌, subst, arith}
+use Rattle.std.proofs.lemmas.List.Elements.{Contains-append_cases, Contains-append_right, Contains-push_cases}
 use Rattle.std.specs.List.{AllZip, cons_option}
-use Rattle.iam_glob.specs.declared.sign.Sign.{Sign}
 use Rattle.iam_text.specs.declared.draft.Piece.{Piece}
 use Rattle.iam_kinds.specs.Kinds.{GroupMatches}
 use Rattle.iam_context.specs.Context.{ContextValue}
@@ -102,21 +101,6 @@ right_fits {X} {Y} R (z ∷ xs) (w ∷ ys) y fit in' = elim (cases_in w ys y in'
 ]
 
 -- ---- groups
-pub no_group : (text : List ℕ) → ¬ GroupMatches [] text
-no_group text (pattern, in', matches) = none_in pattern in'
-
-pub group_append : (one other : List (List Sign)) (text : List ℕ) → GroupMatches (one ++ other) text ↔ (GroupMatches one text ⊎ GroupMatches other text)
-group_append one other text = (
-  λ (pattern, in', matches). elim (Contains-append_cases one other pattern in') [
-    | inl left ↦ inl (pattern, left, matches)
-    | inr right ↦ inr (pattern, right, matches)
-  ],
-  λ either. elim either [
-    | inl (pattern, in', matches) ↦ (pattern, Contains-append_left one other pattern in', matches)
-    | inr (pattern, in', matches) ↦ (pattern, Contains-append_right one other pattern in', matches)
-  ],
-)
-
 -- the patterns that texts become match where some text does
 pub group_of_texts : (context : ContextValue) (texts : List (List Piece)) (text : List ℕ)
     → GroupMatches (filter_map (resolved context) texts) (chars text) ↔ Any (TextMatches context text) texts

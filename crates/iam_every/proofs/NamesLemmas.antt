@@ -62,7 +62,7 @@ one_policies world p unnamed action text a b access other (resource, said, h) (f
     h.applicable_is ∙ ap (λ (x : PrincipalValue). applicable_of world x h.resource) who
     ∙ ap (λ (x : ResourceValue). applicable_of world k.principal x) same ∙ sym k.applicable_is
 
-abbrev asks : PrincipalValue → List ℕ → ContextValue → AccessValue
+abbrev pub asks : PrincipalValue → List ℕ → ContextValue → AccessValue
 asks principal text context = record { requester = principal.requester; resource = text; context = context }
 
 -- who asks for one text by one action asks for each other text by each other action alike
@@ -89,7 +89,7 @@ asks_too world p unnamed action asked one other a access (resource, said, h) =
     )
 
 -- ---- answers to them
-abbrev Answered : (ApplicableValue → RequestValue → Type 0) → WorldValue → ℕ → Unnamed → List ℕ → List ℕ → Type 0
+abbrev pub Answered : (ApplicableValue → RequestValue → Type 0) → WorldValue → ℕ → Unnamed → List ℕ → List ℕ → Type 0
 Answered Is world p unnamed action text =
     InWorldAnd world unnamed action text (λ other b r.
     (a : ApplicableValue) × (request : RequestValue) × IsRequestAt other p b r a request × Is a request)
@@ -99,7 +99,7 @@ pub answered : (Is : ApplicableValue → RequestValue → Type 0) (world : World
 answered Is world p unnamed action text a access (resource, said, h) is =
     (resource, said, (a, request_for access action, (access, action, h, last world.actions action, refl), is))
 
-asked : (Is : ApplicableValue → RequestValue → Type 0) (world : WorldValue) (p : ℕ) (unnamed : Unnamed) (action text : List ℕ)
+pub asked : (Is : ApplicableValue → RequestValue → Type 0) (world : WorldValue) (p : ℕ) (unnamed : Unnamed) (action text : List ℕ)
     → Answered Is world p unnamed action text
     → (a : ApplicableValue) × (access : AccessValue) × IsUnnamedAccess world p unnamed action text a access × Is a (request_for access action)
 asked Is world p unnamed action text (resource, said, (a, request, (access, act, h, at, request_is), is)) =

@@ -1,59 +1,30 @@
 -- Rows are collected.
 use Rattle.std.proofs.Common.{◌≡◌, ◌<◌, ◌+◌, ◌⊎◌, ◌∷◌, [], ◌++◌, inl, inr, List, ℕ, Option, Some, None, All, Any, Contains, MatchOption, arith, chars, codes, get_or, length, map, refl, sym, ap, subst, ◌∙◌}
 use Rattle.std.proofs.lemmas.Bool.{cases_lt}
-use Rattle.std.proofs.lemmas.List.Elements.{All-append, All-cons, All-contains, All-nil, Contains-append_left, Contains-append_right, Contains-get_or, Contains-push, Contains-push_cases}
+use Rattle.std.proofs.lemmas.List.Elements.{All-append, All-cons, All-contains, All-nil, Contains-append_left, Contains-append_right, Contains-get_or, Contains-push_cases}
 use Rattle.std.proofs.lemmas.Option.{slice_get_within}
 use Rattle.std.proofs.lemmas.Str.{IsUtf8-from_ascii}
 use Rattle.std.specs.List.{slice_get}
 use Rattle.std.specs.Str.{IsUtf8}
 use Rattle.iam_glob.specs.Glob.{Matches}
 use Rattle.iam_glob.specs.declared.sign.Sign.{Sign}
-use Rattle.iam_kinds.specs.Kinds.{Agree, AreKinds}
+use Rattle.iam_kinds.specs.Kinds.{Agree}
+use Rattle.iam_kinds.specs.Shown.{AreKinds}
 use Rattle.iam_kinds.specs.States.{PassesLimit}
 use Rattle.iam_decision.specs.declared.verdict.Verdict.{Verdict}
 use Rattle.iam_world.specs.World.{ResourceValue}
 use Rattle.iam_layers.specs.Unnamed.{IsUnnamedDecision, IsUnnamedVerdict}
 use Rattle.iam_layers.specs.declared.unnamed.Unnamed.{Unnamed}
 use Rattle.iam_layers.specs.declared.unnamed.Unnamed.TheVariants.{Like}
-use Rattle.iam_every.specs.Code.Rows.{AreRowsOfTexts, AreRowsOn, AreUnshown, IsFirstOf, IsLined, IsLinedBelow, IsNamedBelow, IsRowOf, IsStar, IsToldAs, line_question}
-use Rattle.iam_every.specs.Every.{ActionsPass, AreActions, AreDecidedAlike, AreOneKind, AreRows, AreRowsFor, EveryValue, HasVerdict, IsFirst, IsMeantAction, IsNamed, IsOver, IsResourceText, IsRight, IsToldBy, LineValue, RowValue, Says, Tells, TextsPass, arn_signs}
+use Rattle.iam_every.specs.Code.Rows.{AreRowsOfTexts, AreRowsOn, IsFirstOf, IsLined, IsLinedBelow, IsNamedBelow, IsStar, IsToldAs}
+use Rattle.iam_every.specs.Every.{ActionsPass, AreActions, AreDecidedAlike, AreOneKind, AreRowsFor, EveryValue, HasVerdict, IsFirst, IsMeantAction, IsNamed, IsOver, IsResourceText, IsRight, IsToldBy, LineValue, RowValue, Says, Tells, TextsPass, arn_signs, line_question}
+use Rattle.iam_every.specs.Made.{AreMade, IsRowOf, unshown_row}
 use Rattle.iam_every.specs.Names.{AreGroupsAt}
+use Rattle.iam_every.specs.OwnGroups.{AreOwnGroupsAt}
+use Rattle.iam_every.specs.Rows.{AreRows}
 use Rattle.iam_every.proofs.LineLemmas.{ascii, asked_about, at_in, in_at, first_some, one_first, shown_agree, shown_first, shown_unnamed, text_scalars}
-use Rattle.iam_every.proofs.ListLemmas.{behind, here, mapped, none, of_mapped}
-use Rattle.iam_every.proofs.MemberLemmas.{left_fits, right_fits}
+use Rattle.iam_every.proofs.ListLemmas.{behind, here, mapped, of_mapped}
 use Rattle.iam_every.proofs.NamesLemmas.{alike_names, one_some}
-
--- ---- of texts
-pub texts_more : (every : EveryValue) (p : ℕ) (action : List ℕ) (k : ℕ) (line : LineValue) (texts : List (List ℕ)) (rows : List RowValue)
-    (text : List ℕ) (row : RowValue) → AreRowsOfTexts every p action k line texts rows → IsFirst every.lines text k line
-    → IsRowOf every.world p line.unnamed action text row → AreRowsOfTexts every p action k line (texts ++ (text ∷ [])) (rows ++ (row ∷ []))
-texts_more every p action k line texts rows text row are first of = record {
-  only = λ found in'. elim (Contains-push_cases rows row found in') [
-    | inl was ↦ let (t, there, is, says) = are.only found was in (t, Contains-append_left texts (text ∷ []) t there, is, says)
-    | inr same ↦ (text, Contains-push texts text, first, subst (λ (x : RowValue). IsRowOf every.world p line.unnamed action text x) same of)
-  ];
-  whole = λ t in' is. elim (Contains-push_cases texts text t in') [
-    | inl was ↦ let (found, there, says) = are.whole t was is in (found, Contains-append_left rows (row ∷ []) found there, says)
-    | inr same ↦ (row, Contains-push rows row, subst (λ (x : List ℕ). IsRowOf every.world p line.unnamed action x row) same of)
-  ];
-}
-
-pub texts_skip : (every : EveryValue) (p : ℕ) (action : List ℕ) (k : ℕ) (line : LineValue) (texts : List (List ℕ)) (rows : List RowValue)
-    (text : List ℕ) → AreRowsOfTexts every p action k line texts rows → ¬ IsFirst every.lines text k line
-    → AreRowsOfTexts every p action k line (texts ++ (text ∷ [])) rows
-texts_skip every p action k line texts rows text are never = record {
-  only = λ found in'. let (t, there, is, says) = are.only found in' in (t, Contains-append_left texts (text ∷ []) t there, is, says);
-  whole = λ t in' is. elim (Contains-push_cases texts text t in') [
-    | inl was ↦ are.whole t was is
-    | inr same ↦ absurd (never (subst (λ (x : List ℕ). IsFirst every.lines x k line) (sym same) is))
-  ];
-}
-
-pub texts_none : (every : EveryValue) (p : ℕ) (action : List ℕ) (k : ℕ) (line : LineValue) → AreRowsOfTexts every p action k line [] []
-texts_none every p action k line = record {
-  only = λ found in'. absurd (none found in');
-  whole = λ t in' is. absurd (none t in');
-}
 
 -- ---- a row
 decided_by : (every : EveryValue) (p : ℕ) (unnamed : Unnamed) (action text : List ℕ) (verdict : Verdict)
@@ -140,11 +111,11 @@ rows_shown every p action k line groups texts rows names spelled_well at are kin
 
 -- or one row says that they are too many
 pub rows_unshown : (every : EveryValue) (p : ℕ) (action : List ℕ) (k : ℕ) (line : LineValue) (groups : List (List (List Sign))) (rows : List RowValue)
-    → slice_get every.lines k ≡ Some line → AreGroupsAt every.world p line.unnamed action groups → PassesLimit (line_question every k line groups)
+    → slice_get every.lines k ≡ Some line → AreOwnGroupsAt every.world p line.unnamed action groups → PassesLimit (line_question every k line groups)
     → rows ≡ record { action = action; resource = line.text; verdict = None } ∷ [] → AreRowsOn every p action (IsLined every k) rows
-rows_unshown every p action k line groups rows at are passes is =
+rows_unshown every p action k line groups rows at own passes is =
     let row : RowValue = record { action = action; resource = line.text; verdict = None } in
-    let over : TextsPass every p action k line = record { at = at; groups = groups; are = are; passes = passes } in
+    let over : TextsPass every p action k line = record { at = at; groups = groups; own = own; passes = passes } in
     subst (AreRowsOn every p action (IsLined every k)) (sym is) (record {
       right = λ meant. All-cons (IsRight every p) row [] (k, line, at, refl, inl (meant, over)) (All-nil (IsRight every p));
       own = All-cons (λ (x : RowValue). x.action ≡ action) row [] refl (All-nil (λ (x : RowValue). x.action ≡ action));
@@ -335,12 +306,6 @@ actions_more every p actions rows more action are meant further = record {
   ];
 }
 
-pub actions_none : (every : EveryValue) (p : ℕ) → AreRowsOfActions every p [] []
-actions_none every p = record {
-  right = All-nil (IsRight every p);
-  whole = λ action text unnamed in' resource says. absurd (none action in');
-}
-
 -- what is told of an action is told of one that is decided alike
 told_alike : (every : EveryValue) (p : ℕ) (shown action text : List ℕ) (unnamed : Unnamed) (row : RowValue) → AreDecidedAlike every p shown action
     → Says every text unnamed → IsToldBy every p shown text unnamed row → IsToldBy every p action text unnamed row
@@ -354,8 +319,8 @@ told_alike every p shown action text unnamed row alike says (inr unshown) = inr 
 
 -- each action that is meant is decided like one of them
 pub actions_all : (every : EveryValue) (p : ℕ) (actions : List (List ℕ)) (rows : List RowValue) → AreActions every p actions
-    → AreRowsOfActions every p actions rows → AreRows every p rows
-actions_all every p actions rows actions_are are = record {
+    → AreRowsOfActions every p actions rows → AreMade every p rows → AreRows every p rows
+actions_all every p actions rows actions_are are made = record {
   right = are.right;
   whole = λ action text unnamed meant resource says.
       let (shown, among, alike) = actions_are.whole action meant in
@@ -364,19 +329,23 @@ actions_all every p actions rows actions_are are = record {
         there,
         inl (subst (λ (x : List ℕ). AreDecidedAlike every p x action) (sym same) alike, told_alike every p shown action text unnamed row alike says how),
       );
+  made = made;
 }
 
 -- where the actions are too many no line is shown
-pub unshown_all : (every : EveryValue) (p : ℕ) (rows : List RowValue) → AreUnshown every.lines rows → ActionsPass every p → AreRows every p rows
+pub unshown_all : (every : EveryValue) (p : ℕ) (rows : List RowValue) → rows ≡ map (unshown_row every.written) every.lines → ActionsPass every p
+    → AreRows every p rows
 unshown_all every p rows are passes =
-    let R : LineValue → RowValue → Type 0 = λ x y. (y.resource ≡ x.text) × (y.verdict ≡ None) in
+    let unshown : LineValue → RowValue = λ line. unshown_row every.written line in
     record {
       right = λ i d below.
           let row = get_or rows i d in
-          let (line, there, (text, verdict)) = right_fits R every.lines rows row are (Contains-get_or rows i d below) in
+          let among = subst (λ (l : List RowValue). Contains l row) are (Contains-get_or rows i d below) in
+          let (line, there, is) = of_mapped unshown row every.lines among in
           let (k, at) = in_at every.lines line there in
-          subst (λ (o : Option Verdict). MatchOption o (IsOver every p row) (HasVerdict every p row)) (sym verdict) (k, line, at, text, inr passes);
+          subst (IsRight every p) is (k, line, at, refl, inr passes);
       whole = λ action text unnamed meant resource (k, line, first, how).
-          let (row, among, (its, verdict)) = left_fits R every.lines rows line are (at_in every.lines k line first.at) in
-          (row, among, inr (passes, (verdict, (k, line, first, its))));
+          let among = mapped unshown line every.lines (at_in every.lines k line first.at) in
+          (unshown line, subst (λ (l : List RowValue). Contains l (unshown line)) (sym are) among, inr (passes, (refl, (k, line, first, refl))));
+      made = inl (passes, are);
     }

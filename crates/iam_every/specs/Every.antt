@@ -1,22 +1,25 @@
 -- What is asked of all names, and the rows that answer it for a principal: AWS IAM User Guide, "Policy evaluation logic".
 -- LOGIC 11.2 and 11.6.
-use Rattle.std.specs.Prelude.{◌≡◌, ◌⊎◌, ◌<◌, ◌∷◌, ℕ, false, List, [], All, Any, Contains, MatchOption, Option, Some, None, codes, map, string_bytes, take}
-use Rattle.std.specs.List.{slice_get}
+use Rattle.std.specs.Prelude.{◌≡◌, ◌⊎◌, ◌<◌, ◌∷◌, ◌++◌, ℕ, false, List, [], All, Any, Contains, MatchOption, Option, Some, None, codes, length, map, string_bytes, take}
+use Rattle.std.specs.List.{range_with_len, slice_get}
 use Rattle.std.specs.Str.{IsUtf8, chars}
 use Rattle.iam_glob.specs.Glob.{Matches, MatchesFold, wild_sign}
 use Rattle.iam_glob.specs.declared.sign.Sign.{Sign}
-use Rattle.iam_kinds.specs.Kinds.{IsAction, folded_question}
+use Rattle.iam_kinds.specs.Kinds.{IsAction, Question, folded_question}
 use Rattle.iam_kinds.specs.States.{PassesLimit}
 use Rattle.iam_decision.specs.Applicable.{ApplicableValue}
+use Rattle.iam_decision.specs.Matched.{Selects}
 use Rattle.iam_decision.specs.declared.verdict.Decision.{Decision}
 use Rattle.iam_decision.specs.declared.verdict.Verdict.{Verdict}
 use Rattle.iam_world.specs.World.{WorldValue}
 use Rattle.iam_layers.specs.Cell.{IsResource}
-use Rattle.iam_layers.specs.Unnamed.{AreUnnamedPolicies, IsThere, IsUnnamedDecision, IsUnnamedVerdict}
+use Rattle.iam_layers.specs.Unnamed.{IsThere, IsUnnamedDecision, IsUnnamedVerdict}
 use Rattle.iam_layers.specs.declared.unnamed.Unnamed.{Unnamed}
 use Rattle.iam_layers.specs.declared.unnamed.Unnamed.TheVariants.{Like}
 use Rattle.iam_every.specs.Groups.{AgreeOn}
-use Rattle.iam_every.specs.Names.{AreActionGroups, AreGroupsAt, action_question, text_question}
+use Rattle.iam_every.specs.Names.{AreGroupsAt, action_question, text_question}
+use Rattle.iam_every.specs.OwnActions.{AreOwnActionGroups, AreOwnPolicies}
+use Rattle.iam_every.specs.OwnGroups.{AreOwnGroupsAt}
 use Rattle.iam_every.specs.declared.asked.Asked.{Asked}
 use Rattle.iam_every.specs.declared.asked.Line.{Line}
 use Rattle.iam_every.specs.declared.asked.Which.{Which}
@@ -29,11 +32,13 @@ pub record LineValue : Type 0 where
   pub text : List ℕ
   pub unnamed : Unnamed
 
--- a world, what is said of texts that it does not name, and the pattern of the actions in question: without one, those of the world
+-- a world, what is said of texts that it does not name, and the pattern of the actions in question: without one, those of the world. It
+-- is written so
 pub record EveryValue : Type 0 where
   pub world : WorldValue
   pub lines : List LineValue
   pub actions : Option (List Sign)
+  pub written : List ℕ
 
 -- without where it lies in memory
 abbrev pub line_of : Line → LineValue
@@ -43,8 +48,17 @@ abbrev pub pattern_in : Which → Option (List Sign)
 pattern_in OfWorld = None
 pattern_in (Matching glob text) = Some glob.now
 
+abbrev pub written_in : Which → List ℕ
+written_in OfWorld = codes "*"
+written_in (Matching glob text) = text.now
+
 abbrev pub every_of : Asked → EveryValue
-every_of asked = record { world = asked.world.now; lines = map line_of asked.lines.now; actions = pattern_in asked.actions }
+every_of asked = record {
+  world = asked.world.now;
+  lines = map line_of asked.lines.now;
+  actions = pattern_in asked.actions;
+  written = written_in asked.actions;
+}
 
 -- resources that others are like are there
 abbrev pub AreThere : EveryValue → Type 0
@@ -84,6 +98,17 @@ Says every text unnamed =
     × (((r : ℕ) × IsResource every.world r (λ resource. resource.arn ≡ text) × (unnamed ≡ Like r))
     ⊎ (¬ IsNamed every.world text × (unnamed ≡ line.unnamed)))
 
+-- ---- kinds
+abbrev pub patterns_of : List LineValue → List (List Sign)
+patterns_of lines = map (λ line. line.pattern) lines
+
+-- which texts of line k are asked about, by these groups: ARNs that its pattern matches and that no resource of the world has; they are
+-- also told apart by the lines before
+abbrev pub line_question : EveryValue → ℕ → LineValue → List (List (List Sign)) → Question
+line_question every k line groups =
+    text_question groups (line.pattern ∷ (arn_signs ∷ [])) (patterns_of (take k every.lines))
+    (map (λ resource. resource.arn) every.world.resources)
+
 -- ---- rows
 -- a request and its verdict; or a line of which not all texts, or not all actions, could be shown, by its pattern as it is written
 pub record RowValue : Type 0 where
@@ -98,25 +123,33 @@ row_of row = record { action = string_bytes row.action; resource = string_bytes 
 pub record TextsPass (every : EveryValue) (p : ℕ) (action : List ℕ) (k : ℕ) (line : LineValue) : Type 0 where
   pub at : slice_get every.lines k ≡ Some line
   pub groups : List (List (List Sign))
-  pub are : AreGroupsAt every.world p line.unnamed action groups
-  pub passes :
-      PassesLimit (text_question groups (line.pattern ∷ (arn_signs ∷ [])) (map (λ other. other.pattern) (take k every.lines))
-      (map (λ resource. resource.arn) every.world.resources))
+  pub own : AreOwnGroupsAt every.world p line.unnamed action groups
+  pub passes : PassesLimit (line_question every k line groups)
 
--- a line says this, or it is said of a resource of the world that some line matches
-abbrev pub IsSaid : EveryValue → Unnamed → Type 0
-IsSaid every unnamed =
-    Any (λ line. unnamed ≡ line.unnamed) every.lines
-    ⊎ ((r : ℕ) × IsResource every.world r (λ resource. Any (λ line. Matches line.pattern (chars resource.arn)) every.lines) × (unnamed ≡ Like r))
+-- some line matches resource r
+abbrev pub IsMatched : WorldValue → List LineValue → ℕ → Type 0
+IsMatched world lines r = IsResource world r (λ resource. Any (λ line. Matches line.pattern (chars resource.arn)) lines)
 
--- the kinds of actions that the pattern matches, by the statements that apply where principal p asks for such a resource, pass a limit
+-- all that is said, in order: by each line, then of each resource of the world that some line matches
+abbrev pub AreSaid : EveryValue → List Unnamed → Type 0
+AreSaid every said =
+    (matched : List ℕ) × Selects (IsMatched every.world every.lines) (range_with_len 0 (length every.world.resources)) matched
+    × (said ≡ map (λ line. line.unnamed) every.lines ++ map (λ r. Like r) matched)
+
+-- the groups of the policies that apply where principal p asks for a resource of which some of this is said
+pub record AreOwnActionGroupsAt (every : EveryValue) (p : ℕ) (groups : List (List (List Sign))) : Type 0 where
+  pub said : List Unnamed
+  pub are_said : AreSaid every said
+  pub applicables : List ApplicableValue
+  pub apply : AreOwnPolicies every.world p said applicables
+  pub are : AreOwnActionGroups applicables groups
+
+-- the kinds of actions that the pattern matches, by these groups, pass a limit
 pub record ActionsPass (every : EveryValue) (p : ℕ) : Type 0 where
   pub pattern : List Sign
   pub is : every.actions ≡ Some pattern
-  pub applicables : List ApplicableValue
-  pub said : All (λ a. (unnamed : Unnamed) × IsSaid every unnamed × AreUnnamedPolicies every.world p unnamed a) applicables
   pub groups : List (List (List Sign))
-  pub are : AreActionGroups applicables groups
+  pub own : AreOwnActionGroupsAt every p groups
   pub passes : PassesLimit (folded_question (action_question groups pattern))
 
 -- the row has the verdict on principal p's request for its action on the resource of its text, of which this is said
@@ -188,14 +221,14 @@ IsAnswered every p rows action text unnamed =
     (row : RowValue) × Contains rows row
     × ((AreDecidedAlike every p row.action action × IsToldBy every p action text unnamed row) ⊎ (ActionsPass every p × IsUnshown every text row))
 
--- the rows of principal p: each is right, and every request that is meant is answered by one
-pub record AreRows (every : EveryValue) (p : ℕ) (rows : List RowValue) : Type 0 where
-  pub right : All (IsRight every p) rows
-  pub whole : (action text : List ℕ) (unnamed : Unnamed) → IsMeantAction every action → IsResourceText text → Says every text unnamed
-      → IsAnswered every p rows action text unnamed
-
 -- ---- actions
 -- actions that are meant, of which one is decided like each that is
 pub record AreActions (every : EveryValue) (p : ℕ) (actions : List (List ℕ)) : Type 0 where
   pub meant : All (IsMeantAction every) actions
   pub whole : (action : List ℕ) → IsMeantAction every action → (shown : List ℕ) × Contains actions shown × AreDecidedAlike every p shown action
+
+-- ---- one list of groups
+abbrev pub OneListOfActionGroupsAt : Type 0
+OneListOfActionGroupsAt =
+    (every : EveryValue) (p : ℕ) (one other : List (List (List Sign)))
+    → AreOwnActionGroupsAt every p one → AreOwnActionGroupsAt every p other → one ≡ other

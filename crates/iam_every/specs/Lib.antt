@@ -3,5 +3,10 @@ pub mod Code
 pub mod Elements
 pub mod Every
 pub mod Groups
+pub mod Made
+pub mod NamedCell
 pub mod Names
+pub mod OwnActions
+pub mod OwnGroups
 pub mod Report
+pub mod Rows

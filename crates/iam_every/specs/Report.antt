@@ -1,6 +1,6 @@
 -- The report on all names: the rows of principals, one behind the other, as CSV and as JSON. It names no worker. LOGIC 11.6 and 13.1.
-use Rattle.std.specs.Prelude.{◌≡◌, ◌⊎◌, ◌≤◌, ◌<◌, ◌+◌, ⊤, ℕ, Any, Bool, true, false, List, [], ◌∷◌, ◌++◌, MatchOption, Option, Some, None, codes, decimal, length, map}
-use Rattle.std.specs.List.{AllZip, flat_map}
+use Rattle.std.specs.Prelude.{◌≡◌, ◌⊎◌, ◌≤◌, ◌<◌, ◌+◌, ⊤, ℕ, All, Any, Bool, IsTrue, true, false, List, [], ◌∷◌, ◌++◌, MatchBool, MatchOption, Option, Some, None, codes, decimal, is_none, length, map}
+use Rattle.std.specs.List.{AllZip, flat_map, list_any}
 use Rattle.serde_json.specs.Data.{Data, unsigned, number, string, array, object, no_members, member}
 use Rattle.serde_json.specs.View.{items_of}
 use Rattle.serde_json.specs.Written.{compact_text}
@@ -12,7 +12,8 @@ use Rattle.iam_row.specs.Piece.{cell_row, closing_text, comma_before, opening_te
 use Rattle.iam_row.specs.Report.{CellTexts, brief_layout, csv_line, full_layout}
 use Rattle.iam_row.specs.declared.quoted.Format.{Format}
 use Rattle.iam_row.specs.declared.quoted.Format.TheVariants.{Csv, Json}
-use Rattle.iam_every.specs.Every.{AreRows, EveryValue, RowValue}
+use Rattle.iam_every.specs.Every.{EveryValue, RowValue}
+use Rattle.iam_every.specs.Rows.{AreRows}
 
 -- what stands in the place of a decision where a line is not shown
 abbrev pub unshown_word : List ℕ
@@ -82,3 +83,34 @@ pub record IsEveryReport (format : Format) (brief : Bool) (every : EveryValue) (
 abbrev pub IsTooLong : EveryValue → List ℕ → List Decision → Type 0
 IsTooLong every principals decisions =
     (lists : List (List NamedRow)) × AllZip (AreWanted every decisions) principals lists × (16777216 < length (flat_map (λ listed. listed) lists))
+
+-- there is one report, and none where it would be too long
+abbrev pub OneEveryReport : Type 0
+OneEveryReport =
+    (format : Format) (brief : Bool) (every : EveryValue) (principals : List ℕ) (decisions : List Decision) (one other : List ℕ)
+    → IsEveryReport format brief every principals decisions one → IsEveryReport format brief every principals decisions other → one ≡ other
+
+abbrev pub NoReportTooLong : Type 0
+NoReportTooLong =
+    (format : Format) (brief : Bool) (every : EveryValue) (principals : List ℕ) (decisions : List Decision) (text : List ℕ)
+    → IsEveryReport format brief every principals decisions text → ¬ IsTooLong every principals decisions
+
+-- ---- what is told beside the report
+-- one of the rows is of a line that is not shown
+abbrev pub has_unshown : List RowValue → Bool
+has_unshown rows = list_any (λ row. is_none row.verdict) rows
+
+-- P holds of the rows of principal p, whatever is asked for
+abbrev pub OfRows : EveryValue → (List RowValue → Type 0) → ℕ → Type 0
+OfRows every P p = (rows : List RowValue) × AreRows every p rows × P rows
+
+-- whether one of the principals has rows, whatever is asked for; or none has
+abbrev pub TellsRows : EveryValue → List ℕ → Bool → Type 0
+TellsRows every principals some =
+    MatchBool some (Any (OfRows every (λ rows. 0 < length rows)) principals) (All (OfRows every (λ rows. rows ≡ [])) principals)
+
+-- whether a line is not shown for one of them; or all are shown for all
+abbrev pub TellsUnshown : EveryValue → List ℕ → Bool → Type 0
+TellsUnshown every principals unshown =
+    MatchBool unshown (Any (OfRows every (λ rows. IsTrue (has_unshown rows))) principals)
+    (All (OfRows every (λ rows. has_unshown rows ≡ false)) principals)

@@ -1,21 +1,22 @@
 // One action of each kind of actions that the action elements of statements tell apart.
-ghost use Rattle.std.specs.Prelude.{◌≡◌, ◌++◌, ◌∷◌, [], All, Contains, IfOk, IsTrue, OnOk, map};
+ghost use Rattle.std.specs.Prelude.{◌≡◌, ◌↔◌, ◌∷◌, [], All, Contains, IfOk, IsTrue, OnOk, map};
 ghost use Rattle.iam_decision.specs.Applicable.{IsNumbered, value_of};
 ghost use Rattle.iam_glob.specs.Signs.{signs_in};
 ghost use Rattle.iam_kinds.specs.Answers.{IsAnswerFold};
-ghost use Rattle.iam_every.specs.Elements.{HaveSame, elements_in, elements_of};
+ghost use Rattle.iam_every.specs.Elements.{Adds, HasPrints, elements_in, next_print, print_behind, print_of, sign_number};
 ghost use Rattle.iam_every.specs.Names.{AreActionGroups, action_question};
+ghost use Rattle.iam_every.specs.OwnActions.{AreOwnActionGroups, elements_of};
 
 use crate::concerned::statements;
 use iam_decision::{Actions, Applicable};
-use iam_glob::{Glob, Signs};
+use iam_glob::{Glob, Sign, Signs};
 use iam_kinds::{Grammar, Kinds, find_kinds_fold};
 use iam_match::OutOfMemory;
 use std::alloc::Global;
 use std::collections::BTreeMap;
 
 /// The groups of patterns by which the statements of these policies read an action: those of each action element, of which each
-/// distinct one stands once.
+/// distinct one stands once, at its first place.
 ///
 /// The lists of levels and each list of policies have to have fewer than 2^32 members.
 ///
@@ -25,7 +26,8 @@ pub fn action_groups<'a>(
     applicables: &[Applicable<'a>],
 ) -> Result<Vec<Vec<Signs<'a>>>, OutOfMemory>
     requires { All IsNumbered (map value_of applicables.now) }
-    ensures { IfOk result (λ groups. AreActionGroups (map value_of applicables.now) (map (λ g. map signs_in g.items) groups.items)) }
+    ensures own { IfOk result (λ groups. AreOwnActionGroups (map value_of applicables.now) (map (λ g. map signs_in g.items) groups.items)) }
+    ensures groups { IfOk result (λ groups. AreActionGroups (map value_of applicables.now) (map (λ g. map signs_in g.items) groups.items)) }
 {
     let mut elements = Elements::new(alloc);
     for applicable in applicables {
@@ -48,20 +50,22 @@ pub fn action_kinds(
     find_kinds_fold(alloc, Grammar::Action, &[pattern], groups, &[])
 }
 
-/// Action elements, each of which is found again by its print.
+/// Action elements, each distinct one once.
 #[derive(Drop)]
 struct Elements<'a> {
     listed: Vec<&'a Actions>,
-    prints: BTreeMap<u64, usize>,
+    /// The number of an element with each print.
+    numbers: BTreeMap<u64, usize>,
 }
 
 impl<'a> Elements<'a> {
     fn new(alloc: Global) -> Elements<'a>
-        ensures { elements_in result ≡ [] }
+        ensures listed { elements_in result ≡ [] }
+        ensures prints { HasPrints result }
     {
         Elements {
             listed: Vec::new(alloc),
-            prints: BTreeMap::new(alloc),
+            numbers: BTreeMap::new(alloc),
         }
     }
 
@@ -71,8 +75,10 @@ impl<'a> Elements<'a> {
         alloc: Global,
         applicable: &Applicable<'a>,
     ) -> Result<(), OutOfMemory>
-        requires { IsNumbered (value_of applicable.now) }
-        ensures { OnOk result (HaveSame (elements_in self.new) (elements_in self.old ++ elements_of (value_of applicable.now))) }
+        requires numbered { IsNumbered (value_of applicable.now) }
+        requires prints { HasPrints self.old }
+        ensures adds { OnOk result (Adds (elements_in self.old) (elements_of (value_of applicable.now)) (elements_in self.new)) }
+        ensures prints { OnOk result (HasPrints self.new) }
     {
         let statements = statements(alloc, applicable)?;
         for &standing in statements.as_slice() {
@@ -83,7 +89,9 @@ impl<'a> Elements<'a> {
 
     /// Adds the element, unless it is there.
     fn add(&mut self, element: &'a Actions) -> Result<(), OutOfMemory>
-        ensures { OnOk result (HaveSame (elements_in self.new) (elements_in self.old ++ (element.entry.now ∷ []))) }
+        requires { HasPrints self.old }
+        ensures adds { OnOk result (Adds (elements_in self.old) (element.entry.now ∷ []) (elements_in self.new)) }
+        ensures prints { OnOk result (HasPrints self.new) }
     {
         let print = print_of(element);
         if self.has(print, element) {
@@ -91,18 +99,28 @@ impl<'a> Elements<'a> {
         }
         let number = self.listed.len();
         self.listed.push(element)?;
-        self.prints.insert(print, number)?;
+        self.numbers.insert(print, number)?;
         Ok(())
     }
 
-    /// `true` only where the element, which has this print, is there.
+    /// Whether the element, which has this print, is there.
     fn has(&self, print: u64, element: &Actions) -> bool
-        ensures { IsTrue result → Contains (elements_in self.now) element.now }
+        requires prints { HasPrints self.now }
+        requires print { print ≡ print_of 0 element.now.patterns }
+        ensures { IsTrue result ↔ Contains (elements_in self.now) element.now }
     {
-        match self.prints.get(&print) {
-            Some(&number) => number < self.listed.len() && self.listed[number].equals(element),
+        match self.numbers.get(&print) {
+            Some(&number) => self.is_at(number, element)
+                || is_among(self.listed.as_slice(), element),
             None => false,
         }
+    }
+
+    /// `true` only where the element is there, as where it has this number.
+    fn is_at(&self, number: usize, element: &Actions) -> bool
+        ensures { IsTrue result → Contains (elements_in self.now) element.now }
+    {
+        number < self.listed.len() && self.listed[number].equals(element)
     }
 
     /// The patterns of each.
@@ -117,13 +135,93 @@ impl<'a> Elements<'a> {
     }
 }
 
+/// Whether the element is one of these.
+fn is_among(elements: &[&Actions], element: &Actions) -> bool
+    ensures { IsTrue result ↔ Contains (map (λ e. e.now) elements.now) element.now }
+{
+    for &other in elements {
+        if is_same(other, element) {
+            return true;
+        }
+    }
+    false
+}
+
+/// Whether both elements are the same.
+fn is_same(one: &Actions, other: &Actions) -> bool
+    ensures { IsTrue result ↔ one.now ≡ other.now }
+{
+    one.is_negated() == other.is_negated() && have_same(one.patterns(), other.patterns())
+}
+
+/// Whether both lists have the same patterns in the same order.
+fn have_same(ones: &[Glob], others: &[Glob]) -> bool
+    ensures { IsTrue result ↔ ones.now ≡ others.now }
+{
+    if ones.len() != others.len() {
+        return false;
+    }
+    for i in 0..ones.len() {
+        if !are_same(ones[i].signs(), others[i].signs()) {
+            return false;
+        }
+    }
+    true
+}
+
+/// Whether both are the same signs in the same order.
+fn are_same(ones: Signs<'_>, others: Signs<'_>) -> bool
+    ensures { IsTrue result ↔ signs_in ones.entry ≡ signs_in others.entry }
+{
+    if ones.len() != others.len() {
+        return false;
+    }
+    for i in 0..ones.len() {
+        if ones.at(i) != others.at(i) {
+            return false;
+        }
+    }
+    true
+}
+
 /// A number that tells most elements apart.
-fn print_of(element: &Actions) -> u64 {
+fn print_of(element: &Actions) -> u64
+    ensures { result ≡ print_of 0 element.now.patterns }
+{
     let mut print: u64 = 0;
     for pattern in element.patterns() {
-        print = pattern.print(print);
+        print = print_behind(print, pattern.signs());
     }
     print
+}
+
+/// The number of the patterns before, which is this, and of the pattern of these signs.
+fn print_behind(print: u64, signs: Signs<'_>) -> u64
+    ensures { result ≡ print_behind print (signs_in signs.entry) }
+{
+    let mut print = print;
+    for i in 0..signs.len() {
+        print = next_print(print, signs.at(i));
+    }
+    print
+}
+
+fn next_print(print: u64, sign: Sign) -> u64
+    ensures { result ≡ next_print print sign }
+{
+    print
+        .wrapping_mul(0x9e37_79b9_7f4a_7c15)
+        .wrapping_add(sign_number(sign))
+}
+
+fn sign_number(sign: Sign) -> u64
+    ensures { result ≡ sign_number sign }
+{
+    match sign {
+        Sign::Any => 0,
+        Sign::One => 1,
+        Sign::Given(character) => u64::from(u32::from(character)) + 2,
+    }
 }
 
 /// The signs of the patterns, lent.

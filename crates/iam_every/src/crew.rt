@@ -1,6 +1,6 @@
 // The rows of principals that are asked for, found by many workers.
-ghost use Rattle.std.specs.Prelude.{◌↔◌, ◌<◌, ◌≤◌, All, IfOk, IsTrue, length, map, slice_index};
-ghost use Rattle.std.specs.List.{AllZip};
+ghost use Rattle.std.specs.Prelude.{◌≡◌, ◌↔◌, ◌<◌, ◌≤◌, All, IfOk, IsTrue, is_none, length, map, slice_index};
+ghost use Rattle.std.specs.List.{AllZip, list_any};
 ghost use Rattle.iam_decision.specs.Matched.{Selects};
 ghost use Rattle.iam_every.specs.Every.{AreThere, every_of, row_of};
 ghost use Rattle.iam_every.specs.Report.{IsWanted};
@@ -23,6 +23,10 @@ const TILES: usize = 4096;
 pub struct Chosen {
     pub principal: u64,
     pub rows: Items<Row>,
+    /// Whether it has rows, whatever is asked for.
+    pub some: bool,
+    /// Whether one of them is not shown.
+    pub unshown: bool,
 }
 
 /// Those who find the rows of principals.
@@ -86,6 +90,13 @@ fn wanted(mut rows: Vec<Row>, decisions: &[Decision]) -> Vec<Row>
     rows
 }
 
+/// Whether one of the rows is not shown.
+fn has_unshown(rows: &[Row]) -> bool
+    ensures { result ≡ list_any (λ row. is_none row.verdict) rows.now }
+{
+    rows.iter().any(|row| row.verdict.is_none())
+}
+
 /// The rows of principal p that are asked for.
 fn chosen_of(
     alloc: Global,
@@ -98,9 +109,13 @@ fn chosen_of(
     ensures { IfOk result (IsChosen (every_of asked.entry) decisions.now p) }
 {
     let rows = rows_of(alloc, asked, p)?;
+    let some = !rows.is_empty();
+    let unshown = has_unshown(rows.as_slice());
     Ok(Chosen {
         principal: p,
         rows: Items::from_vec(wanted(rows, decisions)),
+        some,
+        unshown,
     })
 }
 

@@ -1,11 +1,11 @@
 // What is worked out once for all rows of a principal.
-ghost use Rattle.std.specs.Prelude.{◌≡◌, ◌↔◌, ℕ, IfOk, IsTrue, MatchOption, map};
+ghost use Rattle.std.specs.Prelude.{◌≡◌, ◌↔◌, ℕ, IfOk, IsTrue, MatchOption, false, map};
 ghost use Rattle.std.specs.List.{Any, Contains};
 ghost use Rattle.std.specs.Str.{chars};
 ghost use Rattle.iam_glob.specs.Glob.{Matches};
 ghost use Rattle.iam_glob.specs.Signs.{signs_in};
-ghost use Rattle.iam_every.specs.Code.Rows.{AreNames, IsFirstOf, patterns_of};
-ghost use Rattle.iam_every.specs.Every.{line_of};
+ghost use Rattle.iam_every.specs.Code.Rows.{AreNames, IsFirstOf};
+ghost use Rattle.iam_every.specs.Every.{line_of, patterns_of};
 
 use crate::asked::{Asked, Line};
 use iam_context::Part;
@@ -73,7 +73,8 @@ pub fn first_line(lines: &[Line<'_>], text: &str) -> Option<usize>
 
 /// Whether the pattern of some line matches the text.
 pub fn has_line(lines: &[Line<'_>], text: &str) -> bool
-    ensures { IsTrue result ↔ ((k : ℕ) × IsFirstOf (map line_of lines.now) text.now k) }
+    ensures some { IsTrue result ↔ ((k : ℕ) × IsFirstOf (map line_of lines.now) text.now k) }
+    ensures none { result ≡ false → ¬ Any (λ line. Matches line.pattern (chars text.now)) (map line_of lines.now) }
 {
     first_line(lines, text).is_some()
 }

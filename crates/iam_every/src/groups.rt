@@ -1,14 +1,11 @@
 // The groups of patterns by which the statements that concern a request read the text of a resource.
-ghost use Rattle.std.specs.Prelude.{◌≡◌, ◌↔◌, ◌⊎◌, ℕ, Contains, IfOk, IfSome, IsTrue, List, None, OnOk, false, map, true};
-ghost use Rattle.std.specs.Str.{chars};
-ghost use Rattle.iam_kinds.specs.Kinds.{GroupMatches};
+ghost use Rattle.std.specs.Prelude.{◌≡◌, ◌↔◌, ◌++◌, Contains, IfOk, IfSome, IsTrue, None, OnOk, false, map, true};
 ghost use Rattle.iam_match.specs.Request.{access_of};
 ghost use Rattle.iam_decision.specs.declared.place.Place.{Place};
 ghost use Rattle.iam_decision.specs.Applicable.{IsNumbered, value_of};
 ghost use Rattle.iam_decision.specs.Code.Scan.{placed_value};
-ghost use Rattle.iam_every.specs.Alike.{Meets};
-ghost use Rattle.iam_every.specs.Code.Sides.{AreNegatedGroups, AreSideGroups, HasElement, Reads, SideMeets};
 ghost use Rattle.iam_every.specs.Groups.{AreGroups, groups_of, side_of, signs_of};
+ghost use Rattle.iam_every.specs.OwnGroups.{AreNegatedGroups, AreOwnGroups, AreSideGroups, HasElement, IsSideGroup, patterns_in};
 
 use crate::concerned::concerned;
 use crate::pattern::{Pattern, add_patterns};
@@ -40,7 +37,9 @@ pub fn text_groups<'a: 'c, 'c>(
     action: &str,
 ) -> Result<Vec<Vec<Pattern<'c>>>, OutOfMemory>
     requires { IsNumbered (value_of applicable.now) }
-    ensures { IfOk result (λ groups.
+    ensures own { IfOk result (λ groups.
+        AreOwnGroups (value_of applicable.now) (access_of access.entry) action.now (groups_of groups.items)) }
+    ensures groups { IfOk result (λ groups.
         AreGroups (value_of applicable.now) (access_of access.entry) action.now (groups_of groups.items)) }
 {
     let statements = concerned(alloc, applicable, access, action)?;
@@ -102,13 +101,13 @@ fn side_group<'a: 'c, 'c>(
     side: Side,
     access: Access<'_, 'c>,
 ) -> Result<Vec<Pattern<'c>>, OutOfMemory>
-    ensures { IfOk result (λ group. Reads (map signs_of group.items)
-        (SideMeets (access_of access.entry) (map placed_value statements.now) side)) }
+    ensures { IfOk result (λ group.
+        IsSideGroup (access_of access.entry) (map placed_value statements.now) side (map signs_of group.items)) }
 {
     let mut group = Vec::new(alloc);
     for &standing in statements {
         if is_on(standing, side, access.requester) {
-            add_texts(alloc, &mut group, standing.statement, false, access.context)?;
+            add_texts(alloc, &mut group, standing.statement, access.context)?;
         }
     }
     Ok(group)
@@ -126,15 +125,23 @@ fn negated_groups<'a: 'c, 'c>(
     for &standing in statements {
         if has_element(standing.statement, true) {
             let mut group = Vec::new(alloc);
-            add_texts(alloc, &mut group, standing.statement, true, context)?;
+            add_texts(alloc, &mut group, standing.statement, context)?;
             groups.push(group)?;
         }
     }
     Ok(groups)
 }
 
-/// Whether the statement counts on the side.
+/// Whether the statement has an element `Resource` and counts on the side.
 fn is_on(standing: Standing<'_>, side: Side, requester: &Requester) -> bool
+    ensures { IsTrue result
+        ↔ (HasElement false (placed_value standing.entry) × (side_of requester.now (placed_value standing.entry) ≡ side)) }
+{
+    has_element(standing.statement, false) && counts_on(standing, side, requester)
+}
+
+/// Whether the statement counts on the side.
+fn counts_on(standing: Standing<'_>, side: Side, requester: &Requester) -> bool
     ensures { IsTrue result ↔ side_of requester.now (placed_value standing.entry) ≡ side }
 {
     side_of(standing, requester) == side
@@ -164,22 +171,18 @@ fn has_element(statement: &Statement, negated: bool) -> bool
     }
 }
 
-/// Adds the patterns of the element `Resource` of the statement, or where `negated` says so of `NotResource`.
+/// Adds the patterns of the element of the statement.
 fn add_texts<'c>(
     alloc: Global,
     patterns: &mut Vec<Pattern<'c>>,
     statement: &'c Statement,
-    negated: bool,
     context: &Context<'c>,
 ) -> Result<(), OutOfMemory>
-    ensures { OnOk result ((place : Place) (text : List ℕ) → GroupMatches (map signs_of patterns.new.items) (chars text)
-        ↔ (GroupMatches (map signs_of patterns.old.items) (chars text)
-        ⊎ Meets context.now negated text (record { place = place; statement = statement.now }))) }
+    ensures { OnOk result (map signs_of patterns.new.items
+        ≡ map signs_of patterns.old.items ++ patterns_in context.now statement.now.resource) }
 {
     match statement.resource() {
-        Some(element) if element.is_negated() == negated => {
-            add_patterns(alloc, patterns, element.texts(), context)
-        }
-        _ => Ok(()),
+        Some(element) => add_patterns(alloc, patterns, element.texts(), context),
+        None => Ok(()),
     }
 }

@@ -6,8 +6,9 @@ ghost use Rattle.iam_decision.specs.Applicable.{IsNumbered, value_of};
 ghost use Rattle.iam_world.specs.World.{WorldValue};
 ghost use Rattle.iam_layers.specs.Unnamed.{IsUnnamedAccess};
 ghost use Rattle.iam_layers.specs.declared.unnamed.Unnamed.{Unnamed};
-ghost use Rattle.iam_every.specs.Code.Rows.{AreLineKinds, AreRowsOfTexts, AreRowsOn, IsGiven, IsLined, IsRowOf, IsSceneOf};
+ghost use Rattle.iam_every.specs.Code.Rows.{AreLineKinds, AreRowsOn, IsGiven, IsLined, IsSceneOf};
 ghost use Rattle.iam_every.specs.Every.{LineValue, every_of, row_of};
+ghost use Rattle.iam_every.specs.Made.{AreJoined, AreOfLine, AreOfText, IsRowOf};
 
 use crate::given::{Given, is_first_line};
 use crate::groups::text_groups;
@@ -30,8 +31,9 @@ pub fn line_rows(
 ) -> Result<Vec<Row>, OutOfMemory>
     requires given { IsGiven given }
     requires line { k < length given.asked.lines.now }
-    ensures { IfOk result (λ rows. AreRowsOn (every_of given.entry.asked) given.entry.p action.now (IsLined (every_of given.entry.asked) k)
-        (map row_of rows.items)) }
+    ensures rows { IfOk result (λ rows. AreRowsOn (every_of given.entry.asked) given.entry.p action.now
+        (IsLined (every_of given.entry.asked) k) (map row_of rows.items)) }
+    ensures made { IfOk result (λ rows. AreOfLine (every_of given.entry.asked) given.entry.p action.now k (map row_of rows.items)) }
 {
     let world = given.asked.world;
     let line = given.asked.lines[k];
@@ -84,7 +86,7 @@ fn line_kinds<'a: 'c, 'c>(
     )
 }
 
-/// A row for each of the texts of which line k is the first to speak.
+/// A row for each of the texts of which line k is the first to speak, in order.
 fn text_rows<'a: 'c, 'c>(
     alloc: Global,
     given: Given<'_>,
@@ -97,7 +99,8 @@ fn text_rows<'a: 'c, 'c>(
     requires given { IsGiven given }
     requires scene { IsSceneOf given k (value_of applicable.now) context.now }
     ensures { IfOk result (λ rows. (line : LineValue) → slice_get (every_of given.entry.asked).lines k ≡ Some line
-        → AreRowsOfTexts (every_of given.entry.asked) given.entry.p action.now k line (map string_bytes texts.now) (map row_of rows.items)) }
+        → AreJoined (AreOfText (every_of given.entry.asked) given.entry.p action.now k line) (map string_bytes texts.now)
+        (map row_of rows.items)) }
 {
     let unnamed = given.asked.lines[k].unnamed;
     let mut rows = Vec::new(alloc);

@@ -1,11 +1,13 @@
 // Actions of which one is decided like each that is in question.
-ghost use Rattle.std.specs.Prelude.{◌≡◌, ◌<◌, ◌↔◌, All, Any, IfOk, IsTrue, MatchOption, OnOk, Some, false, length, map, string_bytes};
+ghost use Rattle.std.specs.Prelude.{◌≡◌, ◌⊎◌, ◌<◌, ◌↔◌, [], All, Any, IfOk, IsTrue, MatchOption, OnOk, Some, false, length, map, string_bytes};
 ghost use Rattle.std.specs.Str.{chars};
 ghost use Rattle.iam_glob.specs.Glob.{Matches};
 ghost use Rattle.iam_decision.specs.Applicable.{IsNumbered, value_of};
 ghost use Rattle.iam_layers.specs.Unnamed.{IsThere};
-ghost use Rattle.iam_every.specs.Code.Meant.{AreMore, AreSaid, CoverAll, IsPlain};
-ghost use Rattle.iam_every.specs.Every.{ActionsPass, AreActions, AreThere, every_of, line_of, pattern_in};
+ghost use Rattle.iam_every.specs.Code.Meant.{AreMore, CoverAll};
+ghost use Rattle.iam_every.specs.Every.{ActionsPass, AreActions, AreSaid, AreThere, every_of, line_of, pattern_in};
+ghost use Rattle.iam_every.specs.Made.{AreAsked};
+ghost use Rattle.iam_every.specs.OwnActions.{AreOwnPolicies, IsPlain};
 
 use crate::actions::{action_groups, action_kinds};
 use crate::asked::{Asked, Line, Which};
@@ -27,8 +29,10 @@ pub fn meant_actions(
 ) -> Result<Option<Vec<String>>, OutOfMemory>
     requires principal { p < length asked.world.now.principals }
     requires there { AreThere (every_of asked) }
-    ensures { IfOk result (λ found. MatchOption found (ActionsPass (every_of asked.entry) p)
+    ensures alike { IfOk result (λ found. MatchOption found (ActionsPass (every_of asked.entry) p)
         (λ actions. AreActions (every_of asked.entry) p (map string_bytes actions.items))) }
+    ensures asked { IfOk result (λ found. MatchOption found (ActionsPass (every_of asked.entry) p)
+        (λ actions. AreAsked (every_of asked.entry) p (map string_bytes actions.items))) }
 {
     match asked.actions {
         Which::OfWorld => Ok(Some(world_actions(alloc, asked.world)?)),
@@ -57,8 +61,10 @@ fn kinds_of(
     requires principal { p < length asked.world.now.principals }
     requires there { AreThere (every_of asked) }
     requires pattern { pattern_in asked.actions ≡ Some pattern.now }
-    ensures { IfOk result (λ found. MatchOption found (ActionsPass (every_of asked.entry) p)
+    ensures alike { IfOk result (λ found. MatchOption found (ActionsPass (every_of asked.entry) p)
         (λ actions. AreActions (every_of asked.entry) p (map string_bytes actions.items))) }
+    ensures asked { IfOk result (λ found. MatchOption found (ActionsPass (every_of asked.entry) p)
+        (λ actions. AreAsked (every_of asked.entry) p (map string_bytes actions.items))) }
 {
     let said = all_said(alloc, asked)?;
     let policies = policies_of(alloc, asked.world, p, said.as_slice())?;
@@ -69,7 +75,7 @@ fn kinds_of(
     }
 }
 
-/// What the lines say, and what is said of the resources of the world that some line matches.
+/// What the lines say, and what is said of the resources of the world that some line matches, in order.
 fn all_said<'a>(alloc: Global, asked: Asked<'a>) -> Result<Vec<Unnamed<'a>>, OutOfMemory>
     ensures { IfOk result (λ said. AreSaid (every_of asked.entry) said.items) }
 {
@@ -108,8 +114,8 @@ fn is_matched(lines: &[Line<'_>], text: &str) -> bool
     lines.iter().any(|line| line.pattern.matches(text))
 }
 
-/// Policies that tell apart all actions that those do which apply where principal p asks for a resource of which some of this is said;
-/// p has to be below `principals()`.
+/// Policies that tell apart all actions that those do which apply where principal p asks for a resource of which some of this is said:
+/// those of the first, and of each further one with which policies stand; p has to be below `principals()`.
 fn policies_of<'a>(
     alloc: Global,
     world: &'a World,
@@ -119,6 +125,7 @@ fn policies_of<'a>(
     requires principal { p < length world.now.principals }
     requires there { All (IsThere world.now) said.now }
     ensures numbered { IfOk result (λ policies. All IsNumbered (map value_of policies.items)) }
+    ensures own { IfOk result (λ policies. AreOwnPolicies world.entry.now p said.now (map value_of policies.items)) }
     ensures cover { IfOk result (λ policies. CoverAll world.entry.now p said.now (map value_of policies.items)) }
 {
     let mut policies = Vec::new(alloc);
@@ -131,10 +138,10 @@ fn policies_of<'a>(
     Ok(policies)
 }
 
-/// `false` only where no policies stand with the resource and some are there: the statements of the organisation and of the principal
-/// stand in each.
+/// Whether none are there or policies stand with the resource: the statements of the organisation and of the principal stand in each.
 fn is_needed(policies: &[Applicable<'_>], applicable: &Applicable<'_>) -> bool
-    ensures { result ≡ false → (0 < length policies.now) × IsPlain (value_of applicable.now) }
+    ensures needed { IsTrue result → (policies.now ≡ []) ⊎ ¬ IsPlain (value_of applicable.now) }
+    ensures needless { result ≡ false → (0 < length policies.now) × IsPlain (value_of applicable.now) }
 {
     policies.is_empty() || !applicable.control.is_empty() || applicable.resource.is_some()
 }

@@ -1,9 +1,9 @@
 // The report on all names, made by many workers.
-ghost use Rattle.std.specs.Prelude.{◌≡◌, ◌↔◌, ◌<◌, ◌≤◌, All, IfErr, IfOk, IsTrue, length, string_bytes};
+ghost use Rattle.std.specs.Prelude.{◌≡◌, ◌↔◌, ◌<◌, ◌≤◌, All, Any, IfErr, IfOk, IsTrue, length, string_bytes};
 ghost use Rattle.std.specs.List.{flat_map};
 ghost use Rattle.iam_every.specs.Code.Texts.{named_in};
 ghost use Rattle.iam_every.specs.Every.{AreThere, every_of};
-ghost use Rattle.iam_every.specs.Report.{IsEveryReport, IsTooLong, rows_text};
+ghost use Rattle.iam_every.specs.Report.{IsEveryReport, IsTooLong, TellsRows, TellsUnshown, rows_text};
 ghost use Rattle.iam_every.specs.declared.report.EveryFault.TheVariants.{TooMany};
 
 use crate::asked::Asked;
@@ -41,6 +41,16 @@ impl From<OutOfMemory> for EveryFault {
     }
 }
 
+/// The report on all names, and what is told beside it.
+#[derive(Drop)]
+pub struct EveryAnswer {
+    pub text: EveryText,
+    /// Whether a principal has rows, whatever is asked for.
+    pub some: bool,
+    /// Whether a line could not be shown for a principal.
+    pub unshown: bool,
+}
+
 /// Whether there are no more rows than there may be.
 fn are_few(all: &[Chosen]) -> bool
     ensures { IsTrue result ↔ (length (flat_map (λ chosen. chosen.rows) all.now) ≤ 16777216) }
@@ -53,6 +63,20 @@ fn are_few(all: &[Chosen]) -> bool
         }
     }
     true
+}
+
+/// Whether one of the principals has rows.
+fn has_some(all: &[Chosen]) -> bool
+    ensures { IsTrue result ↔ Any (λ chosen. IsTrue chosen.some) all.now }
+{
+    all.iter().any(|chosen| chosen.some)
+}
+
+/// Whether one of them has rows that are not shown.
+fn has_unshown(all: &[Chosen]) -> bool
+    ensures { IsTrue result ↔ Any (λ chosen. IsTrue chosen.unshown) all.now }
+{
+    all.iter().any(|chosen| chosen.unshown)
 }
 
 /// The texts of the rows of each principal, numbered from the first on. The rows are let go as their texts are made.
@@ -93,18 +117,26 @@ pub fn every_report<R: Threads + Sync, G: Gate + Sync>(
     gate: &G,
     format: Format,
     brief: bool,
-) -> Result<EveryText, EveryFault>
+) -> Result<EveryAnswer, EveryFault>
     requires principals { All (λ p. p < length asked.world.now.principals) principals.now }
     requires there { AreThere (every_of asked) }
     requires some { 1 ≤ workers }
     requires few { workers ≤ 64 }
-    ensures ok { IfOk result (λ text. IsEveryReport format brief (every_of asked.entry) principals.now decisions.now text) }
+    ensures ok { IfOk result (λ answer. IsEveryReport format brief (every_of asked.entry) principals.now decisions.now answer.text) }
+    ensures some { IfOk result (λ answer. TellsRows (every_of asked.entry) principals.now answer.some) }
+    ensures unshown { IfOk result (λ answer. TellsUnshown (every_of asked.entry) principals.now answer.unshown) }
     ensures many { IfErr result (λ fault. fault ≡ TooMany → IsTooLong (every_of asked.entry) principals.now decisions.now) }
 {
     let all = chosen_of_all(rt, alloc, asked, principals, decisions, workers, gate)?;
     if !are_few(all.as_slice()) {
         return Err(EveryFault::TooMany);
     }
+    let some = has_some(all.as_slice());
+    let unshown = has_unshown(all.as_slice());
     let rows = texts(alloc, asked.world, all, format, brief)?;
-    Ok(EveryText::of(format, brief, rows))
+    Ok(EveryAnswer {
+        text: EveryText::of(format, brief, rows),
+        some,
+        unshown,
+    })
 }

@@ -1,8 +1,11 @@
 // The rows that answer for a principal what is asked of all names.
-ghost use Rattle.std.specs.Prelude.{◌<◌, IfOk, length, map, string_bytes};
+ghost use Rattle.std.specs.Prelude.{◌≡◌, ◌<◌, IfOk, length, map, string_bytes};
+ghost use Rattle.std.specs.List.{range_with_len};
 ghost use Rattle.iam_layers.specs.Unnamed.{IsThere};
-ghost use Rattle.iam_every.specs.Code.Rows.{AreRowsOn, IsGiven, IsLinedBelow, IsNamedBelow, IsRowOf, IsStar, AreUnshown};
-ghost use Rattle.iam_every.specs.Every.{AreActions, AreRows, AreRowsFor, AreThere, every_of, line_of, row_of};
+ghost use Rattle.iam_every.specs.Code.Rows.{AreRowsOn, IsGiven, IsLinedBelow, IsNamedBelow, IsStar};
+ghost use Rattle.iam_every.specs.Every.{AreActions, AreRowsFor, AreThere, every_of, line_of, row_of, written_in};
+ghost use Rattle.iam_every.specs.Made.{AreAsked, AreJoined, AreOfAction, AreOfLine, AreOfResource, AreOfStar, IsRowOf, unshown_row};
+ghost use Rattle.iam_every.specs.Rows.{AreRows};
 
 use crate::asked::{Asked, Line, Which};
 use crate::given::{Given, first_line, has_line, is_among, line_patterns, names_of};
@@ -23,8 +26,9 @@ pub struct Row {
     pub verdict: Option<Verdict>,
 }
 
-/// The rows of principal p, which has to be below `principals()`: of each action and each resource of the world that a line matches, of
-/// each kind of texts that a line speaks of one, or one that says that the line has too many kinds.
+/// The rows of principal p, which has to be below `principals()`, action by action: of each resource of the world that a line matches,
+/// of `*`, and line by line of each kind of texts that the line is the first to speak of one, or one that says that the line has too
+/// many kinds. Where the actions have too many kinds, a row for each line says so.
 ///
 /// AWS IAM User Guide, "Policy evaluation logic".
 pub fn rows_of(alloc: Global, asked: Asked<'_>, p: u64) -> Result<Vec<Row>, OutOfMemory>
@@ -51,7 +55,9 @@ pub fn rows_of(alloc: Global, asked: Asked<'_>, p: u64) -> Result<Vec<Row>, OutO
 }
 
 /// Which actions are in question, as it is written.
-fn action_text(actions: Which<'_>) -> &str {
+fn action_text(actions: Which<'_>) -> &str
+    ensures { result.now ≡ written_in actions.entry }
+{
     match actions {
         Which::OfWorld => "*",
         Which::Matching(_, text) => text,
@@ -60,7 +66,7 @@ fn action_text(actions: Which<'_>) -> &str {
 
 /// A row for each line, which says that the actions that are written so are too many.
 fn unshown_lines(alloc: Global, lines: &[Line<'_>], actions: &str) -> Result<Vec<Row>, OutOfMemory>
-    ensures { IfOk result (λ rows. AreUnshown (map line_of lines.now) (map row_of rows.items)) }
+    ensures { IfOk result (λ rows. map row_of rows.items ≡ map (unshown_row actions.now) (map line_of lines.now)) }
 {
     let mut rows = Vec::with_capacity(alloc, lines.len())?;
     for line in lines {
@@ -77,6 +83,7 @@ fn rows_for_all(
 ) -> Result<Vec<Row>, OutOfMemory>
     requires given { IsGiven given }
     requires actions { AreActions (every_of given.asked) given.p (map string_bytes actions.now) }
+    requires asked { AreAsked (every_of given.asked) given.p (map string_bytes actions.now) }
     ensures { IfOk result (λ rows. AreRows (every_of given.entry.asked) given.entry.p (map row_of rows.items)) }
 {
     let mut rows = Vec::new(alloc);
@@ -90,7 +97,8 @@ fn rows_for_all(
 /// The rows for the action: those of the resources of the world, of `*` and of each line.
 fn rows_for(alloc: Global, given: Given<'_>, action: &str) -> Result<Vec<Row>, OutOfMemory>
     requires { IsGiven given }
-    ensures { IfOk result (λ rows. AreRowsFor (every_of given.entry.asked) given.entry.p action.now (map row_of rows.items)) }
+    ensures rows { IfOk result (λ rows. AreRowsFor (every_of given.entry.asked) given.entry.p action.now (map row_of rows.items)) }
+    ensures made { IfOk result (λ rows. AreOfAction (every_of given.entry.asked) given.entry.p action.now (map row_of rows.items)) }
 {
     let mut rows = named_rows(alloc, given, action)?;
     let mut star = star_rows(alloc, given, action)?;
@@ -103,8 +111,10 @@ fn rows_for(alloc: Global, given: Given<'_>, action: &str) -> Result<Vec<Row>, O
 /// A row for each resource of the world that a line speaks of.
 fn named_rows(alloc: Global, given: Given<'_>, action: &str) -> Result<Vec<Row>, OutOfMemory>
     requires { IsGiven given }
-    ensures { IfOk result (λ rows. AreRowsOn (every_of given.entry.asked) given.entry.p action.now
+    ensures rows { IfOk result (λ rows. AreRowsOn (every_of given.entry.asked) given.entry.p action.now
         (IsNamedBelow (every_of given.entry.asked) (length given.entry.asked.world.now.resources)) (map row_of rows.items)) }
+    ensures made { IfOk result (λ rows. AreJoined (AreOfResource (every_of given.entry.asked) given.entry.p action.now)
+        (range_with_len 0 (length given.entry.asked.world.now.resources)) (map row_of rows.items)) }
 {
     let mut rows = Vec::new(alloc);
     for r in 0..given.asked.world.resources() {
@@ -119,8 +129,9 @@ fn named_rows(alloc: Global, given: Given<'_>, action: &str) -> Result<Vec<Row>,
 /// A row for `*`, if a line speaks of it and no resource of the world has it.
 fn star_rows(alloc: Global, given: Given<'_>, action: &str) -> Result<Vec<Row>, OutOfMemory>
     requires { IsGiven given }
-    ensures { IfOk result (λ rows. AreRowsOn (every_of given.entry.asked) given.entry.p action.now (IsStar (every_of given.entry.asked))
-        (map row_of rows.items)) }
+    ensures rows { IfOk result (λ rows. AreRowsOn (every_of given.entry.asked) given.entry.p action.now
+        (IsStar (every_of given.entry.asked)) (map row_of rows.items)) }
+    ensures made { IfOk result (λ rows. AreOfStar (every_of given.entry.asked) given.entry.p action.now (map row_of rows.items)) }
 {
     let mut rows = Vec::new(alloc);
     if !is_among(given.names, "*") {
@@ -135,8 +146,10 @@ fn star_rows(alloc: Global, given: Given<'_>, action: &str) -> Result<Vec<Row>, 
 /// The rows of each line.
 fn rows_of_lines(alloc: Global, given: Given<'_>, action: &str) -> Result<Vec<Row>, OutOfMemory>
     requires { IsGiven given }
-    ensures { IfOk result (λ rows. AreRowsOn (every_of given.entry.asked) given.entry.p action.now
+    ensures rows { IfOk result (λ rows. AreRowsOn (every_of given.entry.asked) given.entry.p action.now
         (IsLinedBelow (every_of given.entry.asked) (length given.entry.asked.lines.now)) (map row_of rows.items)) }
+    ensures made { IfOk result (λ rows. AreJoined (AreOfLine (every_of given.entry.asked) given.entry.p action.now)
+        (range_with_len 0 (length given.entry.asked.lines.now)) (map row_of rows.items)) }
 {
     let mut rows = Vec::new(alloc);
     for k in 0..given.asked.lines.len() {

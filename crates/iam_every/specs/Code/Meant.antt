@@ -1,33 +1,24 @@
 -- What is said of resources, and the policies that are looked at for it, where one action of each kind is looked for. LOGIC 11.2.
-use Rattle.std.specs.Prelude.{◌≡◌, ◌⊎◌, ◌<◌, ◌↔◌, ℕ, List, [], None, Any, Contains}
-use Rattle.std.specs.Str.{chars}
-use Rattle.iam_glob.specs.Glob.{Matches}
+use Rattle.std.specs.Prelude.{◌≡◌, ◌⊎◌, ◌++◌, ℕ, List, Any, Contains, map}
+use Rattle.std.specs.List.{range_with_len}
 use Rattle.iam_decision.specs.Applicable.{ApplicableValue}
+use Rattle.iam_decision.specs.Matched.{Selects}
 use Rattle.iam_world.specs.World.{WorldValue}
-use Rattle.iam_layers.specs.Cell.{IsResource}
 use Rattle.iam_layers.specs.Unnamed.{AreUnnamedPolicies}
 use Rattle.iam_layers.specs.declared.unnamed.Unnamed.{Unnamed}
 use Rattle.iam_layers.specs.declared.unnamed.Unnamed.TheVariants.{Like}
 use Rattle.iam_every.specs.Alike.{AreAlikeActions}
-use Rattle.iam_every.specs.Every.{EveryValue, IsSaid, LineValue}
+use Rattle.iam_every.specs.Every.{EveryValue, IsMatched, LineValue}
 
--- these are all that is said
-abbrev pub AreSaid : EveryValue → List Unnamed → Type 0
-AreSaid every said = (unnamed : Unnamed) → Contains said unnamed ↔ IsSaid every unnamed
+-- a line says this, or it is said of a resource of the world that some line matches
+abbrev pub IsSaid : EveryValue → Unnamed → Type 0
+IsSaid every unnamed =
+    Any (λ line. unnamed ≡ line.unnamed) every.lines ⊎ ((r : ℕ) × IsMatched every.world every.lines r × (unnamed ≡ Like r))
 
--- it is said of one of the first n resources of the world, which some line matches
-abbrev pub IsOfFirst : WorldValue → List LineValue → ℕ → Unnamed → Type 0
-IsOfFirst world lines n unnamed =
-    (r : ℕ) × (r < n) × IsResource world r (λ resource. Any (λ line. Matches line.pattern (chars resource.arn)) lines) × (unnamed ≡ Like r)
-
--- what is said of these has been added
+-- what is said of the first n resources has been added, in order
 abbrev pub AreMore : WorldValue → List LineValue → ℕ → List Unnamed → List Unnamed → Type 0
-AreMore world lines n old new = (unnamed : Unnamed) → Contains new unnamed ↔ (Contains old unnamed ⊎ IsOfFirst world lines n unnamed)
-
--- no policies stand with the resource
-pub record IsPlain (a : ApplicableValue) : Type 0 where
-  pub control : a.control ≡ []
-  pub resource : a.resource ≡ None
+AreMore world lines n old new =
+    (matched : List ℕ) × Selects (IsMatched world lines) (range_with_len 0 n) matched × (new ≡ old ++ map (λ r. Like r) matched)
 
 -- actions that the first policies do not tell apart, the second do not either
 abbrev pub Covers : ApplicableValue → ApplicableValue → Type 0

@@ -1,23 +1,23 @@
 -- Rows for some of the texts that lines match, as they are collected.
-use Rattle.std.specs.Prelude.{◌≡◌, ◌<◌, ◌∷◌, [], ℕ, List, Contains, None, Some, codes, length, map, take}
-use Rattle.std.specs.List.{All, AllZip, slice_get}
+use Rattle.std.specs.Prelude.{◌≡◌, ◌<◌, [], ℕ, List, Contains, Some, codes, length, map}
+use Rattle.std.specs.List.{All, slice_get}
 use Rattle.std.specs.Str.{IsUtf8, chars}
 use Rattle.iam_glob.specs.Glob.{Matches}
 use Rattle.iam_glob.specs.Signs.{signs_in}
 use Rattle.iam_glob.specs.declared.sign.Sign.{Sign}
 use Rattle.iam_context.specs.Context.{ContextValue}
 use Rattle.iam_decision.specs.Applicable.{ApplicableValue, IsNumbered}
-use Rattle.iam_decision.specs.declared.verdict.Verdict.{Verdict}
 use Rattle.iam_kinds.specs.Answers.{IsAnswer}
-use Rattle.iam_kinds.specs.Kinds.{Question}
 use Rattle.iam_kinds.specs.declared.kinds.Kinds.{Kinds}
 use Rattle.iam_world.specs.World.{WorldValue}
 use Rattle.iam_layers.specs.Cell.{IsResource}
-use Rattle.iam_layers.specs.Unnamed.{AreUnnamedKeys, AreUnnamedPolicies, IsThere, IsUnnamedContext, IsUnnamedVerdict}
+use Rattle.iam_layers.specs.Unnamed.{AreUnnamedKeys, AreUnnamedPolicies, IsThere, IsUnnamedContext}
 use Rattle.iam_layers.specs.declared.unnamed.Unnamed.{Unnamed}
 use Rattle.iam_layers.specs.declared.unnamed.Unnamed.TheVariants.{Like}
-use Rattle.iam_every.specs.Every.{AreThere, EveryValue, IsFirst, IsMeantAction, IsNamed, IsResourceText, IsRight, IsToldBy, LineValue, RowValue, Says, arn_signs, every_of}
-use Rattle.iam_every.specs.Names.{AreGroupsAt, text_question}
+use Rattle.iam_every.specs.Every.{AreThere, EveryValue, IsFirst, IsMeantAction, IsNamed, IsResourceText, IsRight, IsToldBy, LineValue, RowValue, Says, arn_signs, every_of, line_question, patterns_of}
+use Rattle.iam_every.specs.Made.{IsRowOf}
+use Rattle.iam_every.specs.Names.{AreGroupsAt}
+use Rattle.iam_every.specs.OwnGroups.{AreOwnGroupsAt}
 use Rattle.iam_every.specs.declared.given.Given.{Given}
 
 -- ---- what is worked out once
@@ -25,9 +25,6 @@ use Rattle.iam_every.specs.declared.given.Given.{Given}
 pub record AreNames (world : WorldValue) (names : List (List ℕ)) : Type 0 where
   pub are : names ≡ map (λ resource. resource.arn) world.resources
   pub utf8 : All IsUtf8 names
-
-abbrev pub patterns_of : List LineValue → List (List Sign)
-patterns_of lines = map (λ line. line.pattern) lines
 
 pub record IsGiven (given : Given) : Type 0 where
   pub principal : given.p < length given.asked.world.now.principals
@@ -83,14 +80,6 @@ IsLined every k text unnamed =
 abbrev pub IsLinedBelow : EveryValue → ℕ → List ℕ → Unnamed → Type 0
 IsLinedBelow every i text unnamed = (k : ℕ) × (k < i) × IsLined every k text unnamed
 
--- the row has the verdict on the request for the resource of this text, of which this is said
-pub record IsRowOf (world : WorldValue) (p : ℕ) (unnamed : Unnamed) (action text : List ℕ) (row : RowValue) : Type 0 where
-  pub for_action : row.action ≡ action
-  pub for_text : row.resource ≡ text
-  pub verdict : Verdict
-  pub verdict_is : row.verdict ≡ Some verdict
-  pub right : IsUnnamedVerdict world p unnamed action text verdict
-
 -- ---- the rows of a line
 -- a row for each of the texts of which line k is the first to speak
 pub record AreRowsOfTexts (every : EveryValue) (p : ℕ) (action : List ℕ) (k : ℕ) (line : LineValue) (texts : List (List ℕ)) (rows : List RowValue) : Type 0 where
@@ -99,17 +88,9 @@ pub record AreRowsOfTexts (every : EveryValue) (p : ℕ) (action : List ℕ) (k 
   pub whole : (text : List ℕ) → Contains texts text → IsFirst every.lines text k line
       → (row : RowValue) × Contains rows row × IsRowOf every.world p line.unnamed action text row
 
--- which texts of line k are asked about, by these groups
-abbrev pub line_question : EveryValue → ℕ → LineValue → List (List (List Sign)) → Question
-line_question every k line groups =
-    text_question groups (line.pattern ∷ (arn_signs ∷ [])) (patterns_of (take k every.lines)) (map (λ resource. resource.arn) every.world.resources)
-
 -- one text of each kind of texts that line k speaks of
 pub record AreLineKinds (every : EveryValue) (p : ℕ) (action : List ℕ) (k : ℕ) (line : LineValue) (kinds : Kinds) : Type 0 where
   pub groups : List (List (List Sign))
+  pub own : AreOwnGroupsAt every.world p line.unnamed action groups
   pub are : AreGroupsAt every.world p line.unnamed action groups
   pub answer : IsAnswer (line_question every k line groups) kinds
-
--- a row for each line, which does not show it
-abbrev pub AreUnshown : List LineValue → List RowValue → Type 0
-AreUnshown lines rows = AllZip (λ line row. (row.resource ≡ line.text) × (row.verdict ≡ None)) lines rows

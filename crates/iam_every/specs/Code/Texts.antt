@@ -1,5 +1,5 @@
 -- The report as it is made: the rows of one principal after the other, each row put together from its quoted texts and a tail.
-use Rattle.std.specs.Prelude.{◌≡◌, ◌<◌, ℕ, All, Bool, true, false, List, [], ◌++◌, Option, Some, None, codes, decimal, length, map}
+use Rattle.std.specs.Prelude.{◌≡◌, ◌↔◌, ◌<◌, ℕ, All, Bool, IsTrue, true, false, List, [], ◌++◌, Option, Some, None, codes, decimal, length, map}
 use Rattle.std.specs.List.{slice_get}
 use Rattle.iam_decision.specs.declared.verdict.Decision.{Decision}
 use Rattle.iam_decision.specs.declared.verdict.Verdict.{Verdict}
@@ -11,8 +11,9 @@ use Rattle.iam_row.specs.Report.{CellTexts}
 use Rattle.iam_row.specs.declared.quoted.Format.{Format}
 use Rattle.iam_row.specs.declared.quoted.Format.TheVariants.{Csv, Json}
 use Rattle.iam_row.specs.declared.tail.Tail.{Tail}
-use Rattle.iam_every.specs.Every.{AreRows, AreThere, EveryValue, RowValue, every_of, row_of}
-use Rattle.iam_every.specs.Report.{IsWanted, NamedRow}
+use Rattle.iam_every.specs.Every.{AreThere, EveryValue, RowValue, every_of, row_of}
+use Rattle.iam_every.specs.Report.{IsWanted, NamedRow, has_unshown}
+use Rattle.iam_every.specs.Rows.{AreRows}
 use Rattle.iam_every.specs.declared.crew.Chosen.{Chosen}
 use Rattle.iam_every.specs.declared.crew.Principals.{Principals}
 use Rattle.iam_every.specs.declared.rows.Row.{Row}
@@ -64,6 +65,8 @@ pub record IsChosen (every : EveryValue) (decisions : List Decision) (p : ℕ) (
   pub rows : List RowValue
   pub are : AreRows every p rows
   pub wanted : Selects (IsWanted decisions) rows (map row_of chosen.rows)
+  pub some : IsTrue chosen.some ↔ (0 < length rows)
+  pub unshown : chosen.unshown ≡ has_unshown rows
 
 -- this one of the principals may be worked: all are there, and what is said of others names resources that are there
 pub record IsTile (crew : Principals) (tile : ℕ) : Type 0 where

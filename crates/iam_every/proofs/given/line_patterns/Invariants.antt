@@ -1,6 +1,6 @@
 use Rattle.std.proofs.Common.{◌≡◌, map, take}
 use Rattle.iam_glob.specs.Signs.{signs_in}
-use Rattle.iam_every.specs.Code.Rows.{patterns_of}
+use Rattle.iam_every.specs.Every.{patterns_of}
 use Rattle.iam_every.specs.Every.{line_of}
 use Rattle.iam_every.proofs.given.line_patterns.Given as goal
 

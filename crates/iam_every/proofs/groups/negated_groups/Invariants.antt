@@ -1,7 +1,7 @@
 use Rattle.std.proofs.Common.{map, take}
 use Rattle.iam_decision.specs.Code.Scan.{placed_value}
-use Rattle.iam_every.specs.Code.Sides.{AreNegatedGroups}
 use Rattle.iam_every.specs.Groups.{groups_of}
+use Rattle.iam_every.specs.OwnGroups.{AreNegatedGroups}
 use Rattle.iam_every.proofs.groups.negated_groups.Given as goal
 
 abbrev pub invariant-loop-standing : goal.invariant-loop-standing

@@ -1,13 +1,14 @@
 use Rattle.std.proofs.Common.{◌≡◌, ◌∷◌, ◌+◌, [], ◌++◌, Contains, List, map, refl, take, false, sym, ap, ◌∙◌, subst, arith}
 use Rattle.std.proofs.lemmas.List.{map-append, take_all}
+use Rattle.std.specs.List.{AllZip}
 use Rattle.iam_glob.specs.declared.sign.Sign.{Sign}
 use Rattle.iam_match.specs.Request.{access_of}
 use Rattle.iam_decision.specs.Code.Scan.{placed_value}
 use Rattle.iam_decision.specs.Matched.{Placed}
-use Rattle.iam_every.specs.Code.Sides.{HasElement, Reads, SideMeets}
 use Rattle.iam_every.specs.Groups.{groups_of, side_of, signs_of}
+use Rattle.iam_every.specs.OwnGroups.{AreSides, HasElement, IsSideGroup}
 use Rattle.iam_every.specs.declared.groups.Side.{Side}
-use Rattle.iam_every.proofs.SideLemmas.{AreReadBySide, HasSides, both_more, placed_more, sides_more, sides_skip, sides_whole}
+use Rattle.iam_every.proofs.SideLemmas.{both_more, placed_more, sides_more, sides_skip}
 use Rattle.iam_every.proofs.groups.side_groups.Goals as goal
 use Rattle.iam_every.proofs.groups.side_groups.Goals.{in-Some+in_ok-push+in_ok-side_group+in_ok-push-2, in_default}
 
@@ -23,35 +24,36 @@ loop-standing-preserved c =
     let sides = c.loop-standing.sides.items in
     let groups = groups_of c.loop-standing.groups.items in
     let step = placed_more statements i x c.loop-standing-test.true c.standing-item.is in
-    let R : Side → List (List Sign) → Type 0 = λ side group. Reads group (SideMeets access all side) in
+    let Fit : List Side → List (List (List Sign)) → Type 0 = λ ss gs. AllZip (IsSideGroup access all) ss gs in
+    let Sides : List Side → Type 0 = λ ss. AreSides access (map placed_value (take (i + 1) statements)) ss in
     elim c.match-new_side.branch [
       | in-Some+in_ok-push+in_ok-side_group+in_ok-push-2 w ↦
           let side = w.in-Some.side in
           let group = map signs_of w.in_ok-side_group.field-0.items in
-          let is : side ≡ side_of access.requester s = w.in-Some.ensures.some.0 in
+          let (is, has, new) = w.in-Some.ensures.some in
+          let fresh : ¬ Contains sides (side_of access.requester s) = λ in'. new (subst (λ (ss : List Side). Contains ss side) (sym c.as_slice.ensures.value)
+          (subst (Contains sides) (sym is) in')) in
           let more_sides : c.match-new_side.sides.items ≡ sides ++ (side ∷ []) = ap (λ v. v.items) w.sides-is ∙ w.in_ok-push.ensures.items in
           let more_groups : groups_of c.match-new_side.groups.items ≡ groups ++ (group ∷ []) =
           ap (λ v. groups_of v.items) w.groups-is ∙ ap (λ items. groups_of items) w.in_ok-push-2.ensures.items
           ∙ map-append (λ g. map signs_of g.items) c.loop-standing.groups.items _ in
-          let reads : Reads group (SideMeets access all side) = w.in_ok-side_group.ensures in
           record {
-            read = subst (λ (ss : List Side). AreReadBySide access all ss (groups_of c.match-new_side.groups.items)) (sym more_sides)
-                (subst (AreReadBySide access all (sides ++ (side ∷ []))) (sym more_groups)
-                (both_more R sides groups side group c.loop-standing.invariant.read reads));
-            has = subst (λ (ss : List Side). HasSides access (map placed_value (take (i + 1) statements)) ss) (sym more_sides)
-                (subst (λ (z : List Placed). HasSides access z (sides ++ (side ∷ []))) (sym step)
-                (subst (λ (one : Side). HasSides access (before ++ (s ∷ [])) (sides ++ (one ∷ []))) (sym is)
-                (sides_more access before s sides c.loop-standing.invariant.has)));
+            sides = subst Sides (sym more_sides)
+                (subst (λ (z : List Placed). AreSides access z (sides ++ (side ∷ []))) (sym step)
+                (subst (λ (one : Side). AreSides access (before ++ (s ∷ [])) (sides ++ (one ∷ []))) (sym is)
+                (sides_more access before s sides c.loop-standing.invariant.sides has fresh)));
+            groups = subst (λ (ss : List Side). Fit ss (groups_of c.match-new_side.groups.items)) (sym more_sides)
+                (subst (Fit (sides ++ (side ∷ []))) (sym more_groups)
+                (both_more (IsSideGroup access all) sides groups side group c.loop-standing.invariant.groups w.in_ok-side_group.ensures));
           }
       | in_default w ↦
           let there : HasElement false s → Contains sides (side_of access.requester s) =
           subst (λ (ss : List Side). HasElement false s → Contains ss (side_of access.requester s)) c.as_slice.ensures.value (w.in_default.ensures.none refl) in
           record {
-            read = subst (λ ss. AreReadBySide access all ss (groups_of c.match-new_side.groups.items)) (ap (λ v. v.items) (sym w.sides-is))
-                (subst (λ gs. AreReadBySide access all sides gs) (ap (λ v. groups_of v.items) (sym w.groups-is)) c.loop-standing.invariant.read);
-            has = subst (λ ss. HasSides access (map placed_value (take (i + 1) statements)) ss) (ap (λ v. v.items) (sym w.sides-is))
-                (subst (λ (z : List Placed). HasSides access z sides) (sym step)
-                (sides_skip access before s sides c.loop-standing.invariant.has there));
+            sides = subst Sides (ap (λ v. v.items) (sym w.sides-is))
+                (subst (λ (z : List Placed). AreSides access z sides) (sym step) (sides_skip access before s sides c.loop-standing.invariant.sides there));
+            groups = subst (λ ss. Fit ss (groups_of c.match-new_side.groups.items)) (ap (λ v. v.items) (sym w.sides-is))
+                (subst (Fit sides) (ap (λ v. groups_of v.items) (sym w.groups-is)) c.loop-standing.invariant.groups);
           }
     ]
 
@@ -59,6 +61,8 @@ pub returns : goal.returns
 returns c =
     let access = access_of c.args.access in
     let statements = c.args.statements.now in
-    let all = take_all c.loop-standing.standing-index statements (omega (arith, c.loop-standing-test.false)) in
-    sides_whole access (map placed_value statements) c.loop-standing.sides.items (groups_of c.loop-standing.groups.items) c.loop-standing.invariant.read
-    (subst (λ items. HasSides access (map placed_value items) c.loop-standing.sides.items) all c.loop-standing.invariant.has)
+    let all = take_all c.loop-standing.standing-index statements (omega (arith, c.loop-standing-test.false)) in (
+      c.loop-standing.sides.items,
+      subst (λ items. AreSides access (map placed_value items) c.loop-standing.sides.items) all c.loop-standing.invariant.sides,
+      c.loop-standing.invariant.groups,
+    )

@@ -12,8 +12,8 @@ use Rattle.iam_kinds.specs.declared.kinds.Kinds.{Kinds}
 use Rattle.iam_match.specs.Request.{access_of}
 use Rattle.iam_decision.specs.Applicable.{value_of}
 use Rattle.iam_layers.specs.Unnamed.{AreUnnamedKeys, AreUnnamedPolicies, IsUnnamedAccess, IsUnnamedContext}
-use Rattle.iam_every.specs.Code.Rows.{AreLineKinds, line_question, patterns_of}
-use Rattle.iam_every.specs.Every.{LineValue, arn_signs, every_of, line_of}
+use Rattle.iam_every.specs.Code.Rows.{AreLineKinds}
+use Rattle.iam_every.specs.Every.{LineValue, arn_signs, every_of, line_of, line_question, patterns_of}
 use Rattle.iam_every.specs.Groups.{groups_of}
 use Rattle.iam_every.specs.Names.{text_question}
 use Rattle.iam_every.proofs.AtLemmas.{groups_at}
@@ -75,10 +75,12 @@ returns c =
     IfOk-weaker c.text_kinds.result _ (λ kinds. (line : LineValue) → slice_get every.lines k ≡ Some line → AreLineKinds every p action k line kinds)
     (λ (kinds : Kinds) answer line at.
     let same = line_there given.asked.lines.now k c.index-given-k.result line at in
+    let its : IsUnnamedAccess world p line.unnamed action own a access =
+    subst (λ (x : LineValue). IsUnnamedAccess world p x.unnamed action own a access) same asks in
     record {
       groups = groups;
-      are = groups_at c.one_request.ensures world p line.unnamed action own a access groups
-          (subst (λ (x : LineValue). IsUnnamedAccess world p x.unnamed action own a access) same asks) c.in_ok-groups.ensures;
+      own = record { text = own; applicable = a; access = access; asks = its; are = c.in_ok-groups.ensures.own };
+      are = groups_at c.one_request.ensures world p line.unnamed action own a access groups its c.in_ok-groups.ensures.groups;
       answer = subst (λ (q : Question). IsAnswer q kinds) (question line same) answer;
     })
     c.text_kinds.ensures

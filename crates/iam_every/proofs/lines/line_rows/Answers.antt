@@ -1,31 +1,23 @@
-use Rattle.std.proofs.Common.{◌≡◌, ◌<◌, ◌∷◌, [], List, ℕ, String, chars, get_or, length, map, refl, sym, ap, subst, string_bytes}
-use Rattle.std.proofs.lemmas.List.Elements.{All-cons, All-nil}
+use Rattle.std.proofs.Common.{◌<◌, inl, inr, List, ℕ, String, chars, get_or, length, map, sym, subst, string_bytes}
 use Rattle.std.proofs.lemmas.Result.{IfOk-weaker}
-use Rattle.std.proofs.lemmas.Str.{IsUtf8-string_bytes}
 use Rattle.std.specs.Global.{Global}
 use Rattle.std.specs.List.{All}
 use Rattle.std.specs.Str.{IsUtf8}
-use Rattle.iam_kinds.specs.Kinds.{AreKinds}
+use Rattle.iam_kinds.specs.Shown.{AreKinds}
 use Rattle.iam_kinds.specs.declared.kinds.Kinds.TheVariants.{NotShown, Shown}
 use Rattle.iam_context.specs.Context.{ContextValue}
 use Rattle.iam_decision.specs.Applicable.{ApplicableValue, IsNumbered, value_of}
 use Rattle.iam_layers.specs.Unnamed.{AreUnnamedKeys, AreUnnamedPolicies, IsThere, IsUnnamedContext}
-use Rattle.iam_every.specs.Code.Rows.{AreLineKinds, AreRowsOn, IsGiven, IsLined, IsSceneOf, line_question}
-use Rattle.iam_every.specs.Every.{LineValue, every_of, line_of, row_of}
+use Rattle.iam_every.specs.Code.Rows.{AreLineKinds, AreRowsOn, IsGiven, IsLined, IsSceneOf}
+use Rattle.iam_every.specs.Every.{LineValue, TextsPass, every_of, line_of, line_question, row_of}
+use Rattle.iam_every.specs.Made.{AreOfLine, AreShown}
 use Rattle.iam_every.specs.declared.asked.Asked.{Asked}
 use Rattle.iam_every.specs.declared.asked.Line.{Line}
 use Rattle.iam_every.specs.declared.given.Given.{Given}
 use Rattle.iam_every.proofs.LineLemmas.{line_has, line_read}
+use Rattle.iam_every.proofs.MadeLemmas.{all_utf8, of_texts, spelled}
 use Rattle.iam_every.proofs.RowLemmas.{rows_shown, rows_unshown}
 use Rattle.iam_every.proofs.lines.line_rows.Goals as goal
-
-spelled : (texts : List (String Global)) → map (λ text. chars (string_bytes text)) texts ≡ map chars (map string_bytes texts)
-spelled [] = refl
-spelled (text ∷ texts) = ap (λ rest. chars (string_bytes text) ∷ rest) (spelled texts)
-
-all_utf8 : (texts : List (String Global)) → All IsUtf8 (map string_bytes texts)
-all_utf8 [] = All-nil IsUtf8
-all_utf8 (text ∷ texts) = All-cons IsUtf8 (string_bytes text) (map string_bytes texts) (IsUtf8-string_bytes text) (all_utf8 texts)
 
 abbrev There : Asked → LineValue → Type 0
 There asked line = IsThere asked.world.now line.unnamed
@@ -77,8 +69,8 @@ text_rows-requires-clause-scene c =
     scene c.args.given c.args.k c.index-given-k.result (value_of c.unnamed_applicable-applicable.result) c.in_ok-derived.derived.items
     c.in_ok-context.context c.requires.given c.requires.line policies.value policies.numbered c.in_ok-derived.ensures c.in_ok-context.ensures
 
-pub returns-in-Shown : goal.returns-in-Shown
-returns-in-Shown c =
+pub returns-in-Shown-clause-rows : goal.returns-in-Shown-clause-rows
+returns-in-Shown-clause-rows c =
     let given = c.args.given in
     let every = every_of given.asked in
     let p = given.p in
@@ -94,11 +86,40 @@ returns-in-Shown c =
     subst (λ (xs : List (String Global)). AreKinds (line_question every k line told.groups) (map chars (map string_bytes xs))) (sym c.as_slice.ensures.value)
     (subst (AreKinds (line_question every k line told.groups)) (spelled c.in-Shown.texts.items) told.answer.0) in
     IfOk-weaker c.text_rows.result _ (λ rows. AreRowsOn every p action (IsLined every k) (map row_of rows.items))
-    (λ rows of. rows_shown every p action k line told.groups (map string_bytes texts) (map row_of rows.items) names (all_utf8 texts) at told.are kinds (of line at))
+    (λ rows joined.
+    let of = of_texts every p action k line (map string_bytes texts) (map row_of rows.items) (joined line at) in
+    rows_shown every p action k line told.groups (map string_bytes texts) (map row_of rows.items) names (all_utf8 texts) at told.are kinds of)
     c.text_rows.ensures
 
-pub returns : goal.returns
-returns c =
+pub returns-in-Shown-clause-made : goal.returns-in-Shown-clause-made
+returns-in-Shown-clause-made c =
+    let given = c.args.given in
+    let every = every_of given.asked in
+    let p = given.p in
+    let k = c.args.k in
+    let action = c.args.action.now in
+    let line : LineValue = line_of (get_or given.asked.lines.now k c.index-given-k.result) in
+    let at = line_read given.asked.lines.now k c.index-given-k.result c.requires.line in
+    let told : AreLineKinds every p action k line (Shown c.in-Shown.texts) =
+    subst (AreLineKinds every p action k line) c.in-Shown.is (c.in_ok-texts.ensures line at) in
+    let question = line_question every k line told.groups in
+    let texts = c.as_slice.result.now in
+    let shown : AreShown question (map string_bytes texts) = record {
+      utf8 = all_utf8 texts;
+      kinds = subst (λ (xs : List (String Global)). AreKinds question (map chars (map string_bytes xs))) (sym c.as_slice.ensures.value)
+          (subst (AreKinds question) (spelled c.in-Shown.texts.items) told.answer.0);
+      all = told.answer.1;
+    } in
+    IfOk-weaker c.text_rows.result _ (λ rows. AreOfLine every p action k (map row_of rows.items))
+    (λ rows joined. (
+      line,
+      at,
+      inr (record { groups = told.groups; own = told.own; texts = map string_bytes texts; shown = shown; are = joined line at }),
+    ))
+    c.text_rows.ensures
+
+pub returns-clause-rows : goal.returns-clause-rows
+returns-clause-rows c =
     let given = c.args.given in
     let every = every_of given.asked in
     let p = given.p in
@@ -108,5 +129,20 @@ returns c =
     let at = line_read given.asked.lines.now k c.index-given-k.result c.requires.line in
     let told : AreLineKinds every p action k line NotShown = subst (AreLineKinds every p action k line) c.in-NotShown.is (c.in_ok-texts.ensures line at) in
     IfOk-weaker c.unshown_rows.result _ (λ rows. AreRowsOn every p action (IsLined every k) (map row_of rows.items))
-    (λ rows is. rows_unshown every p action k line told.groups (map row_of rows.items) at told.are told.answer is)
+    (λ rows is. rows_unshown every p action k line told.groups (map row_of rows.items) at told.own told.answer is)
+    c.unshown_rows.ensures
+
+pub returns-clause-made : goal.returns-clause-made
+returns-clause-made c =
+    let given = c.args.given in
+    let every = every_of given.asked in
+    let p = given.p in
+    let k = c.args.k in
+    let action = c.args.action.now in
+    let line : LineValue = line_of (get_or given.asked.lines.now k c.index-given-k.result) in
+    let at = line_read given.asked.lines.now k c.index-given-k.result c.requires.line in
+    let told : AreLineKinds every p action k line NotShown = subst (AreLineKinds every p action k line) c.in-NotShown.is (c.in_ok-texts.ensures line at) in
+    let passes : TextsPass every p action k line = record { at = at; groups = told.groups; own = told.own; passes = told.answer } in
+    IfOk-weaker c.unshown_rows.result _ (λ rows. AreOfLine every p action k (map row_of rows.items))
+    (λ rows is. (line, at, inl (passes, is)))
     c.unshown_rows.ensures

@@ -1,16 +1,16 @@
-use Rattle.std.proofs.Common.{◌≡◌, ◌+◌, ◌∷◌, [], ◌++◌, List, String, ℕ, arith, get_or, map, take, sym, ap, subst, ◌∙◌, string_bytes}
-use Rattle.std.proofs.lemmas.List.{map-append, map_more, take_all}
+use Rattle.std.proofs.Common.{◌≡◌, inl, inr, refl, ◌+◌, ◌∷◌, [], ◌++◌, List, String, ℕ, arith, get_or, map, take, sym, ap, subst, ◌∙◌, string_bytes}
+use Rattle.std.proofs.lemmas.List.{append-nil, map-append, map_more, take_all}
 use Rattle.std.specs.Global.{Global}
 use Rattle.std.specs.List.{slice_get}
 use Rattle.iam_context.specs.Context.{ContextValue}
 use Rattle.iam_match.specs.Request.{access_of}
 use Rattle.iam_decision.specs.Applicable.{value_of}
 use Rattle.iam_layers.specs.Unnamed.{AreUnnamedKeys, AreUnnamedPolicies, IsUnnamedAccess, IsUnnamedContext}
-use Rattle.iam_every.specs.Code.Rows.{AreRowsOfTexts, IsRowOf}
 use Rattle.iam_every.specs.Every.{IsFirst, LineValue, RowValue, every_of, row_of}
+use Rattle.iam_every.specs.Made.{AreJoined, AreOfText, IsRowOf}
 use Rattle.iam_every.proofs.LineLemmas.{line_there}
+use Rattle.iam_every.proofs.MadeLemmas.{joined_more}
 use Rattle.iam_every.proofs.NamesLemmas.{one_some}
-use Rattle.iam_every.proofs.RowLemmas.{texts_more, texts_skip}
 use Rattle.iam_every.proofs.lines.text_rows.Goals as goal
 use Rattle.iam_every.proofs.lines.text_rows.Goals.{then-is_first_line+in_ok-row_on+in_ok-push, else-is_first_line}
 
@@ -47,7 +47,8 @@ loop-text-preserved c line at =
     let more : before ++ (text ∷ []) ≡ map string_bytes (take (i + 1) texts) =
     ap (λ (x : List ℕ). before ++ (x ∷ [])) c.as_str-text.ensures.value
     ∙ ap (λ (x : String Global). before ++ (string_bytes x ∷ [])) c.text-item.is ∙ sym (map_more string_bytes texts i c.text-item.result c.loop-text-test.true) in
-    subst (λ (xs : List (List ℕ)). AreRowsOfTexts every p action k line xs (map row_of c.if-is_first_line.rows.items)) more
+    let Made = AreOfText every p action k line in
+    subst (λ (xs : List (List ℕ)). AreJoined Made xs (map row_of c.if-is_first_line.rows.items)) more
     (elim c.if-is_first_line.branch [
       | then-is_first_line+in_ok-row_on+in_ok-push w ↦
           let row : RowValue = row_of w.in_ok-row_on.field-0 in
@@ -58,19 +59,22 @@ loop-text-preserved c line at =
           let its : other ≡ line = one_some (slice_get every.lines k) other line first.at at in
           let pushed : map row_of c.if-is_first_line.rows.items ≡ rows ++ (row ∷ []) =
           ap (λ v. map row_of v.items) w.rows-is ∙ ap (map row_of) w.in_ok-push.ensures.items ∙ map-append row_of c.loop-text.rows.items _ in
-          subst (AreRowsOfTexts every p action k line (before ++ (text ∷ []))) (sym pushed)
-          (texts_more every p action k line before rows text row was (subst (λ (x : LineValue). IsFirst every.lines text k x) its first)
-          (subst (λ (x : LineValue). IsRowOf world p x.unnamed action text row) same of))
+          subst (AreJoined Made (before ++ (text ∷ []))) (sym pushed)
+          (joined_more Made before text rows (row ∷ []) was (inl (
+            subst (λ (x : LineValue). IsFirst every.lines text k x) its first,
+            (row, subst (λ (x : LineValue). IsRowOf world p x.unnamed action text row) same of, refl),
+          )))
       | else-is_first_line w ↦
           let never : ¬ IsFirst every.lines text k line =
           λ is. let yes = c.is_first_line.ensures.1 (line, is) in let no = w.if-is_first_line.false in let wrong : ⊥ = cc in wrong in
-          subst (AreRowsOfTexts every p action k line (before ++ (text ∷ []))) (ap (λ v. map row_of v.items) (sym w.rows-is))
-          (texts_skip every p action k line before rows text was never)
+          subst (AreJoined Made (before ++ (text ∷ []))) (append-nil rows ∙ ap (λ v. map row_of v.items) (sym w.rows-is))
+          (joined_more Made before text rows [] was (inr (never, refl)))
     ])
 
 pub returns : goal.returns
 returns c line at =
     let texts = c.args.texts.now in
     let every = every_of c.args.given.asked in
-    subst (λ (xs : List (String Global)). AreRowsOfTexts every c.args.given.p c.args.action.now c.args.k line (map string_bytes xs) (map row_of c.loop-text.rows.items))
+    subst (λ (xs : List (String Global)). AreJoined (AreOfText every c.args.given.p c.args.action.now c.args.k line) (map string_bytes xs)
+    (map row_of c.loop-text.rows.items))
     (take_all c.loop-text.text-index texts (omega (arith, c.loop-text-test.false))) (c.loop-text.invariant line at)

@@ -1,8 +1,10 @@
-use Rattle.std.proofs.Common.{◌≤◌, List, IsTrue, length, string_bytes, subst}
+use Rattle.std.proofs.Common.{◌≡◌, ◌↔◌, ◌<◌, ◌≤◌, ◌∙◌, [], Any, List, IsTrue, false, length, string_bytes, subst, sym}
 use Rattle.std.specs.List.{flat_map}
 use Rattle.iam_every.specs.Every.{every_of}
 use Rattle.iam_every.specs.declared.crew.Chosen.{Chosen}
+use Rattle.iam_every.specs.Report.{has_unshown}
 use Rattle.iam_every.proofs.ReportLemmas.{known_chosen, not_few, reported, rows_in, too_long}
+use Rattle.iam_every.proofs.ToldLemmas.{none_are, tells, untrue}
 use Rattle.iam_every.proofs.report.every_report.Goals as goal
 
 pub returns-then-not-are_few-clause-many : goal.returns-then-not-are_few-clause-many
@@ -24,3 +26,18 @@ returns-clause-ok g c =
     let few = subst F c.as_slice.ensures.value (c.are_few.ensures.0 c.if-not-are_few.false) in
     reported c.args.format c.args.brief every c.args.principals.now c.args.decisions.now c.in_ok-all.all.items (flat_map string_bytes c.in_ok-rows.rows.items) c.of.result
     c.requires.principals c.in_ok-all.ensures few c.in_ok-rows.ensures c.of.ensures
+
+pub returns-clause-some : goal.returns-clause-some
+returns-clause-some g c =
+    let T : List Chosen → Type 0 = λ all. IsTrue c.has_some-some.result ↔ Any (λ chosen. IsTrue chosen.some) all in
+    tells (every_of c.args.asked) c.args.decisions.now (λ chosen. chosen.some) (λ rows. 0 < length rows) (λ rows. rows ≡ [])
+    (λ p chosen is. is.some) none_are c.args.principals.now c.in_ok-all.all.items c.has_some-some.result c.in_ok-all.ensures
+    (subst T c.as_slice-2.ensures.value c.has_some-some.ensures)
+
+pub returns-clause-unshown : goal.returns-clause-unshown
+returns-clause-unshown g c =
+    let T : List Chosen → Type 0 = λ all. IsTrue c.has_unshown-unshown.result ↔ Any (λ chosen. IsTrue chosen.unshown) all in
+    tells (every_of c.args.asked) c.args.decisions.now (λ chosen. chosen.unshown) (λ rows. IsTrue (has_unshown rows))
+    (λ rows. has_unshown rows ≡ false) (λ p chosen is. (λ on. sym is.unshown ∙ on, λ on. is.unshown ∙ on))
+    (λ rows. untrue (has_unshown rows)) c.args.principals.now c.in_ok-all.all.items c.has_unshown-unshown.result c.in_ok-all.ensures
+    (subst T c.as_slice-3.ensures.value c.has_unshown-unshown.ensures)

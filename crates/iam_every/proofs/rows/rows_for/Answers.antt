@@ -1,12 +1,14 @@
 use Rattle.std.proofs.Common.{◌≡◌, ◌++◌, ℕ, length, map, sym, ap, subst, ◌∙◌}
 use Rattle.std.proofs.lemmas.List.{length-map, map-append}
+use Rattle.std.specs.List.{range_with_len}
 use Rattle.iam_every.specs.Code.Rows.{AreRowsOn, IsLinedBelow}
 use Rattle.iam_every.specs.Every.{AreRowsFor, every_of, line_of, row_of}
+use Rattle.iam_every.specs.Made.{AreJoined, AreOfLine}
 use Rattle.iam_every.proofs.RowLemmas.{rows_for_one}
 use Rattle.iam_every.proofs.rows.rows_for.Goals as goal
 
-pub returns : goal.returns
-returns c =
+pub returns-clause-rows : goal.returns-clause-rows
+returns-clause-rows c =
     let given = c.args.given in
     let every = every_of given.asked in
     let p = given.p in
@@ -20,5 +22,30 @@ returns c =
     ap (map row_of) c.in_ok-append-2.ensures.items ∙ map-append row_of c.append.new.self.items c.in_ok-lined.lined.items
     ∙ ap (λ xs. xs ++ lined) first in
     let below : AreRowsOn every p action (IsLinedBelow every (length every.lines)) lined =
-    subst (λ (n : ℕ). AreRowsOn every p action (IsLinedBelow every n) lined) (sym (length-map given.asked.lines.now line_of)) c.in_ok-lined.ensures in
-    subst (AreRowsFor every p action) (sym all) (rows_for_one every p action named star lined c.in_ok-rows.ensures c.in_ok-star.ensures below)
+    subst (λ (n : ℕ). AreRowsOn every p action (IsLinedBelow every n) lined) (sym (length-map given.asked.lines.now line_of)) c.in_ok-lined.ensures.rows in
+    subst (AreRowsFor every p action) (sym all) (rows_for_one every p action named star lined c.in_ok-rows.ensures.rows c.in_ok-star.ensures.rows below)
+
+pub returns-clause-made : goal.returns-clause-made
+returns-clause-made c =
+    let given = c.args.given in
+    let every = every_of given.asked in
+    let p = given.p in
+    let action = c.args.action.now in
+    let named = map row_of c.in_ok-rows.rows.items in
+    let star = map row_of c.in_ok-star.star.items in
+    let lined = map row_of c.in_ok-lined.lined.items in
+    let first : map row_of c.append.new.self.items ≡ named ++ star =
+    ap (map row_of) c.in_ok-append.ensures.items ∙ map-append row_of c.in_ok-rows.rows.items c.in_ok-star.star.items in
+    let all : map row_of c.append-2.new.self.items ≡ (named ++ star) ++ lined =
+    ap (map row_of) c.in_ok-append-2.ensures.items ∙ map-append row_of c.append.new.self.items c.in_ok-lined.lined.items
+    ∙ ap (λ xs. xs ++ lined) first in
+    record {
+      named = named;
+      are_named = c.in_ok-rows.ensures.made;
+      star = star;
+      is_star = c.in_ok-star.ensures.made;
+      lined = lined;
+      are_lined = subst (λ (n : ℕ). AreJoined (AreOfLine every p action) (range_with_len 0 n) lined) (sym (length-map given.asked.lines.now line_of))
+          c.in_ok-lined.ensures.made;
+      are = all;
+    }

@@ -1,10 +1,13 @@
-use Rattle.std.proofs.Common.{MatchOption, codes, map, refl, sym, ap, subst, ◌∙◌, string_bytes}
+use Rattle.std.proofs.Common.{◌≡◌, ℕ, List, String, MatchOption, codes, map, refl, sym, ap, subst, ◌∙◌, string_bytes}
 use Rattle.std.proofs.lemmas.Str.{chars-IsAscii}
 use Rattle.std.proofs.lemmas.Result.{IfOk-weaker}
+use Rattle.std.specs.Global.{Global}
 use Rattle.iam_glob.specs.Glob.{wild_sign}
 use Rattle.iam_glob.specs.Signs.{signs_in}
-use Rattle.iam_every.specs.Code.Rows.{AreNames, AreUnshown}
-use Rattle.iam_every.specs.Every.{ActionsPass, AreActions, AreRows, every_of, row_of}
+use Rattle.iam_every.specs.Code.Rows.{AreNames}
+use Rattle.iam_every.specs.Every.{ActionsPass, AreActions, every_of, row_of}
+use Rattle.iam_every.specs.Made.{AreAsked, unshown_row}
+use Rattle.iam_every.specs.Rows.{AreRows}
 use Rattle.iam_every.proofs.LineLemmas.{ascii}
 use Rattle.iam_every.proofs.RowLemmas.{unshown_all}
 use Rattle.iam_every.proofs.rows.rows_of.Goals as goal
@@ -14,9 +17,12 @@ returns-in_default c =
     let every = every_of c.args.asked in
     let p = c.args.p in
     let passes : ActionsPass every p =
-    subst (λ o. MatchOption o (ActionsPass every p) (λ actions. AreActions every p (map string_bytes actions.items))) c.in_default.is c.in_ok-actions.ensures in
-    IfOk-weaker c.unshown_lines.result (λ rows. AreUnshown every.lines (map row_of rows.items)) (λ rows. AreRows every p (map row_of rows.items))
-    (λ rows are. unshown_all every p (map row_of rows.items) are passes) c.unshown_lines.ensures
+    subst (λ o. MatchOption o (ActionsPass every p) (λ actions. AreActions every p (map string_bytes actions.items))) c.in_default.is c.in_ok-actions.ensures.alike in
+    let written : c.action_text.result.now ≡ every.written = c.action_text.ensures in
+    IfOk-weaker c.unshown_lines.result (λ rows. map row_of rows.items ≡ map (unshown_row c.action_text.result.now) every.lines)
+    (λ rows. AreRows every p (map row_of rows.items))
+    (λ rows are. unshown_all every p (map row_of rows.items) (are ∙ ap (λ (w : List ℕ). map (unshown_row w) every.lines) written) passes)
+    c.unshown_lines.ensures
 
 pub rows_for_all-requires-clause-given : goal.rows_for_all-requires-clause-given
 rows_for_all-requires-clause-given c = record {
@@ -27,3 +33,11 @@ rows_for_all-requires-clause-given c = record {
   names = subst (λ names. AreNames c.args.asked.world.now (map (λ name. name.now) names)) (sym c.as_slice.ensures.value) c.in_ok-names.ensures;
   patterns = ap (λ patterns. map signs_in patterns) c.as_slice-2.ensures.value ∙ c.in_ok-patterns.ensures;
 }
+
+pub rows_for_all-requires-clause-asked : goal.rows_for_all-requires-clause-asked
+rows_for_all-requires-clause-asked c =
+    let every = every_of c.args.asked in
+    let p = c.args.p in
+    let asked : AreAsked every p (map string_bytes c.in-Some.actions.items) =
+    subst (λ o. MatchOption o (ActionsPass every p) (λ actions. AreAsked every p (map string_bytes actions.items))) c.in-Some.is c.in_ok-actions.ensures.asked in
+    subst (λ (l : List (String Global)). AreAsked every p (map string_bytes l)) (sym c.as_slice-3.ensures.value) asked

@@ -1,0 +1,6 @@
+use Rattle.std.proofs.Common.{◌≡◌, take}
+use Rattle.iam_glob.specs.Signs.{signs_in}
+use Rattle.iam_every.proofs.actions.are_same.Given as goal
+
+abbrev pub invariant-loop-i : goal.invariant-loop-i
+invariant-loop-i l = take l.i (signs_in l.ones) ≡ take l.i (signs_in l.others)
