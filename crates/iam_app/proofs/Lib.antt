@@ -2,6 +2,7 @@ mod Asking
 mod Compared
 mod Comparing
 mod Flushed
+mod NamingLemmas
 pub mod OneOutput
 pub mod Refusals
 mod Selecting

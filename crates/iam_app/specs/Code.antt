@@ -1,4 +1,5 @@
 pub mod Asking
 pub mod Cells
+pub mod Naming
 pub mod Pieces
 pub mod Sides

@@ -6,6 +6,8 @@ pub mod Code
 pub mod Command
 pub mod FaultLine
 pub mod Laws
+pub mod Names
+pub mod NamesFault
 pub mod Output
 pub mod RequestsFault
 pub mod Selected

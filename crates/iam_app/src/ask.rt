@@ -25,7 +25,7 @@ use std::mem;
 use std::thread::Threads;
 
 /// Reads a world.
-fn read_world<R: Read>(alloc: Global, reader: &mut R) -> Result<World, RunFault>
+pub fn read_world<R: Read>(alloc: Global, reader: &mut R) -> Result<World, RunFault>
     ensures most { ConsumesAtMost (R.remaining reader.old) (R.remaining reader.new) 8388609 }
     ensures ok { IfOk result (λ world. HasWorld (R.remaining reader.old) world) }
     ensures fault { IfErr result (IsNoInput (R.remaining reader.old)) }

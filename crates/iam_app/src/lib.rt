@@ -6,9 +6,11 @@ mod cells;
 mod changes;
 mod changes_fault;
 mod command;
+mod every;
 mod fault;
 mod input;
 mod laws;
+mod names_fault;
 mod output;
 mod program;
 mod requests_fault;
@@ -18,18 +20,20 @@ pub use ask::{ask_status, run_ask};
 pub use changes::{Comparison, changes_status, run_changes};
 pub use changes_fault::{ChangesFault, Side, changes_fault_line};
 pub use command::{changes_command_status, command_status, run_changes_command, run_command};
+pub use every::{Told, every_status, run_every};
 pub use fault::{RunFault, fault_line, status};
-pub use iam_asked::{FaultyLine, LineFault};
+pub use iam_asked::{FaultyLine, FaultyText, LineFault, TextFault};
 pub use iam_changes::{Axis, Kinds, Twice};
 pub use iam_layers::WorldFault;
 pub use iam_matrix::{CutFault, MatrixFault};
 pub use iam_options::{
-    AskCommand, Asked, ChangesCommand, ChangesOptions, Command, FailOn, Options, RunOptions, Task,
-    Usage, WorldCommand, command_of, options_of,
+    AskCommand, Asked, ChangesCommand, ChangesOptions, Command, EveryCommand, FailOn, Options,
+    RunOptions, Task, Texts, Usage, WorldCommand, command_of, options_of,
 };
 pub use iam_selection::Selection;
 pub use iam_text::OutOfMemory;
 pub use laws::{one_changes_output, one_output};
+pub use names_fault::{NamesFault, names_fault_line};
 pub use program::run;
 pub use requests_fault::{RequestsFault, requests_fault_line};
 pub use selected::{run_selected, selection_of};

@@ -7,6 +7,7 @@ ghost use Rattle.iam_app.specs.Code.Pieces.{report_text};
 
 use iam_ask::AskText;
 use iam_changes::ChangesText;
+use iam_every::EveryText;
 use iam_report::{MatrixText, OutputFault, write_text};
 use iam_selection::ListText;
 use std::io::Write;
@@ -72,6 +73,20 @@ pub fn write_answers<W: Write>(
     requires { kept.old.items ≡ [] }
     ensures ok { OnOk result (Appends (W.contents writer.old) (W.contents writer.new) (ask_text report.now)) }
     ensures err { OnErr result (AppendsBeginning (W.contents writer.old) (W.contents writer.new) (ask_text report.now)) }
+{
+    report.write_to(writer, kept)?;
+    flush(writer)
+}
+
+/// Writes the report on all names, as [`write_report`] writes others.
+pub fn write_names<W: Write>(
+    writer: &mut W,
+    kept: &mut Vec<u8>,
+    report: &EveryText,
+) -> Result<(), OutputFault>
+    requires { kept.old.items ≡ [] }
+    ensures ok { OnOk result (Appends (W.contents writer.old) (W.contents writer.new) report.now) }
+    ensures err { OnErr result (AppendsBeginning (W.contents writer.old) (W.contents writer.new) report.now) }
 {
     report.write_to(writer, kept)?;
     flush(writer)

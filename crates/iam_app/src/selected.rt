@@ -30,7 +30,7 @@ use std::mem;
 use std::thread::Threads;
 
 /// The patterns that these words are.
-fn patterns(alloc: Global, words: &[String]) -> Result<Items<Glob>, OutOfMemory>
+pub fn patterns(alloc: Global, words: &[String]) -> Result<Items<Glob>, OutOfMemory>
     ensures { IfOk result (λ patterns. patterns ≡ patterns_in words.now) }
 {
     let mut patterns = Vec::new(alloc);
@@ -52,7 +52,7 @@ fn decision(word: &str) -> Decision
 }
 
 /// The decisions of these words.
-fn decisions(alloc: Global, words: &[String]) -> Result<Items<Decision>, OutOfMemory>
+pub fn decisions(alloc: Global, words: &[String]) -> Result<Items<Decision>, OutOfMemory>
     ensures { IfOk result (λ decisions. AllZip Means words.now decisions) }
 {
     let mut decisions = Vec::new(alloc);

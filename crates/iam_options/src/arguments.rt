@@ -81,9 +81,16 @@ pub fn run<'a>(
     name: &'static str,
     about: &'static str,
 ) -> Result<Parser<'a>, AllocError> {
-    reading(alloc, name, about)
-        .arg(workers(alloc))?
-        .arg(tile(alloc))
+    working(alloc, name, about)?.arg(tile(alloc))
+}
+
+/// A command with workers.
+pub fn working<'a>(
+    alloc: Global,
+    name: &'static str,
+    about: &'static str,
+) -> Result<Parser<'a>, AllocError> {
+    reading(alloc, name, about).arg(workers(alloc))
 }
 
 fn workers<'a>(alloc: Global) -> Arg<'a> {

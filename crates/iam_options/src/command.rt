@@ -5,6 +5,7 @@ ghost use Rattle.iam_options.specs.Words.{HasAsked, IsFileAt, IsFlag, texts_at};
 use crate::arguments::{check, decide, first, matrix, named, with};
 use crate::ask::{AskCommand, ask, ask_in};
 use crate::changes::{ChangesCommand, changes, changes_in};
+use crate::every::{EveryCommand, every, every_in};
 use crate::options::{Options, Usage, options_in, usage_of};
 use clap::builder::ValueParser;
 use clap::{Arg, ArgAction, ArgMatches, Command as Parser};
@@ -36,6 +37,8 @@ pub enum Command {
     Changes(ChangesCommand),
     /// The requests of a file.
     Ask(AskCommand),
+    /// All names.
+    Every(EveryCommand),
 }
 
 /// What a command line asks for of one world: the options, where the world comes from, and which rows are asked for.
@@ -94,6 +97,7 @@ fn command_or_usage(
     match (matches.subcommand(), options_in(matches)) {
         (Some(("changes", command)), _) => Ok(Command::Changes(changes_in(alloc, command)?)),
         (Some(("ask", command)), _) => Ok(Command::Ask(ask_in(alloc, command)?)),
+        (Some(("every", command)), _) => Ok(Command::Every(every_in(alloc, command)?)),
         (Some((_, command)), Some(options)) => {
             Ok(Command::World(world_in(alloc, options, command)?))
         }
@@ -148,7 +152,11 @@ pub fn asked_in(alloc: Global, command: &ArgMatches<'_>) -> Result<Asked, AllocE
 }
 
 /// The texts that stand under this name, in their order.
-fn texts_at(alloc: Global, command: &ArgMatches<'_>, name: &str) -> Result<Vec<String>, AllocError>
+pub fn texts_at(
+    alloc: Global,
+    command: &ArgMatches<'_>,
+    name: &str,
+) -> Result<Vec<String>, AllocError>
     ensures { IfOk result (λ texts. map string_bytes texts.items ≡ texts_at command.now name.now) }
 {
     match command.get_strs(name) {
@@ -176,7 +184,8 @@ fn iamsim<'a>(alloc: Global) -> Result<Parser<'a>, AllocError> {
         selecting_rows(alloc, of_world(alloc, matrix(alloc))),
     );
     let parser = with(parser, selecting(alloc, of_world(alloc, first(alloc))));
-    with(with(parser, changes(alloc)), ask(alloc))
+    let parser = with(parser, changes(alloc));
+    with(with(parser, ask(alloc)), every(alloc))
 }
 
 /// A command of a world that may be named.
@@ -234,7 +243,7 @@ pub fn file<'a>(alloc: Global, name: &'static str, help: &'static str) -> Arg<'a
         .help(help)
 }
 
-fn pattern<'a>(alloc: Global, name: &'static str, help: &'static str) -> Arg<'a> {
+pub fn pattern<'a>(alloc: Global, name: &'static str, help: &'static str) -> Arg<'a> {
     Arg::new(alloc, name)
         .long(name)
         .value_name("PATTERN")
@@ -243,7 +252,7 @@ fn pattern<'a>(alloc: Global, name: &'static str, help: &'static str) -> Arg<'a>
         .help(help)
 }
 
-fn decision<'a>(alloc: Global) -> Arg<'a> {
+pub fn decision<'a>(alloc: Global) -> Arg<'a> {
     Arg::new(alloc, "decision")
         .long("decision")
         .value_name("WORD")

@@ -5,9 +5,11 @@ mod arguments;
 mod ask;
 mod changes;
 mod command;
+mod every;
 mod options;
 
 pub use ask::AskCommand;
 pub use changes::{ChangesCommand, ChangesOptions, FailOn};
 pub use command::{Asked, Command, WorldCommand, command_of};
+pub use every::{EveryCommand, Texts};
 pub use options::{Options, RunOptions, Task, Usage, options_of};

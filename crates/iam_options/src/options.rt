@@ -156,7 +156,7 @@ fn decide_task(decide: &ArgMatches<'_>) -> Option<Task>
 }
 
 /// The number that stands under this name.
-fn number_at(matches: &ArgMatches<'_>, name: &str) -> Option<u64>
+pub fn number_at(matches: &ArgMatches<'_>, name: &str) -> Option<u64>
     ensures { IsNumberAt matches.now name.now 64 result }
 {
     matches.get_one(name)

@@ -19,7 +19,7 @@ use std::thread::Threads;
 const WORLDS: &str = "worlds.json";
 
 /// The files of rows, by theme.
-const ROWS: [&str; 13] = [
+const ROWS: [&str; 14] = [
     "ask.json",
     "changes.json",
     "commands.json",
@@ -27,6 +27,7 @@ const ROWS: [&str; 13] = [
     "contexts.json",
     "decisions.json",
     "documents.json",
+    "every.json",
     "layers.json",
     "limits.json",
     "matrix.json",

@@ -1,14 +1,15 @@
 // A row is an object: its name, the section of LOGIC.md that it tries (`rule`), an input, words, and what has to come of
 // them: `output`, or `row` for the full header and that row, else nothing; `fault`, the line of the fault, else none;
 // `status`, else 0 without a fault and 1 with one. Where it has `runs`, each of these has words and an answer of its own.
-// Of two worlds `before` is the input of the one before, and `input` that of the one after, and `requests`, beside the words, that of
-// a file of requests, whatever files the words name.
+// Of two worlds `before` is the input of the one before, and `input` that of the one after, and `lines`, beside the words, that of
+// a file of requests or of lines on texts, whatever files the words name.
 use crate::input::{input_of, number_at, text_at};
 use crate::problem::Problem;
 use iam_app::{
-    AskCommand, ChangesCommand, Command, Usage, WorldCommand, ask_status, changes_command_status,
-    changes_fault_line, command_of, command_status, fault_line, requests_fault_line, run_ask,
-    run_changes_command, run_command,
+    AskCommand, ChangesCommand, Command, EveryCommand, Usage, WorldCommand, ask_status,
+    changes_command_status, changes_fault_line, command_of, command_status, every_status,
+    fault_line, names_fault_line, requests_fault_line, run_ask, run_changes_command, run_command,
+    run_every,
 };
 use serde_json::Value;
 use std::alloc::Global;
@@ -102,11 +103,11 @@ fn try_run<R: AllocGlobal + Print + Threads + Sync>(
     let alloc = rt.alloc();
     let words = text_at(want, "words").ok_or(Problem::Form)?;
     let split: Vec<&str> = words.split_ascii_whitespace().collect(alloc)?;
-    let requests = match want.get("requests") {
-        Some(requests) => input_of(alloc, worlds, requests)?,
+    let lines = match want.get("lines") {
+        Some(lines) => input_of(alloc, worlds, lines)?,
         None => Vec::new(alloc),
     };
-    let answer = answer_to(rt, split.as_slice(), inputs, requests.as_slice())?;
+    let answer = answer_to(rt, split.as_slice(), inputs, lines.as_slice())?;
     let want = wanted(alloc, want)?;
     let same = is_same(&answer, &want);
     count(tally, same);
@@ -149,12 +150,13 @@ fn answer_to<R: AllocGlobal + Threads + Sync>(
     rt: &R,
     words: &[&str],
     inputs: &Inputs,
-    requests: &[u8],
+    lines: &[u8],
 ) -> Result<Answer, Problem> {
     match command_of(rt.alloc(), words) {
         Ok(Command::World(command)) => world_answer(rt, &command, inputs.world.as_slice()),
         Ok(Command::Changes(command)) => changes_answer(rt, &command, inputs),
-        Ok(Command::Ask(command)) => { ask_answer(rt, &command, inputs.world.as_slice(), requests) }
+        Ok(Command::Ask(command)) => ask_answer(rt, &command, inputs.world.as_slice(), lines),
+        Ok(Command::Every(command)) => every_answer(rt, &command, inputs.world.as_slice(), lines),
         Err(usage) => usage_answer(rt.alloc(), usage),
     }
 }
@@ -227,6 +229,29 @@ fn ask_answer<R: AllocGlobal + Threads + Sync>(
     };
     Ok(Answer {
         status: u64::from(ask_status(&outcome, command.allow_empty)),
+        output,
+        fault,
+    })
+}
+
+/// What comes of a command about all names.
+fn every_answer<R: AllocGlobal + Threads + Sync>(
+    rt: &R,
+    command: &EveryCommand,
+    world: &[u8],
+    lines: &[u8],
+) -> Result<Answer, Problem> {
+    let alloc = rt.alloc();
+    let mut input = world;
+    let mut file = lines;
+    let mut output = Vec::new(alloc);
+    let outcome = run_every(rt, alloc, command, &mut input, &mut file, &mut output);
+    let fault = match &outcome {
+        Ok(_) => String::new(alloc),
+        Err(fault) => names_fault_line(alloc, fault)?,
+    };
+    Ok(Answer {
+        status: u64::from(every_status(&outcome, command.allow_empty)),
         output,
         fault,
     })

@@ -4,9 +4,10 @@
 mod source;
 
 use iam_app::{
-    AskCommand, ChangesCommand, Command, OutOfMemory, Usage, WorldCommand, ask_status,
-    changes_command_status, changes_fault_line, command_of, command_status, fault_line,
-    requests_fault_line, run_ask, run_changes_command, run_command,
+    AskCommand, ChangesCommand, Command, EveryCommand, OutOfMemory, Texts, Usage, WorldCommand,
+    ask_status, changes_command_status, changes_fault_line, command_of, command_status,
+    every_status, fault_line, names_fault_line, requests_fault_line, run_ask, run_changes_command,
+    run_command, run_every,
 };
 use source::{Input, NotRead, Source, line_of_file};
 use std::alloc::Global;
@@ -43,6 +44,14 @@ fn main(rt: HostRuntime) -> ExitCode {
                 &mut file,
                 &mut rt.stdout(),
             );
+            ExitCode::from(status)
+        }
+        Ok(Command::Every(command)) => {
+            let none = None;
+            let mut input = Input::of(&rt, &command.world, rt.stdin());
+            let mut file = Input::of(&rt, lines_of(&command.texts, &none), rt.stdin());
+            let mut stdout = rt.stdout();
+            let status = every(&rt, alloc, &command, &mut input, &mut file, &mut stdout);
             ExitCode::from(status)
         }
         Err(usage) => ExitCode::from(tell_usage(&rt, &usage)),
@@ -117,6 +126,32 @@ fn ask<T: Threads + Sync + Files + Eprint, R: Read + Drop, W: Write>(
         tell_fault(rt, alloc, requests_fault_line(alloc, fault), not_read);
     }
     ask_status(&outcome, command.allow_empty)
+}
+
+/// The file of the lines; `none` where no file has them, which then is not read.
+fn lines_of<'a>(texts: &'a Texts, none: &'a Option<String>) -> &'a Option<String> {
+    match texts {
+        Texts::File(name) => name,
+        _ => none,
+    }
+}
+
+/// Answers for all names; the exit status.
+fn every<T: Threads + Sync + Files + Eprint, R: Read + Drop, W: Write>(
+    rt: &T,
+    alloc: Global,
+    command: &EveryCommand,
+    input: &mut Input<'_, R, T>,
+    file: &mut Input<'_, R, T>,
+    stdout: &mut W,
+) -> u8 {
+    let outcome = run_every(rt, alloc, command, input, file, stdout);
+    if let Err(fault) = &outcome {
+        // Where the world can't be read, the lines were not.
+        let not_read = input.not_read().or(file.not_read());
+        tell_fault(rt, alloc, names_fault_line(alloc, fault), not_read);
+    }
+    every_status(&outcome, command.allow_empty)
 }
 
 /// Prints what a command line without options is answered, and gives the exit status.
