@@ -358,17 +358,21 @@ class Maker:
         return text
 
 
-def request(dice, maker, world):
-    """A request of a world that has one, mostly with keys of its own; now and then off the world, or off the shape."""
-    principal = dice.choice(world["principals"])
+def requester(principal):
+    """The text of a principal in reports."""
     account, _, name = (principal.get("role") or "").partition(":role/")
-    text = (
+    return (
         principal.get("user")
         or f"{account.replace(':iam:', ':sts:')}:assumed-role/{name.split('/')[-1]}/{principal['session']}"
     )
+
+
+def request(dice, maker, world):
+    """A request of a world that has one, mostly with keys of its own; now and then off the world, or off the shape."""
+    principal = dice.choice(world["principals"])
     action = dice.choice(world["actions"])
     it = {
-        "principal": text,
+        "principal": requester(principal),
         "action": action.swapcase() if maker.often(0.2) else action,
         "resource": dice.choice(world["resources"])["arn"],
     }

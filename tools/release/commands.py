@@ -10,7 +10,7 @@ from iamsim_aws.command import parser as parser_of_aws
 from .proof import Refused
 
 # What stands behind an option or as an argument and is no file; any other name is completed as one.
-NO_FILES = set("ACCOUNT ACTION ID LOGIN N NAME PATTERN PRINCIPAL RESOURCE SECONDS WORD P A R".split())
+NO_FILES = set("ACCOUNT ACTION ID LOGIN N NAME NUMBER PATTERN PRINCIPAL RESOURCE SECONDS WORD P A R".split())
 
 
 class Parameter(NamedTuple):

@@ -2,10 +2,11 @@
 
 import json
 import os
+import re
 import sys
 import tempfile
 
-from harness import TOOLS, answer, aws, load, run, same
+from harness import IAMSIM, TOOLS, answer, aws, file, load, run, same
 
 BENCH = os.path.join(os.path.dirname(TOOLS), "bench")
 sys.path.insert(0, BENCH)
@@ -57,3 +58,22 @@ def test_a_random_world_is_the_same_each_time():
 def test_random_worlds_are_accepted_and_refused():
     status = [answer(["check"], Maker(seed).world())[0] for seed in range(60)]
     assert 20 < status.count(0) < 60 and set(status) == {0, 1}, status
+
+
+# Stands in for the program: no row of `every` is an explicit deny.
+WRONG = """#!/bin/sh
+[ "$1" = every ] || exec {program} "$@"
+{program} "$@" | sed 's/explicitDeny/allowed/g'
+"""
+
+
+def test_rows_of_all_names_are_held_against_the_matrix():
+    path = file(WRONG.format(program=IAMSIM))
+    os.chmod(path, 0o755)
+    for program, status, last in (
+        (IAMSIM, 0, r" rows, [1-9]\d+ texts, 0 "),
+        (path, 1, r" rows, [1-9]\d+ texts, [1-9]\d* "),
+    ):
+        words = [os.path.join(BENCH, "names"), "--worlds", "40"]
+        out, _ = run(["env", f"IAMSIM={program}", "TMPDIR=" + os.environ["TOOLS_TEST_ROOM"], *words], status=status)
+        assert re.search(last + "contradictions\n$", out), out

@@ -32,6 +32,7 @@ SELECTED = {
     "matrix --action S3:GETOBJECT --decision allowed": HEADER + CELL,
     f"matrix --format json --brief --principal {ANN}": ANSWERS["matrix --format json --brief"],
     "first --resource arn:aws:s3:::b/?": BRIEF_HEADER + BRIEF,
+    "every --resource arn:aws:s3:::b/k --like 0": HEADER + CELL,
 }
 EVERY = {**ANSWERS, **SELECTED}
 

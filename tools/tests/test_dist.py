@@ -20,7 +20,7 @@ from release import proof
 TOP = os.path.dirname(TOOLS)
 DIST = os.path.join(TOOLS, "dist")
 COMMANDS = {
-    "iamsim": ["check", "decide", "matrix", "first", "changes", "ask", "help"],
+    "iamsim": ["check", "decide", "matrix", "first", "changes", "ask", "every", "help"],
     "iamsim-aws": re.findall(
         r"^    ([a-z][a-z-]*)(?= |$)", run([os.path.join(TOOLS, "iamsim-aws"), "--help"])[0], re.M
     ),
@@ -387,6 +387,8 @@ def test_bash_completes_words_and_files():
         ["iamsim", "matrix", "--workers", ""],
         ["iamsim", "changes", "--fail-on", ""],
         ["iamsim", "ask", "--requests", "examples/sm"],
+        ["iamsim", "every", "--texts", "examples/sm"],
+        ["iamsim", "every", "--like", "examples/sm"],
     ]
     asked += [["iamsim", "decide", "0", "0", "0", "examples/sm"], ["iamsim", "help", "f"]]
     same(
@@ -397,6 +399,8 @@ def test_bash_completes_words_and_files():
             [],
             ["gained", "lost", "any"],
             ["examples/smallest.json"],
+            ["examples/smallest.json"],
+            [],
             ["examples/smallest.json"],
             ["first"],
         ],

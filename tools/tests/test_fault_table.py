@@ -7,14 +7,15 @@ import re
 from harness import TOOLS, same
 
 TOP = os.path.dirname(TOOLS)
-# For each table the enum that has its faults, and the section of LOGIC.md that states them. A run of two worlds has two more, and one of
-# requests another.
+# For each table the enum that has its faults, and the section of LOGIC.md that states them. A run of two worlds has two more, one of
+# requests another, and one about all names two more, the last of which has two forms.
 TABLES = {
     "Of the run": ("iam_app/src/fault.rt", "RunFault", "14"),
     "Of the matrix": ("iam_matrix/src/fault.rt", "MatrixFault", "11.7"),
     "Of the cut": ("iam_matrix/src/cut.rt", "CutFault", "11.7"),
     "Of the world": ("iam_world/src/fault.rt", "WorldFault", "12.2"),
     "Of a line of requests": ("iam_asked/src/fault.rt", "LineFault", "13.8"),
+    "Of a line of texts": ("iam_asked/src/text_fault.rt", "TextFault", "13.9"),
     "Of a context": ("iam_context/src/fault.rt", "ContextFault", "9.3"),
     "Of a document": ("iam_policy/src/fault.rt", "Fault", "6.3"),
 }
@@ -45,9 +46,10 @@ def variants(path, enum):
 def test_the_code_has_the_faults_of_the_table():
     run, *further = variants("iam_app/src/changes_fault.rt", "ChangesFault")
     also, *last = variants("iam_app/src/requests_fault.rt", "RequestsFault")
-    same([run, also], ["Run", "Run"])
+    names, *kinds, long = variants("iam_app/src/names_fault.rt", "NamesFault")
+    same([run, also, names, long], ["Run", "Run", "Run", "LongTexts"])
     for name, (path, enum, _) in TABLES.items():
-        same(variants(path, enum) + (further + last if enum == "RunFault" else []), table(name), enum)
+        same(variants(path, enum) + (further + last + kinds if enum == "RunFault" else []), table(name), enum)
 
 
 def test_logic_has_the_faults_of_the_table():
