@@ -1,7 +1,8 @@
 // Readers and writers that fail, at each of their calls, for all commands.
 use iam_app::{
-    Command, ask_status, changes_command_status, changes_fault_line, command_of, command_status,
-    fault_line, requests_fault_line, run_ask, run_changes_command, run_command,
+    AskCommand, Command, EveryCommand, ask_status, changes_command_status, changes_fault_line,
+    command_of, command_status, every_status, fault_line, names_fault_line, requests_fault_line,
+    run_ask, run_changes_command, run_command, run_every,
 };
 use std::io;
 use std::io::{ErrorKind, Read, Write};
@@ -49,8 +50,14 @@ const REQUESTS: &str =
 
 const ASK: &str = "ask world.json --requests - --workers 1 --brief";
 
+/// A line that speaks of the resource of the world alone, and how it is asked about.
+const LINES: &str = r#"{"pattern":"arn:aws:s3:::b/k","like":0}
+"#;
+
+const EVERY: &str = "every world.json --texts - --workers 1 --brief";
+
 /// Each command, in each form of its report, and what it writes.
-const RUNS: [(&str, &str); 10] = [
+const RUNS: [(&str, &str); 11] = [
     (
         "check",
         "ok principals 1 actions 1 resources 1 cells 1 statements 1\n",
@@ -64,6 +71,7 @@ const RUNS: [(&str, &str); 10] = [
     ("first --workers 1", BRIEF),
     (CHANGES, GAINED),
     (ASK, BRIEF),
+    (EVERY, BRIEF),
 ];
 
 /// The command of these words.
@@ -72,10 +80,11 @@ fn asked_by(rt: &impl AllocGlobal, words: &str) -> Result<Command, Fail> {
     Ok(command_of(rt.alloc(), split.as_slice())?)
 }
 
-/// What stands beside the world: the requests, or a world before it.
+/// What stands beside the world: the requests, the lines, or a world before it.
 fn beside(command: &Command) -> &'static str {
     match command {
         Command::Ask(_) => REQUESTS,
+        Command::Every(_) => LINES,
         Command::World(_) | Command::Changes(_) => EMPTY,
     }
 }
@@ -167,15 +176,41 @@ fn end_of<R: Read, S: Read, W: Write>(
                 line,
             ))
         }
-        Command::Ask(asked) => {
-            let outcome = run_ask(rt, alloc, &asked.options, after, before, writer);
-            let line = match &outcome {
-                Ok(_) => String::new(alloc),
-                Err(fault) => requests_fault_line(alloc, fault)?,
-            };
-            Ok((ask_status(&outcome, asked.allow_empty), line))
-        }
+        Command::Ask(asked) => end_of_requests(rt, asked, after, before, writer),
+        Command::Every(asked) => end_of_lines(rt, asked, after, before, writer),
     }
+}
+
+/// The same of a run of requests.
+fn end_of_requests<R: Read, S: Read, W: Write>(
+    rt: &(impl AllocGlobal + Threads + Sync),
+    asked: &AskCommand,
+    world: &mut R,
+    requests: &mut S,
+    writer: &mut W,
+) -> Result<(u8, String), Fail> {
+    let outcome = run_ask(rt, rt.alloc(), &asked.options, world, requests, writer);
+    let line = match &outcome {
+        Ok(_) => String::new(rt.alloc()),
+        Err(fault) => requests_fault_line(rt.alloc(), fault)?,
+    };
+    Ok((ask_status(&outcome, asked.allow_empty), line))
+}
+
+/// The same of a run about all names.
+fn end_of_lines<R: Read, S: Read, W: Write>(
+    rt: &(impl AllocGlobal + Threads + Sync),
+    asked: &EveryCommand,
+    world: &mut R,
+    lines: &mut S,
+    writer: &mut W,
+) -> Result<(u8, String), Fail> {
+    let outcome = run_every(rt, rt.alloc(), asked, world, lines, writer);
+    let line = match &outcome {
+        Ok(_) => String::new(rt.alloc()),
+        Err(fault) => names_fault_line(rt.alloc(), fault)?,
+    };
+    Ok((every_status(&outcome, asked.allow_empty), line))
 }
 
 /// A run whose readers fail after so many reads writes the report, and ends by this line.
@@ -214,7 +249,7 @@ fn readers_that_fail_at_each_read(rt: HostRuntime) -> Result<(), Fail> {
         }
         reads(&rt, &command, of_before, of_after, report, "")?;
     }
-    for words in [CHANGES, ASK] {
+    for words in [CHANGES, ASK, EVERY] {
         let command = asked_by(&rt, words)?;
         for count in 0..beside(&command).len().saturating_add(1) {
             reads(&rt, &command, count, of_after, "", "fault 1 Read")?;
