@@ -124,25 +124,28 @@ def test_lines_of_any_length():
     same(shell(f'yes \'{line}\' | "$0" "$@"', SMALLEST, "--texts", "-"), TOO_LARGE)
 
 
-def jobs(kind):
-    """Worlds, from standard input, with lines of them and actions of their own or all; and lines that are faulty."""
-    for path in (SMALLEST, COMPANY):
-        lines = file(widened(path))
-        with open(path, "rb") as it:
-            world = it.read()
-        for words in ([], ["--action", "*", "--workers", "1", "--brief", "--format", "json"]):
-            for later in (0, 1):
-                yield kind, later, ["every", "--texts", lines, *words], world
-    for lines in ("x\n", lines_of([LINE, {**LINE, "like": 9}])):
-        yield kind, 0, ["every", "--texts", file(lines)], row_world("smallest")
+def jobs(kind, path):
+    """A world, from standard input, with lines of it, for actions of its own or all; and lines that are faulty."""
+    with open(path, "rb") as it:
+        world = it.read()
+    lines = file(widened(path))
+    for words in ([], ["--action", "*", "--workers", "1", "--brief", "--format", "json"]):
+        for later in (0, 1):
+            yield kind, later, ["every", "--texts", lines, *words], world
+    for faulty in ("x\n", lines_of([LINE, {**LINE, "like": 9}])):
+        yield kind, 0, ["every", "--texts", file(faulty)], world
 
 
 def test_memory_refused():
-    tell("memory refused where all names are asked about", *refused(IAMSIM, list(jobs("REFUSE_CALL"))))
+    # A search asks for memory at each letter, and so of many calls one in so many is refused.
+    for path, step in ((SMALLEST, 3), (COMPANY, 397)):
+        found = refused(IAMSIM, list(jobs("REFUSE_CALL", path)), step=step)
+        tell("memory refused where all names are asked about", *found)
 
 
 def test_threads_refused():
-    tell("threads refused where all names are asked about", *refused(IAMSIM, list(jobs("REFUSE_THREAD"))))
+    for path in (SMALLEST, COMPANY):
+        tell("threads refused where all names are asked about", *refused(IAMSIM, list(jobs("REFUSE_THREAD", path))))
 
 
 def test_a_small_machine():
