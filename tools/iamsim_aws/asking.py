@@ -3,14 +3,14 @@
 import array
 import os
 import tempfile
-from typing import Any, Dict, Iterator, List, Tuple
+from typing import Any, Callable, Dict, Iterator, List, Tuple
 
 from . import decimals
 from .checking import lines, refused_documents, with_name
 from .documents import World, cells_of
 from .faults import Fault
 from .program import Refused, each_of, side_by_side, world_bytes
-from .reports import Answers, read_report, rows_of
+from .reports import Answers, read_allowed, read_report, rows_of
 from .splitting import parts
 
 
@@ -42,19 +42,29 @@ def explained(world: World, refused: Refused) -> Fault:
     return Fault(f"iamsim refuses a policy: {told[0]}{more}")
 
 
-def ask_all(worlds: List[World], brief: bool = False) -> List[Answers]:
-    """The answers to all requests of each world."""
+def asked(worlds: List[World], words: List[str], read: Callable[[World, str], Answers]) -> List[Answers]:
+    """The answers to all requests of each world, as they are read of the matrix that these words ask for."""
     several = [(n, part) for n, world in enumerate(worlds) for part in parts(whole(world))]
     found = [Answers(world, cells_of(world)) for world in worlds]
-    command = ["matrix", "--format", "json", *(["--brief"] if brief else [])]
+    command = ["matrix", "--format", "json", *words]
     texts = side_by_side(command, (world_bytes(part.world) for _, part in several), len(several))
     for n, part in several:
         try:
             text = next(texts).decode()
         except Refused as refused:
             raise explained(part.world, refused) from None
-        put(found[n], part.principal, part.resource, read_report(part.world, text))
+        put(found[n], part.principal, part.resource, read(part.world, text))
     return found
+
+
+def ask_all(worlds: List[World], brief: bool = False) -> List[Answers]:
+    """The answers to all requests of each world."""
+    return asked(worlds, ["--brief"] if brief else [], read_report)
+
+
+def ask_allowed(worlds: List[World]) -> List[Answers]:
+    """The answers to all requests of each world; why one is not allowed is not asked."""
+    return asked(worlds, ["--decision", "allowed", "--allow-empty"], read_allowed)
 
 
 def ask(world: World, brief: bool = False) -> Answers:

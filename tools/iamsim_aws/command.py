@@ -8,16 +8,17 @@ import signal
 from typing import Any, List, Optional
 
 from . import files
-from .commands import changes, estates, page, questions, replay, reports, rules, worlds
+from .commands import changes, escalate, estates, page, questions, replay, reports, rules, worlds
 from .faults import TOLD, Fault, tell
 
 DESCRIPTION = """Questions to iamsim about what AWS gives: who can, what changes, and the rules that a team keeps.
 Only 'organization' calls AWS; iamsim decides. docs/AWS.md explains it."""
 
 STATUSES = """statuses: 0 done; 1 a fault, told in one line; 2 the command line is refused; 3 'can': not all is allowed,
-'rules': a rule is broken, 'changes --fail-on': something changes, 'replay': a call is refused then, or answered otherwise;
-4 'rules': a rule meets no request, 'changes --fail-on': no request is of --action and --resource, 'replay': no call is
-asked for; 5 'replay --strict': something of the log was not asked; 6 '--database': of some requests nothing is known"""
+'rules': a rule is broken, 'changes --fail-on': something changes, 'replay': a call is refused then, or answered otherwise,
+'escalate': somebody can come there; 4 'rules': a rule meets no request, 'changes --fail-on': no request is of --action and --resource, 'replay': no call is
+asked for, 'escalate': there is nobody to ask; 5 'replay --strict': something of the log was not asked, 'escalate': nobody is
+found, and something is open; 6 '--database': of some requests nothing is known"""
 
 
 def parser() -> argparse.ArgumentParser:
@@ -29,7 +30,7 @@ def parser() -> argparse.ArgumentParser:
         allow_abbrev=False,
     )
     commands = made.add_subparsers(title="commands", metavar="COMMAND", required=True)
-    for group in (questions, changes, replay, rules, page, worlds, reports, estates):
+    for group in (questions, changes, replay, rules, escalate, page, worlds, reports, estates):
         group.add_all(commands)
     return made
 

@@ -24,6 +24,8 @@ from .patterns import any_matches, matcher
 
 # What a role has whose trust policy nobody knows yet: it is asked for as a principal alone.
 UNTOLD = "AssumeRolePolicyUntold"
+# The role under which a further resource runs, which no world has.
+RUNS_AS = "runsAs"
 
 
 class Estate(NamedTuple):
@@ -70,6 +72,8 @@ def further(it: Any, what: str) -> Dict[str, Any]:
     if not ACCOUNT.fullmatch(account):
         raise Fault(f"{what} ({arn}): account is no account of twelve digits: {account}")
     made = dict(it)
+    if not isinstance(made.get(RUNS_AS, ""), str):
+        raise Fault(f"{what} ({arn}): {RUNS_AS} is no ARN of a role")
     if made.get("policy") is None:
         made.pop("policy", None)
     else:
@@ -168,7 +172,8 @@ def refuse_doubles(names: List[str], fold: bool = False) -> None:
 
 def resources_of(estate: Estate, actions: List[str], patterns: List[str]) -> List[Dict[str, Any]]:
     roles = [it for account in estate.accounts for it in roles_as_resources(estate, account, actions)]
-    found = [with_keys(estate, it) for it in roles] + [bound(estate, it) for it in estate.further]
+    others = [{name: one for name, one in it.items() if name != RUNS_AS} for it in estate.further]
+    found = [with_keys(estate, it) for it in roles] + [bound(estate, it) for it in others]
     return [it for it in found if is_chosen(patterns, names_of_resource(it["arn"]))]
 
 

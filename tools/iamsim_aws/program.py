@@ -15,6 +15,10 @@ from .files import compact, encoded
 TOP = os.path.dirname(os.path.dirname(os.path.dirname(os.path.realpath(__file__))))
 
 
+# The status of an answer of 'every' that does not show all.
+NOT_SHOWN = 5
+
+
 class Refused(Fault):
     """The line of a fault of iamsim."""
 
@@ -54,7 +58,7 @@ class Questions:
             raise
         finally:
             self.running.discard(ran)
-        if ran.returncode != 0:
+        if ran.returncode not in (0, NOT_SHOWN):
             raise Refused(said.decode(errors="replace").strip() or f"iamsim ended with status {ran.returncode}")
         return out
 

@@ -25,6 +25,10 @@ class Answer(NamedTuple):
     lacks: Tuple[str, ...]
 
 
+# The answer to what is not allowed, where nobody asks why.
+REFUSED = Answer("implicitDeny", (), ())
+
+
 class Row(NamedTuple):
     principal: str
     action: str
@@ -179,6 +183,16 @@ def read_report(world: World, text: str) -> Answers:
         read_rows(answers, text)
     if len(answers.numbers) != cells_of(world):
         raise Fault("the report has fewer cells than the world: make both of the same world")
+    return answers
+
+
+def read_allowed(world: World, text: str) -> Answers:
+    """The answers of a report of what is allowed in the world; of the rest it does not say why."""
+    answers = Answers(world, cells_of(world))
+    answers.number(REFUSED, lambda: REFUSED)
+    for row in rows_of(text):
+        it = Answer(row["decision"], tuple(row.get("statements", ())), ())
+        answers.numbers[row["cell"]] = answers.number(it, lambda it=it: it)
     return answers
 
 

@@ -20,7 +20,11 @@ def add_options(parser: argparse.ArgumentParser, has_session: bool = True) -> No
     """What exports are joined with."""
     add = parser.add_argument
     files_of: Dict[str, Any] = {"action": "append", "default": [], "metavar": "FILE"}
-    add("--resources", **files_of, help="further resources, a JSON list of {arn, account, policy, sealed, context}")
+    add(
+        "--resources",
+        **files_of,
+        help="further resources, a JSON list of {arn, account, policy, sealed, context, runsAs}",
+    )
     add("--organization", metavar="FILE", help="the organisation's policies, as iamsim-aws organization collects them")
     add("--context", **files_of, help="the condition keys of all requests, a JSON object")
     if has_session:

@@ -13,7 +13,9 @@ from .manual import pages
 from .proof import Refused, sum_of
 
 DOCUMENTS = ["README.md", "CHANGELOG.md", "CONTRIBUTING.md", "bench/README.md", "docs/*", "examples/*.json"]
-DOCUMENTS += [f"tools/tests/data/{it}.json" for it in ("account", "draft", "partner")]  # of which docs/AWS.md speaks
+DOCUMENTS += [
+    f"tools/tests/data/{it}.json" for it in ("account", "draft", "partner", "log", "escalate")
+]  # of which docs/ speaks
 TOOLS = ["tools/iamsim-aws", "tools/install", "tools/iamsim_aws/**/*"]
 
 

@@ -1,0 +1,1 @@
+"""How principals come to more than they have, step by step."""

@@ -1,0 +1,158 @@
+"""The ways as a text, as JSON and as Markdown."""
+
+from typing import Any, Dict, List, Optional
+
+from ..faults import line_of
+from ..files import compact
+from ..kinds import Origin, made_up
+from ..telling import causes, deciding
+from .requests import Request
+from .search import Found
+from .steps import Open, Part, Step, words
+from .table import OWN
+
+# The principals and resources that a line names.
+FEW = 5
+
+
+def few(names: List[str]) -> str:
+    names = list(dict.fromkeys(names))
+    more = f" and {len(names) - FEW} more" if len(names) > FEW else ""
+    return ", ".join(names[:FEW]) + more
+
+
+def target_words(found: Found, step: Step) -> str:
+    """What a step comes to."""
+    changes = "".join(f", {words(it)}" for it in step.target.changes)
+    return found.people.arn(step.target) + changes
+
+
+def origin_of(found: Found, text: str) -> Optional[Origin]:
+    """What a text stands for that is made up."""
+    return made_up({it: found.stand[it] for it in (text,) if it in found.stand}).get(text)
+
+
+def request_lines(found: Found, it: Request) -> List[str]:
+    row = it.answers.row(it.cell)
+    keys = ", ".join(f"{key} {value}" for key, value in it.ask.keys if value != OWN)
+    first = f"{row.action} {row.resource}{f' ({keys})' if keys else ''}"
+    stand = origin_of(found, row.resource)
+    return [
+        first,
+        *([f"  stands for {stand.words()}"] if stand else []),
+        *(f"  allowed by {one.words()}" for one in deciding(it.answers, it.cell)),
+    ]
+
+
+def way_lines(found: Found, steps: List[Step]) -> List[str]:
+    lines: List[str] = []
+    for n, step in enumerate(steps, 1):
+        told = " and ".join(f"{part.words()} ({part.way.name})" for part in step.parts)
+        lines.append(f"  {n}. {told}: it is then {target_words(found, step)}")
+        lines += [f"     {it}" for part in step.parts for one in part.requests for it in request_lines(found, one)]
+    return lines
+
+
+def counted(count: int, word: str) -> str:
+    return f"{count} {word}{'' if count == 1 else 's'}"
+
+
+def summary(found: Found, end: str) -> str:
+    own = [it for it in found.ends if not it.changes]
+    one = "1 is" if len(own) == 1 else f"{len(own)} are"
+    who = sum(it.number < found.people.own for it in found.ways)
+    outside = len(found.ways) - who
+    more = f", and {outside} of those outside" if outside else ""
+    return f"{who} of {counted(found.people.own, 'principal')} can come to be {end}{more}; {one} already"
+
+
+def notes(found: Found) -> List[str]:
+    """What was not asked, or not shown."""
+    lines = [f"it is not shown who of these is an administrator: {few(list(map(found.name, found.unshown)))}"]
+    lines = lines if found.unshown else []
+    by_way: Dict[str, List[Open]] = {}
+    for it in found.open:
+        by_way.setdefault(it.part.way.name, []).append(it)
+    for name, some in by_way.items():
+        actions = " and ".join(ask.action for ask in some[0].part.way.asks)
+        who = few([found.name(it.node) for it in some])
+        lines.append(
+            f"not asked: where {actions} leads ({name}), since nothing tells under which role: allowed to {who}"
+        )
+    if found.keys:
+        lines.append(f"keys for which policies ask and that nothing gives count as absent: {', '.join(found.keys)}")
+    return lines
+
+
+def as_text(found: Found, end: str) -> str:
+    lines = [summary(found, end)]
+    already = [found.name(it) for it in found.ends if not it.changes]
+    lines += [f"already: {', '.join(already)}"] if already else []
+    for node, steps in found.ways.items():
+        lines += [f"{found.name(node)}, in {counted(len(steps), 'step')}:", *way_lines(found, steps)]
+    return "".join(f"{line_of(it)}\n" for it in [*lines, *notes(found)])
+
+
+def code(text: str) -> str:
+    return f"`{line_of(text)}`"
+
+
+def as_markdown(found: Found, end: str) -> str:
+    lines = [f"**{summary(found, end)}**", ""]
+    for node, steps in found.ways.items():
+        lines += [f"- {code(found.name(node))}, in {counted(len(steps), 'step')}:"]
+        for n, step in enumerate(steps, 1):
+            for part in step.parts:
+                asked = ", ".join(code(it.answers.row(it.cell).action) for it in part.requests)
+                lines.append(f"  {n}. {code(part.words())} ({part.way.name}: {asked})")
+    more = [f"- {code(it)}" for it in notes(found)]
+    return "\n".join([*lines, *(["", "Not asked or not shown:", "", *more] if more else [])]) + "\n"
+
+
+def request_json(found: Found, it: Request) -> Dict[str, Any]:
+    row = it.answers.row(it.cell)
+    statements = [
+        {"policy": one.policy, "layer": one.layer, "statement": one.number, "sid": one.sid, "json": one.statement}
+        for one in causes(it.answers, it.cell)
+    ]
+    keys = {key: value for key, value in it.ask.keys if value != OWN}
+    stand = origin_of(found, row.resource)
+    stands = [{"text": row.resource, **stand._asdict()}] if stand else []
+    request = {"action": row.action, "resource": row.resource, "keys": keys}
+    return {**request, "statements": statements, "standsFor": stands}
+
+
+def part_json(found: Found, part: Part) -> Dict[str, Any]:
+    requests = [request_json(found, it) for it in part.requests]
+    return {"way": part.way.name, "words": part.words(), "requests": requests}
+
+
+def step_json(found: Found, step: Step) -> Dict[str, Any]:
+    changes = [it._asdict() for it in step.target.changes]
+    return {
+        "from": found.name(step.source),
+        "to": found.name(step.target),
+        "changes": changes,
+        "parts": [part_json(found, it) for it in step.parts],
+    }
+
+
+def as_json(found: Found, end: str) -> str:
+    own = [it for it in found.ends if not it.changes]
+    made = {
+        "to": end,
+        "principals": found.people.own,
+        "already": [found.name(it) for it in own],
+        "found": [
+            {
+                "principal": found.name(node),
+                "outside": node.number >= found.people.own,
+                "steps": [step_json(found, it) for it in steps],
+            }
+            for node, steps in found.ways.items()
+        ],
+        "open": [{"principal": found.name(it.node), **part_json(found, it.part)} for it in found.open],
+        "notShown": [found.name(it) for it in found.unshown],
+        "absentKeys": found.keys,
+    }
+    return compact(made) + "\n"

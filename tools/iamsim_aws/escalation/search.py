@@ -1,0 +1,103 @@
+"""Who can come to be an administrator, or a given principal: the shortest way of each."""
+
+from typing import Dict, List, NamedTuple, Optional, Tuple
+
+from .. import chains
+from ..hanging import wanted
+from ..kinds import Origins
+from ..patterns import any_matches
+from ..arns import names_of_principal
+from ..sources import Source
+from ..strangers import shown, strangers
+from .administrators import administrators
+from .nodes import Node, People
+from .requests import Round, Things
+from .steps import Open, Step, Steps
+from .table import BOUNDARY_KEY, POLICY_KEY, SERVICE_KEY
+
+# The keys that the requests of the ways have where AWS has them.
+GIVEN_KEYS = {it.lower() for it in (BOUNDARY_KEY, POLICY_KEY, SERVICE_KEY)}
+
+
+class Found(NamedTuple):
+    """Whom the ways lead to, those of whom it is not shown, a way for each that comes there, and the steps that lead where
+    nothing tells."""
+
+    people: People
+    ends: List[Node]
+    unshown: List[Node]
+    ways: Dict[Node, List[Step]]
+    open: List[Open]
+    keys: List[str]
+    stand: Origins
+
+    def name(self, node: Node) -> str:
+        return shown(self.people.principals[node.number])
+
+
+class Search:
+    """Rounds: all nodes that are new are asked, and lead to others, until none is new."""
+
+    def __init__(self, source: Source, to: Optional[str]):
+        assert source.estate is not None
+        self.things = Things(source)
+        world = self.things.assumed
+        outside = strangers(source, [world])
+        self.people = People(world["principals"], outside, source.estate)
+        self.to = to
+        self.is_end: Dict[Node, Optional[bool]] = {}
+        self.steps: Dict[Tuple[Node, Node], Step] = {}
+        self.open: List[Open] = []
+        self.keys: Dict[str, None] = {}
+
+    def judge(self, nodes: List[Node]) -> None:
+        """Which nodes are what ways lead to."""
+        if self.to is None:
+            self.is_end.update(administrators(self.things, self.people, nodes))
+            return
+        for it in nodes:
+            self.is_end[it] = any_matches([self.to], names_of_principal(self.people.principals[it.number]))
+
+    def round(self, nodes: List[Node]) -> List[Node]:
+        """The nodes that are new after one step of these."""
+        asked = Round(self.things, self.people, nodes)
+        for answers in asked.answers.values():
+            self.keys.update(dict.fromkeys(it for it in wanted(answers.world) if it.lower() not in GIVEN_KEYS))
+        steps = Steps(self.things, self.people, asked)
+        new: Dict[Node, None] = {}
+        for node in nodes:
+            for step in steps.of(node):
+                self.steps.setdefault((step.source, step.target), step)
+                if step.target not in self.is_end:
+                    new[step.target] = None
+        self.open += [it for it in steps.open if not it.node.changes]
+        return list(new)
+
+    def found(self) -> Found:
+        own = [Node(n) for n in range(self.people.own)]
+        outside = [Node(n) for n in range(self.people.own, len(self.people.principals))]
+        self.judge(own)
+        self.is_end.update(dict.fromkeys(outside, False))
+        new = [it for it in [*own, *outside] if not self.is_end[it]]
+        while new:
+            new = self.round(new)
+            self.judge(new)
+            arrived = {it.number for it, is_end in self.is_end.items() if is_end}
+            new = [it for it in new if it.number not in arrived]
+        ends = [it for it, is_end in self.is_end.items() if is_end]
+        unshown = [it for it, is_end in self.is_end.items() if is_end is None]
+        return Found(self.people, ends, unshown, self.ways(ends), self.open, list(self.keys), self.things.stand)
+
+    def ways(self, ends: List[Node]) -> Dict[Node, List[Step]]:
+        """For each principal that is no end itself a shortest way to one."""
+        nodes = list(self.is_end)
+        texts = {it: f"{n:09}" for n, it in enumerate(nodes)}
+        into: chains.Steps = {}
+        for source, target in self.steps:
+            into.setdefault(texts[target], []).append(chains.Step(texts[source], ""))
+        found: Dict[Node, List[Step]] = {}
+        for text, way in chains.ways(into, {texts[it]: "" for it in ends}, len(nodes)).items():
+            node, path = nodes[int(text)], [nodes[int(it.principal)] for it in way.steps]
+            if not node.changes:
+                found[node] = [self.steps[pair] for pair in zip(path, path[1:])]
+        return dict(sorted(found.items()))

@@ -1,0 +1,318 @@
+"""Who can come to be an administrator: each way of the table, and the same without one of its requests, under a condition, behind a
+boundary and behind a policy of the organisation."""
+
+import json
+import os
+import re
+import sys
+import urllib.parse
+
+from harness import TOOLS, aws, data, document, file, same, statement
+
+sys.path.insert(0, TOOLS)
+from iamsim_aws.escalation.table import (  # noqa: E402
+    ANY,
+    BECOMES,
+    BOUNDARY,
+    GROUP,
+    HELD,
+    KINDS,
+    REPLACED,
+    UNTOLD,
+    VERSION,
+    WAYS,
+)
+
+OWN, OTHER = "111122223333", "444455556666"
+SECRET = {"Bool": {"aws:MultiFactorAuthPresent": "true"}}
+SERVICES = sorted({ask.service for way in WAYS for ask in way.asks} - {""})
+SCP = "SERVICE_CONTROL_POLICY"
+
+
+def arn(kind, name):
+    return f"arn:aws:iam::{OWN}:{kind}/{name}"
+
+
+def entity(kind, name, statements=(), **more):
+    """A user, role or group with an inline policy of these statements."""
+    own = [{"PolicyName": "own", "PolicyDocument": document(*statements)}] if statements else []
+    ids = {f"{kind}Name": name, f"{kind}Id": f"ID{name}", "Arn": arn(kind.lower(), name)}
+    return {**ids, f"{kind}PolicyList": own, "AttachedManagedPolicies": [], **more}
+
+
+def role(name, principal, statements=(), **more):
+    trust = document({"Effect": "Allow", "Principal": principal, "Action": "sts:AssumeRole"})
+    return entity("Role", name, statements, AssumeRolePolicyDocument=trust, **more)
+
+
+def managed(name, *documents):
+    """A managed policy, of which the first version is in force."""
+    versions = [{"VersionId": f"v{n}", "IsDefaultVersion": n == 0, "Document": it} for n, it in enumerate(documents)]
+    return {"PolicyName": name, "Arn": arn("policy", name), "PolicyVersionList": versions}
+
+
+def attached(name):
+    return {"AttachedManagedPolicies": [{"PolicyName": name, "PolicyArn": arn("policy", name)}]}
+
+
+def bound(name):
+    return {"PermissionsBoundary": {"PermissionsBoundaryArn": arn("policy", name)}}
+
+
+HARMLESS, EVERYTHING = document(statement(action="s3:ListBucket")), document(statement())
+SERVED = {"Service": SERVICES, "AWS": arn("user", "boss")}
+
+
+def ground():
+    """An account with administrators: a user, a role that services may have, one without an instance profile, and a group."""
+    return {
+        "UserDetailList": [entity("User", "boss", [statement()])],
+        "GroupDetailList": [entity("Group", "admins", [statement()])],
+        "RoleDetailList": [
+            role("chief", SERVED, [statement()], InstanceProfileList=[{"InstanceProfileName": "chief"}]),
+            role("bare", SERVED, [statement()]),
+            role("open", {"AWS": f"arn:aws:iam::{OWN}:root"}, [statement()]),
+        ],
+        "Policies": [managed("storage", document(statement(action="s3:*")))],
+    }
+
+
+def target(way, ask, kind, name):
+    """What a request of a way is allowed on."""
+    if ask.kind not in HELD:
+        return "*" if ask.kind == "*" else KINDS[ask.kind].replace("arn:*", "arn:aws")
+    if way.gain in BECOMES:
+        roles = {"assume-role": "open", "ec2-new-profile": "bare"}
+        return arn("role", roles.get(way.name, "chief")) if ask.kind == "role" else arn("user", "boss")
+    if ask.kind == "group":
+        return arn("group", "admins" if way.gain == GROUP else f"g-{name}")
+    return arn("policy", f"p-{name}") if ask.kind == "policy" else arn(kind.lower(), name)
+
+
+def add(export, way, name, lacks=None, **more):
+    """A principal that may go a way, but for the request that it lacks; `more` stands in each of its statements."""
+    kind = "Role" if way.gain in (ANY, BOUNDARY) and way.asks[0].kind == "role" else "User"
+    asks = [it for it in way.asks if it != lacks and it.kind in (*HELD, *KINDS, "*")]
+    allowed = [statement(action=it.action, resource=target(way, it, kind, name), **more) for it in asks]
+    has, own = {}, allowed
+    if way.gain == BOUNDARY:
+        own, has = [statement()], bound(f"b-{name}")
+        export["Policies"].append(managed(f"b-{name}", document(*allowed, statement(action="s3:ListBucket"))))
+    if way.gain in (REPLACED, VERSION):
+        has = attached(f"p-{name}")
+        export["Policies"].append(managed(f"p-{name}", HARMLESS, EVERYTHING))
+    if way.gain == ANY and way.asks[0].kind == "group":
+        has = {"GroupList": [f"g-{name}"]}
+        export["GroupDetailList"].append(entity("Group", f"g-{name}"))
+    if kind == "Role":
+        export["RoleDetailList"].append(role(name, {"Service": "unused.amazonaws.com"}, own, **has))
+    else:
+        export["UserDetailList"].append(entity("User", name, own, **has))
+    return (export["RoleDetailList"] if kind == "Role" else export["UserDetailList"])[-1]
+
+
+def account():
+    """An account with a principal for each way, and its twins that may not go it."""
+    made = ground()
+    for way in WAYS:
+        add(made, way, way.name)
+        for n, ask in enumerate(it for it in way.asks if it.kind in (*HELD, *KINDS, "*")):
+            add(made, way, f"{way.name}-lacks-{n}", lacks=ask)
+        add(made, way, f"{way.name}-keyed", Condition=SECRET)
+        if way.gain != BOUNDARY:
+            add(made, way, f"{way.name}-bound").update(bound("storage"))
+    return made
+
+
+def organization(*denied):
+    """An organisation whose policy denies these actions."""
+    full = [statement(), *([statement("Deny", list(denied))] if denied else [])]
+    return {
+        "id": "o-1",
+        "management": "999900001111",
+        "parents": {OWN: [{"Id": "r-1"}]},
+        "targets": {it: [{"Id": "p-1", "Type": SCP}] for it in ("r-1", OWN)},
+        "policies": [{"PolicySummary": {"Id": "p-1"}, "Content": json.dumps(document(*full))}],
+    }
+
+
+def escalated(export, *words, status=3):
+    out, _ = aws("escalate", file(export), "--moment", "0", "--format", "json", *words, status=status)
+    return json.loads(out)
+
+
+def short(name):
+    """The name of a user, or of the role of a session."""
+    return name.split("/")[1]
+
+
+def found(answer):
+    """{name: [names of the ways of each step]} of who comes there."""
+    return {
+        short(it["principal"]): [[part["way"] for part in step["parts"]] for step in it["steps"]]
+        for it in answer["found"]
+    }
+
+
+def test_each_way_is_found_and_none_without_one_of_its_requests():
+    answer = escalated(account())
+    same(sorted(map(short, answer["already"])), ["bare", "boss", "chief", "open"])
+    wanted = {way.name: [[way.name]] for way in WAYS if way.gain != UNTOLD}
+    same(found(answer), wanted)
+    told = {(short(it["principal"]), it["way"]) for it in answer["open"]}
+    for way in (it for it in WAYS if it.gain == UNTOLD):
+        assert (way.name, way.name) in told, way.name
+        twins = {who for who, name in told if name == way.name and who.startswith(f"{way.name}-")}
+        assert not {f"{way.name}-bound", f"{way.name}-keyed"} & twins, twins
+    same(answer["absentKeys"], ["aws:MultiFactorAuthPresent"])
+
+
+def test_no_way_is_found_behind_a_policy_of_the_organisation():
+    denied = sorted({way.asks[0].action for way in WAYS})
+    answer = escalated(account(), "--organization", file(organization(*denied)), status=0)
+    same(sorted(map(short, answer["already"])), ["bare", "boss", "chief", "open"])
+    same((answer["found"], answer["open"]), ([], []))
+
+
+def test_with_the_key_that_a_condition_asks_for():
+    way = next(it for it in WAYS if it.name == "lambda-new")
+    export = ground()
+    add(export, way, "keyed", Condition=SECRET)
+    same(escalated(export, status=0)["absentKeys"], ["aws:MultiFactorAuthPresent"])
+    answer = escalated(export, "--context", file({"aws:MultiFactorAuthPresent": True}))
+    same(found(answer), {"keyed": [["lambda-new"]]})
+
+
+def test_what_runs_under_a_role_that_the_resources_tell():
+    function = f"arn:aws:lambda:eu-west-1:{OWN}:function:nightly"
+    export = ground()
+    export["UserDetailList"].append(
+        entity("User", "coder", [statement(action="lambda:UpdateFunctionCode", resource=function)])
+    )
+    answer = escalated(export, status=5)
+    same((found(answer), [it["way"] for it in answer["open"]]), ({}, ["lambda-code"]))
+    resources = [{"arn": function, "account": OWN, "runsAs": arn("role", "chief")}]
+    answer = escalated(export, "--resources", file(resources))
+    same((found(answer), answer["open"]), ({"coder": [["lambda-code"]]}, []))
+
+
+def test_several_steps_are_the_shortest_way():
+    """By a role to a group, where she may write a policy; the boundary goes first where it is in the way."""
+    export = ground()
+    export["RoleDetailList"] += [
+        role(
+            "one",
+            {"AWS": arn("user", "ann")},
+            [statement(action="iam:AddUserToGroup", resource=arn("group", "writers"))],
+        ),
+        role(
+            "two", {"AWS": arn("role", "one")}, [statement(action="iam:CreateAccessKey", resource=arn("user", "boss"))]
+        ),
+    ]
+    export["GroupDetailList"].append(entity("Group", "writers", [statement(action="iam:PutUserPolicy")]))
+    own = ["iam:AddUserToGroup", "iam:DeleteUserPermissionsBoundary"]
+    export["Policies"].append(managed("iam", document(statement(action=[*own, "iam:PutUserPolicy"]))))
+    export["UserDetailList"] += [
+        entity("User", "ann"),
+        entity(
+            "User",
+            "joe",
+            [statement(action=own, resource=[arn("group", "writers"), arn("user", "joe")])],
+            **bound("iam"),
+        ),
+        entity(
+            "User", "kim", [statement(action=["iam:PutRolePolicy", "sts:AssumeRole"], resource=arn("role", "idle"))]
+        ),
+    ]
+    export["RoleDetailList"].append(role("idle", {"AWS": f"arn:aws:iam::{OWN}:root"}))
+    answer = escalated(export)
+    ways = found(answer)
+    same(ways["ann"], [["assume-role"], ["assume-role"], ["access-key"]])
+    same(ways["two"], [["access-key"]])
+    same(ways["kim"], [["put-role-policy", "assume-role"]])
+    same(sorted(it for step in ways["joe"] for it in step)[:2], ["join-group", "no-user-boundary"])
+    same(len(ways["joe"]), 3)
+
+
+def test_an_administrator_is_whom_nothing_of_his_own_keeps_from_anything():
+    """What the organisation denies to all makes nobody less; a deny of one's own does, and so does a boundary."""
+    export = ground()
+    bucket = statement("Deny", "s3:PutObject", "arn:aws:s3:::logs/*")
+    export["UserDetailList"] += [
+        entity("User", "denied", [statement(), bucket]),
+        entity("User", "bound", [statement()], **bound("storage")),
+        entity(
+            "User", "parts", [statement(action="iam:*"), {"Effect": "Allow", "NotAction": "iam:*", "Resource": "*"}]
+        ),
+    ]
+    answer = escalated(export, "--organization", file(organization("s3:DeleteBucket")))
+    same(sorted(map(short, answer["already"])), ["bare", "boss", "chief", "open", "parts"])
+    same(sorted(found(answer)), ["denied"])
+
+
+def test_to_a_principal():
+    export = ground()
+    way = next(it for it in WAYS if it.name == "put-user-policy")
+    add(export, way, "eve")
+    answer = escalated(export, "--to", "boss")
+    same(found(answer)["eve"], [["put-user-policy"], ["access-key"]])
+    same(sorted(found(answer)), ["bare", "chief", "eve", "open"])
+    _, said = aws("escalate", file(export), "--to", "bos", status=1)
+    assert "no principal matches bos" in said, said
+
+
+def test_who_is_outside():
+    export = ground()
+    export["RoleDetailList"].append(role("partner", {"AWS": OTHER}, [statement()]))
+    answer = escalated(export)
+    same([it["principal"] for it in answer["found"]], [f"anyone outside: account {OTHER}"])
+    same([it["outside"] for it in answer["found"]], [True])
+
+
+def test_the_forms():
+    """The trust policy is a text with %-escapes, as the API of IAM gives it."""
+    export = ground()
+    chief = export["RoleDetailList"][0]
+    chief["AssumeRolePolicyDocument"] = urllib.parse.quote(json.dumps(chief["AssumeRolePolicyDocument"]))
+    add(export, next(it for it in WAYS if it.name == "lambda-new"), "dev")
+    path = file(export)
+    out, _ = aws("escalate", path, status=3)
+    assert out.startswith("1 of 5 principals can come to be an administrator; 4 are already\n"), out
+    assert "  1. runs a new function under the role" in out and "inline own, statement 1 (identity policy)" in out, out
+    out, _ = aws("escalate", path, "--format", "markdown", status=3)
+    assert out.startswith("**1 of 5 principals can come to be an administrator; 4 are already**\n\n- `"), out
+    drawing = file("")
+    aws("escalate", path, "--svg", drawing, status=3)
+    with open(drawing, encoding="utf-8") as it:
+        text = it.read()
+    assert text.startswith("<svg ") and "lambda-new" in text and not re.search("https?://(?!www.w3.org/2000/svg)", text)
+
+
+def test_nobody_to_ask():
+    export = {**ground(), "UserDetailList": [], "RoleDetailList": []}
+    out, _ = aws("escalate", file(export), status=4)
+    same(out, "")
+
+
+def test_the_page_shows_what_the_command_prints_and_names_each_way():
+    with open(os.path.join(os.path.dirname(TOOLS), "docs", "escalate.md"), encoding="utf-8") as it:
+        text = it.read()
+    shown = re.search(r"\$ iamsim-aws escalate export.json\n(.*?)```", text, re.S).group(1)
+    same(aws("escalate", data("escalate.json"), status=3)[0], shown)
+    for way in WAYS:
+        names = [f"`{way.name}`"] if way.gain != UNTOLD else [it.action.partition(":")[2] for it in way.asks]
+        assert all(it in text for it in names), way.name
+
+
+def test_where_the_organisation_lets_nobody_do_anything_no_administrator_is_shown():
+    """A policy on regions denies to all but who says his region; a context gives it."""
+    denied = {"StringNotEquals": {"aws:RequestedRegion": "eu-west-1"}}
+    made = organization()
+    content = document(statement(), statement("Deny", Condition=denied))
+    made["policies"][0]["Content"] = json.dumps(content)
+    export, words = ground(), ["--organization", file(made)]
+    add(export, next(it for it in WAYS if it.name == "put-user-policy"), "eve")
+    answer = escalated(export, *words, status=5)
+    same((answer["already"], len(answer["notShown"]), answer["absentKeys"]), ([], 5, ["aws:RequestedRegion"]))
+    answer = escalated(export, *words, "--context", file({"aws:RequestedRegion": "eu-west-1"}))
+    same((found(answer), len(answer["already"])), ({"eve": [["put-user-policy"]]}, 4))
