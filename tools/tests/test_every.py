@@ -148,21 +148,6 @@ def test_threads_refused():
         tell("threads refused where all names are asked about", *refused(IAMSIM, list(jobs("REFUSE_THREAD", path))))
 
 
-def test_a_small_machine():
-    texts = [document(statement(), statement("Deny", resource=f"{B}*{it}*")) for it in LETTERS]
-    world = file(
-        {**small_world(), "principals": [{"user": f"{ANN}{n}", "identity": [it]} for n, it in enumerate(texts)]}
-    )
-    words = f'exec "$0" every {world} --resource "{B}*" --like 0 --workers 64'
-    whole = answer(["-c", words, IAMSIM], program="bash")
-    same((whole[0], whole[1].count(b"\n")), (0, 1 + 3 * len(LETTERS)))
-    # So many KiB of address space: from what the C library alone fills nearly, to where nothing is refused.
-    found = [answer(["-c", f"ulimit -v {8000 << n}; {words}", IAMSIM], program="bash") for n in range(9)]
-    right = [whole, *((1, b"", line) for line in LINES[1:])]
-    same([it for it in found if it not in right], [])
-    same((found[0] in right[1:], found[-1]), (True, whole))
-
-
 def hostile():
     """Worlds of one principal, and the words of a command on them, that have as much to look at as can be."""
     letters = [chr(0x4E00 + number) for number in range(4096)]
@@ -180,6 +165,19 @@ def hostile():
     actions = document(*(statement(action=f"*:*{it}*") for it in LETTERS))
     yield "actions of all letters", wild, actions, ["--action", "*"]
     yield "actions of stars", B, document(statement(action="s3:" + "*a" * 2000)), ["--action", "s3:" + "*b" * 2000]
+
+
+def test_a_small_machine():
+    pattern, policy = next((pattern, policy) for what, pattern, policy, _ in hostile() if what.startswith("products"))
+    world = file(small_world(policy))
+    words = f'exec "$0" every {world} --resource "{pattern}" --like 0 --brief'
+    whole = answer(["-c", words, IAMSIM], program="bash")
+    same((whole[0], whole[2], whole[1].count(b"notShown")), (5, b"", 1))
+    # So many KiB of address space: from what the C library alone fills nearly, to where nothing is refused.
+    found = [answer(["-c", f"ulimit -v {8000 << n}; {words}", IAMSIM], program="bash") for n in range(9)]
+    right = [whole, *((1, b"", line) for line in LINES[1:])]
+    same([it for it in found if it not in right], [])
+    same((found[0] in right[1:], found[-1]), (True, whole))
 
 
 def test_patterns_that_are_made_to_take_long():
