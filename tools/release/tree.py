@@ -12,7 +12,7 @@ from .completions import completions
 from .manual import pages
 from .proof import Refused, sum_of
 
-DOCUMENTS = ["README.md", "CHANGELOG.md", "CONTRIBUTING.md", "bench/README.md", "docs/*", "examples/*.json"]
+DOCUMENTS = ["README.md", "CHANGELOG.md", "CONTRIBUTING.md", "bench/README.md", "docs/*", "examples/*.json", "rules/*"]
 DOCUMENTS += [
     f"tools/tests/data/{it}.json" for it in ("account", "draft", "partner", "log", "escalate")
 ]  # of which docs/ speaks

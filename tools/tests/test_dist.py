@@ -26,7 +26,13 @@ COMMANDS = {
     ),
 }
 MEMBERS = ["iamsim", "README.md", "CHANGELOG.md", "PROVED", "SHA256SUMS", "docs/AWS.md", "docs/page.png"]
-MEMBERS += ["examples/smallest.json", "tools/iamsim-aws", "tools/install", "tools/iamsim_aws/command.py"]
+MEMBERS += [
+    "examples/smallest.json",
+    "rules/no-public-access.txt",
+    "tools/iamsim-aws",
+    "tools/install",
+    "tools/iamsim_aws/command.py",
+]
 MEMBERS += ["tools/iamsim_aws/parts/page.html", "man/iamsim.1", "man/iamsim-aws.1", "man/iamsim-matrix.1"]
 MEMBERS += [
     "completions/bash/iamsim",
