@@ -42,7 +42,7 @@ class Questions:
         self.is_stopped = False
 
     def ask(self, words: List[str], world: bytes) -> bytes:
-        """What iamsim writes, or its fault."""
+        """What iamsim writes, or its fault. Where 'every' does not show all, its rows say so."""
         try:
             ran = subprocess.Popen([program(), *words], stdin=PIPE, stdout=PIPE, stderr=PIPE)
         except OSError as error:
@@ -69,7 +69,7 @@ class Questions:
 
 
 def run(words: List[str], world: bytes) -> bytes:
-    """What iamsim writes, or its fault."""
+    """What iamsim writes, or its fault where its status is none of these."""
     return Questions().ask(words, world)
 
 

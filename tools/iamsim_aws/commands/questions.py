@@ -6,6 +6,7 @@ from typing import Any, Dict, List, NamedTuple, Set
 from .. import chains, drafts, files, hanging
 from ..asking import ask
 from ..covering import tell_lacked, tell_strangers
+from ..everything import is_meant
 from ..exports import policy
 from ..faults import Fault, line_of, tell
 from ..hanging import Turn
@@ -15,7 +16,7 @@ from ..reports import Answers, csv_text
 from ..sources import add_source, source_of
 from ..strangers import is_stranger
 from ..telling import HEADER, as_fields, as_json, told
-from . import databases
+from . import databases, everything
 from .parsers import add, add_chains, add_verbose
 
 
@@ -29,6 +30,7 @@ class Found(NamedTuple):
 
 def add_all(commands: Any) -> None:
     example = "iamsim-aws can alice s3:GetObject arn:aws:s3:::homes/alice/x export.json"
+    example += "\n\nall that alice may do:\n  iamsim-aws can alice '*' '*' export.json"
     parser = add(commands, "can", "answer whether a principal may do this, and why", example, can)
     parser.add_argument("principal", metavar="PRINCIPAL", help="a name, an ARN, or a pattern of these")
     add_question(parser)
@@ -152,7 +154,10 @@ def write(options: argparse.Namespace, found: List[Found], text: List[str]) -> N
 def can(options: argparse.Namespace) -> int:
     if options.database:
         return databases.can(options)
-    found = answered(scope_of(options), Question(options.principal, options.action, options.resource))
+    question = Question(options.principal, options.action, options.resource)
+    if is_meant(question) and not options.kinds and options.policy is None:
+        return everything.answer(options, scope_of(options), question)
+    found = answered(scope_of(options), question)
     lines = []
     for it in found:
         for cell in range(len(it.answers.numbers)):

@@ -1,0 +1,158 @@
+"""can PRINCIPAL '*' '*': what may be done at all. What each answer must be is worked out by hand from the exports in data/."""
+
+import json
+
+from harness import aws, data, document, file, load, same, small_world, statement
+
+ACCOUNT = "arn:aws:iam::111122223333:"
+EXPORT = data("account.json")
+ALICE, ANN = f"{ACCOUNT}user/alice", f"{ACCOUNT}user/ann"
+# What the program shows of all that no policy tells apart from its fewest signs.
+REST = "arn:::::"
+
+
+def asked(who, *words, action="*", status=0):
+    """{(actions, decision): (resources, others, policies)} of an answer in JSON; actions in lower case."""
+    out, _ = aws("can", who, action, "*", *words, "--format", "json", "--session", "s1", status=status)
+    return {
+        (" ".join(it["actions"]).lower(), it["decision"]): (
+            it["resources"],
+            it["others"],
+            [one["policy"] for one in it["statements"]],
+        )
+        for it in json.loads(out)
+    }
+
+
+def of_world(*statements, status=0, action="*", words=(), **more):
+    """What ann of a small world may do."""
+    made = file(small_world(document(*statements), **more))
+    return {
+        key[0]: found[:2] for key, found in asked("ann", "--world", made, *words, action=action, status=status).items()
+    }
+
+
+def test_what_a_user_may_do():
+    homes, roles = f"{ACCOUNT}group/Developers inline Homes", f"{ACCOUNT}policy/AssumeRoles"
+    found = asked("alice", EXPORT)
+    # deploy trusts the account, audit her; partner, which her policy means too, another account, with a key.
+    assumed = [f"{ACCOUNT}role/app/{it}" for it in ("deploy", "audit")]
+    rest = [f"{ACCOUNT}role/{it}" for it in ("app/partner", "worker", "people", "app/chain")]
+    rest += [f"{ACCOUNT}role/aws-service-role/support.amazonaws.com/AWSServiceRoleForSupport", "*"]
+    same(
+        found,
+        {
+            ("s3:get", "allowed"): (["*", REST], [], ["arn:aws:iam::aws:policy/ReadObjects"]),
+            ("s3:putobject", "allowed"): (["arn:aws:s3:::teams/red/"], ["*", REST], [homes, homes]),
+            ("sts:assumerole", "allowed"): (assumed, rest, [roles, *(f"{it} trust policy" for it in assumed)]),
+        },
+    )
+    # Of one service alone.
+    same(set(asked("alice", EXPORT, action="S3:*")), {("s3:get", "allowed"), ("s3:putobject", "allowed")})
+    same(set(asked("alice", EXPORT, action="sts:*")), {("sts:assumerole", "allowed")})
+    same(asked("alice", EXPORT, action="kms:*", status=3), {})
+    # With --kinds the requests are asked for that the policies' patterns give, as ever.
+    out, _ = aws("can", "alice", "s3:*", "*", EXPORT, "--kinds", status=3)
+    assert f"\nallowed: {ALICE} s3:Getx arn:aws:s3:::homes/alice/x\n" in out, out
+
+
+def test_it_is_told_in_words():
+    out, said = aws("can", "alice", "s3:*", "*", EXPORT)
+    lines = out.splitlines()
+    same(lines[:2], [f"{ALICE} may", "  of s3"])
+    same(lines[2].lower(), "    s3:get on all")
+    same(
+        lines[3],
+        "      by arn:aws:iam::aws:policy/ReadObjects, statement 0 (identity policy): s3:Get*, s3:List* on *",
+    )
+    same(lines[4].lower(), "    s3:putobject on arn:aws:s3:::teams/red/")
+    home = f"      by {ACCOUNT}group/Developers inline Homes, statement 0 OwnHome (identity policy): s3:PutObject on "
+    same(lines[5], home + "arn:aws:s3:::homes/${aws:username}/*")
+    assert lines[7].startswith("of actions and resources that are decided alike one is shown, "), out
+    same((len(lines), said), (9, ""))
+    out, _ = aws("can", "partner", "*", "*", EXPORT, status=3)
+    same(out.splitlines()[0], "arn:aws:sts::111122223333:assumed-role/partner/session may do nothing of this")
+    out, _ = aws("can", "alice", "s3:*", "*", EXPORT, "--format", "csv")
+    same(out.splitlines()[1].lower(), f"{ALICE},allowed,s3,s3:get,* {REST},,arn:aws:iam::aws:policy/readobjects")
+    _, said = aws("can", "nobody", "*", "*", EXPORT, status=1)
+    assert "no principal matches nobody" in said, said
+
+
+def test_services_that_no_policy_names():
+    made = file(
+        small_world(document({"Effect": "Allow", "NotAction": ["iam:*", "sts:*"], "NotResource": "arn:aws:s3:::b/k"}))
+    )
+    out, _ = aws("can", "ann", "*", "*", "--world", made)
+    lines = out.splitlines()
+    same(lines[0], f"{ANN} may")
+    assert lines[1].startswith("  of any other service, for which "), out
+    assert lines[3].endswith(": all but iam:*, sts:* on all but arn:aws:s3:::b/k"), out
+
+
+def test_what_resources_say():
+    """A bucket's policy holds of all objects, and one of another account grants by its policy alone."""
+    denying = document(statement("Deny", "s3:*", ["arn:aws:s3:::b", "arn:aws:s3:::b/*"], Principal="*"))
+    bucket = {"arn": "arn:aws:s3:::b", "account": "111122223333", "policy": denying}
+    (found,) = of_world(statement(action="s3:*"), resources=[bucket]).values()
+    same(found, (["*", REST], ["arn:aws:s3:::b", "arn:aws:s3:::b/"]))
+    # So where an object alone is named.
+    (found,) = of_world(statement(action="s3:*"), resources=[{**bucket, "arn": "arn:aws:s3:::b/k"}]).values()
+    same(found, (["*", REST], ["arn:aws:s3:::b/k", "arn:aws:s3:::b", "arn:aws:s3:::b/"]))
+    queue = "arn:aws:sqs:eu-west-1:444455556666:q"
+    same(of_world(statement(action="sqs:*", resource=queue), status=3), {})
+    granting = document(statement(action="sqs:SendMessage", Principal={"AWS": ANN}))
+    given = {"resources": [{"arn": queue, "account": "444455556666", "policy": granting}]}
+    made = small_world(document(statement(action="sqs:*", resource=queue)), **given)
+    made["accounts"].append({"id": "444455556666"})
+    found = asked("ann", "--world", file(made))
+    same({it[0]: of[0] for it, of in found.items()}, {"sqs:sendmessage": [queue]})
+    same(next(iter(found.values()))[2], ["principals/0/identity/0", "resources/0/policy"])
+
+
+def test_roles_that_are_passed_and_assumed():
+    """A trust policy says nothing on iam:PassRole; a role that no export has is not there to be assumed."""
+    export = load(EXPORT)
+    actions = statement(action=["iam:*", "sts:*"])
+    export["UserDetailList"][0]["UserPolicyList"] = [{"PolicyName": "p", "PolicyDocument": document(actions)}]
+    found = asked("alice", file(export))
+    same(found["iam:x", "allowed"][:2][1], [])
+    roles = [it["Arn"] for it in export["RoleDetailList"]]
+    same([it for it in roles if it not in found["iam:x", "allowed"][0]], [])
+    same(found["sts:assumerole", "allowed"][0][:2], [f"{ACCOUNT}role/app/{it}" for it in ("deploy", "audit")])
+    # A world that names a role and not its trust policy.
+    role = {"arn": roles[0], "account": "111122223333"}
+    made = file(small_world(document(actions), actions=["iam:PassRole"], resources=[role]))
+    out, said = aws("can", "ann", "*", "*", "--world", made)
+    assert "  of iam\n" in out and "sts:" not in out.split("by ")[0], out
+    assert f"sts:* is not asked: the world has no trust policy of {roles[0]}" in said, said
+
+
+def test_what_the_organisation_forbids():
+    words = [EXPORT, data("partner.json"), "--organization"]
+    found = asked("alice", *words, data("organization.json"))
+    same(found["sts:assumerole", "allowed"][0], [f"{ACCOUNT}role/app/deploy"])
+    # A resource control policy for S3 binds what no file names, too.
+    given = load(data("organization.json"))
+    allows = {"Effect": "Allow", "Principal": "*", "Action": "*", "Resource": "*"}
+    denies = {**allows, "Effect": "Deny", "Action": "s3:Put*"}
+    content = json.dumps(document(allows, denies))
+    given["policies"].append({"PolicySummary": {"Id": "p-rcp", "Name": "rcp"}, "Content": content})
+    for it in given["targets"].values():
+        it.append({"Id": "p-rcp", "Type": "RESOURCE_CONTROL_POLICY"})
+    for controlled, wanted in ((["s3"], {"s3:get"}), (["sqs"], {"s3:get", "s3:putobject"})):
+        found = asked("alice", *words, file({**given, "controlled": controlled}), action="s3:*")
+        same({it[0] for it in found}, wanted, str(controlled))
+
+
+def test_what_a_draft_gives():
+    draft = file(document(statement(action="sqs:*")))
+    same(set(asked("audit", EXPORT, "--attach", f"New={draft}@audit")), {("sqs:x", "allowed")})
+
+
+def test_too_many_kinds_are_told():
+    """Of 13 letters that an action may have or not there are 8,192 kinds."""
+    many = [statement(action=f"s3:*{it}*") for it in "abcdefghijklm"]
+    made = file(small_world(document(*many)))
+    out, _ = aws("can", "ann", "s3:*", "*", "--world", made, status=5)
+    same(out.splitlines()[1], "  not shown, since it has too many kinds: s3:* on *")
+    same(asked("ann", "--world", made, action="s3:*", status=5), {("s3:*", "notShown"): (["*"], [], [])})
