@@ -113,6 +113,11 @@ class Account:
         attached = objects(holder, "AttachedManagedPolicies", arn)
         return found + [self.managed(text(it, "PolicyArn", arn), arn) for it in attached]
 
+    def refuse_lacking(self, role: Dict[str, Any]) -> None:
+        """A fault where the account does not hold a policy of a role."""
+        self.own(role, "RolePolicyList")
+        self.boundary(role)
+
     def of_groups(self, user: Dict[str, Any]) -> List[Policy]:
         found, names = [], user.get("GroupList") or []
         if not isinstance(names, list):

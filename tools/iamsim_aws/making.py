@@ -10,6 +10,7 @@ from .arns import (
     names_of_resource,
     owner_of,
     principal_arn,
+    principal_text,
     resource_part,
     service_of,
 )
@@ -20,6 +21,7 @@ from .keys import with_callers
 from .naming import control_policy, resource_policy, trust_policy
 from .organizations import Organization
 from .patterns import any_matches, matcher
+from .sessions import Session
 
 
 # What a role has whose trust policy nobody knows yet: it is asked for as a principal alone.
@@ -37,6 +39,7 @@ class Estate(NamedTuple):
     context: Optional[Dict[str, Any]]
     session: str
     moment: int
+    sessions: List[Session] = []
 
     def copied(self) -> "Estate":
         return self._replace(accounts=[it.copied() for it in self.accounts], further=[dict(it) for it in self.further])
@@ -156,9 +159,20 @@ def principals_of(estate: Estate, patterns: List[str]) -> List[Dict[str, Any]]:
             and not is_service_linked(it)
         ]
         found = [user_of(account, it) for it in users] + [role_of(account, it, estate.session) for it in roles]
+        found += named_sessions(estate, account, patterns)
         made += [keep_context({**it, "context": {**it["context"], **keys}}, estate.context) for it in found]
-    refuse_doubles([principal_arn(it) for it in made])
+    refuse_doubles([principal_arn(it) for it in made if not it.get("sessionPolicies")])
+    refuse_doubles([principal_text(it) for it in made if "role" in it])
     return made
+
+
+def named_sessions(estate: Estate, account: Account, patterns: List[str]) -> List[Dict[str, Any]]:
+    """The sessions of an account's roles that have session policies."""
+    roles, found = {it.get("Arn"): it for it in account.roles}, []
+    for it in estate.sessions:
+        if it.role in roles and is_chosen(patterns, names_of_principal({"role": it.role, "session": it.name})):
+            found.append({**role_of(account, roles[it.role], it.name), "sessionPolicies": it.policies})
+    return found
 
 
 def refuse_doubles(names: List[str], fold: bool = False) -> None:

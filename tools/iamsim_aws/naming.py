@@ -16,6 +16,11 @@ def trust_policy(role: str) -> str:
     return f"{role}{TRUST}"
 
 
+def session_policy(session: str) -> str:
+    """A policy that a session was given, by the session's ARN."""
+    return f"{session} session policy"
+
+
 def resource_policy(arn: str) -> str:
     """The policy of a resource; an object has that of its bucket."""
     return f"{owner_of(arn)} policy"

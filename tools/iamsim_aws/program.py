@@ -69,7 +69,7 @@ class Questions:
 
 
 def run(words: List[str], world: bytes) -> bytes:
-    """What iamsim writes, or its fault where its status is none of these."""
+    """What iamsim writes, or its fault, as `Questions.ask` has it."""
     return Questions().ask(words, world)
 
 

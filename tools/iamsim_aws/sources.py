@@ -12,6 +12,7 @@ from .faults import Fault, tell
 from .making import Estate, has_service, outside, read_resources, refuse_doubles, warnings, world_of
 from .organizations import read_organization
 from .references import References
+from .sessions import put_sets, read_sessions, refuse_unknown_roles
 
 ASSUME = "sts:AssumeRole"
 
@@ -44,12 +45,18 @@ def add_options(parser: argparse.ArgumentParser, has_session: bool = True) -> No
     )
 
 
+def add_sessions(parser: argparse.ArgumentParser) -> None:
+    what = "sessions with their policies, and permission sets, a JSON object {sessions, permissionSets}"
+    parser.add_argument("--sessions", action="append", default=[], metavar="FILE", help=what)
+
+
 def add_source(parser: argparse.ArgumentParser) -> None:
     parser.add_argument("exports", nargs="*", metavar="EXPORT", help="of 'aws iam get-account-authorization-details'")
     parser.add_argument("--world", metavar="FILE", help="a world in place of exports")
     parser.add_argument("--names", metavar="FILE", help="the policies' names of that world, by 'world --names FILE'")
     parser.add_argument("--actions", metavar="FILE", help="actions, one a line; '#' begins a comment")
     add_options(parser)
+    add_sessions(parser)
 
 
 def moment(text: str) -> int:
@@ -84,15 +91,19 @@ def read_context(paths: List[str]) -> Optional[Dict[str, Any]]:
 
 
 def estate_of(options: argparse.Namespace, exports: List[str]) -> Estate:
+    accounts, (sessions, sets) = read_exports(exports), read_sessions(getattr(options, "sessions", []))
+    told = put_sets(accounts, sets)
+    refuse_unknown_roles(accounts, sessions)
     estate = Estate(
-        read_exports(exports),
+        accounts,
         read_resources(options.resources),
         read_organization(options.organization),
         read_context(options.context),
         options.session,
         int(time.time()) if options.moment is None else options.moment,
+        sessions,
     )
-    for line in [*warnings(estate.further), *outside(estate)]:
+    for line in [*told, *warnings(estate.further), *outside(estate)]:
         tell(line)
     return estate
 
@@ -203,8 +214,9 @@ def source_of(options: argparse.Namespace) -> Source:
     if options.world is not None:
         if options.exports:
             raise Fault("name exports or a world, and not both")
-        if options.resources or options.context or options.organization:
-            raise Fault("--resources, --context and --organization join exports: a world has what they give in itself")
+        if options.resources or options.context or options.organization or options.sessions:
+            what = "--resources, --context, --sessions and --organization"
+            raise Fault(f"{what} join exports: a world has what they give in itself")
         given = read_world(options.world, options.names)
         return Source(None, given, actions or given["actions"], references)
     return Source(estate_of(options, options.exports), None, actions, references)

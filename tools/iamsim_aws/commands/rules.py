@@ -52,7 +52,14 @@ def run(options: argparse.Namespace) -> int:
 def inputs(options: argparse.Namespace) -> List[str]:
     """The files that are read."""
     named = [options.rules, options.world, options.names, options.actions, options.organization]
-    return [*filter(None, named), *options.exports, *options.resources, *options.context, *drafts.inputs(options)]
+    return [
+        *filter(None, named),
+        *options.exports,
+        *options.resources,
+        *options.context,
+        *options.sessions,
+        *drafts.inputs(options),
+    ]
 
 
 def report(options: argparse.Namespace, cases: List[Case], notes: Sequence[str] = ()) -> None:

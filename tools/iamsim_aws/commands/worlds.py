@@ -12,7 +12,17 @@ from ..faults import Fault, line_of, tell
 from ..making import refuse_empty, unmatched, world_of
 from ..program import run
 from ..references import References
-from ..sources import ASSUME, Source, add_options, estate_of, read_actions, read_object, read_world, refuse_unknown
+from ..sources import (
+    ASSUME,
+    Source,
+    add_options,
+    add_sessions,
+    estate_of,
+    read_actions,
+    read_object,
+    read_world,
+    refuse_unknown,
+)
 from ..splitting import limits
 from .parsers import add
 
@@ -47,6 +57,7 @@ def add_maker(commands: Any) -> None:
     help_of_actions = "the actions, one a line ('#' begins a comment); without it " + ASSUME
     parser.add_argument("--actions", metavar="FILE", help=help_of_actions)
     add_options(parser)
+    add_sessions(parser)
     drafts.add_options(parser)
     for name, what in (("principal", "principals"), ("resource", "resources")):
         help_of_pattern = f"only {what} that match; '*' and '?' are wild; may stand several times"
@@ -63,7 +74,14 @@ def write_world(value: World) -> None:
 
 
 def world(options: argparse.Namespace) -> int:
-    read = [*options.exports, *options.resources, *options.context, options.actions, *drafts.inputs(options)]
+    read = [
+        *options.exports,
+        *options.resources,
+        *options.context,
+        *options.sessions,
+        options.actions,
+        *drafts.inputs(options),
+    ]
     files.refuse_taken([options.names], read)
     chosen = read_actions(options.actions) if options.actions else [ASSUME]
     refuse_unknown(References(options.services), chosen)
