@@ -214,7 +214,7 @@ def source_of(options: argparse.Namespace) -> Source:
     if options.world is not None:
         if options.exports:
             raise Fault("name exports or a world, and not both")
-        if options.resources or options.context or options.organization or options.sessions:
+        if options.resources or options.context or options.organization or getattr(options, "sessions", []):
             what = "--resources, --context, --sessions and --organization"
             raise Fault(f"{what} join exports: a world has what they give in itself")
         given = read_world(options.world, options.names)
