@@ -12,8 +12,8 @@ from .documents import World, places, statements_of
 from .faults import Fault, tell
 from .kinds import owners, patterns_of_actions, speaks_of, texts_of
 from .making import bound
-from .patterns import is_pattern, matcher, of_given
-from .program import Refused, run, world_bytes
+from .patterns import common, is_pattern, matcher, of_given
+from .program import Refused, each_of, world_bytes
 from .questions import Question, Scope, missing, principals
 from .references import is_mixed
 from .reports import rows_of
@@ -21,10 +21,12 @@ from .slips import is_wide
 from .sources import ASSUME
 from .telling import Cause, cause_of
 
-# An action for each world: of iam and of sts roles are resources, with their trust policies and without.
+# An action for each world: for iam roles are resources without policies, for sts with their trust policies.
 WORLDS = {"": "s3:GetObject", "iam": "iam:PassRole", "sts": "sts:AssumeRole"}
 ACCOUNT = re.compile(r"arn:[^:]*:[^:]*:[^:]*:([0-9]{12}):")
 NOT_SHOWN = "notShown"
+# The services that no run of their own is of.
+REST = "*"
 UNNAMED = "what-nothing-names"
 # Names of one kind that are told in words.
 MOST = 10
@@ -84,12 +86,16 @@ def is_meant(question: Question) -> bool:
     return question.resource == "*" and is_pattern(name) and is_wide(name) and bool(name)
 
 
-def asked_of(pattern: str) -> Dict[str, str]:
-    """The patterns of actions that are asked for, each by its world."""
-    service = pattern.rpartition(":")[0].lower() or "*"
-    if not is_pattern(service):
-        return {service if service in WORLDS else "": pattern}
-    return {"": pattern, **{it: f"{it}:*" for it in ("iam", "sts") if matcher(service)(it)}}
+def services_of(scope: Scope, question: Question) -> List[str]:
+    """The services that are asked for one by one, since a kind of actions may be of several: those that policies and lists name,
+    and whose roles are resources."""
+    asked = question.action.rpartition(":")[0].lower() or "*"
+    if not is_pattern(asked):
+        return [asked]
+    spoken = patterns_of_actions(scope.source.world([ASSUME]))
+    named = [*scope.source.references.actions(), *scope.source.actions, *spoken]
+    found = {it.partition(":")[0].lower() for it in named if ":" in it} | {"iam", "sts"}
+    return sorted(it for it in found if it.strip("*?") and common(it, asked))
 
 
 def named_accounts(world: World) -> Set[str]:
@@ -135,33 +141,57 @@ def lines_of(scope: Scope, world: World, account: str, is_assumed: bool) -> Line
     return Lines({**world, "accounts": accounts, "resources": resources}, texts, number_of, others)
 
 
-def rows(lines: Lines, pattern: str) -> List[Dict[str, Any]]:
-    """The rows of one run."""
-    with tempfile.TemporaryDirectory() as room:
-        path = os.path.join(room, "texts")
-        with open(path, "w", encoding="utf-8") as it:
-            it.write("".join(f"{json.dumps(one)}\n" for one in lines.texts))
-        words = ["every", "--format", "json", "--texts", path, "--action", pattern, "--allow-empty"]
-        try:
-            found = rows_of(run(words, world_bytes(lines.world)).decode())
-            return [it for it in found if lines.is_asked(it["resource"])]
-        except Refused as refused:
-            raise explained(lines.world, refused) from None
+class Run(NamedTuple):
+    """What is asked at once: a service, or '*' for those that no other run is of, and the pattern of its actions."""
+
+    lines: Lines
+    service: str
+    pattern: str
 
 
-def worlds(scope: Scope, question: Question) -> Iterator[Tuple[Lines, str, bool]]:
-    """Of each account of the principals the worlds, with what is asked of each and whether it is of services that no other
-    world is for."""
-    for name, pattern in asked_of(question.action).items():
+def runs(scope: Scope, question: Question) -> Iterator[Run]:
+    """What is asked, for each account of the principals by itself."""
+    services, name = services_of(scope, question), question.action.rpartition(":")[2]
+    patterns = {it: f"{it}:{name}" for it in services}
+    if is_pattern(question.action.rpartition(":")[0] or "*"):
+        patterns[REST] = question.action
+    for kind, action in WORLDS.items():
+        own = [it for it in patterns if (it if it in WORLDS else "") == kind]
         try:
-            world = whole(scope.source.worlds([WORLDS[name]])[0])
+            world = whole(scope.source.worlds([action])[0]) if own else {"principals": []}
         except Fault as why:
-            tell(f"{pattern} is not asked: {why}")
+            tell(f"{patterns[kind]} is not asked: {why}")
             continue
         meant = principals(world["principals"], question)
         for account in dict.fromkeys(account_of(principal_arn(it)) for it in meant):
-            own = [it for it in meant if account_of(principal_arn(it)) == account]
-            yield lines_of(scope, {**world, "principals": own}, account, name == "sts"), pattern, not name
+            people = [it for it in meant if account_of(principal_arn(it)) == account]
+            lines = lines_of(scope, {**world, "principals": people}, account, kind == "sts")
+            yield from (Run(lines, it, patterns[it]) for it in own)
+
+
+def answered(some: List[Run]) -> Iterator[List[Dict[str, Any]]]:
+    """The rows of each run."""
+    with tempfile.TemporaryDirectory() as room:
+        worlds: Dict[int, Tuple[str, bytes]] = {}
+
+        def jobs() -> Iterator[Tuple[List[str], bytes]]:
+            for it in some:
+                if id(it.lines) not in worlds:
+                    path = os.path.join(room, str(len(worlds)))
+                    with open(path, "w", encoding="utf-8") as to:
+                        to.write("".join(f"{json.dumps(one)}\n" for one in it.lines.texts))
+                    worlds[id(it.lines)] = path, world_bytes(it.lines.world)
+                path, world = worlds[id(it.lines)]
+                words = ["every", "--format", "json", "--texts", path, "--action", it.pattern, "--allow-empty"]
+                yield words, world
+
+        texts = each_of(jobs(), len(some))
+        for it in some:
+            try:
+                text = next(texts).decode()
+            except Refused as refused:
+                raise explained(it.lines.world, refused) from None
+            yield [row for row in rows_of(text) if it.lines.is_asked(row["resource"])]
 
 
 def statements_for(lines: Lines, principal: Dict[str, Any], action: str, allowed: List[Dict[str, Any]]) -> List[Cause]:
@@ -179,9 +209,9 @@ def statements_for(lines: Lines, principal: Dict[str, Any], action: str, allowed
     return list({(it.layer, it.policy, it.number): it for it in found}.values())
 
 
-def kinds_of(lines: Lines, given: List[Dict[str, Any]]) -> Iterator[Kinds]:
-    """What the rows of one principal allow, kinds of actions that are allowed alike together."""
-    of = {principal_text(it): it for it in lines.world["principals"]}
+def kinds_of(run: Run, given: List[Dict[str, Any]]) -> Iterator[Kinds]:
+    """What the rows of a run allow, kinds of actions that are allowed alike together."""
+    of, lines = {principal_text(it): it for it in run.lines.world["principals"]}, run.lines
     by_action: Dict[Tuple[str, str], List[Dict[str, Any]]] = {}
     for row in given:
         by_action.setdefault((row["principal"], row["action"]), []).append(row)
@@ -192,41 +222,45 @@ def kinds_of(lines: Lines, given: List[Dict[str, Any]]) -> Iterator[Kinds]:
         allowed = [it for it in own if it["decision"] == "allowed"]
         if allowed:
             causes = statements_for(lines, of[principal], action, allowed)
-            texts, service = [it["resource"] for it in allowed], action.partition(":")[0].lower()
+            texts = [it["resource"] for it in allowed]
             others = [it["resource"] for it in own if it not in allowed]
-            key = principal, service, tuple(texts), tuple(it.words() for it in causes)
-            found.setdefault(key, Kinds(principal, service, [], texts, others, causes)).actions.append(action)
+            key = principal, tuple(texts), tuple(it.words() for it in causes)
+            one = Kinds(principal, run.service, [], texts, others, causes)
+            found.setdefault(key, one).actions.append(action)
     yield from found.values()
+
+
+def is_of_another(row: Dict[str, Any], services: List[str]) -> bool:
+    """Whether another run tells a row of the services that no run is of."""
+    service = row["action"].partition(":")[0].lower()
+    return any(matcher(it)(service) for it in services)
 
 
 def everything(scope: Scope, question: Question) -> Found:
     """What the principals of a question may do."""
     kinds: List[Kinds] = []
     hidden: List[Tuple[str, str, str]] = []
-    people: Dict[str, None] = {}
-    for lines, pattern, is_rest in worlds(scope, question):
-        people.update((principal_text(it), None) for it in lines.world["principals"])
-        given = rows(lines, pattern)
-        if is_rest:
-            given = [it for it in given if it["action"].partition(":")[0].lower() not in ("iam", "sts")]
+    some = list(runs(scope, question))
+    services = [it.service for it in some if it.service != REST]
+    for one, given in zip(some, answered(some)):
+        if one.service == REST:
+            given = [it for it in given if not is_of_another(it, services)]
         hidden += [(it["principal"], it["action"], it["resource"]) for it in given if it["decision"] == NOT_SHOWN]
-        kinds += kinds_of(lines, [it for it in given if it["decision"] != NOT_SHOWN])
+        kinds += kinds_of(one, [it for it in given if it["decision"] != NOT_SHOWN])
+    people = dict.fromkeys(principal_text(it) for one in some for it in one.lines.world["principals"])
     if not people:
         raise Fault(missing(scope, question._replace(action=WORLDS[""])))
-    return Found(list(people), sorted(kinds, key=lambda it: it.service), hidden)
+    return Found(list(people), sorted(kinds, key=lambda it: (it.service == REST, it.service)), hidden)
 
 
-def is_known(scope: Scope, question: Question, service: str) -> bool:
-    """Whether the question, a list or a policy names a service; else it stands for all others."""
-    spoken = patterns_of_actions(scope.source.world([ASSUME]))
-    named = [question.action, *scope.source.references.actions(), *scope.source.actions, *spoken]
-    return service in (it.partition(":")[0].lower() for it in named)
-
-
-def statement_words(cause: Cause) -> str:
-    """What a statement is of."""
+def statement_words(cause: Cause, service: str) -> str:
+    """What a statement is of, as far as it speaks of a service."""
+    of = "*" if service == REST else f"{service}:*"
     parts = []
     for element in ("Action", "Resource"):
         some, rest = texts_of(cause.statement, element), texts_of(cause.statement, f"Not{element}")
-        parts += [", ".join(some)] if some else [f"all but {', '.join(rest)}"] if rest else []
+        if element == "Action":
+            some, rest = ([it for it in texts if common(it, of, True)] for texts in (some, rest))
+        is_open = f"Not{element}" in cause.statement
+        parts += [", ".join(some)] if some else [f"all but {', '.join(rest)}"] if rest else ["all"] if is_open else []
     return " on ".join(parts)

@@ -9,6 +9,7 @@ EXPORT = data("account.json")
 ALICE, ANN = f"{ACCOUNT}user/alice", f"{ACCOUNT}user/ann"
 # What the program shows of all that no policy tells apart from its fewest signs.
 REST = "arn:::::"
+OTHERS = "any other service, for which the first letters stand"
 
 
 def asked(who, *words, action="*", status=0):
@@ -78,15 +79,19 @@ def test_it_is_told_in_words():
     assert "no principal matches nobody" in said, said
 
 
-def test_services_that_no_policy_names():
-    made = file(
-        small_world(document({"Effect": "Allow", "NotAction": ["iam:*", "sts:*"], "NotResource": "arn:aws:s3:::b/k"}))
-    )
-    out, _ = aws("can", "ann", "*", "*", "--world", made)
+def test_each_service_by_itself():
+    """Actions of several services that a statement allows alike are told of each; others together."""
+    some = of_world(statement(action=["s3:Get*", "kms:*", "sqs:Send*"]))
+    same(set(some), {"s3:get", "kms:x", "sqs:send"})
+    open_to_all = document({"Effect": "Allow", "NotAction": ["iam:*", "sts:Get*"], "NotResource": "arn:aws:s3:::b/k"})
+    made = small_world(open_to_all, actions=["s3:GetObject"])
+    out, _ = aws("can", "ann", "*", "*", "--world", file(made))
     lines = out.splitlines()
-    same(lines[0], f"{ANN} may")
-    assert lines[1].startswith("  of any other service, for which "), out
-    assert lines[3].endswith(": all but iam:*, sts:* on all but arn:aws:s3:::b/k"), out
+    same([it for it in lines if it.startswith("  of")], [f"  of {it}" for it in ("s3", "sts", OTHERS)])
+    same(lines[2:3], ["    s3:x on all but arn:aws:s3:::b/k"])
+    assert lines[3].endswith(": all on all but arn:aws:s3:::b/k"), out
+    assert ": all but sts:Get* on all but arn:aws:s3:::b/k\n" in out, out
+    assert lines[-3].endswith(": all but iam:*, sts:Get* on all but arn:aws:s3:::b/k"), out
 
 
 def test_what_resources_say():

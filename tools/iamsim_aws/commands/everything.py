@@ -4,7 +4,7 @@ import argparse
 from typing import Any, Dict, List
 
 from .. import files
-from ..everything import NOT_SHOWN, Found, Kinds, everything, is_known, statement_words
+from ..everything import NOT_SHOWN, REST, Found, Kinds, everything, statement_words
 from ..faults import line_of, tell
 from ..questions import Question, Scope
 from ..reports import csv_text
@@ -19,7 +19,7 @@ HEADER = ["principal", "decision", "service", "actions", "resources", "others", 
 def answer(options: argparse.Namespace, scope: Scope, question: Question) -> int:
     found = everything(scope, question)
     if options.format == "text":
-        files.write("".join(f"{line_of(it)}\n" for it in [*text(found, scope, question), *NOTES]))
+        files.write("".join(f"{line_of(it)}\n" for it in [*text(found), *NOTES]))
     else:
         for it in NOTES:
             tell(it)
@@ -28,14 +28,15 @@ def answer(options: argparse.Namespace, scope: Scope, question: Question) -> int
     return 5 if found.hidden else 0 if found.kinds else 3
 
 
-def text(found: Found, scope: Scope, question: Question) -> List[str]:
+def text(found: Found) -> List[str]:
     lines = []
     for who in found.people:
         own = [it for it in found.kinds if it.principal == who]
         lines.append(f"{who} may" if own else f"{who} may do nothing of this")
         for service in dict.fromkeys(it.service for it in own):
-            known = is_known(scope, question, service)
-            lines.append(f"  of {service}" if known else f"  of any other service, for which {service} stands")
+            lines.append(
+                "  of any other service, for which the first letters stand" if service == REST else f"  of {service}"
+            )
             lines += [line for it in own if it.service == service for line in told(it)]
         hidden = [f"{action} on {pattern}" for principal, action, pattern in found.hidden if principal == who]
         lines += [f"  not shown, since it has too many kinds: {it}" for it in hidden]
@@ -44,7 +45,7 @@ def text(found: Found, scope: Scope, question: Question) -> List[str]:
 
 def told(kinds: Kinds) -> List[str]:
     lines = [f"    {', '.join(kinds.actions)} on {kinds.where}"]
-    return lines + [f"      by {it.words()}: {statement_words(it)}" for it in kinds.causes]
+    return lines + [f"      by {it.words()}: {statement_words(it, kinds.service)}" for it in kinds.causes]
 
 
 def as_json(found: Found) -> List[Dict[str, Any]]:
