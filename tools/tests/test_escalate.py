@@ -178,9 +178,40 @@ def test_with_the_key_that_a_condition_asks_for():
     way = next(it for it in WAYS if it.name == "lambda-new")
     export = ground()
     add(export, way, "keyed", Condition=SECRET)
-    same(escalated(export, status=0)["absentKeys"], ["aws:MultiFactorAuthPresent"])
+    answer = escalated(export, status=5)
+    same((answer["absentKeys"], answer["maybe"]), (["aws:MultiFactorAuthPresent"], [arn("user", "keyed")]))
     answer = escalated(export, "--context", file({"aws:MultiFactorAuthPresent": True}))
     same(found(answer), {"keyed": [["lambda-new"]]})
+
+
+def test_what_no_text_stands_for_is_not_taken_for_safe():
+    """A deny on some functions, regions or names takes the text that stands for all; another may be left."""
+    way = next(it for it in WAYS if it.name == "lambda-new")
+    own = [ask.action for ask in way.asks]
+    every = f"arn:aws:lambda:*:{OWN}:function:"
+    meeting = [statement(action=own[0]), statement(action=own[1], resource=f"{every}a*")]
+    cases = [
+        ([statement(action=own), statement("Deny", "lambda:*", "arn:aws:lambda:us-east-1:*")], 5),
+        ([statement(action=own), {**statement("Deny", "lambda:*"), "NotResource": "arn:aws:lambda:eu-west-1:*"}], 5),
+        ([statement(action=own, resource=["*", f"{every}a*"]), statement("Deny", "lambda:*", f"{every}*")], 0),
+        ([*meeting, statement(action=own[2], resource=f"{every}*b")], 5),
+    ]
+    for given, status in cases:
+        given = [{key: it for key, it in one.items() if key != "Resource" or "NotResource" not in one} for one in given]
+        export = ground()
+        export["UserDetailList"].append(entity("User", "dev", given))
+        answer = escalated(export, status=status)
+        same((answer["found"], answer["maybe"]), ([], [arn("user", "dev")] if status else []))
+
+
+def test_a_service_by_the_name_of_its_region():
+    way = next(it for it in WAYS if it.name == "state-machine")
+    for service in ("states.eu-west-1.amazonaws.com", "states.amazonaws.com.cn"):
+        export = ground()
+        trusted = export["RoleDetailList"][0]["AssumeRolePolicyDocument"]
+        trusted["Statement"] = [{"Effect": "Allow", "Principal": {"Service": service}, "Action": "sts:AssumeRole"}]
+        add(export, way, "dev")
+        same(found(escalated(export)), {"dev": [["state-machine"]]})
 
 
 def test_what_runs_under_a_role_that_the_resources_tell():

@@ -49,4 +49,4 @@ def run(options: argparse.Namespace) -> int:
 def status(found: Found) -> int:
     if found.ways:
         return 3
-    return 5 if found.open or found.unshown else 0
+    return 5 if found.open or found.unshown or found.maybe else 0

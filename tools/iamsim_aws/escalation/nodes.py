@@ -1,6 +1,6 @@
 """Principals as they are, and as they are once their policies, groups or boundary are changed."""
 
-from typing import Any, Dict, Iterator, List, NamedTuple, Optional, Tuple
+from typing import Any, Callable, Dict, Iterator, List, NamedTuple, Optional, Tuple
 
 from ..arns import account_of, principal_arn
 from ..documents import Policy
@@ -113,7 +113,14 @@ def with_change(principal: Principal, holder: Holder, change: Change) -> Princip
 class People:
     """The principals of the exports and who stands for those outside, and each of them with changes."""
 
-    def __init__(self, principals: List[Principal], outside: List[Principal], estate: Estate):
+    def __init__(
+        self,
+        principals: List[Principal],
+        outside: List[Principal],
+        estate: Estate,
+        loosened: Optional[Callable[[Principal], Principal]] = None,
+    ):
+        self.loosened = loosened
         self.principals = [*principals, *outside]
         self.own = len(principals)
         self.holders = holders(estate)
@@ -134,4 +141,4 @@ class People:
         for it in node.changes:
             assert holder is not None
             made = with_change(made, holder, it)
-        return made
+        return self.loosened(made) if self.loosened else made

@@ -79,6 +79,9 @@ def notes(found: Found) -> List[str]:
         lines.append(
             f"not asked: where {actions} leads ({name}), since nothing tells under which role: allowed to {who}"
         )
+    if found.maybe:
+        why = "with keys that nothing gives, or on names that nothing stands for here"
+        lines.append(f"not shown, since it may be so {why}: {few(list(map(found.name, found.maybe)))}")
     if found.keys:
         lines.append(f"keys for which policies ask and that nothing gives count as absent: {', '.join(found.keys)}")
     return lines
@@ -153,6 +156,7 @@ def as_json(found: Found, end: str) -> str:
         ],
         "open": [{"principal": found.name(it.node), **part_json(found, it.part)} for it in found.open],
         "notShown": [found.name(it) for it in found.unshown],
+        "maybe": [found.name(it) for it in found.maybe],
         "absentKeys": found.keys,
     }
     return compact(made) + "\n"

@@ -1,5 +1,6 @@
 """The requests of the ways: the worlds in which they are asked, and which of them are allowed."""
 
+import re
 from typing import Any, Dict, List, NamedTuple, Optional, Set, Tuple
 
 from ..arns import account_of
@@ -14,12 +15,15 @@ from ..patterns import matcher
 from ..questions import Question, Scope, asked_in
 from ..reports import Answers
 from ..sources import ASSUME, Source
+from .loosening import Loose
 from .nodes import Node, People, boundary_of
 from .table import ADMINISTRATOR, HELD, KINDS, OWN, SERVICE_KEY, BOUNDARY_KEY, WAYS, Ask
 
 OPEN, ASSUMED, EVERY = "role open to all", "role to assume", "*"
 OPENED = {"Version": "2012-10-17", "Statement": {"Effect": "Allow", "Principal": {"AWS": "*"}, "Action": ASSUME}}
 PASSED = "iam:PassRole"
+# A service that a policy names with its region, or by its name in China.
+OF_REGION = re.compile(r"(?:\.[a-z]{2}(?:-[a-z]+)+-\d)?(\.amazonaws\.com)(?:\.cn)?$")
 
 Resource = Dict[str, Any]
 # Requests of one kind of resource and with the same keys share a world.
@@ -48,16 +52,16 @@ def trusted(role: Dict[str, Any]) -> Set[str]:
     for it in statements_of(trust.document):
         given = it.get("Principal") if isinstance(it, dict) and it.get("Effect") == "Allow" else None
         if isinstance(given, dict) and meets(tuple(texts_of(it, "Action")), (ASSUME,)):
-            found.update(str(one).lower() for one in each(given.get("Service", [])))
+            found.update(OF_REGION.sub(r"\1", str(one).lower()) for one in each(given.get("Service", [])))
     return found
 
 
 class Things:
     """What requests are asked on."""
 
-    def __init__(self, source: Source):
+    def __init__(self, source: Source, loose: Optional[Loose] = None):
         assert source.estate is not None
-        self.source, self.estate = source, source.estate
+        self.source, self.estate, self.loose = source, source.estate, loose
         self.trust: Dict[str, Set[str]] = {}
         # What the texts stand for on which no export tells more.
         self.stand: Origins = {}
@@ -69,6 +73,8 @@ class Things:
                 self.profiles.add(it["Arn"])
         [self.assumed] = source.worlds([ASSUME])
         self.base = source.world([PASSED])
+        if loose:
+            self.assumed, self.base = loose.world(self.assumed), loose.world(self.base)
         self.held = {kind: self.held_of(kind) for kind in HELD}
 
     def held_of(self, kind: str) -> List[Dict[str, Any]]:
@@ -114,6 +120,7 @@ class Things:
             world["resources"] = self.of_kind(kind, dict(keys))
         else:
             world["resources"] = self.texts(world)
+        world = self.loose.world(world) if self.loose else world
         return self.with_keys(self.with_accounts(world), keys)
 
     def with_accounts(self, world: World) -> World:

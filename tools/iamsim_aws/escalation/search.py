@@ -10,6 +10,7 @@ from ..arns import names_of_principal
 from ..sources import Source
 from ..strangers import shown, strangers
 from .administrators import administrators
+from .loosening import Loose
 from .nodes import Node, People
 from .requests import Round, Things
 from .steps import Open, Step, Steps
@@ -30,6 +31,8 @@ class Found(NamedTuple):
     open: List[Open]
     keys: List[str]
     stand: Origins
+    # Who might come there, or be there, if what is not known were in his favour; asked where nobody is found.
+    maybe: List[Node]
 
     def name(self, node: Node) -> str:
         return shown(self.people.principals[node.number])
@@ -38,12 +41,13 @@ class Found(NamedTuple):
 class Search:
     """Rounds: all nodes that are new are asked, and lead to others, until none is new."""
 
-    def __init__(self, source: Source, to: Optional[str]):
+    def __init__(self, source: Source, to: Optional[str], loose: Optional[Loose] = None):
         assert source.estate is not None
-        self.things = Things(source)
+        self.things, self.loose = Things(source, loose), loose
         world = self.things.assumed
         outside = strangers(source, [world])
-        self.people = People(world["principals"], outside, source.estate)
+        loosened = loose.principal if loose else None
+        self.people = People(world["principals"], outside, source.estate, loosened)
         self.to = to
         self.is_end: Dict[Node, Optional[bool]] = {}
         self.steps: Dict[Tuple[Node, Node], Step] = {}
@@ -86,7 +90,17 @@ class Search:
             new = [it for it in new if it.number not in arrived]
         ends = [it for it, is_end in self.is_end.items() if is_end]
         unshown = [it for it, is_end in self.is_end.items() if is_end is None]
-        return Found(self.people, ends, unshown, self.ways(ends), self.open, list(self.keys), self.things.stand)
+        ways = self.ways(ends)
+        maybe = [] if ways or self.loose else self.maybe(ends)
+        return Found(self.people, ends, unshown, ways, self.open, list(self.keys), self.things.stand, maybe)
+
+    def maybe(self, ends: List[Node]) -> List[Node]:
+        """Who else comes there if what is not known is in his favour."""
+        accounts = [it["id"] for it in self.things.assumed["accounts"]]
+        loose = Search(self.things.source, self.to, Loose(self.keys, accounts)).found()
+        asked = {*ends, *(it.node for it in self.open)}
+        found = {*loose.ways, *loose.ends, *(it.node for it in loose.open)} - asked
+        return sorted(it for it in found if not it.changes)
 
     def ways(self, ends: List[Node]) -> Dict[Node, List[Step]]:
         """For each principal that is no end itself a shortest way to one."""

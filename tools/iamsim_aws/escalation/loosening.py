@@ -1,0 +1,93 @@
+"""Who might come there if all that is not known were in his favour: keys that nothing gives, and names that no text stands for."""
+
+from typing import Any, Dict, Iterable, List, Set
+
+from ..documents import Policy, World, each, mapped, statements_of
+from ..kinds import texts_of
+from ..patterns import common, matcher, of_policy, opened, variables_of
+from .nodes import Principal
+from .table import KINDS
+
+# A name and a region that no policy speaks of: what a pattern says of these it says of all.
+ODD = "q~7z"
+
+
+def meets(pattern: str) -> List[str]:
+    """The kinds of what no export has of which a pattern of a policy means some."""
+    return [it for it in KINDS.values() if common(opened(pattern), it) is not None]
+
+
+def covers(pattern: str, kind: str, account: str) -> bool:
+    """Whether a pattern of a policy means all of a kind, so far as a name shows it that nothing else has."""
+    parts = kind.split(":", 5)
+    own = [
+        parts[0],
+        "aws",
+        parts[2],
+        parts[3].replace("*", ODD),
+        account if parts[4] else "",
+        parts[5].replace("*", ODD),
+    ]
+    partitions = ("aws", "aws-cn", "aws-us-gov")
+    return not variables_of(pattern) and any(
+        matcher(of_policy(pattern))(":".join([own[0], it, *own[2:]])) for it in partitions
+    )
+
+
+class Loose:
+    """Policies in which what is not known is in favour of who asks: `keys` are those that nothing gives."""
+
+    def __init__(self, keys: Iterable[str], accounts: Iterable[str]):
+        self.keys: Set[str] = {it.lower() for it in keys}
+        self.accounts = list(accounts)
+
+    def is_open(self, key: str) -> bool:
+        return key.lower() in self.keys
+
+    def statement(self, it: Any) -> List[Any]:
+        """What stands for a statement, if anything does."""
+        if not isinstance(it, dict):
+            return [it]
+        conditions = {name: of for name, of in (it.get("Condition") or {}).items() if isinstance(of, dict)}
+        if it.get("Effect") == "Deny":
+            if any(self.is_open(key) for of in conditions.values() for key in of):
+                return []
+            return self.denied(it)
+        left = {name: {key: of[key] for key in of if not self.is_open(key)} for name, of in conditions.items()}
+        made: Dict[str, Any] = {**it, "Condition": {name: of for name, of in left.items() if of}}
+        if not made["Condition"]:
+            del made["Condition"]
+        if "Resource" in it:
+            some = texts_of(it, "Resource")
+            made["Resource"] = list(dict.fromkeys([*some, *(kind for one in some for kind in meets(one))]))
+        elif "NotResource" in it:
+            rest = [one for one in texts_of(it, "NotResource") if not meets(one)]
+            made.pop("NotResource")
+            made["NotResource" if rest else "Resource"] = rest or "*"
+        return [made]
+
+    def denied(self, it: Dict[str, Any]) -> List[Any]:
+        if "NotResource" in it:
+            some = texts_of(it, "NotResource")
+            return [{**it, "NotResource": list(dict.fromkeys([*some, *(kind for one in some for kind in meets(one))]))}]
+        if "Resource" not in it:
+            return [it]
+        left: List[str] = []
+        for one in texts_of(it, "Resource"):
+            kinds = meets(one)
+            whole = [kind for kind in kinds if all(covers(one, kind, account) for account in self.accounts)]
+            left += [one] if len(whole) == len(kinds) else whole
+        return [{**it, "Resource": list(dict.fromkeys(left))}] if left else []
+
+    def policy(self, it: Policy) -> Policy:
+        if not isinstance(it, Policy) or not isinstance(it.document, dict):
+            return it
+        made = [one for statement in statements_of(it.document) for one in self.statement(statement)]
+        return it._replace(document={**it.document, "Statement": made})
+
+    def world(self, world: World) -> World:
+        return mapped(world, lambda _, __, it: self.policy(it))
+
+    def principal(self, principal: Principal) -> Principal:
+        made = self.world({"accounts": [], "principals": [principal], "actions": [], "resources": []})
+        return dict(made["principals"][0])
