@@ -3,6 +3,7 @@
 from typing import Any, Dict, List, NamedTuple, Optional, Set, Tuple
 
 from . import besides
+from .documents import statements_of
 from .effects import TARGETS, Apply, is_meant
 from .exports import Account
 from .faults import Fault
@@ -10,7 +11,7 @@ from .functions import Functions, Scope, text_of
 from .making import Estate
 from .pieces import NESTED, READ, Key, Pieces
 from .planned import Change, Values
-from .sam import expanded, is_made
+from .sam import expanded, is_made, unfollowed
 from .standins import ENTITIES, PATHS, Names, entity_of, plain_name
 from .templates import Stack, Template, account_in, parameters_of, read_template, stacks_of, with_previous
 from .unknowns import Unknowns
@@ -21,6 +22,7 @@ DEPLOYED = "--stack with the answers of get-template and describe-stacks tells i
 # Resources that a template always has beside those that count.
 PLAIN = ("AWS::CDK::Metadata", "AWS::CloudFormation::WaitConditionHandle")
 ENTITY_KINDS = {f"aws_iam_{name}": kind for kind, (name, _) in ENTITIES.items()}
+PERMISSION = "aws_lambda_permission"
 LINKS = ("AWS::IAM::Policy", "AWS::IAM::UserToGroupAddition")
 PARTS = {"AWS::IAM::UserPolicy": "user", "AWS::IAM::GroupPolicy": "group", "AWS::IAM::RolePolicy": "role"}
 
@@ -76,6 +78,12 @@ class Reader:
         made.run()
         for it in template.strange_transforms():
             unknowns.lacks(f"Transform ({it})")
+        lacking, plain = unfollowed(template)
+        for it in lacking:
+            unknowns.lacks(it)
+        if plain:
+            why = "SAM lets services call functions by their events, for whom nobody is asked"
+            unknowns.notes.append(f"{template.path}: {why}: {', '.join(plain)}")
         return made
 
     def type_of(self, logical: str) -> str:
@@ -191,8 +199,8 @@ class Reader:
         """Resources that the physical id of a policy means, and that the template gives none."""
         old = (self.stack.physical or {}).get(logical, ("", ""))[1]
         for kind, *names in after:
-            for it in self.estate.further if kind in TARGETS else ():
-                is_old = old and "policy" in it and is_meant(it["arn"], old, kind)
+            for it in self.estate.further if kind in TARGETS or kind == PERMISSION else ():
+                is_old = old and "policy" in it and (is_meant(it["arn"], old, kind) or has_statement(it, kind, old))
                 if is_old and not any(is_meant(it["arn"], name, kind) for name in names):
                     self.unknowns.lacks(f"{logical} (whether {it['arn']} keeps its policy: {DEPLOYED})")
 
@@ -306,6 +314,12 @@ def applied(estate: Estate, given: Given) -> Tuple[Estate, Estate, List[str]]:
     for kind in (kind for it in readers for kind in it.after.unread.values() if kind not in PLAIN):
         ignored[kind] = ignored.get(kind, 0) + 1
     return apply.first, made, unknowns.settled(apply.notes, ignored, given.allows_unknown)
+
+
+def has_statement(it: Values, kind: str, old: str) -> bool:
+    """Whether a function's policy has the statement of a permission, by the physical id of that."""
+    some = statements_of(it["policy"].document) if kind == PERMISSION else []
+    return any(isinstance(one, dict) and one.get("Sid") == old.split("|")[-1] for one in some)
 
 
 def refuse_twice(readers: List[Reader]) -> None:

@@ -333,6 +333,9 @@ def on_permission(apply: Apply, change: Change) -> None:
     for it in meant(apply, change, str(values.get("function_name"))):
         old = it["policy"].document if "policy" in it else None
         kept = [one for one in statements_of(old) if one.get("Sid") != values.get("statement_id")]
+        if change.after is None and len(kept) == len(statements_of(old)) and "policy" in it:
+            why = f"the policy of {it['arn']} has no statement {values.get('statement_id')}"
+            apply.notes.append(f"{change.address}: {why}: taking it off is taken to change nothing")
         kept += [statement_of(values, it["arn"])] if change.after else []
         it.pop("policy", None)
         if kept:

@@ -1,6 +1,6 @@
 """What SAM makes of functions and state machines: the roles that it gives them, as resources of CloudFormation."""
 
-from typing import Any, Dict, List, Optional
+from typing import Any, Dict, List, Optional, Tuple
 
 from .faults import Fault
 from .templates import SAM, Objects, Template
@@ -27,6 +27,8 @@ PLAIN_EVENTS = [
 PLAIN_EVENTS += ["AlexaSkill", "Cognito"]
 # What a role has of its function.
 ATTRIBUTES = ("Condition", "DeletionPolicy", "UpdateReplacePolicy")
+# What a function's URL lets in everybody by, and the events by which SAM makes a role of its own.
+PUBLIC, OWN_ROLE = "{}UrlPublicPermissions", ("ScheduleV2",)
 # What may give the role more, in a way that is not followed here.
 FURTHER = ("Tracing", "DeadLetterQueue", "EventInvokeConfig")
 
@@ -41,13 +43,64 @@ def expanded(template: Template) -> Template:
         if not isinstance(kind, str) or kind not in SERVICES:
             continue
         properties = {**shared(template, kind), **object_in(it.get("Properties", {}), template, logical)}
+        if kind == LAMBDA and is_public(properties):
+            made[PUBLIC.format(logical)] = {
+                "Type": "AWS::Lambda::Permission",
+                "Properties": public(logical),
+                **own_of(it),
+            }
         if "Role" in properties:
             continue
         if f"{logical}Role" in made:
             raise Fault(f"{template.path}: SAM makes {logical}Role, which the template has already")
         role = {"Type": "AWS::IAM::Role", "Properties": role_of(template, logical, kind, properties)}
-        made[f"{logical}Role"] = {**role, **{key: it[key] for key in ATTRIBUTES if key in it}}
+        made[f"{logical}Role"] = {**role, **own_of(it)}
     return template._replace(resources=made)
+
+
+def own_of(it: Dict[str, Any]) -> Dict[str, Any]:
+    return {key: it[key] for key in ATTRIBUTES if key in it}
+
+
+def url_of(given: Dict[str, Any]) -> Any:
+    """Who may call a function's URL, or nothing where it has none."""
+    of = given.get("FunctionUrlConfig")
+    return of.get("AuthType", of) if isinstance(of, dict) else of
+
+
+def is_public(given: Dict[str, Any]) -> bool:
+    return url_of(given) == "NONE" and "AutoPublishAlias" not in given
+
+
+def public(logical: str) -> Dict[str, Any]:
+    made = {"Action": "lambda:InvokeFunctionUrl", "Principal": "*", "FunctionUrlAuthType": "NONE"}
+    return {"FunctionName": {"Ref": logical}, **made}
+
+
+def events_of(given: Dict[str, Any]) -> Dict[str, str]:
+    """The types of events, by their names."""
+    events = given.get("Events", {})
+    some = events.items() if isinstance(events, dict) else [("", None)]
+    return {str(name): str(it.get("Type")) if isinstance(it, dict) else "?" for name, it in some}
+
+
+def unfollowed(template: Template) -> Tuple[List[str], List[str]]:
+    """What SAM makes that gives somebody something and is not followed, and the events of which services alone get it."""
+    lacking: List[str] = []
+    plain: List[str] = []
+    for logical, it in template.resources.items() if SAM in template.transforms() else ():
+        kind = it.get("Type")
+        if not isinstance(kind, str) or kind not in SERVICES:
+            continue
+        given = {**shared(template, kind), **object_in(it.get("Properties", {}), template, logical)}
+        if kind == LAMBDA and url_of(given) not in (None, "AWS_IAM") and not is_public(given):
+            lacking.append(f"{logical}.FunctionUrlConfig (whom SAM lets call its URL)")
+        for name, event in events_of(given).items():
+            if kind == STATES or event in OWN_ROLE:
+                lacking.append(f"{logical}.Events.{name} (the role that SAM makes for an event of type {event})")
+            elif event in PLAIN_EVENTS:
+                plain.append(f"{logical}.Events.{name}")
+    return lacking, plain
 
 
 def object_in(given: Any, template: Template, name: str) -> Dict[str, Any]:

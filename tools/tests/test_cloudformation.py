@@ -468,6 +468,33 @@ def test_a_policy_of_a_function():
     same(given.resources[f"arn:aws:lambda:{OWN}:function:f"], document(made))
 
 
+def test_a_permission_that_moves_to_another_function():
+    """What the old function granted goes; without the deployed template only the apply tells that."""
+    names = [f"arn:aws:lambda:{OWN}:function:{it}" for it in ("old", "new")]
+    more = {"Action": "lambda:InvokeFunction", "Principal": "444455556666"}
+    before, after = (template(P=resource("AWS::Lambda::Permission", FunctionName=it, **more)) for it in ("old", "new"))
+    statements = [
+        {
+            "Sid": sid,
+            "Effect": "Allow",
+            "Principal": {"AWS": "444455556666"},
+            "Action": "lambda:*",
+            "Resource": names[0],
+        }
+        for sid in ("shop-P-1x", "kept")
+    ]
+    there = file([{"arn": names[0], "account": "111122223333", "policy": document(*statements)}])
+    words = ["--resources", there, "--stack", stack(P=("AWS::Lambda::Permission", "shop-P-1x"))]
+    found = After(after, *words, "--stack", deployed(before))
+    same(found.resources[names[0]], document(statements[1]))
+    same([it["Sid"] for it in found.resources[names[1]]["Statement"]], ["shop-P-1x"])
+    same(unknown(after, *words), f"P (whether {names[0]} keeps its policy: {GET})")
+    # Without the physical ids nothing tells which statement it was.
+    found = After(after, "--resources", there, "--stack", deployed(before), "--parameters", REGION)
+    said = f"P: the policy of {names[0]} has no statement P: taking it off is taken to change nothing"
+    assert said in found.lines(), found.lines()
+
+
 def test_a_permission_set():
     """Its policies are those of the roles that IAM Identity Center has made of it, whose names begin with its name."""
     export, path = load(EXPORT), "/aws-reserved/sso.amazonaws.com/"
@@ -961,6 +988,33 @@ def test_what_sam_has_made_of_a_stack():
     rest = inline("p", document(statement(resource={"Fn::Sub": "${ServerlessRestApi}/*"})))
     said = unknown(template(SAM, R=role(Policies=[rest])))
     same(said, "R.Policies.0.PolicyDocument.Statement.0.Resource (ServerlessRestApi, which SAM may make)")
+
+
+def test_whom_sam_lets_call_functions():
+    """A URL without a check is everybody's; events are of services; roles of events are told, also beside a role of one's own."""
+    export, _, _ = with_basic()
+    own = f"arn:aws:lambda:{OWN}:function:f"
+
+    def function(**more):
+        return template(SAM, F=resource(FUNCTION, FunctionName="f", Role=AUDIT, **more))
+
+    found = After(function(FunctionUrlConfig={"AuthType": "NONE"}), "--parameters", IN_SHOP, export=export)
+    [made] = found.resources[own]["Statement"]
+    same((made["Principal"], made["Action"]), ("*", "lambda:InvokeFunctionUrl"))
+    same(made["Condition"], {"StringEquals": {"lambda:FunctionUrlAuthType": "NONE"}})
+    found = After(function(FunctionUrlConfig={"AuthType": "AWS_IAM"}), "--parameters", IN_SHOP, export=export)
+    same(own in found.resources, False)
+    why = "F.FunctionUrlConfig (whom SAM lets call its URL)"
+    for more in ({"AuthType": {"Ref": "AWS::Region"}}, {"Fn::ImportValue": "x"}):
+        same(unknown(function(FunctionUrlConfig=more), "--parameters", IN_SHOP), why)
+    for event in ("Api", "HttpApi", "S3", "SNS", "Schedule", "EventBridgeRule"):
+        found = After(function(Events={"E": {"Type": event}}), "--parameters", IN_SHOP, export=export)
+        why = "SAM lets services call functions by their events, for whom nobody is asked: F.Events.E"
+        same(why in found.lines(), True)
+    made = "the role that SAM makes for an event of type"
+    same(unknown(function(Events={"E": {"Type": "ScheduleV2"}})), f"F.Events.E ({made} ScheduleV2)")
+    machine = template(SAM, M=resource("AWS::Serverless::StateMachine", Role=AUDIT, Events={"E": {"Type": "Schedule"}}))
+    same(unknown(machine), f"M.Events.E ({made} Schedule)")
 
 
 def test_what_is_unknown_of_sam():
