@@ -387,7 +387,8 @@ def meant(apply: Apply, change: Change, name: str) -> List[Values]:
         return found
     arn = arn_of(apply, change, name)
     if arn is None and change.kind in REGIONAL:
-        apply.unknowns.lacks(f"{change.address}.arn")
+        is_open = apply.word == "template" and not (change.values.get("region") or apply.region)
+        apply.unknowns.lacks(f"{change.address} (its ARN: AWS::Region)" if is_open else f"{change.address}.arn")
         return []
     if arn is None:
         raise Fault(f"{change.address}: no resource of --resources is {name}")

@@ -18,19 +18,21 @@ DATE = re.compile(r"(\d{4}-\d\d-\d\d)(?:T(\d\d:\d\d)(:\d\d)?(?:\.\d+)?(?:Z|([+-]
 
 
 class Turn(NamedTuple):
-    """With this value of this key the answer is another; and so it is with further values."""
+    """With this value of this key the answer is another; and so it is with further values. Or with others keys besides."""
 
     key: str
     value: str
     decision: str
     others: Tuple[str, ...] = ()
+    besides: Tuple[Tuple[str, str], ...] = ()
 
     @property
     def values(self) -> List[str]:
         return [self.value, *self.others]
 
     def words(self) -> str:
-        return f"`{self.key}` is {' or '.join(f'`{it}`' for it in self.values)}"
+        more = "".join(f" and `{key}` is `{value}`" for key, value in self.besides)
+        return f"`{self.key}` is {' or '.join(f'`{it}`' for it in self.values)}{more}"
 
 
 def around(text: str) -> List[str]:

@@ -1,5 +1,6 @@
 """Rules that a team keeps: which requests are never allowed, and which always."""
 
+import functools
 import re
 from typing import Dict, List, NamedTuple, Optional, Tuple
 
@@ -8,8 +9,9 @@ from .arns import principal_arn, principal_text
 from .asking import ask_all
 from .chains import Way
 from .documents import World
+from .documents import cells_of as count_of
 from .faults import Fault, tell
-from .hanging import Turn, is_too_much, later, together, turns
+from .hanging import MOST, Turn, is_too_much, later, together, turns
 from .keys import with_key
 from .kinds import Origins
 from .patterns import is_pattern, near
@@ -153,10 +155,10 @@ def check(scope: Scope, rules: List[Rule], as_given: bool = False, before: Optio
 
 
 def tell_several(some: List[World]) -> None:
-    """Says that statements ask for several keys that nothing gives, since these are given one at a time."""
+    """Says that statements ask for several keys that nothing gives: those of several statements are not given at once."""
     keys = sorted({key for world in some for it in together(world) for key in it})
     if keys:
-        tell(f"keys were given one at a time: {', '.join(keys)}")
+        tell(f"keys were given one at a time, and those of one statement at once: {', '.join(keys)}")
 
 
 def tell_later(some: List[World]) -> None:
@@ -196,7 +198,24 @@ def breaks(rule: Rule, asked: Asked, answers: Answers, cells: List[int], as_give
     opened = [(cell, it) for cell in cells for it in turned.get(cell, []) if it.decision == "allowed"]
     keys = list(dict.fromkeys((it.key, it.value) for _, it in opened))
     given = dict(zip(keys, ask_all([with_key(answers.world, *it) for it in keys])))
-    return found + [Break(given[it.key, it.value], cell, it, asked.witnesses) for cell, it in opened]
+    found += [Break(given[it.key, it.value], cell, it, asked.witnesses) for cell, it in opened]
+    done = {it.cell for it in found}
+    return found + several_keys(rule, asked, answers.world, [it for it in cells if it not in done])
+
+
+def several_keys(rule: Rule, asked: Asked, world: World, cells: List[int]) -> List[Break]:
+    """The requests that are allowed with all keys at once that one statement asks for and that nothing gives."""
+    several = together(world) if cells else []
+    if len(several) * count_of(world) > MOST:
+        tell(f"{rule.name}: what several keys at once allow was not asked, since they are too many")
+        return []
+    found: List[Break] = []
+    given = [functools.reduce(lambda made, key: with_key(made, *key), of.items(), world) for of in several]
+    for of, answers in zip(several, ask_all(given)):
+        (key, value), *rest = of.items()
+        turn, flags, done = Turn(key, value, "allowed", (), tuple(rest)), answers.flags(), {it.cell for it in found}
+        found += [Break(answers, it, turn, asked.witnesses) for it in cells if flags[it] and it not in done]
+    return found
 
 
 def cells_of(scope: Scope, answers: Answers) -> List[int]:

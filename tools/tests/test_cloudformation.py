@@ -466,6 +466,8 @@ def test_a_policy_of_a_function():
     }
     made.update(Principal={"AWS": "444455556666"}, Condition={"ArnLike": {"aws:SourceArn": "arn:x"}})
     same(given.resources[f"arn:aws:lambda:{OWN}:function:f"], document(made))
+    permission["Properties"]["FunctionName"] = "f"
+    same(unknown(template(P=permission)), "P (its ARN: AWS::Region)")
 
 
 def test_a_permission_that_moves_to_another_function():

@@ -129,10 +129,19 @@ def test_never_holds_with_a_key_too():
 
 def test_keys_that_a_never_was_not_asked_with_are_told():
     both = {"IpAddress": {"aws:SourceIp": "203.0.113.0/24"}, "Bool": {"aws:MultiFactorAuthPresent": "true"}}
-    line = "iamsim-aws: keys were given one at a time: aws:MultiFactorAuthPresent, aws:SourceIp\n"
+    line = "iamsim-aws: keys were given one at a time, and those of one statement at once: "
+    line += "aws:MultiFactorAuthPresent, aws:SourceIp\n"
     asks, none = (small_world(document(it)) for it in (statement(Condition=both), statement(action="sqs:*")))
+    rule = "never * s3:GetObject arn:aws:s3:::b/k\n"
     for made, words, said in ((asks, [], line), (asks, ["--as-given"], ""), (none, [], "")):
-        same(rules_of(made, "never * s3:GetObject arn:aws:s3:::b/k\n", *words)[1], said, str(words))
+        out, told = rules_of(made, rule, *words, status=3 if said else 0)
+        same(told, said, str(words))
+        with_both = (
+            " if `aws:SourceIp` is `203.0.113.0` and `aws:MultiFactorAuthPresent` is `true`, which nothing gives"
+        )
+        same(with_both in out, bool(said))
+    # With a deny in the way all keys at once allow nothing either.
+    rules_of(small_world(document(statement(Condition=both), statement("Deny"))), rule)
 
 
 def test_dates_that_come_later_are_told():

@@ -2,7 +2,7 @@
 
 from typing import Any, Dict, Iterable, List, Set
 
-from ..documents import Policy, World, each, mapped, statements_of
+from ..documents import Policy, World, mapped, statements_of
 from ..kinds import texts_of
 from ..patterns import common, matcher, of_policy, opened, variables_of
 from .nodes import Principal
