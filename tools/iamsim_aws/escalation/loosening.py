@@ -1,5 +1,6 @@
 """Who might come there if all that is not known were in his favour: keys that nothing gives, and names that no text stands for."""
 
+import functools
 from typing import Any, Dict, Iterable, List, Set
 
 from ..documents import Policy, World, mapped, statements_of
@@ -12,6 +13,7 @@ from .table import KINDS
 ODD = "q~7z"
 
 
+@functools.lru_cache(maxsize=None)
 def meets(pattern: str) -> List[str]:
     """The kinds of what no export has of which a pattern of a policy means some."""
     return [it for it in KINDS.values() if common(opened(pattern), it) is not None]
@@ -59,6 +61,8 @@ class Loose:
             del made["Condition"]
         if "Resource" in it:
             some = texts_of(it, "Resource")
+            if "*" in some:
+                return [made]
             made["Resource"] = list(dict.fromkeys([*some, *(kind for one in some for kind in meets(one))]))
         elif "NotResource" in it:
             rest = [one for one in texts_of(it, "NotResource") if not meets(one)]
