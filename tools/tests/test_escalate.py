@@ -292,6 +292,65 @@ def test_to_a_principal():
     assert "no principal matches bos" in said, said
 
 
+def sessions(*some, sets=()):
+    """Sessions of roles, each (role, name, statements), and permission sets, as --sessions has them."""
+    made = [{"role": arn("role", of), "session": it, "sessionPolicies": [document(*own)]} for of, it, own in some]
+    return ["--sessions", file({"sessions": made, "permissionSets": [{"account": OWN, **it} for it in sets]})]
+
+
+def session(of, name="session"):
+    return f"arn:aws:sts::{OWN}:assumed-role/{of}/{name}"
+
+
+def ways_of(answer):
+    """As `found` has them, by the whole texts of the principals."""
+    return {
+        it["principal"]: [[part["way"] for part in step["parts"]] for step in it["steps"]] for it in answer["found"]
+    }
+
+
+def test_sessions_that_their_policies_limit():
+    """A session may do what its role and its session policies allow. Who assumes the role has it in full, also from a session of
+    it; a policy that is written into the role does not widen the session."""
+    export = ground()
+    own = [
+        statement(action="iam:CreateAccessKey", resource=arn("user", "boss")),
+        statement(action=["sts:AssumeRole", "iam:PutRolePolicy"], resource=arn("role", "builder")),
+    ]
+    export["RoleDetailList"].append(role("builder", {"AWS": f"arn:aws:iam::{OWN}:root"}, own))
+    given = sessions(
+        ("builder", "free", [statement()]),
+        ("builder", "again", [statement(action="sts:*")]),
+        ("builder", "writer", [statement(action="iam:PutRolePolicy")]),
+        ("builder", "reader", [statement(action="s3:*")]),
+    )
+    answer = escalated(export, *given)
+    key = [["access-key"]]
+    wanted = {"session": key, "free": key, "again": [["assume-role"], ["access-key"]]}
+    same(ways_of(answer), {session("builder", name): it for name, it in wanted.items()})
+    same((answer["principals"], len(answer["already"])), (9, 4))
+    # The role is its own session, and no session that is less; who is the role may make each of its sessions.
+    for to, ends in (("builder", ["session"]), ("*/builder/reader", ["session", "reader"])):
+        answer = escalated(export, *given, "--to", to)
+        same(answer["already"], [session("builder", it) for it in ends], to)
+        same(ways_of(answer)[session("builder", "again")], [["assume-role"]], to)
+        assert session("builder", "writer") not in ways_of(answer), to
+
+
+def test_permission_sets():
+    keys = document(statement(action="iam:CreateAccessKey", resource=arn("user", "boss")))
+    given = sessions(
+        sets=(
+            {"name": "Admin", "inline": document(statement())},
+            {"name": "Keys", "inline": keys},
+            {"name": "Less", "inline": keys, "boundary": arn("policy", "storage")},
+        )
+    )
+    answer = escalated(ground(), *given)
+    assert session("AWSReservedSSO_Admin_x") in answer["already"], answer["already"]
+    same(ways_of(answer), {session("AWSReservedSSO_Keys_x"): [["access-key"]]})
+
+
 def test_who_is_outside():
     export = ground()
     export["RoleDetailList"].append(role("partner", {"AWS": OTHER}, [statement()]))

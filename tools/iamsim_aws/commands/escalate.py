@@ -10,7 +10,7 @@ from ..escalation.search import Found, Search
 from ..covering import tell_strangers
 from ..faults import Fault
 from ..patterns import near
-from ..sources import add_options, source_of
+from ..sources import add_options, add_sessions, source_of
 from .parsers import add
 
 WRITE = {"text": reporting.as_text, "json": reporting.as_json, "markdown": reporting.as_markdown}
@@ -21,6 +21,7 @@ def add_all(commands: Any) -> None:
     parser = add(commands, "escalate", "tell who can come to be an administrator, and how", example, run)
     parser.add_argument("exports", nargs="+", metavar="EXPORT", help="of 'aws iam get-account-authorization-details'")
     add_options(parser)
+    add_sessions(parser)
     parser.set_defaults(world=None, names=None, actions=None)
     help_of_to = "who can come to be this one: a name, an ARN, or a pattern of these"
     parser.add_argument("--to", metavar="PRINCIPAL", help=help_of_to)
@@ -29,7 +30,7 @@ def add_all(commands: Any) -> None:
 
 
 def run(options: argparse.Namespace) -> int:
-    read = [*options.exports, *options.resources, *options.context, options.organization]
+    read = [*options.exports, *options.resources, *options.context, *options.sessions, options.organization]
     files.refuse_taken([options.svg], read)
     source = source_of(options)
     search = Search(source, options.to)

@@ -76,7 +76,7 @@ def box(found: Found, node: Node, place: Place, is_end: bool) -> List[str]:
     changes = ", ".join(words(it._replace(what=it.what.split("/")[-1])) for it in node.changes)
     principal = found.people.principals[node.number]
     is_outside = is_stranger(principal)
-    name = found.name(node).rpartition("anyone ")[2] if is_outside else resource_part(found.people.arn(node))
+    name = found.name(node).rpartition("anyone ")[2] if is_outside else resource_part(found.people.called(node))
     edge, inside = END if is_end else CHANGED if changes else OTHER
     dashes = ' stroke-dasharray="4 3"' if is_outside else ""
     title = found.name(node) + (f", {changes}" if changes else "")

@@ -2,7 +2,7 @@
 
 from typing import Any, Callable, Dict, Iterator, List, NamedTuple, Optional, Tuple
 
-from ..arns import account_of, principal_arn
+from ..arns import account_of, names_of_principal, principal_arn, principal_text
 from ..documents import Policy
 from ..exports import Account, objects, once, policy
 from ..making import Estate
@@ -51,6 +51,11 @@ class Holder(NamedTuple):
 
     def group_arns(self) -> List[str]:
         return [str(self.account.groups[it]["Arn"]) for it in self.groups]
+
+
+def is_limited(principal: Principal) -> bool:
+    """Whether it is a session with session policies."""
+    return bool(principal.get("sessionPolicies"))
 
 
 def attached(holder: Dict[str, Any]) -> List[str]:
@@ -124,10 +129,27 @@ class People:
         self.principals = [*principals, *outside]
         self.own = len(principals)
         self.holders = holders(estate)
-        self.numbers = {principal_arn(it): n for n, it in enumerate(principals)}
+        # Who becomes a role has a session of his own, which no session policy limits.
+        self.numbers = {principal_arn(it): n for n, it in enumerate(principals) if not is_limited(it)}
+        self.limited = [it for it in principals if is_limited(it)]
 
     def arn(self, node: Node) -> str:
         return principal_arn(self.principals[node.number])
+
+    def called(self, node: Node) -> str:
+        """Its ARN; of a session that its policies limit the session's."""
+        principal = self.principals[node.number]
+        return principal_text(principal) if is_limited(principal) else principal_arn(principal)
+
+    def names(self, node: Node) -> List[str]:
+        """The texts that a pattern of '--to' is compared with. A session that its policies limit is not all of its role; who
+        is the role may make that session."""
+        principal = self.principals[node.number]
+        if is_limited(principal):
+            return [principal_text(principal)]
+        role = principal.get("role")
+        own = [principal_text(it) for it in self.limited if it["role"] == role]
+        return [*names_of_principal(principal), *own]
 
     def account(self, node: Node) -> str:
         return account_of(self.arn(node))

@@ -24,7 +24,7 @@ def few(names: List[str]) -> str:
 def target_words(found: Found, step: Step) -> str:
     """What a step comes to."""
     changes = "".join(f", {words(it)}" for it in step.target.changes)
-    return found.people.arn(step.target) + changes
+    return found.people.called(step.target) + changes
 
 
 def origin_of(found: Found, text: str) -> Optional[Origin]:

@@ -6,7 +6,6 @@ from .. import chains
 from ..hanging import wanted
 from ..kinds import Origins
 from ..patterns import any_matches
-from ..arns import names_of_principal
 from ..sources import Source
 from ..strangers import shown, strangers
 from .administrators import administrators
@@ -60,7 +59,7 @@ class Search:
             self.is_end.update(administrators(self.things, self.people, nodes))
             return
         for it in nodes:
-            self.is_end[it] = any_matches([self.to], names_of_principal(self.people.principals[it.number]))
+            self.is_end[it] = any_matches([self.to], self.people.names(it))
 
     def round(self, nodes: List[Node]) -> List[Node]:
         """The nodes that are new after one step of these."""
