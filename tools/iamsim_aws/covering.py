@@ -12,6 +12,9 @@ from .patterns import is_pattern
 from .sources import Source
 from .strangers import EVERYBODY, accounts_of, named_by, stand_in
 
+# What a line says of whom nobody stands for.
+NOT_ASKED = "nobody is asked"
+
 
 def tell_actions(source: Source, patterns: Iterable[str]) -> None:
     """Without the service reference no pattern of actions covers all that a service has."""
@@ -26,24 +29,29 @@ def tell_lacked(actions: List[str]) -> None:
 
 
 def tell_strangers(source: Source, worlds: Iterable[World], has_services: bool = False) -> None:
-    """Those to whom policies of the worlds' resources grant and for whom nobody is asked, each once; services where they
-    are wanted, since most roles trust one."""
+    """Tells those to whom policies grant and for whom nobody is asked, each once."""
+    for line in unasked(source, worlds, has_services):
+        tell(line)
+
+
+def unasked(source: Source, worlds: Iterable[World], has_services: bool = False) -> Dict[str, Set[str]]:
+    """Those to whom policies of the worlds' resources grant and for whom nobody is asked: a line each, with the resources'
+    ARNs; services where they are wanted, since most roles trust one."""
     known = accounts_of(source)
     in_organization = source.estate is not None and source.estate.organization.is_there
-    found: Dict[str, None] = {}
+    found: Dict[str, Set[str]] = {}
     for world in worlds:
         for it in world["resources"]:
             for statement in statements_of(it["policy"].document) if "policy" in it else ():
-                for text in named_by(statement):
-                    why = why_nobody(text, known)
-                    found.update({f"{it['policy'].name} names {text}, {why}": None} if why else {})
-                for text in others(statement, world, has_services):
-                    found[f"{it['policy'].name} names {text}, for whom nobody is asked"] = None
+                lines = [(text, why_nobody(text, known)) for text in named_by(statement)]
+                lines += [(text, f"for whom {NOT_ASKED}") for text in others(statement, world, has_services)]
+                told = [f"{it['policy'].name} names {text}, {why}" for text, why in lines if why]
                 if in_organization and named_by(statement) and asks_for_members(statement):
-                    what = "grants to members of an organisation: of those without an export nobody is asked"
-                    found[f"{it['policy'].name} {what}"] = None
-    for line in found:
-        tell(line)
+                    what = f"grants to members of an organisation: of those without an export {NOT_ASKED}"
+                    told.append(f"{it['policy'].name} {what}")
+                for line in told:
+                    found.setdefault(line, set()).add(it["arn"])
+    return found
 
 
 def others(statement: Any, world: World, has_services: bool) -> Iterator[str]:
@@ -62,9 +70,9 @@ def why_nobody(text: str, known: Set[str]) -> str:
     if not text.startswith("arn:") and text != EVERYBODY and not ACCOUNT.fullmatch(text):
         return "which is no ARN and no account: it means nobody"
     if ":role/aws-service-role/" in text:
-        return "a service-linked role, for whom nobody is asked"
+        return f"a service-linked role, for whom {NOT_ASKED}"
     is_stranger = account_of(text) not in ("", *known)
-    return "for whom nobody is asked" if is_stranger and not stand_in(text, "aws", "", "session") else ""
+    return f"for whom {NOT_ASKED}" if is_stranger and not stand_in(text, "aws", "", "session") else ""
 
 
 def asks_for_members(statement: Any) -> bool:

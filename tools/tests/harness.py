@@ -48,9 +48,9 @@ def run(words, given="", status=0, seconds=120):
     return ran.stdout, ran.stderr
 
 
-def aws(*words, given="", status=0):
+def aws(*words, given="", status=0, seconds=120):
     """What iamsim-aws writes on both streams; a fault is one line."""
-    out, said = run([AWS, *words], given, status)
+    out, said = run([AWS, *words], given, status, seconds)
     assert "Traceback" not in said, said
     if status == 1:
         assert said.count("\n") == 1 or words[0] == "check", said

@@ -7,13 +7,14 @@ import re
 import sys
 import urllib.parse
 
-from harness import TOOLS, aws, data, document, file, same, statement
+from harness import TOOLS, aws, data, document, file, patience, same, statement
 
 sys.path.insert(0, TOOLS)
 from iamsim_aws.escalation.table import (  # noqa: E402
     ANY,
     BECOMES,
     BOUNDARY,
+    ELSEWHERE,
     GROUP,
     HELD,
     KINDS,
@@ -60,6 +61,8 @@ def bound(name):
 
 
 HARMLESS, EVERYTHING = document(statement(action="s3:ListBucket")), document(statement())
+# The kinds of resources that are asked for alone.
+ASKED = (*HELD, *KINDS, ELSEWHERE, "*")
 SERVED = {"Service": SERVICES, "AWS": arn("user", "boss")}
 
 
@@ -79,6 +82,8 @@ def ground():
 
 def target(way, ask, kind, name):
     """What a request of a way is allowed on."""
+    if ask.kind == ELSEWHERE:
+        return f"arn:aws:iam::{OTHER}:role/away"
     if ask.kind not in HELD:
         return "*" if ask.kind == "*" else KINDS[ask.kind].replace("arn:*", "arn:aws")
     if way.gain in BECOMES:
@@ -92,7 +97,7 @@ def target(way, ask, kind, name):
 def add(export, way, name, lacks=None, **more):
     """A principal that may go a way, but for the request that it lacks; `more` stands in each of its statements."""
     kind = "Role" if way.gain in (ANY, BOUNDARY) and way.asks[0].kind == "role" else "User"
-    asks = [it for it in way.asks if it != lacks and it.kind in (*HELD, *KINDS, "*")]
+    asks = [it for it in way.asks if it != lacks and it.kind in ASKED]
     allowed = [statement(action=it.action, resource=target(way, it, kind, name), **more) for it in asks]
     has, own = {}, allowed
     if way.gain == BOUNDARY:
@@ -116,7 +121,7 @@ def account():
     made = ground()
     for way in WAYS:
         add(made, way, way.name)
-        for n, ask in enumerate(it for it in way.asks if it.kind in (*HELD, *KINDS, "*")):
+        for n, ask in enumerate(it for it in way.asks if it.kind in ASKED):
             add(made, way, f"{way.name}-lacks-{n}", lacks=ask)
         add(made, way, f"{way.name}-keyed", Condition=SECRET)
         if way.gain != BOUNDARY:
@@ -137,7 +142,8 @@ def organization(*denied):
 
 
 def escalated(export, *words, status=3):
-    out, _ = aws("escalate", file(export), "--moment", "0", "--format", "json", *words, status=status)
+    given = ["escalate", file(export), "--moment", "0", "--format", "json", *words]
+    out, _ = aws(*given, status=status, seconds=patience(120))
     return json.loads(out)
 
 
@@ -165,6 +171,8 @@ def test_each_way_is_found_and_none_without_one_of_its_requests():
         twins = {who for who, name in told if name == way.name and who.startswith(f"{way.name}-")}
         assert not {f"{way.name}-bound", f"{way.name}-keyed"} & twins, twins
     same(answer["absentKeys"], ["aws:MultiFactorAuthPresent"])
+    # Though somebody is found, who may go a way with that key is told.
+    same(sorted(map(short, answer["maybe"])), sorted(f"{way.name}-keyed" for way in WAYS))
 
 
 def test_no_way_is_found_behind_a_policy_of_the_organisation():
@@ -357,6 +365,85 @@ def test_who_is_outside():
     answer = escalated(export)
     same([it["principal"] for it in answer["found"]], [f"anyone outside: account {OTHER}"])
     same([it["outside"] for it in answer["found"]], [True])
+
+    # A resource's policy lets the other account change the code of a function, which runs under a role of this one.
+    code = {"Effect": "Allow", "Principal": {"AWS": OTHER}, "Action": "lambda:UpdateFunctionCode", "Resource": "*"}
+    function = f"arn:aws:lambda:eu-west-1:{OWN}:function:nightly"
+    one = {"arn": function, "account": OWN, "policy": document(code), "runsAs": arn("role", "chief")}
+    for given, ways, way in ((one, [[["lambda-code"]]], []), ({**one, "runsAs": ""}, [], ["lambda-code"])):
+        answer = escalated(ground(), "--resources", file([given]), status=3 if ways else 5)
+        same(list(ways_of(answer).values()), ways)
+        same([it["way"] for it in answer["open"]], way)
+
+
+def test_roles_of_accounts_without_an_export():
+    """Where they lead nobody knows, so it is told; a deny of all that is elsewhere leaves nothing open."""
+    away = f"arn:aws:iam::{OTHER}:role/away"
+    here = {"Effect": "Deny", "Action": "sts:*", "NotResource": f"arn:aws:iam::{OWN}:*"}
+    named, every = f"no export has the role {away}", "no export has the roles of other accounts that {} means"
+    cases = [
+        ([statement(action="sts:AssumeRole", resource=away)], [named]),
+        ([statement(action="sts:*")], [every.format("*")]),
+        ([statement(action="sts:*", resource="arn:aws:iam::*:role/a*")], [every.format("arn:aws:iam::*:role/a*")]),
+        ([statement(action="sts:*"), here], []),
+        ([statement(action="sts:*", resource=away), statement("Deny", "sts:*", f"arn:aws:iam::{OTHER}:*")], []),
+        ([statement(action="sts:*", resource=arn("role", "gone"))], []),
+    ]
+    export = {**ground(), "RoleDetailList": []}
+    for given, wanted in cases:
+        made = {**export, "UserDetailList": [*ground()["UserDetailList"], entity("User", "dev", given)]}
+        answer = escalated(made, status=5 if wanted else 0)
+        same((answer["found"], [it["why"] for it in answer["open"]]), ([], wanted))
+    # With the export of that account the way goes on.
+    text = json.dumps({**ground(), "UserDetailList": [], "GroupDetailList": [], "Policies": []})
+    other = json.loads(text.replace(OWN, OTHER))
+    trust = document({"Effect": "Allow", "Principal": {"AWS": OWN}, "Action": "sts:AssumeRole"})
+    other["RoleDetailList"] = [{**role("away", {}, [statement()]), "Arn": away, "AssumeRolePolicyDocument": trust}]
+    made = {**export, "UserDetailList": [*ground()["UserDetailList"], entity("User", "dev", cases[0][0])]}
+    answer = escalated(made, file(other))
+    same((found(answer), answer["open"]), ({"dev": [["assume-role"]]}, []))
+
+
+def test_what_runs_under_a_role_that_no_export_has():
+    function, away = f"arn:aws:lambda:eu-west-1:{OWN}:function:nightly", f"arn:aws:iam::{OTHER}:role/away"
+    export = ground()
+    coder = entity("User", "coder", [statement(action="lambda:UpdateFunctionCode", resource=function)])
+    export["UserDetailList"].append(coder)
+    answer = escalated(export, "--resources", file([{"arn": function, "account": OWN, "runsAs": away}]), status=5)
+    same([it["why"] for it in answer["open"]], [f"the exports have no principal {away}"])
+
+
+def test_who_is_let_into_a_role_and_not_asked_for():
+    """Of who comes by SAML it is not known whether he comes to be an administrator, where the role that lets him in is one."""
+    provider = f"arn:aws:iam::{OWN}:saml-provider/idp"
+    for given, status in (([statement()], 5), ([statement(action="s3:*")], 0)):
+        export = ground()
+        made = role("people", {"Federated": provider}, given)
+        made["AssumeRolePolicyDocument"]["Statement"][0]["Action"] = "sts:AssumeRoleWithSAML"
+        export["RoleDetailList"].append(made)
+        line = f"{arn('role', 'people')} trust policy names Federated {provider}, for whom nobody is asked"
+        out, said = aws("escalate", file(export), status=status)
+        assert f"{line}\n" in said, said
+        same(f"not asked: who comes to an administrator so: {line}\n" in out, status == 5, out)
+        same(escalated(export, status=status)["notAsked"], [line] if status else [])
+
+
+def test_what_is_open_once_something_is_changed():
+    """Who may add herself to a group has what the group may do: to run commands on instances, whose roles nothing tells."""
+    export = ground()
+    command = statement(action="ssm:SendCommand", resource=f"arn:aws:ec2:eu-west-1:{OWN}:instance/*")
+    export["GroupDetailList"].append(entity("Group", "runners", [command]))
+    joins = statement(action="iam:AddUserToGroup", resource=arn("group", "runners"))
+    export["UserDetailList"].append(entity("User", "ann", [joins]))
+    answer = escalated(export, status=5)
+    told = [(it["principal"], it["way"], [one["what"] for one in it["changes"]]) for it in answer["open"]]
+    same(told, [(arn("user", "ann"), "ssm-command", [arn("group", "runners")])])
+    drawing = file("")
+    out, _ = aws("escalate", file(export), "--svg", drawing, status=5)
+    line = "since nothing tells under which role: allowed to {0}user/ann, in the group {0}group/runners\n"
+    assert line.format(f"arn:aws:iam::{OWN}:") in out, out
+    with open(drawing, encoding="utf-8") as it:
+        assert "not asked: where ssm:SendCommand leads (ssm-command)" in it.read()
 
 
 def test_the_forms():

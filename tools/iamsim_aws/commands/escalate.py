@@ -41,13 +41,13 @@ def run(options: argparse.Namespace) -> int:
     if options.to is not None and not found.ends:
         raise Fault(f"no principal matches {options.to}{near(options.to, list(search.people.numbers))}")
     if options.svg:
-        files.write_file(options.svg, drawing(found, reporting.summary(found, end)))
+        files.write_file(options.svg, drawing(found, reporting.summary(found, end), reporting.notes(found, end)))
     files.write(WRITE[options.format](found, end))
-    tell_strangers(source, [search.things.assumed])
+    tell_strangers(source, [search.things.trusting])
     return status(found)
 
 
 def status(found: Found) -> int:
     if found.ways:
         return 3
-    return 5 if found.open or found.unshown or found.maybe else 0
+    return 5 if found.open or found.unshown or found.maybe or found.unasked else 0

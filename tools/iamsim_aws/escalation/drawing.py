@@ -1,5 +1,6 @@
 """The ways as a picture: SVG with nothing from outside. Each node has one step, so they are trees, drawn from right to left."""
 
+import textwrap
 from typing import Dict, List, NamedTuple, Tuple
 from xml.sax.saxutils import escape
 
@@ -12,7 +13,9 @@ from .steps import Step, words
 
 BOX, LABEL, BEND, ROW, HEIGHT, EDGE = 250, 200, 60, 40, 28, 16
 COLUMN = BOX + LABEL + BEND
-TITLE = 44
+TITLE, LINE = 44, 16
+# The width of a sign of a note.
+SIGN = 6.2
 # The signs that a box, or the words on a line, have room for.
 SIGNS, FEW = 31, 30
 FONT = 'font-family="system-ui, sans-serif"'
@@ -31,6 +34,11 @@ def cut(text: str, signs: int) -> str:
     """A text, with a sign in place of its middle where it is too long."""
     half = (signs - 1) // 2
     return text if len(text) <= signs else f"{text[:half]}…{text[-half:]}"
+
+
+def wrapped(text: str, width: float) -> List[str]:
+    """A note in lines, as wide as the picture."""
+    return textwrap.wrap(text, int(width / SIGN), subsequent_indent="    ", break_on_hyphens=False)
 
 
 def steps_of(found: Found) -> Dict[Node, Step]:
@@ -107,12 +115,14 @@ def line(step: Step, places: Dict[Node, Place]) -> List[str]:
     ]
 
 
-def drawing(found: Found, title: str) -> str:
-    """The picture of all ways that were found."""
+def drawing(found: Found, title: str, notes: List[str]) -> str:
+    """The picture of all ways that were found, and below it what was not asked or not shown."""
     steps = steps_of(found)
     places, rows = placed(steps)
     width = max([it.x + BOX + EDGE for it in places.values()], default=0)
-    width, height = max(width, 640), TITLE + max(rows, 1) * ROW + EDGE
+    width, below = max(width, 640), TITLE + max(rows, 1) * ROW
+    told = [part for it in notes for part in wrapped(line_of(it), width)]
+    height = below + len(told) * LINE + EDGE
     size = f'viewBox="0 0 {width:g} {height:g}" width="{width:g}" height="{height:g}"'
     head = f'<svg xmlns="http://www.w3.org/2000/svg" {size} {FONT}>'
     marker = 'id="tip" markerWidth="8" markerHeight="8" refX="2" refY="4" orient="auto"'
@@ -124,4 +134,5 @@ def drawing(found: Found, title: str) -> str:
         lines += line(step, places)
     for node, place in places.items():
         lines += box(found, node, place, node not in steps)
+    lines += [text_at(EDGE, below + n * LINE, it, 'font-size="11" fill="#5a6473"') for n, it in enumerate(told, 1)]
     return "\n".join([*lines, "</svg>"]) + "\n"

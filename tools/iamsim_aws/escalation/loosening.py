@@ -3,9 +3,11 @@
 import functools
 from typing import Any, Dict, Iterable, List, Set
 
+from ..arns import account_of
 from ..documents import Policy, World, mapped, statements_of
+from ..exports import ACCOUNT
 from ..kinds import texts_of
-from ..patterns import common, matcher, of_policy, opened, variables_of
+from ..patterns import common, is_pattern, matcher, of_policy, opened, variables_of
 from .nodes import Principal
 from .table import KINDS
 
@@ -46,6 +48,11 @@ class Loose:
     def is_open(self, key: str) -> bool:
         return key.lower() in self.keys
 
+    def is_of_others(self, pattern: str) -> bool:
+        """Whether all that a pattern of a policy means is of accounts that are not asked about."""
+        start, account = pattern.split(":")[:5], account_of(pattern)
+        return ACCOUNT.fullmatch(account) is not None and account not in self.accounts and not any(map(is_pattern, start))
+
     def statement(self, it: Any) -> List[Any]:
         """What stands for a statement, if anything does."""
         if not isinstance(it, dict):
@@ -78,7 +85,7 @@ class Loose:
             return [it]
         left: List[str] = []
         for one in texts_of(it, "Resource"):
-            kinds = meets(one)
+            kinds = [] if self.is_of_others(one) else meets(one)
             whole = [kind for kind in kinds if all(covers(one, kind, account) for account in self.accounts)]
             left += [one] if len(whole) == len(kinds) else whole
         return [{**it, "Resource": list(dict.fromkeys(left))}] if left else []
@@ -91,6 +98,10 @@ class Loose:
 
     def world(self, world: World) -> World:
         return mapped(world, lambda _, __, it: self.policy(it))
+
+    def resources(self, some: List[Dict[str, Any]]) -> List[Dict[str, Any]]:
+        made = self.world({"accounts": [], "principals": [], "actions": [], "resources": some})
+        return list(made["resources"])
 
     def principal(self, principal: Principal) -> Principal:
         made = self.world({"accounts": [], "principals": [principal], "actions": [], "resources": []})

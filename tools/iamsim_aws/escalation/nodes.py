@@ -126,6 +126,7 @@ class People:
         loosened: Optional[Callable[[Principal], Principal]] = None,
     ):
         self.loosened = loosened
+        self.made: Dict[Node, Principal] = {}
         self.principals = [*principals, *outside]
         self.own = len(principals)
         self.holders = holders(estate)
@@ -159,8 +160,10 @@ class People:
         return self.holders.get(self.arn(node)) if node.number < self.own else None
 
     def principal(self, node: Node) -> Principal:
-        made, holder = self.principals[node.number], self.holder(node)
-        for it in node.changes:
-            assert holder is not None
-            made = with_change(made, holder, it)
-        return self.loosened(made) if self.loosened else made
+        if node not in self.made:
+            made, holder = self.principals[node.number], self.holder(node)
+            for it in node.changes:
+                assert holder is not None
+                made = with_change(made, holder, it)
+            self.made[node] = self.loosened(made) if self.loosened else made
+        return self.made[node]

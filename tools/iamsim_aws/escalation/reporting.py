@@ -1,11 +1,12 @@
 """The ways as a text, as JSON and as Markdown."""
 
-from typing import Any, Dict, List, Optional
+from typing import Any, Dict, List, Optional, Tuple
 
 from ..faults import line_of
 from ..files import compact
 from ..kinds import Origin, made_up
 from ..telling import causes, deciding
+from .nodes import Node
 from .requests import Request
 from .search import Found
 from .steps import Open, Part, Step, words
@@ -21,10 +22,13 @@ def few(names: List[str]) -> str:
     return ", ".join(names[:FEW]) + more
 
 
+def changes_words(node: Node) -> str:
+    return "".join(f", {words(it)}" for it in node.changes)
+
+
 def target_words(found: Found, step: Step) -> str:
     """What a step comes to."""
-    changes = "".join(f", {words(it)}" for it in step.target.changes)
-    return found.people.called(step.target) + changes
+    return found.people.called(step.target) + changes_words(step.target)
 
 
 def origin_of(found: Found, text: str) -> Optional[Origin]:
@@ -66,19 +70,22 @@ def summary(found: Found, end: str) -> str:
     return f"{who} of {counted(found.people.own, 'principal')} can come to be {end}{more}; {one} already"
 
 
-def notes(found: Found) -> List[str]:
+def open_name(found: Found, it: Open) -> str:
+    return found.name(it.node) + changes_words(it.node)
+
+
+def notes(found: Found, end: str) -> List[str]:
     """What was not asked, or not shown."""
     lines = [f"it is not shown who of these is an administrator: {few(list(map(found.name, found.unshown)))}"]
     lines = lines if found.unshown else []
-    by_way: Dict[str, List[Open]] = {}
+    by_way: Dict[Tuple[str, str], List[Open]] = {}
     for it in found.open:
-        by_way.setdefault(it.part.way.name, []).append(it)
-    for name, some in by_way.items():
+        by_way.setdefault((it.part.way.name, it.why), []).append(it)
+    for (name, why), some in by_way.items():
         actions = " and ".join(ask.action for ask in some[0].part.way.asks)
-        who = few([found.name(it.node) for it in some])
-        lines.append(
-            f"not asked: where {actions} leads ({name}), since nothing tells under which role: allowed to {who}"
-        )
+        who = few([open_name(found, it) for it in some])
+        lines.append(f"not asked: where {actions} leads ({name}), since {why}: allowed to {who}")
+    lines += [f"not asked: who comes to {end} so: {it}" for it in found.unasked]
     if found.maybe:
         why = "with keys that nothing gives, or on names that nothing stands for here"
         lines.append(f"not shown, since it may be so {why}: {few(list(map(found.name, found.maybe)))}")
@@ -93,7 +100,7 @@ def as_text(found: Found, end: str) -> str:
     lines += [f"already: {', '.join(already)}"] if already else []
     for node, steps in found.ways.items():
         lines += [f"{found.name(node)}, in {counted(len(steps), 'step')}:", *way_lines(found, steps)]
-    return "".join(f"{line_of(it)}\n" for it in [*lines, *notes(found)])
+    return "".join(f"{line_of(it)}\n" for it in [*lines, *notes(found, end)])
 
 
 def code(text: str) -> str:
@@ -108,7 +115,7 @@ def as_markdown(found: Found, end: str) -> str:
             for part in step.parts:
                 asked = ", ".join(code(it.answers.row(it.cell).action) for it in part.requests)
                 lines.append(f"  {n}. {code(part.words())} ({part.way.name}: {asked})")
-    more = [f"- {code(it)}" for it in notes(found)]
+    more = [f"- {code(it)}" for it in notes(found, end)]
     return "\n".join([*lines, *(["", "Not asked or not shown:", "", *more] if more else [])]) + "\n"
 
 
@@ -130,12 +137,20 @@ def part_json(found: Found, part: Part) -> Dict[str, Any]:
     return {"way": part.way.name, "words": part.words(), "requests": requests}
 
 
+def changes_json(node: Node) -> List[Dict[str, Any]]:
+    return [it._asdict() for it in node.changes]
+
+
+def open_json(found: Found, it: Open) -> Dict[str, Any]:
+    own = {"principal": found.name(it.node), "changes": changes_json(it.node), "why": it.why}
+    return {**own, **part_json(found, it.part)}
+
+
 def step_json(found: Found, step: Step) -> Dict[str, Any]:
-    changes = [it._asdict() for it in step.target.changes]
     return {
         "from": found.name(step.source),
         "to": found.name(step.target),
-        "changes": changes,
+        "changes": changes_json(step.target),
         "parts": [part_json(found, it) for it in step.parts],
     }
 
@@ -154,7 +169,8 @@ def as_json(found: Found, end: str) -> str:
             }
             for node, steps in found.ways.items()
         ],
-        "open": [{"principal": found.name(it.node), **part_json(found, it.part)} for it in found.open],
+        "open": [open_json(found, it) for it in found.open],
+        "notAsked": found.unasked,
         "notShown": [found.name(it) for it in found.unshown],
         "maybe": [found.name(it) for it in found.maybe],
         "absentKeys": found.keys,

@@ -11,16 +11,18 @@ from ..keys import with_key
 from ..kinds import Origins, meets, texts_of
 from ..making import RUNS_AS, bound
 from ..naming import trust_policy
-from ..patterns import matcher
+from ..patterns import is_pattern, matcher
 from ..questions import Question, Scope, asked_in
 from ..reports import Answers
 from ..sources import ASSUME, Source
+from .elsewhere import elsewhere
 from .loosening import Loose
 from .nodes import Node, People, boundary_of
-from .table import ADMINISTRATOR, HELD, KINDS, OWN, SERVICE_KEY, BOUNDARY_KEY, WAYS, Ask
+from .table import ADMINISTRATOR, ELSEWHERE, HELD, KINDS, OWN, SERVICE_KEY, BOUNDARY_KEY, WAYS, Ask
 
 OPEN, ASSUMED, EVERY = "role open to all", "role to assume", "*"
 OPENED = {"Version": "2012-10-17", "Statement": {"Effect": "Allow", "Principal": {"AWS": "*"}, "Action": ASSUME}}
+ABROAD = Policy("a trust policy of an account without an export (assumed)", OPENED)
 PASSED = "iam:PassRole"
 # A service that a policy names with its region, or by its name in China.
 OF_REGION = re.compile(r"(?:\.[a-z]{2}(?:-[a-z]+)+-\d)?(\.amazonaws\.com)(?:\.cn)?$")
@@ -41,7 +43,7 @@ class Request(NamedTuple):
 def group_of(ask: Ask) -> Group:
     """The world in which a request is asked: that of what no export has is one, and so is that of the trust policies."""
     if ask.action == ASSUME:
-        return ask.kind if ask.kind == OPEN else ASSUMED, ()
+        return ask.kind if ask.kind in (OPEN, ELSEWHERE) else ASSUMED, ()
     return (ask.kind, ask.keys) if ask.kind in HELD else ("", ())
 
 
@@ -65,6 +67,8 @@ class Things:
         self.trust: Dict[str, Set[str]] = {}
         # What the texts stand for on which no export tells more.
         self.stand: Origins = {}
+        # The pattern of a policy for each text that stands for roles of accounts without an export.
+        self.elsewhere: Dict[str, str] = {}
         self.profiles: Set[str] = set()
         self.runs = {it["arn"]: it[RUNS_AS] for it in self.estate.further if it.get(RUNS_AS)}
         for it in (one for account in self.estate.accounts for one in account.roles):
@@ -76,6 +80,11 @@ class Things:
         if loose:
             self.assumed, self.base = loose.world(self.assumed), loose.world(self.base)
         self.held = {kind: self.held_of(kind) for kind in HELD}
+
+    @property
+    def trusting(self) -> World:
+        """The world of the trust policies, for all by which a role is assumed."""
+        return {**self.assumed, "actions": [ASSUME, f"{ASSUME}WithSAML", f"{ASSUME}WithWebIdentity"]}
 
     def held_of(self, kind: str) -> List[Dict[str, Any]]:
         """The objects of a kind that the exports have and that their account may change."""
@@ -104,15 +113,34 @@ class Things:
         some = [it for it in self.assumed["resources"] if it["arn"] in own]
         return [{**it, "policy": Policy(f"{trust_policy(it['arn'])}, as it was written", OPENED)} for it in some]
 
+    def abroad(self, world: World) -> List[Resource]:
+        """Roles of accounts without an export, as policies mean them; their trust policies, which nobody knows, let in everybody."""
+        accounts = self.estate.accounts
+        found = elsewhere(world, {it.account for it in accounts}, accounts[0].partition)
+        self.elsewhere.update(found)
+        made = [{"arn": it, "account": account_of(it), "sealed": True, "policy": ABROAD} for it in found]
+        return [bound(self.estate, it) for it in made]
+
+    def why_open(self, arn: str) -> str:
+        """Why nothing says where a step leads that is allowed on a resource."""
+        pattern = self.elsewhere.get(arn)
+        if pattern is not None:
+            roles = f"roles of other accounts that {pattern} means" if is_pattern(pattern) else f"role {pattern}"
+            return f"no export has the {roles}"
+        role = self.runs.get(arn)
+        return f"the exports have no principal {role}" if role else "nothing tells under which role"
+
     def world(self, group: Group, actions: List[str], people: People, nodes: List[Node]) -> World:
         """The world of these nodes, of what is asked on, and of the keys."""
         kind, keys = group
-        outside = kind == ASSUMED
+        outside = kind in (ASSUMED, "")
         principals = [people.principal(it) for it in nodes if outside or it.number < people.own]
         base = self.assumed if ASSUME in actions else self.base
         world = {**base, "actions": actions, "principals": principals}
         if kind == OPEN:
             world["resources"] = self.opened()
+        elif kind == ELSEWHERE:
+            world["resources"] = self.abroad(world)
         elif kind == ASSUMED:
             own = {it["Arn"] for it in self.held["role"]}
             world["resources"] = [it for it in base["resources"] if it["arn"] in own]
@@ -120,13 +148,16 @@ class Things:
             world["resources"] = self.of_kind(kind, dict(keys))
         else:
             world["resources"] = self.texts(world)
-        world = self.loose.world(world) if self.loose else world
+        if self.loose:
+            # The principals are so already; resources have policies of the organisation that come here.
+            world["resources"] = self.loose.resources(world["resources"])
         return self.with_keys(self.with_accounts(world), keys)
 
     def with_accounts(self, world: World) -> World:
-        """The world with the accounts of its principals too."""
+        """The world with the accounts of its principals and resources too."""
         ids = {it["id"] for it in world["accounts"]}
-        new = sorted({account_of(str(it.get("user") or it.get("role"))) for it in world["principals"]} - ids)
+        some = {account_of(str(it.get("user") or it.get("role"))) for it in world["principals"]}
+        new = sorted((some | {it["account"] for it in world["resources"]}) - ids)
         return {**world, "accounts": world["accounts"] + [self.estate.organization.account(it) for it in new]}
 
     def with_keys(self, world: World, keys: Tuple[Tuple[str, str], ...]) -> World:
@@ -157,7 +188,7 @@ class Round:
         self.things, self.people, self.nodes = things, people, nodes
         self.numbers = {it: n for n, it in enumerate(nodes)}
         # What is known of the node that was asked for last.
-        self.last: Tuple[Optional[Node], Dict[Ask, Dict[str, Request]]] = (None, {})
+        self.last: Tuple[Optional[Node], Dict[Tuple[Ask, bool], Dict[str, Request]]] = (None, {})
         actions: Dict[Group, Dict[str, None]] = {}
         for ask in (it for way in WAYS for it in way.asks):
             actions.setdefault(group_of(ask), {})[ask.action] = None
@@ -167,16 +198,16 @@ class Round:
         self.flags = {group: it.flags() for group, it in self.answers.items()}
         self.kinds = {group: kinds_of(it.world) for group, it in self.answers.items()}
 
-    def allowed(self, node: Node, ask: Ask) -> Dict[str, Request]:
-        """The resources on which a request of a node is allowed."""
+    def allowed(self, node: Node, ask: Ask, anywhere: bool = False) -> Dict[str, Request]:
+        """The resources on which a request of a node is allowed: roles, and what else is of its own account, or of any."""
         if self.last[0] != node:
             self.last = node, {}
-        known = self.last[1]
-        if ask not in known:
-            known[ask] = self.found(node, ask)
-        return known[ask]
+        known, anywhere = self.last[1], anywhere or ask.action == ASSUME
+        if (ask, anywhere) not in known:
+            known[ask, anywhere] = self.found(node, ask, anywhere)
+        return known[ask, anywhere]
 
-    def found(self, node: Node, ask: Ask) -> Dict[str, Request]:
+    def found(self, node: Node, ask: Ask, anywhere: bool) -> Dict[str, Request]:
         group = group_of(ask)
         answers = self.answers.get(group)
         if answers is None or self.numbers[node] >= answers.shape[0]:
@@ -188,16 +219,18 @@ class Round:
             return {}
         own, found = self.people.account(node), {}
         for n in self.kinds[group].get(ask.kind, range(len(resources))):
-            if flags[first + n] and (ask.action == ASSUME or resources[n]["account"] == own):
+            if flags[first + n] and (anywhere or resources[n]["account"] == own):
                 found[resources[n]["arn"]] = Request(answers, first + n, ask)
         return found
 
-    def together(self, node: Node, asks: List[Ask], on: Optional[Dict[str, str]] = None) -> Optional[List[Request]]:
+    def together(
+        self, node: Node, asks: List[Ask], on: Dict[str, str], anywhere: bool = False
+    ) -> Optional[List[Request]]:
         """A request for each ask, all allowed, those of one kind on the same resource; `on` says on which."""
         found: List[Request] = []
         for kind in dict.fromkeys(it.kind for it in asks):
-            every = [self.allowed(node, it) for it in asks if it.kind == kind]
-            wanted = (on or {}).get(kind)
+            every = [self.allowed(node, it, anywhere) for it in asks if it.kind == kind]
+            wanted = on.get(kind)
             common = [it for it in every[0] if all(it in one for one in every) and wanted in (None, it)]
             if not common:
                 return None

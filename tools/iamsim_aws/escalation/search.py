@@ -1,8 +1,9 @@
 """Who can come to be an administrator, or a given principal: the shortest way of each."""
 
-from typing import Dict, List, NamedTuple, Optional, Tuple
+from typing import Dict, Iterable, List, NamedTuple, Optional, Set, Tuple
 
 from .. import chains
+from ..covering import NOT_ASKED, unasked
 from ..hanging import wanted
 from ..kinds import Origins
 from ..patterns import any_matches
@@ -30,8 +31,10 @@ class Found(NamedTuple):
     open: List[Open]
     keys: List[str]
     stand: Origins
-    # Who might come there, or be there, if what is not known were in his favour; asked where nobody is found.
+    # Who else might come there, or be there, if what is not known were in his favour.
     maybe: List[Node]
+    # Who is outside, is let into a role that is an end or comes to one, and is not asked for: a line each.
+    unasked: List[str]
 
     def name(self, node: Node) -> str:
         return shown(self.people.principals[node.number])
@@ -40,7 +43,9 @@ class Found(NamedTuple):
 class Search:
     """Rounds: all nodes that are new are asked, and lead to others, until none is new."""
 
-    def __init__(self, source: Source, to: Optional[str], loose: Optional[Loose] = None):
+    def __init__(
+        self, source: Source, to: Optional[str], loose: Optional[Loose] = None, arrived: Iterable[Node] = ()
+    ):
         assert source.estate is not None
         self.things, self.loose = Things(source, loose), loose
         world = self.things.assumed
@@ -48,9 +53,11 @@ class Search:
         loosened = loose.principal if loose else None
         self.people = People(world["principals"], outside, source.estate, loosened)
         self.to = to
-        self.is_end: Dict[Node, Optional[bool]] = {}
+        # Where who comes there is at an end: `arrived` are those of whom it is known before.
+        self.is_end: Dict[Node, Optional[bool]] = dict.fromkeys(arrived, True)
         self.steps: Dict[Tuple[Node, Node], Step] = {}
-        self.open: List[Open] = []
+        # The first of each: the principal as it is, or with the least changes, comes first.
+        self.open: Dict[Tuple[int, str, str], Open] = {}
         self.keys: Dict[str, None] = {}
 
     def judge(self, nodes: List[Node]) -> None:
@@ -73,12 +80,13 @@ class Search:
                 self.steps.setdefault((step.source, step.target), step)
                 if step.target not in self.is_end:
                     new[step.target] = None
-        self.open += [it for it in steps.open if not it.node.changes]
+        for it in steps.open:
+            self.open.setdefault((it.node.number, it.part.way.name, it.why), it)
         return list(new)
 
     def found(self) -> Found:
-        own = [Node(n) for n in range(self.people.own)]
-        outside = [Node(n) for n in range(self.people.own, len(self.people.principals))]
+        every = [it for it in map(Node, range(len(self.people.principals))) if it not in self.is_end]
+        own, outside = ([it for it in every if (it.number < self.people.own) == is_own] for is_own in (True, False))
         self.judge(own)
         self.is_end.update(dict.fromkeys(outside, False))
         new = [it for it in [*own, *outside] if not self.is_end[it]]
@@ -89,17 +97,26 @@ class Search:
             new = [it for it in new if it.number not in arrived]
         ends = [it for it, is_end in self.is_end.items() if is_end]
         unshown = [it for it, is_end in self.is_end.items() if is_end is None]
-        ways = self.ways(ends)
-        maybe = [] if ways or self.loose else self.maybe(ends)
-        return Found(self.people, ends, unshown, ways, self.open, list(self.keys), self.things.stand, maybe)
+        ways, some = self.ways(ends), list(self.open.values())
+        made = Found(self.people, ends, unshown, ways, some, list(self.keys), self.things.stand, [], [])
+        if self.loose:
+            return made
+        there = [it for it in (*ends, *ways) if not it.changes]
+        told = {it.number for it in (*there, *unshown, *(one.node for one in some))}
+        return made._replace(maybe=self.maybe(there, told), unasked=self.let_in(there))
 
-    def maybe(self, ends: List[Node]) -> List[Node]:
-        """Who else comes there if what is not known is in his favour."""
+    def maybe(self, arrived: List[Node], known: Set[int]) -> List[Node]:
+        """Who else comes there if what is not known is in his favour, beside those who do and of whom something is told."""
         accounts = [it["id"] for it in self.things.assumed["accounts"]]
-        loose = Search(self.things.source, self.to, Loose(self.keys, accounts)).found()
-        asked = {*ends, *(it.node for it in self.open)}
-        found = {*loose.ways, *loose.ends, *(it.node for it in loose.open)} - asked
-        return sorted(it for it in found if not it.changes)
+        loose = Search(self.things.source, self.to, Loose(self.keys, accounts), arrived).found()
+        every = [*loose.ways, *loose.ends, *loose.unshown, *(it.node for it in loose.open)]
+        return [Node(it) for it in sorted({it.number for it in every} - known)]
+
+    def let_in(self, arrived: List[Node]) -> List[str]:
+        """Who is outside, is let into one of these, and is not asked for."""
+        arns = {self.people.called(it) for it in arrived}
+        told = unasked(self.things.source, [self.things.trusting])
+        return [line for line, roles in told.items() if NOT_ASKED in line and arns & roles]
 
     def ways(self, ends: List[Node]) -> Dict[Node, List[Step]]:
         """For each principal that is no end itself a shortest way to one."""
