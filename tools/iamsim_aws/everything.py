@@ -58,14 +58,6 @@ def listed(names: List[str]) -> str:
     return ", ".join(names[:MOST]) + (f" and {more} more" if more > 0 else "")
 
 
-class Found(NamedTuple):
-    """Who is asked for, what they may do, and (principal, action, pattern of resources) of which there are too many kinds."""
-
-    people: List[str]
-    kinds: List[Kinds]
-    hidden: List[Tuple[str, str, str]]
-
-
 class Lines(NamedTuple):
     """A world, with what is said of the texts that it does not name, the number of the resource that speaks for each ARN or
     bucket, and the accounts of which others are: of their resources without a policy nothing is allowed."""
@@ -149,6 +141,16 @@ class Run(NamedTuple):
     pattern: str
 
 
+class Found(NamedTuple):
+    """Who is asked for, what they may do, and (principal, action, pattern of resources) of which there are too many kinds;
+    and what was asked, with the rows of each run."""
+
+    people: List[str]
+    kinds: List[Kinds]
+    hidden: List[Tuple[str, str, str]]
+    asked: List[Tuple[Run, List[Dict[str, Any]]]]
+
+
 def runs(scope: Scope, question: Question) -> Iterator[Run]:
     """What is asked, for each account of the principals by itself."""
     services, name = services_of(scope, question), question.action.rpartition(":")[2]
@@ -169,8 +171,8 @@ def runs(scope: Scope, question: Question) -> Iterator[Run]:
             yield from (Run(lines, it, patterns[it]) for it in own)
 
 
-def answered(some: List[Run]) -> Iterator[List[Dict[str, Any]]]:
-    """The rows of each run."""
+def answered(some: List[Run], services: List[str]) -> Iterator[List[Dict[str, Any]]]:
+    """The rows of each run, where runs are of these services."""
     with tempfile.TemporaryDirectory() as room:
         worlds: Dict[int, Tuple[str, bytes]] = {}
 
@@ -191,7 +193,8 @@ def answered(some: List[Run]) -> Iterator[List[Dict[str, Any]]]:
                 text = next(texts).decode()
             except Refused as refused:
                 raise explained(it.lines.world, refused) from None
-            yield [row for row in rows_of(text) if it.lines.is_asked(row["resource"])]
+            rows = [row for row in rows_of(text) if it.lines.is_asked(row["resource"])]
+            yield [row for row in rows if it.service != REST or not is_of_another(row, services)]
 
 
 def statements_for(lines: Lines, principal: Dict[str, Any], action: str, allowed: List[Dict[str, Any]]) -> List[Cause]:
@@ -217,8 +220,7 @@ def kinds_of(run: Run, given: List[Dict[str, Any]]) -> Iterator[Kinds]:
         by_action.setdefault((row["principal"], row["action"]), []).append(row)
     found: Dict[Any, Kinds] = {}
     for (principal, action), every in by_action.items():
-        # A text that is made up stands for those of other services too.
-        own = [it for it in every if not (it["resource"] in lines.number_of and is_mixed(action, it["resource"]))]
+        own = [it for it in every if is_told(lines, it)]
         allowed = [it for it in own if it["decision"] == "allowed"]
         if allowed:
             causes = statements_for(lines, of[principal], action, allowed)
@@ -228,6 +230,12 @@ def kinds_of(run: Run, given: List[Dict[str, Any]]) -> Iterator[Kinds]:
             one = Kinds(principal, run.service, [], texts, others, causes)
             found.setdefault(key, one).actions.append(action)
     yield from found.values()
+
+
+def is_told(lines: Lines, row: Dict[str, Any]) -> bool:
+    """Whether a row is no action of one service on a resource of another; a text that is made up stands for those of other
+    services too."""
+    return not (row["resource"] in lines.number_of and is_mixed(row["action"], row["resource"]))
 
 
 def is_of_another(row: Dict[str, Any], services: List[str]) -> bool:
@@ -241,16 +249,14 @@ def everything(scope: Scope, question: Question) -> Found:
     kinds: List[Kinds] = []
     hidden: List[Tuple[str, str, str]] = []
     some = list(runs(scope, question))
-    services = [it.service for it in some if it.service != REST]
-    for one, given in zip(some, answered(some)):
-        if one.service == REST:
-            given = [it for it in given if not is_of_another(it, services)]
+    asked = list(zip(some, answered(some, [it.service for it in some if it.service != REST])))
+    for one, given in asked:
         hidden += [(it["principal"], it["action"], it["resource"]) for it in given if it["decision"] == NOT_SHOWN]
         kinds += kinds_of(one, [it for it in given if it["decision"] != NOT_SHOWN])
     people = dict.fromkeys(principal_text(it) for one in some for it in one.lines.world["principals"])
     if not people:
         raise Fault(missing(scope, question._replace(action=WORLDS[""])))
-    return Found(list(people), sorted(kinds, key=lambda it: (it.service == REST, it.service)), hidden)
+    return Found(list(people), sorted(kinds, key=lambda it: (it.service == REST, it.service)), hidden, asked)
 
 
 def statement_words(cause: Cause, service: str) -> str:

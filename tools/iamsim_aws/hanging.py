@@ -141,6 +141,11 @@ def later(world: World) -> List[str]:
     return list(found)
 
 
+def silent_words(keys: List[str]) -> str:
+    what = "no single value of these keys, which policies ask for and nothing gives, turns an answer"
+    return f"{what}: {', '.join(keys)}"
+
+
 def questions(world: World) -> Iterator[Tuple[str, str, World]]:
     for key, texts in wanted(world).items():
         for text in texts:

@@ -74,7 +74,7 @@ def test_it_is_told_in_words():
     out, _ = aws("can", "partner", "*", "*", EXPORT, status=3)
     same(out.splitlines()[0], "arn:aws:sts::111122223333:assumed-role/partner/session may do nothing of this")
     out, _ = aws("can", "alice", "s3:*", "*", EXPORT, "--format", "csv")
-    same(out.splitlines()[1].lower(), f"{ALICE},allowed,s3,s3:get,* {REST},,arn:aws:iam::aws:policy/readobjects")
+    same(out.splitlines()[1].lower(), f"{ALICE},allowed,s3,s3:get,* {REST},,arn:aws:iam::aws:policy/readobjects,")
     _, said = aws("can", "nobody", "*", "*", EXPORT, status=1)
     assert "no principal matches nobody" in said, said
 
@@ -161,3 +161,43 @@ def test_too_many_kinds_are_told():
     out, _ = aws("can", "ann", "s3:*", "*", "--world", made, status=5)
     same(out.splitlines()[1], "  not shown, since it has too many kinds: s3:* on *")
     same(asked("ann", "--world", made, action="s3:*", status=5), {("s3:*", "notShown"): (["*"], [], [])})
+
+
+def test_the_keys_that_it_hangs_on():
+    """What `can` of one action tells with 'allowed if' and 'denied if' the summary tells as well, by service."""
+    mfa, ip = "aws:MultiFactorAuthPresent", "aws:SourceIp"
+    made = small_world(
+        document(
+            statement(action="s3:Get*"),
+            statement(action="s3:Put*", Condition={"Bool": {mfa: "true"}}),
+            statement("Deny", action="s3:GetObject", Condition={"IpAddress": {ip: ["10.0.0.0/8", "192.0.2.0/24"]}}),
+            statement(action="sns:*", Condition={"StringEquals": {"aws:PrincipalTag/team": "red"}}),
+            statement("Deny", action="sqs:*", Condition={"Bool": {"aws:ViaAWSService": "true"}}),
+        )
+    )
+    path = file(made)
+    lines = aws("can", "ann", "*", "*", "--world", path)[0].lower().splitlines()
+    wanted = [
+        f"    s3:put: allowed if `{mfa}` is `true`",
+        f"    s3:getobject: denied if `{ip}` is `10.0.0.0` or `192.0.2.0`",
+        "    sns:x: allowed if `aws:PrincipalTag/team` is `red`",
+    ]
+    same([it for it in lines if " if " in it], [it.lower() for it in wanted])
+    assert lines.index(wanted[2].lower()) == lines.index("  of sns") + 1, lines
+    # No value of this one turns an answer: nobody may sqs:.
+    same(lines[-1].endswith(" turns an answer: aws:viaawsservice"), True, lines[-1])
+    rows = json.loads(aws("can", "ann", "*", "*", "--world", path, "--format", "json")[0])
+    hangs = [{"key": mfa, "value": "true", "decision": "allowed", "values": ["true"]}]
+    same([it["hangsOn"] for it in rows if it["actions"][0].lower() == "s3:put"], [hangs])
+    out, _ = aws("can", "ann", "s3:PutObject", "arn:aws:s3:::b/k", "--world", path, status=3)
+    assert f"  allowed if `{mfa}` is `true`\n" in out, out
+    # By a key alone something may be done: that is not allowed as things stand.
+    made["principals"][0]["identity"] = [document(statement(action="sns:*", Condition={"Bool": {mfa: "true"}}))]
+    out, _ = aws("can", "ann", "*", "*", "--world", file(made), status=3)
+    same(out.splitlines()[:3], [f"{ANN} may do nothing of this", "  of sns", f"    sns:x: allowed if `{mfa}` is `true`"])
+    # A variable that has a value parts names otherwise: what hangs on its key is not shown.
+    team = "aws:PrincipalTag/team"
+    own = statement(resource=f"arn:aws:sns:*:*:${{{team}}}-*", action="sns:*", Condition={"StringLike": {team: "r*"}})
+    made["principals"][0]["identity"] = [document(own)]
+    out, _ = aws("can", "ann", "*", "*", "--world", file(made), status=3)
+    assert out.endswith(f"which policies ask for and nothing gives, is not shown: ask for one action: {team}\n"), out

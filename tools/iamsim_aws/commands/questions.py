@@ -124,8 +124,7 @@ def key_notes(asked: Asked, turns: Dict[int, List[Turn]]) -> List[str]:
         return [
             f"what the answers hang on was not asked, since they are too many; policies ask for {', '.join(silent)}"
         ]
-    what = "no single value of these keys, which policies ask for and nothing gives, turns an answer"
-    return [f"{what}: {', '.join(silent)}"]
+    return [hanging.silent_words(silent)]
 
 
 def policy_words(asked: Asked, arn: str) -> str:
