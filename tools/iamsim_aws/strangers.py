@@ -13,7 +13,7 @@ from .exports import ACCOUNT
 from .keys import CALLER, plain_operator, with_callers
 from .kinds import filled
 from .making import keep_context
-from .patterns import any_matches, of_policy, plain
+from .patterns import any_matches, common, of_policy, plain
 from .sources import Source
 
 EVERYBODY = "*"
@@ -85,13 +85,21 @@ def named_by(statement: Any) -> List[str]:
     return [it for it in each(given.get("AWS") if isinstance(given, dict) else given) if isinstance(it, str)]
 
 
+def party_of(pattern: str, nobody: str) -> str:
+    """Whom a pattern of ARNs of principals means; where it leaves the account open, one of an account that occurs nowhere."""
+    first = filled(pattern, nobody) or ""
+    if first == EVERYBODY or PARTY.fullmatch(first):
+        return first
+    return next(filter(None, (common(pattern, f"arn:aws:iam::{nobody}:{it}/*") for it in ("role", "user"))), first)
+
+
 def conditioned(statement: Any, nobody: str) -> Iterator[str]:
     """Those whom the conditions of a statement choose out of everybody, or of an account."""
     for operator, key, value in conditions_of(statement):
         is_arn, is_account = key.lower() == "aws:principalarn", key.lower() in ("aws:principalaccount", CALLER.lower())
         for text in each(value) if plain_operator(operator) in EQUAL and (is_arn or is_account) else ():
             if isinstance(text, str) and "${" not in text:
-                yield (filled(of_policy(text), nobody) or "") if is_arn else text
+                yield party_of(of_policy(text), nobody) if is_arn else text
 
 
 def named(statement: Any, nobody: str) -> Iterator[str]:

@@ -10,7 +10,8 @@ from harness import EXAMPLES, TOOLS, document, file, same, statement
 SETS = os.path.join(os.path.dirname(EXAMPLES), "rules")
 ACCOUNT = "111122223333"
 IAM = f"arn:aws:iam::{ACCOUNT}:"
-SUPPORT = "aws-service-role/support.amazonaws.com/AWSServiceRoleForSupport"
+OF_AWS = "aws-service-role/"
+SUPPORT = f"{OF_AWS}support.amazonaws.com/AWSServiceRoleForSupport"
 LOGS, KEY = "arn:aws:s3:::company-logs", f"arn:aws:kms:eu-west-1:{ACCOUNT}:key/7c1d"
 MFA = "aws:MultiFactorAuthPresent"
 
@@ -47,6 +48,13 @@ def resource(arn, principal, action="*", **more):
     return {"arn": arn, "account": ACCOUNT, "policy": policy, **more}
 
 
+def named(arn, operator="ArnLike"):
+    """A bucket that everybody may read whose ARN is so."""
+    made = resource(LOGS, "*", "s3:GetObject")
+    made["policy"]["Statement"][0]["Condition"] = {operator: {"aws:PrincipalArn": arn}}
+    return made
+
+
 def asked(name, given, resources):
     """What the commands say that the comments of a set have: (status, answer, what is told) of each."""
     room = tempfile.mkdtemp(dir=os.environ["TOOLS_TEST_ROOM"])
@@ -76,6 +84,11 @@ def own_or(name):
     return statement(action="iam:*", resource=f"{IAM}user/{name}")
 
 
+def not_passed(path):
+    """That some roles are kept from being passed."""
+    return statement("Deny", "iam:PassRole", f"{IAM}role/{path}")
+
+
 ADMIN = role("admin", {"AWS": f"{IAM}root"}, statement(action="iam:*"))
 KEEPER = role("log-keeper", {"Service": "lambda.amazonaws.com"}, statement(action=["s3:*", "cloudtrail:*"]))
 KEPT = resource(LOGS, {"AWS": KEEPER["Arn"]}, "s3:*")
@@ -88,6 +101,13 @@ TRIED = {
         (export(READER), [resource(LOGS, {"AWS": "444455556666"})], ["kept"]),
         (export(READER), [resource(LOGS, "*", "s3:GetObject")], ["broken"]),
         (export(READER, roles=[role("open", {"AWS": "*"})]), [], ["broken"]),
+        (export(READER), [named("arn:aws:iam::*:role/ci")], ["broken"]),
+        (export(READER), [named("arn:*:role/app/ci*", "StringLike")], ["broken"]),
+        # ArnLike compares part by part: an ARN has six, and nobody is meant.
+        (export(READER), [named("arn:*:role/app/ci*")], ["kept"]),
+        (export(READER), [named("*role/ci", "StringLike")], ["broken"]),
+        (export(READER), [named(f"{IAM}user/ann")], ["kept"]),
+        (export(READER), [named("arn:aws:iam::444455556666:role/*")], ["kept"]),
     ],
     "no-administrator-without-mfa.txt": [
         (export(*without("iam:*", "BoolIfExists")), [], ["kept", "kept"]),
@@ -101,6 +121,8 @@ TRIED = {
         (export(PASSES), [], ["kept"]),
         (export({**PASSES, "Resource": "*"}), [], ["broken"]),
         (export({**PASSES, "Resource": f"{IAM}role/*"}), [], ["broken"]),
+        (export({**PASSES, "Resource": "*"}, not_passed(f"{OF_AWS}*")), [], ["broken"]),
+        (export({**PASSES, "Resource": "*"}, not_passed("*")), [], ["kept"]),
     ],
     "logs-changed-by-one-role-alone.txt": [
         (export(READER, roles=[KEEPER]), [KEPT], ["kept"]),
