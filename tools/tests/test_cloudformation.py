@@ -397,6 +397,7 @@ POLICIES = [
         f"arn:aws:s3:{OWN}:accesspoint/p",
     ),
     ({"K": resource("AWS::KMS::Key", KeyPolicy=granting())}, f"arn:aws:kms:{OWN}:key/madeup-K"),
+    ({"R": resource("AWS::KMS::ReplicaKey", KeyPolicy=granting())}, f"arn:aws:kms:{OWN}:key/madeup-R"),
     (
         {
             "Q": resource("AWS::SQS::Queue", QueueName="jobs"),
