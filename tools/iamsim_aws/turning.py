@@ -58,7 +58,7 @@ def add(found: Dict[Tuple[str, ...], Turned], one: Turned) -> None:
 
 def keys(asked: List[Tuple[Run, List[Row]]]) -> Keys:
     """What the answers of runs hang on."""
-    every = [(run, rows, *it) for run, rows in asked for it in questions(run, rows)]
+    every = [(run, rows, key, text, it) for run, rows in asked for key, text, it in questions(run, rows)]
     names = list(dict.fromkeys(key for _, _, key, _, _ in every))
     if len(every) > MOST:
         return Keys([], [], names)

@@ -404,6 +404,29 @@ def test_roles_of_accounts_without_an_export():
     same((found(answer), answer["open"]), ({"dev": [["assume-role"]]}, []))
 
 
+def test_310_principals_in_a_minute():
+    """Of 250 users, each with a bucket of its own, and 60 roles, each of which some users may assume, one may pass the only role
+    that is an administrator, so may a role, and five may assume that."""
+    way = next(it for it in WAYS if it.name == "lambda-new")
+    passes = [statement(action=it.action, resource=target(way, it, "User", "")) for it in way.asks]
+    users = [entity("User", "passer", passes)]
+    for n in range(249):
+        own = [statement(action="s3:*", resource=f"arn:aws:s3:::home-{n}/*")]
+        own += [statement(action="sts:AssumeRole", resource=arn("role", f"r{n % 60}"))] if n % 2 else []
+        users.append(entity("User", f"u{n}", own))
+    roles = [role("chief", {"Service": "lambda.amazonaws.com"}, [statement()])]
+    for n in range(59):
+        own = passes if n == 1 else [statement(action="dynamodb:*", resource=f"arn:aws:dynamodb:*:{OWN}:table/t{n}")]
+        roles.append(role(f"r{n}", {"AWS": f"arn:aws:iam::{OWN}:root"}, own))
+    export = {"UserDetailList": users, "RoleDetailList": roles, "GroupDetailList": [], "Policies": []}
+    given = ["escalate", file(export), "--moment", "0", "--format", "json"]
+    answer = json.loads(aws(*given, status=3, seconds=patience(60))[0])
+    same((answer["principals"], answer["already"]), (310, [session("chief")]))
+    passed, first = [["lambda-new"]], [["assume-role"], ["lambda-new"]]
+    wanted = {"passer": passed, "r1": passed, **{f"u{n}": first for n in (1, 61, 121, 181, 241)}}
+    same(found(answer), wanted)
+
+
 def test_what_runs_under_a_role_that_no_export_has():
     function, away = f"arn:aws:lambda:eu-west-1:{OWN}:function:nightly", f"arn:aws:iam::{OTHER}:role/away"
     export = ground()
@@ -424,7 +447,7 @@ def test_who_is_let_into_a_role_and_not_asked_for():
         line = f"{arn('role', 'people')} trust policy names Federated {provider}, for whom nobody is asked"
         out, said = aws("escalate", file(export), status=status)
         assert f"{line}\n" in said, said
-        same(f"not asked: who comes to an administrator so: {line}\n" in out, status == 5, out)
+        same(f"not asked: who comes to be an administrator so: {line}\n" in out, status == 5, out)
         same(escalated(export, status=status)["notAsked"], [line] if status else [])
 
 

@@ -1,13 +1,14 @@
 """Who might come there if all that is not known were in his favour: keys that nothing gives, and names that no text stands for."""
 
 import functools
-from typing import Any, Dict, Iterable, List, Set
+import itertools
+from typing import Any, Dict, Iterable, Iterator, List, Set
 
 from ..arns import account_of
 from ..documents import Policy, World, mapped, statements_of
 from ..exports import ACCOUNT
 from ..kinds import texts_of
-from ..patterns import common, is_pattern, matcher, of_policy, opened, variables_of
+from ..patterns import filled_runs, is_pattern, matcher, meeting, of_policy, opened, signs_of, variables_of
 from .nodes import Principal
 from .table import KINDS
 
@@ -15,10 +16,29 @@ from .table import KINDS
 ODD = "q~7z"
 
 
+def is_of(pattern: str, arn: str) -> bool:
+    """Whether an ARN is of a kind's pattern, part by part: no run goes past the end of a part, nor into a kind of its own, as in
+    'image/:instance/'."""
+    parts = list(zip(pattern.split(":", 5), arn.split(":", 5)))
+    if len(parts) < 6 or not all(matcher(part)(text) for part, text in parts):
+        return False
+    name = parts[5][1][len(parts[5][0].partition("*")[0]) :]
+    return "/" not in name.partition(":")[2]
+
+
 @functools.lru_cache(maxsize=None)
 def meets(pattern: str) -> List[str]:
     """The kinds of what no export has of which a pattern of a policy means some."""
-    return [it for it in KINDS.values() if common(opened(pattern), it) is not None]
+    return [it for it in KINDS.values() if any(is_of(it, text) for text in texts_of_both(opened(pattern), it))]
+
+
+def texts_of_both(first: str, second: str) -> Iterator[str]:
+    """Shortest texts that match both patterns, whose runs have at least one character or may have none."""
+    forms = [(filled_runs(it), it) for it in map(signs_of, (first, second))]
+    for one, other in itertools.product(*forms):
+        text = meeting(one, other, False)
+        if text is not None:
+            yield text
 
 
 def covers(pattern: str, kind: str, account: str) -> bool:

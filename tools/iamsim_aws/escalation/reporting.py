@@ -85,7 +85,7 @@ def notes(found: Found, end: str) -> List[str]:
         actions = " and ".join(ask.action for ask in some[0].part.way.asks)
         who = few([open_name(found, it) for it in some])
         lines.append(f"not asked: where {actions} leads ({name}), since {why}: allowed to {who}")
-    lines += [f"not asked: who comes to {end} so: {it}" for it in found.unasked]
+    lines += [f"not asked: who comes to be {end} so: {it}" for it in found.unasked]
     if found.maybe:
         why = "with keys that nothing gives, or on names that nothing stands for here"
         lines.append(f"not shown, since it may be so {why}: {few(list(map(found.name, found.maybe)))}")

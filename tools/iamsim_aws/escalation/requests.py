@@ -11,12 +11,12 @@ from ..keys import with_key
 from ..kinds import Origins, meets, texts_of
 from ..making import RUNS_AS, bound
 from ..naming import trust_policy
-from ..patterns import is_pattern, matcher
+from ..patterns import is_pattern
 from ..questions import Question, Scope, asked_in
 from ..reports import Answers
 from ..sources import ASSUME, Source
 from .elsewhere import elsewhere
-from .loosening import Loose
+from .loosening import Loose, is_of
 from .nodes import Node, People, boundary_of
 from .table import ADMINISTRATOR, ELSEWHERE, HELD, KINDS, OWN, SERVICE_KEY, BOUNDARY_KEY, WAYS, Ask
 
@@ -236,16 +236,6 @@ class Round:
                 return None
             found += [it[common[0]] for it in every]
         return found
-
-
-def is_of(pattern: str, arn: str) -> bool:
-    """Whether an ARN is of a kind's pattern, part by part: no run goes past the end of a part, nor into a kind of its own, as in
-    'image/:instance/'."""
-    parts = list(zip(pattern.split(":", 5), arn.split(":", 5)))
-    if len(parts) < 6 or not all(matcher(part)(text) for part, text in parts):
-        return False
-    name = parts[5][1][len(parts[5][0].partition("*")[0]) :]
-    return "/" not in name.partition(":")[2]
 
 
 def kinds_of(world: World) -> Dict[str, List[int]]:
