@@ -190,6 +190,12 @@ def test_with_the_key_that_a_condition_asks_for():
     same((answer["absentKeys"], answer["maybe"]), (["aws:MultiFactorAuthPresent"], [arn("user", "keyed")]))
     answer = escalated(export, "--context", file({"aws:MultiFactorAuthPresent": True}))
     same(found(answer), {"keyed": [["lambda-new"]]})
+    # Who changes a role with that key and assumes it is told, and not the role, which does nothing by itself.
+    export = ground()
+    export["RoleDetailList"].append(role("idle", {"AWS": f"arn:aws:iam::{OWN}:root"}))
+    own = statement(action=["iam:PutRolePolicy", "sts:AssumeRole"], resource=arn("role", "idle"), Condition=SECRET)
+    export["UserDetailList"].append(entity("User", "kim", [own]))
+    same(escalated(export, status=5)["maybe"], [arn("user", "kim")])
 
 
 def test_what_no_text_stands_for_is_not_taken_for_safe():

@@ -101,16 +101,24 @@ class Search:
         made = Found(self.people, ends, unshown, ways, some, list(self.keys), self.things.stand, [], [])
         if self.loose:
             return made
-        there = [it for it in (*ends, *ways) if not it.changes]
-        told = {it.number for it in (*there, *unshown, *(one.node for one in some))}
-        return made._replace(maybe=self.maybe(there, told), unasked=self.let_in(there))
+        there = self.arrived(made)
+        return made._replace(maybe=self.maybe(there, self.told(made)), unasked=self.let_in(there))
 
-    def maybe(self, arrived: List[Node], known: Set[int]) -> List[Node]:
-        """Who else comes there if what is not known is in his favour, beside those who do and of whom something is told."""
+    def arrived(self, found: Found) -> List[Node]:
+        """Who is at an end, or comes to one."""
+        return [it for it in (*found.ends, *found.ways) if not it.changes]
+
+    def told(self, found: Found) -> Set[Node]:
+        """Those, and who is where something is open, or comes there once something is changed."""
+        some = [*found.unshown, *(it.node for it in found.open)]
+        changed = self.ways([it for it in some if it.changes])
+        return {*self.arrived(found), *changed, *(it for it in some if not it.changes)}
+
+    def maybe(self, arrived: List[Node], told: Set[Node]) -> List[Node]:
+        """Who else comes there if what is not known is in his favour, beside those of whom something is told."""
         accounts = [it["id"] for it in self.things.assumed["accounts"]]
-        loose = Search(self.things.source, self.to, Loose(self.keys, accounts), arrived).found()
-        every = [*loose.ways, *loose.ends, *loose.unshown, *(it.node for it in loose.open)]
-        return [Node(it) for it in sorted({it.number for it in every} - known)]
+        search = Search(self.things.source, self.to, Loose(self.keys, accounts), arrived)
+        return sorted(search.told(search.found()) - told)
 
     def let_in(self, arrived: List[Node]) -> List[str]:
         """Who is outside, is let into one of these, and is not asked for."""
