@@ -194,7 +194,8 @@ def test_the_keys_that_it_hangs_on():
     # By a key alone something may be done: that is not allowed as things stand.
     made["principals"][0]["identity"] = [document(statement(action="sns:*", Condition={"Bool": {mfa: "true"}}))]
     out, _ = aws("can", "ann", "*", "*", "--world", file(made), status=3)
-    same(out.splitlines()[:3], [f"{ANN} may do nothing of this", "  of sns", f"    sns:x: allowed if `{mfa}` is `true`"])
+    first = [f"{ANN} may do nothing of this", "  of sns", f"    sns:x: allowed if `{mfa}` is `true`"]
+    same(out.splitlines()[:3], first)
     # A variable that has a value parts names otherwise: what hangs on its key is not shown.
     team = "aws:PrincipalTag/team"
     own = statement(resource=f"arn:aws:sns:*:*:${{{team}}}-*", action="sns:*", Condition={"StringLike": {team: "r*"}})

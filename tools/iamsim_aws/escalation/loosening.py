@@ -71,7 +71,8 @@ class Loose:
     def is_of_others(self, pattern: str) -> bool:
         """Whether all that a pattern of a policy means is of accounts that are not asked about."""
         start, account = pattern.split(":")[:5], account_of(pattern)
-        return ACCOUNT.fullmatch(account) is not None and account not in self.accounts and not any(map(is_pattern, start))
+        is_other = ACCOUNT.fullmatch(account) is not None and account not in self.accounts
+        return is_other and not any(map(is_pattern, start))
 
     def statement(self, it: Any) -> List[Any]:
         """What stands for a statement, if anything does."""

@@ -43,9 +43,7 @@ class Found(NamedTuple):
 class Search:
     """Rounds: all nodes that are new are asked, and lead to others, until none is new."""
 
-    def __init__(
-        self, source: Source, to: Optional[str], loose: Optional[Loose] = None, arrived: Iterable[Node] = ()
-    ):
+    def __init__(self, source: Source, to: Optional[str], loose: Optional[Loose] = None, arrived: Iterable[Node] = ()):
         assert source.estate is not None
         self.things, self.loose = Things(source, loose), loose
         world = self.things.assumed
