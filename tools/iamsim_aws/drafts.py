@@ -3,7 +3,7 @@
 import argparse
 from typing import List, Optional, Set, Tuple
 
-from . import cloudformation, files, putting, terraform
+from . import cloudformation, configurations, files, putting, terraform
 from .documents import World
 from .faults import Fault, tell
 from .making import Estate
@@ -17,6 +17,8 @@ def add_options(parser: argparse.ArgumentParser) -> None:
     help_of_attach = "a policy that a user, group or role is given besides, inline or by its ARN"
     add("--attach", action="append", default=[], metavar="NAME=FILE@PRINCIPAL", help=help_of_attach)
     add("--terraform", metavar="PLAN", help="a plan, by 'terraform show -json'")
+    help_of_configuration = "the folder with the configuration of the plan, for what jsonencode is given"
+    add("--configuration", metavar="FOLDER", help=help_of_configuration)
     help_of_templates = "templates of CloudFormation, JSON or YAML"
     add("--cloudformation", nargs="+", default=[], metavar="TEMPLATE", help=help_of_templates)
     help_of_parameters = (
@@ -33,6 +35,7 @@ def inputs(options: argparse.Namespace) -> List[str]:
     """The files that these options name."""
     found = [it.rpartition("=")[2] for it in [*options.put, *options.parameters, *options.stack]]
     found += [it.partition("=")[2].partition("@")[0] for it in options.attach]
+    found += configurations.files_of(options.configuration) if options.configuration else []
     return [*found, *options.cloudformation, *filter(None, [options.terraform])]
 
 
@@ -40,7 +43,7 @@ def before_and_after(source: Source, options: argparse.Namespace) -> Tuple[Sourc
     """The source without and with the drafts and the plan of the options."""
     first = estate = source.estate
     lines: List[str] = []
-    if options.terraform or options.cloudformation or options.parameters or options.stack:
+    if options.terraform or options.configuration or options.cloudformation or options.parameters or options.stack:
         first, estate, lines = applied(estate, options)
     if options.attach and estate is None:
         raise Fault("--attach: a policy is attached in exports, and not in a world")
@@ -63,12 +66,15 @@ def before_and_after(source: Source, options: argparse.Namespace) -> Tuple[Sourc
 
 def applied(estate: Optional[Estate], options: argparse.Namespace) -> Tuple[Estate, Estate, List[str]]:
     """The estate before and after the plan, or the templates, and what is to be told of them."""
+    if options.configuration and not options.terraform:
+        raise Fault("--configuration belongs to --terraform")
     if options.terraform and (options.cloudformation or options.parameters or options.stack):
         raise Fault("give a plan by --terraform, or templates by --cloudformation, and not both")
     if options.terraform:
         if estate is None:
             raise Fault("--terraform: a plan is put into effect on exports, and not on a world")
-        return terraform.applied(estate, options.terraform, options.account, options.allow_unknown)
+        of_plan = options.terraform, options.account, options.allow_unknown, options.configuration
+        return terraform.applied(estate, *of_plan)
     if not options.cloudformation:
         raise Fault("--parameters and --stack belong to --cloudformation")
     if estate is None:
@@ -87,8 +93,8 @@ def refuse_unheld(before: Estate, after: Estate, word: str) -> None:
 
 
 def is_changed(options: argparse.Namespace) -> bool:
-    some = options.put, options.attach, options.terraform, options.cloudformation, options.parameters, options.stack
-    return any(some)
+    some = options.put, options.attach, options.terraform, options.configuration
+    return any([*some, options.cloudformation, options.parameters, options.stack])
 
 
 def is_world(path: str) -> bool:

@@ -4,6 +4,7 @@ import re
 from typing import Any, Callable, Dict, List, NamedTuple, Optional
 
 from .faults import Fault
+from .partial import unclear_in
 from .templates import SAM, Template
 from .yamls import Unclear
 
@@ -46,14 +47,6 @@ def text_of(value: Any) -> Optional[str]:
     if isinstance(value, bool):
         return str(value).lower()
     return str(value) if isinstance(value, (str, int, float)) else None
-
-
-def unclear_in(value: Any) -> Optional[Unclear]:
-    """The first part of a value that nobody knows."""
-    if isinstance(value, Unclear):
-        return value
-    some = value.values() if isinstance(value, dict) else value if isinstance(value, list) else ()
-    return next((found for found in map(unclear_in, some) if found), None)
 
 
 class Functions:

@@ -2,9 +2,9 @@
 
 from typing import Any, Callable, Dict, List, Optional, Tuple
 
-from .documents import each
 from .exports import Account, document
-from .functions import Functions, kind_of, text_of, unclear_in
+from .functions import Functions, kind_of, text_of
+from .partial import known_document, unclear_in
 from .planned import Values
 from .sam import ByName
 from .standins import Names
@@ -149,38 +149,7 @@ class Pieces:
             return None
         if not isinstance(value, dict):
             raise self.functions.fault(f"{place} is {kind_of(value)}, and no object")
-        if "Statement" not in value:
-            return self.known(place, value)
-        rest = {key: it for key, it in value.items() if key != "Statement"}
-        made = [self.statement(f"{place}.Statement.{n}", it) for n, it in enumerate(each(value["Statement"]))]
-        if self.known(place, rest) is None or any(it is None for it in made):
-            return None
-        left = [it for it in made if it]
-        is_list = isinstance(value["Statement"], list) or not left
-        return {**rest, "Statement": left if is_list else left[0]}
-
-    def statement(self, place: str, it: Any) -> Any:
-        """A statement: empty where it is left out, None where nothing stands for it."""
-        if not isinstance(it, dict) or "Resource" not in it or not unclear_in(it["Resource"]):
-            return self.known(place, it)
-        rest = {key: of for key, of in it.items() if key != "Resource"}
-        if self.known(place, rest) is None:
-            return None
-        known = [of for of in each(it["Resource"]) if isinstance(of, str)]
-        why = unclear_in(it["Resource"])
-        where = f"{self.place(place)}.Resource ({why.why if why else ''})"
-        found = self.unknowns.resources(where, str(it.get("Effect")), known, None)
-        if found is None:
-            self.unknowns.denies.append(where)
-            return {}
-        return {**it, "Resource": found}
-
-    def known(self, place: str, value: Any) -> Any:
-        """A value without anything unknown; else None."""
-        for path, why in unclear_places(value, place):
-            self.unknowns.lacks(f"{self.place(path)} ({why})")
-            return None
-        return value
+        return known_document(self.unknowns, self.place(place), value)
 
     def one(self, attribute: str, found: Any) -> Optional[str]:
         """A name or an ARN that follows from the resource."""
@@ -257,13 +226,6 @@ class Pieces:
         if place not in given:
             raise self.functions.fault(f"{place} is missing")
         self.give_document(kind, (name,), {target: name, **more}, "policy", made)
-
-
-def unclear_places(value: Any, place: str) -> List[Tuple[str, str]]:
-    if isinstance(value, Unclear):
-        return [(place, value.why)]
-    items = value.items() if isinstance(value, dict) else enumerate(value) if isinstance(value, list) else ()
-    return [it for key, one in items for it in unclear_places(one, f"{place}.{key}")]
 
 
 def by_name(account: Account, name: str) -> Any:

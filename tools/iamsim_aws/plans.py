@@ -1,13 +1,18 @@
 """Reading a plan of Terraform ('terraform show -json PLAN'): what changes, and what follows from references within it."""
 
+import functools
+import os
 import re
 from typing import Any, Dict, Iterator, List, NamedTuple, Optional, Tuple
 
 from . import files
+from .configurations import Configuration
 from .exports import document
 from .faults import Fault
+from .partial import known_document
 from .planned import Change, Values, Where, any_true, iam_arn
 from .unknowns import LATER, Unknowns
+from .yamls import Unclear
 
 INDEX = re.compile(r"\[[^\]]*\]")
 DATA_DOCUMENT = "aws_iam_policy_document"
@@ -46,12 +51,33 @@ def change_of(it: Any) -> Change:
     return Change(str(it["address"]), str(it["type"]), before, after, known, is_replaced)
 
 
-def configured(module: Any, path: str) -> Iterator[Tuple[str, str, Values]]:
-    """(address, its module's path, expressions) of each resource of a configuration."""
+class Module(NamedTuple):
+    """A module of a configuration: what its addresses begin with, its folder, where that is a part of the configuration's, and
+    the values of its variables that are known."""
+
+    path: str
+    folder: Optional[str]
+    variables: Values
+    given: Values
+
+    def modules(self) -> "Iterator[Module]":
+        """This one, and those that are called in it."""
+        yield self
+        for name, call in self.given.get("module_calls", {}).items():
+            source, own = call.get("source"), call.get("expressions", {})
+            is_near = self.folder is not None and isinstance(source, str) and source.startswith(("./", "../"))
+            folder = os.path.normpath(os.path.join(self.folder or "", source)) if is_near else None
+            constants = {key: it["constant_value"] for key, it in own.items() if "constant_value" in it}
+            yield from Module(f"{self.path}module.{name}.", folder, constants, call.get("module", {})).modules()
+
+
+def read_before(module: Values) -> Iterator[Tuple[str, Values]]:
+    """(address, values) of what a plan has read already."""
     for it in module.get("resources", []):
-        yield path + it["address"], path, it.get("expressions", {})
-    for name, call in module.get("module_calls", {}).items():
-        yield from configured(call.get("module", {}), f"{path}module.{name}.")
+        if it.get("mode") == "data":
+            yield it["address"], object_or_none(it.get("values")) or {}
+    for it in module.get("child_modules", []):
+        yield from read_before(it)
 
 
 def doubts(given: Any) -> List[str]:
@@ -65,8 +91,8 @@ def doubts(given: Any) -> List[str]:
 
 
 class Plan:
-    def __init__(self, path: str):
-        self.path = files.name_of(path)
+    def __init__(self, path: str, configuration: Optional[Configuration] = None):
+        self.path, self.configuration = files.name_of(path), configuration
         self.unknowns = Unknowns(self.path, "plan")
         given = files.read_json(path)
         try:
@@ -74,14 +100,24 @@ class Plan:
                 raise TypeError
             every = [(change_of(it), it.get("mode")) for it in given.get("resource_changes", [])]
             configuration = given.get("configuration", {})
-            root = configuration.get("root_module", {})
-            self.expressions = {address: (way, of) for address, way, of in configured(root, "")}
+            given_variables = {key: it.get("value") for key, it in given.get("variables", {}).items()}
+            root = Module("", "", given_variables, configuration.get("root_module", {}))
+            self.modules = {it.path: it for it in root.modules()}
+            self.expressions = {
+                it.path + of["address"]: (it.path, of.get("expressions", {}))
+                for it in self.modules.values()
+                for of in it.given.get("resources", [])
+            }
+            self.had = dict(read_before(given.get("prior_state", {}).get("values", {}).get("root_module", {})))
             self.unknowns.doubts = doubts(given)
             self.region = region_of(configuration)
         except (KeyError, TypeError, AttributeError):
             raise Fault(f"{self.path}: it is no plan of 'terraform show -json'") from None
         self.changes = [it for it, mode in every if mode == "managed"]
         self.read = [it for it, mode in every if mode == "data" and it.kind == DATA_DOCUMENT]
+        # What is read again when the plan is applied.
+        for it, mode in every:
+            self.had.pop(it.address if mode == "data" else "", None)
 
     def configured(self, change: Change) -> Tuple[str, Values]:
         """The path of the module of a resource, and its expressions."""
@@ -136,9 +172,48 @@ class Plan:
         else:
             text = derived(*target, where) if target and target[1] in DOCUMENTS else None
             made = document(text, f"{change.address}.{name}") if text else None
+            count = len(self.unknowns.lacking)
+            made = self.written(change, name, where) if made is None else made
+            if len(self.unknowns.lacking) > count:
+                return None
         if made is None:
             self.lacks(change, name)
         return made
+
+    def written(self, change: Change, name: str, where: Where) -> Any:
+        """The document of an attribute as the configuration has it, as far as it is known; None where it is not read."""
+        way, expressions = self.configured(change)
+        module, of = self.modules.get(way), expressions.get(name)
+        references = of.get("references") if isinstance(of, dict) else None
+        if module is None or module.folder is None or not isinstance(references, list):
+            return None
+        if self.configuration is None:
+            self.unknowns.hint = "; --configuration FOLDER reads what jsonencode is given"
+            return None
+        place, own = ".".join(INDEX.sub("", change.address).split(".")[-2:]), f"{change.address}.{name}"
+        some = [it for it in references if isinstance(it, str)]
+        resolve = functools.partial(self.given, way, where)
+        found = self.configuration.document(module.folder, f"{place}.{name}", some, resolve)
+        if found is None:
+            self.unknowns.hint = f"; {self.configuration.why()}"
+            return None
+        self.unknowns.notes.append(f"{own} is read from the configuration, which has to be the one of the plan")
+        return known_document(self.unknowns, own, found)
+
+    def given(self, way: str, where: Where, reference: str) -> Any:
+        """What a reference in a configuration gives: a text, or Unclear."""
+        first, _, rest = reference.partition(".")
+        name, _, attribute = reference.rpartition(".")
+        found: Any = None
+        if first == "var":
+            found = self.modules[way].variables.get(rest)
+        elif way + name in self.had:
+            found = self.had[way + name].get(attribute)
+        else:
+            target = self.target(way, {"references": [reference]})
+            own = target[0].values.get(target[1]) if target else None
+            found = derived(*target, where) if target and (own is None or isinstance(own, str)) else None
+        return found if isinstance(found, str) else Unclear(reference)
 
     def data_document(self, change: Change, where: Where) -> Any:
         """The document of data.aws_iam_policy_document that is read when the plan is applied."""

@@ -2,6 +2,7 @@
 
 from typing import List, Optional, Tuple
 
+from .configurations import Configuration
 from .effects import KINDS, REGIONAL, TARGETS, Apply, arn_of
 from .faults import Fault
 from .making import Estate
@@ -44,15 +45,16 @@ class ApplyPlan(Apply):
         if kind.is_link and len(unknown) > count:
             return None
         begin = f"{change.address}."
-        untold = [it[len(begin) :] for it in unknown[count:] if it.startswith(begin)]
+        untold = [it[len(begin) :].partition(".")[0] for it in unknown[count:] if it.startswith(begin)]
         return change._replace(after={name: it for name, it in after.items() if name not in untold})
 
 
 def applied(
-    estate: Estate, path: str, account: Optional[str], allows_unknown: bool
+    estate: Estate, path: str, account: Optional[str], allows_unknown: bool, folder: Optional[str] = None
 ) -> Tuple[Estate, Estate, List[str]]:
-    """The estate before the plan, with the policies that the plan has from then, and after it; and what is to be told."""
-    plan = Plan(path)
+    """The estate before the plan, with the policies that the plan has from then, and after it; and what is to be told.
+    `folder` has the configuration that the plan is made of."""
+    plan = Plan(path, Configuration(folder) if folder is not None else None)
     doubts = plan.unknowns.doubts
     if doubts and not allows_unknown:
         raise Fault(f"{plan.path}: {', '.join(doubts)}: --allow-unknown takes it as it is")

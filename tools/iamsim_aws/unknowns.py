@@ -18,6 +18,8 @@ class Unknowns:
         self.denies: List[str] = []
         self.notes: List[str] = []
         self.doubts: List[str] = []
+        # How more may be told, in words.
+        self.hint = ""
 
     def lacks(self, place: str) -> None:
         self.lacking.append(place)
@@ -41,7 +43,7 @@ class Unknowns:
         read."""
         if self.names() and not allows:
             words = ", ".join(self.names())
-            raise Fault(f"{self.path}: only the apply tells {words}: --allow-unknown leaves these changes out")
+            raise Fault(f"{self.path}: only the apply tells {words}: --allow-unknown leaves these changes out{self.hint}")
         doubts = (f"{self.path}: {why}" for why in self.doubts)
         end = "are not read: they are taken to change no policy"
         unread = (f"{count} changes of {kind} {end}" for kind, count in ignored.items())

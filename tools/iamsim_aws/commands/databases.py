@@ -21,6 +21,7 @@ OTHERS += [
     "put",
     "attach",
     "terraform",
+    "configuration",
     "cloudformation",
     "parameters",
     "stack",
