@@ -30,6 +30,19 @@ def owner_of(arn: str) -> str:
     return arn[: len(arn) - len(part)] + "/".join(names) if service_of(arn) == "s3" else arn
 
 
+def keys_of_point(arn: str) -> Dict[str, str]:
+    """The condition keys of a request by an access point."""
+    point = owner_of(arn)
+    return {"s3:DataAccessPointArn": point, "s3:DataAccessPointAccount": account_of(point)}
+
+
+def in_bucket(arn: str, name: str) -> str:
+    """What an access point, or an object by it, is in a bucket of that name."""
+    rest = arn[len(owner_of(arn)) :]
+    rest = rest[len("/object") :] if rest.startswith("/object/") else rest
+    return f"arn:{arn.split(':')[1]}:s3:::{name}{rest}"
+
+
 def bucket_of(arn: str) -> str:
     return resource_part(owner_of(arn)) if service_of(arn) == "s3" and not is_access_point(arn) else ""
 

@@ -5,7 +5,7 @@ import os
 import tempfile
 from typing import Any, Callable, Dict, Iterator, List, Tuple
 
-from . import decimals
+from . import decimals, points
 from .checking import lines, refused_documents, with_name
 from .documents import World, cells_of
 from .faults import Fault
@@ -43,7 +43,21 @@ def explained(world: World, refused: Refused) -> Fault:
 
 
 def asked(worlds: List[World], words: List[str], read: Callable[[World, str], Answers]) -> List[Answers]:
-    """The answers to all requests of each world, as they are read of the matrix that these words ask for."""
+    """The answers to all requests of each world, as they are read of the matrix that these words ask for; those by an access
+    point of S3 are joined with what they are in its bucket."""
+    inside = [(n, *it) for n, world in enumerate(worlds) for it in points.buckets(world)]
+    every = asked_alone([*map(points.alone, worlds), *(it for _, _, it in inside)], words, read)
+    found = every[: len(worlds)]
+    for answers, world in zip(found, worlds):
+        points.tell_points(world, True)
+        answers.world = world
+    for (n, numbers, _), part in zip(inside, every[len(worlds) :]):
+        points.join(found[n], numbers, part)
+    return found
+
+
+def asked_alone(worlds: List[World], words: List[str], read: Callable[[World, str], Answers]) -> List[Answers]:
+    """The answers to all requests of each world by itself."""
     several = [(n, part) for n, world in enumerate(worlds) for part in parts(whole(world))]
     found = [Answers(world, cells_of(world)) for world in worlds]
     command = ["matrix", "--format", "json", *words]

@@ -4,7 +4,7 @@ import functools
 from typing import Any, Callable, Dict, Iterable, Iterator, List, NamedTuple, Optional, Sequence, Tuple
 
 from . import hanging, kinds
-from .arns import principal_text
+from .arns import is_access_point, principal_text
 from .asking import ask_all, ask_changes, whole
 from .checking import NOTHING
 from .covering import tell_lacked
@@ -227,11 +227,14 @@ def compared(first: Answers, second: Answers, given: str = "") -> Changes:
 
 def is_held(before: World, after: World) -> bool:
     """Whether the program holds the worlds against each other: each is within its limits, no text stands twice in one, and
-    no ARN is of one account before and of another after."""
+    no ARN is of one account before and of another after. What is by an access point is of two answers."""
     accounts = {it["arn"]: it["account"] for it in before["resources"]}
     is_moved = any(accounts.get(it["arn"], it["account"]) != it["account"] for it in after["resources"])
     is_twice = any(len(set(axis)) < len(axis) for world in (before, after) for axis in axes_of(world))
-    return not is_moved and not is_twice and all(len(parts(whole(it))) == 1 for it in (before, after))
+    is_joined = any(is_access_point(it["arn"]) for world in (before, after) for it in world["resources"])
+    if is_moved or is_twice or is_joined:
+        return False
+    return all(len(parts(whole(it))) == 1 for it in (before, after))
 
 
 def listed(before: World, after: World, rows: List[Dict[str, Any]], given: str) -> Changes:

@@ -42,10 +42,19 @@ def levels(kind: str, path: str, value: Any, change: Change) -> Any:
     return [listed(kind, f"{path}/{n}", level, change) for n, level in enumerate(value)]
 
 
+# What the requests on an access point of S3 are in its bucket: a resource within a resource, which no world of iamsim has.
+THROUGH = "through"
+
+
+def within(_kind: str, path: str, value: Any, change: Change) -> Any:
+    return changed(value, path, OF_RESOURCE, change)
+
+
+OF_RESOURCE: Dict[str, Tuple[str, Callable[..., Any]]] = {"control": ("control", levels), "policy": ("resource", one)}
 # Where documents stand, in the order in which they are told.
 MEMBERS: Dict[str, Dict[str, Tuple[str, Callable[..., Any]]]] = {
     "accounts": {"org": ("org", levels)},
-    "resources": {"control": ("control", levels), "policy": ("resource", one)},
+    "resources": {**OF_RESOURCE, THROUGH: ("resource", within)},
     "principals": {
         "identity": ("identity", listed),
         "sessionPolicies": ("identity", listed),
@@ -85,11 +94,16 @@ def dressed(world: World, names: Dict[str, str]) -> World:
 
 
 def bare(world: World) -> World:
-    return mapped(world, lambda _, path, policy: policy.document)
+    """The JSON of a world."""
+    made = mapped(world, lambda _, path, policy: policy.document)
+    for it in made["resources"] if isinstance(made.get("resources"), list) else ():
+        if isinstance(it, dict):
+            it.pop(THROUGH, None)
+    return made
 
 
 def names_of(world: World) -> Dict[str, str]:
-    return {it.path: it.policy.name for it in places(world)}
+    return {it.path: it.policy.name for it in places(world) if f"/{THROUGH}/" not in it.path}
 
 
 def with_contexts(world: World, change: Callable[[Dict[str, Any]], Any]) -> World:

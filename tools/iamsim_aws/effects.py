@@ -8,7 +8,7 @@ from .documents import Policy, statements_of
 from .exports import Account, policy
 from .faults import Fault
 from .fitting import INLINE, drifted, holders, in_export, refuse_lacking, where_of
-from .making import UNTOLD, Estate
+from .making import BUCKET, UNTOLD, Estate
 from .naming import resource_policy
 from .organizations import CONTROL, SERVICE
 from .planned import Change, Values, Where, iam_arn
@@ -310,6 +310,8 @@ def on_resource(apply: Apply, change: Change) -> None:
     if name and change.after and change.after.get("policy"):
         for it in meant(apply, change, name):
             it["policy"] = policy(resource_policy(it["arn"]), change.after["policy"])
+            if change.kind == "aws_s3_access_point" and isinstance(change.after.get(BUCKET), str):
+                it[BUCKET] = change.after[BUCKET]
 
 
 def statement_of(values: Values, arn: str) -> Values:

@@ -13,6 +13,7 @@ from .faults import Fault, tell
 from .kinds import owners, patterns_of_actions, speaks_of, texts_of
 from .making import bound
 from .patterns import common, is_pattern, matcher, of_given
+from .points import tell_points
 from .program import Refused, each_of, world_bytes
 from .questions import Question, Scope, missing, principals
 from .references import is_mixed
@@ -173,6 +174,8 @@ def runs(scope: Scope, question: Question) -> Iterator[Run]:
 
 def answered(some: List[Run], services: List[str]) -> Iterator[List[Dict[str, Any]]]:
     """The rows of each run, where runs are of these services."""
+    for it in some:
+        tell_points(it.lines.world)
     with tempfile.TemporaryDirectory() as room:
         worlds: Dict[int, Tuple[str, bytes]] = {}
 

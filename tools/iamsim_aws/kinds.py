@@ -3,8 +3,8 @@
 import functools
 from typing import Any, Callable, Dict, Iterable, Iterator, List, NamedTuple, Optional, Tuple
 
-from .arns import account_of, owner_of, principal_arn, resource_part, service_of
-from .documents import Place, World, each, places, statements_of
+from .arns import account_of, bucket_of, in_bucket, owner_of, principal_arn, resource_part, service_of
+from .documents import THROUGH, Place, World, each, places, statements_of
 from .patterns import common, is_pattern, matcher, of_policy, opened, pattern_of, plain, variables_of
 
 REGION = "us-east-1"
@@ -160,7 +160,10 @@ def owned(of: Dict[str, Resource], arn: str, account: str) -> Resource:
     it = of.get(owner_of(arn))
     if it is None:
         return {"arn": arn, "account": account}
-    return {"arn": arn, **{name: it[name] for name in ("account", "policy", "control") if name in it}}
+    made = {"arn": arn, **{name: it[name] for name in ("account", "policy", "control") if name in it}}
+    if THROUGH in it:
+        made[THROUGH] = {**it[THROUGH], "arn": in_bucket(arn, bucket_of(it[THROUGH]["arn"]))}
+    return made
 
 
 class Witnesses(NamedTuple):

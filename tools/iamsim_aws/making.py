@@ -5,7 +5,9 @@ from typing import Any, Dict, List, NamedTuple, Optional
 from . import files
 from .arns import (
     account_of,
+    in_bucket,
     is_access_point,
+    keys_of_point,
     names_of_principal,
     names_of_resource,
     owner_of,
@@ -14,10 +16,11 @@ from .arns import (
     resource_part,
     service_of,
 )
-from .documents import World
+from .documents import THROUGH, World
 from .exports import ACCOUNT, Account, is_service_linked, policy, role_of, tags, text, user_of
 from .faults import Fault
 from .keys import with_callers
+from .kinds import owned, owners
 from .naming import control_policy, resource_policy, trust_policy
 from .organizations import Organization
 from .patterns import any_matches, matcher
@@ -26,8 +29,8 @@ from .sessions import Session
 
 # What a role has whose trust policy nobody knows yet: it is asked for as a principal alone.
 UNTOLD = "AssumeRolePolicyUntold"
-# The role under which a further resource runs, which no world has.
-RUNS_AS = "runsAs"
+# The role under which a further resource runs, and the bucket of an access point: no world has them.
+RUNS_AS, BUCKET = "runsAs", "bucket"
 
 
 class Estate(NamedTuple):
@@ -77,6 +80,8 @@ def further(it: Any, what: str) -> Dict[str, Any]:
     made = dict(it)
     if not isinstance(made.get(RUNS_AS, ""), str):
         raise Fault(f"{what} ({arn}): {RUNS_AS} is no ARN of a role")
+    if BUCKET in made and not (isinstance(made[BUCKET], str) and is_access_point(arn)):
+        raise Fault(f"{what} ({arn}): {BUCKET} is no name of a bucket, or it is no access point")
     if made.get("policy") is None:
         made.pop("policy", None)
     else:
@@ -101,8 +106,6 @@ def warnings(resources: List[Dict[str, Any]]) -> List[str]:
             found.append(f"{arn}: a resource is one text and no pattern: this one is named {arn}, wildcards and all")
         if of and of != it["account"]:
             found.append(f"{arn}: its ARN names the account {of}, and its account is {it['account']}")
-        if is_access_point(arn):
-            found.append(f"{arn}: its requests fall under the policy of its bucket too, which is not asked here")
         is_key = service_of(arn) == "kms" and resource_part(arn).startswith("key/")
         is_role = service_of(arn) == "iam" and resource_part(arn).startswith("role/")
         if (is_key or is_role) and "policy" in it and it.get("sealed") is not True:
@@ -186,7 +189,7 @@ def refuse_doubles(names: List[str], fold: bool = False) -> None:
 
 def resources_of(estate: Estate, actions: List[str], patterns: List[str]) -> List[Dict[str, Any]]:
     roles = [it for account in estate.accounts for it in roles_as_resources(estate, account, actions)]
-    others = [{name: one for name, one in it.items() if name != RUNS_AS} for it in estate.further]
+    others = [{name: one for name, one in it.items() if name not in (RUNS_AS, BUCKET)} for it in estate.further]
     found = [with_keys(estate, it) for it in roles] + [bound(estate, it) for it in others]
     return [it for it in found if is_chosen(patterns, names_of_resource(it["arn"]))]
 
@@ -200,7 +203,21 @@ def with_keys(estate: Estate, resource: Dict[str, Any]) -> Dict[str, Any]:
 def bound(estate: Estate, resource: Dict[str, Any]) -> Dict[str, Any]:
     """A resource with the resource control policies and the keys of its account."""
     control = estate.organization.control(resource["account"], service_of(resource["arn"]))
-    return with_keys(estate, resource if "control" in resource else {**resource, **control})
+    made = with_keys(estate, resource if "control" in resource else {**resource, **control})
+    return by_point(estate, made) if is_access_point(resource["arn"]) else made
+
+
+def by_point(estate: Estate, resource: Dict[str, Any]) -> Dict[str, Any]:
+    """An access point, or an object by it, with the keys of such requests and what it is in its bucket, where that is given; a
+    draft may have changed the policy of what has it already."""
+    arn = resource["arn"]
+    made = with_keys(estate, {**resource, "context": {**keys_of_point(arn), **resource.get("context", {})}})
+    if THROUGH in made:
+        return made
+    own = [it[BUCKET] for it in estate.further if owner_of(it["arn"]) == owner_of(arn) and it.get(BUCKET)]
+    inside = in_bucket(arn, own[0]) if own else ""
+    of = owners(estate.further).get(owner_of(inside))
+    return {**made, THROUGH: bound(estate, owned({owner_of(inside): of}, inside, ""))} if of else made
 
 
 def world_of(

@@ -9,7 +9,7 @@ import sys
 from typing import Any, Dict, List, Optional, Tuple
 
 from .arns import account_of, principal_arn, principal_text
-from .documents import Policy, World, statements_of
+from .documents import THROUGH, Policy, World, statements_of
 from .files import compact
 from .hanging import Turn
 from .joining import ABSENT
@@ -55,7 +55,10 @@ class Layers:
 
     def resource(self, it: Dict[str, Any]) -> Dict[str, Any]:
         control = [self.policies(level) for level in it.get("control", [])]
-        return {"control": control, "resource": [[self.policy(it["policy"])]] if "policy" in it else []}
+        made = {"control": control, "resource": [[self.policy(it["policy"])]] if "policy" in it else []}
+        inside = self.resource(it[THROUGH]) if THROUGH in it else {}
+        own = {"resource": "bucket", "control": "bucket-control"}
+        return {**made, **{own[layer]: of for layer, of in inside.items()}}
 
     def all_of(self, world: World, principals: List[Any], resources: List[Any]) -> Dict[str, Any]:
         """The layers of a world, in the order of these principals and resources; null for those that it has not."""

@@ -15,6 +15,7 @@ from .hanging import MOST, Turn, is_too_much, later, together, turns
 from .keys import with_key
 from .kinds import Origins
 from .patterns import is_pattern, near
+from .points import is_half_known
 from .questions import Asked, Question, Scope, lacked, missing, worlds
 from .references import is_mixed
 from .reports import Answers
@@ -25,6 +26,7 @@ from .strangers import is_excepted, strangers
 WORD = re.compile(r"(?:\\.|\S)+")
 KINDS = ("never", "always")
 NOTHING_SPEAKS = "nothing that is named, and no pattern of a policy, is meant by it (--actions, --services and --resources name more)"
+HALF_KNOWN = "the requests by an access point fall under the policy of its bucket too, which is not asked here"
 
 
 class Rule(NamedTuple):
@@ -149,6 +151,8 @@ def check(scope: Scope, rules: List[Rule], as_given: bool = False, before: Optio
         why = "" if requests else missing(scope, rule.question) if not of else NOTHING_SPEAKS
         if requests and not broken and is_unnamed(scope, rule.question):
             requests, why = 0, unnamed(scope, rule.question.action)
+        if rule.kind == "always" and any(is_half_known(one) for it in of for one in it.world["resources"]):
+            requests, why = 0, HALF_KNOWN
         broken = sorted(since(before, rule, broken) if before else broken, key=Break.is_mixed)
         outcomes.append(Outcome(rule, requests, broken, of, why, scope.source.giver))
     return outcomes

@@ -4,7 +4,7 @@ import json
 from typing import Any, Callable, Dict, List, NamedTuple, Tuple
 
 from .arns import account_of, principal_arn
-from .documents import Policy, World, each, statements_of
+from .documents import THROUGH, Policy, World, each, statements_of
 from .faults import line_of
 from .hanging import Turn
 from .kinds import Origins, speaks_of, texts_of
@@ -19,6 +19,8 @@ LAYERS = {
     "identity": "identity policy",
     "boundary": "permissions boundary",
     "session": "session policy",
+    "bucket": "the bucket's policy",
+    "bucket-control": "resource control policy on the bucket",
 }
 LACKS = {
     "org": "a level of the organisation above the principal's account has no statement that allows this",
@@ -28,8 +30,10 @@ LACKS = {
     "boundary": "the principal's permissions boundary does not allow this",
     "session": "no session policy of the session allows this",
 }
+# What lacks of a request by an access point where it is one on the bucket.
+LACKS.update({f"bucket-{it}": f"on the bucket, by which the request goes: {words}" for it, words in LACKS.items()})
 # The layers that keep back what others allow.
-LIMITS = ("org", "control", "boundary")
+LIMITS = ("org", "control", "boundary", "bucket-control")
 BY = {"allowed": "allowed by", "explicitDeny": "denied by", "implicitDeny": "allowed, which does not suffice, by"}
 
 
@@ -54,6 +58,8 @@ class Cause(NamedTuple):
 def policies_of(world: World, p: int, r: int, layer: str) -> Any:
     """The policies of a layer that apply to a principal and a resource."""
     principal, resource = world["principals"][p], world["resources"][r]
+    if layer.startswith("bucket"):
+        return [resource[THROUGH]["policy"]] if layer == "bucket" else resource[THROUGH]["control"]
     if layer == "org":
         account = account_of(principal_arn(principal))
         return next(it for it in world["accounts"] if it["id"] == account)["org"]
@@ -95,7 +101,7 @@ def deciding(answers: Answers, cell: int, is_verbose: bool = False) -> List[Caus
     """The statements that decide, those of the organisation last; without limits that keep nothing, unless they are wanted."""
     every = causes(answers, cell)
     some = [it for it in every if it.layer not in LIMITS or not is_everything(it.statement)] or every
-    return every if is_verbose else sorted(some, key=lambda it: it.layer in ("org", "control"))
+    return every if is_verbose else sorted(some, key=lambda it: it.layer in ("org", "control", "bucket-control"))
 
 
 def nearest(answers: Answers, cell: int) -> List[str]:

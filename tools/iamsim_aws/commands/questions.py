@@ -11,6 +11,7 @@ from ..exports import policy
 from ..faults import Fault, line_of, tell
 from ..hanging import Turn
 from ..kinds import made_up, stand_words
+from ..points import is_half_known
 from ..questions import Asked, Question, Scope, account_words, lacked, missing, worlds
 from ..reports import Answers, csv_text
 from ..sources import add_source, source_of
@@ -162,7 +163,9 @@ def can(options: argparse.Namespace) -> int:
         for cell in range(len(it.answers.numbers)):
             lines += told(it.answers, cell, it.turns.get(cell, []), True, options.verbose)
     write(options, found, lines)
-    return 0 if all(it.decision == "allowed" for of in found for it in of.answers.table) else 3
+    if not all(it.decision == "allowed" for of in found for it in of.answers.table):
+        return 3
+    return 6 if any(is_half_known(it) for of in found for it in of.answers.world["resources"]) else 0
 
 
 def who_can(options: argparse.Namespace) -> int:

@@ -10,6 +10,7 @@ from ..checking import lines, other_faults, refused_documents
 from ..documents import World, bare, dressed, names_of
 from ..faults import Fault, line_of, tell
 from ..making import refuse_empty, unmatched, world_of
+from ..points import tell_points
 from ..program import run
 from ..references import References
 from ..sources import (
@@ -87,6 +88,7 @@ def world(options: argparse.Namespace) -> int:
     refuse_unknown(References(options.services), chosen)
     made = chosen_of(options, chosen)
     refuse_empty(made)
+    tell_points(made)
     asked = keys.lacking(made)
     if asked:
         tell(

@@ -13,6 +13,7 @@ from ..documents import MEMBERS, Policy, bare, changed, statements_of
 from ..exports import Account, account_in, read_exports
 from ..faults import Fault, tell
 from ..making import Estate, has_service, outside, principals_of, refuse_doubles, resources_of
+from ..points import alone, tell_points
 from ..splitting import BYTES, STATEMENTS
 from . import schema
 
@@ -157,23 +158,26 @@ class Plan:
         """Roles have their trust policy for sts: alone; they stand first, so that each resource has one number."""
         assumed, passed = has_service(self.groups[0], "sts"), bool(self.groups[1])
         kinds = [["sts:AssumeRole"] if assumed else [], ["iam:PassRole"] if passed else []]
-        given = [resources_of(every_role, kind, []) for kind in kinds]
+        every = [{"resources": resources_of(every_role, kind, [])} for kind in kinds]
+        for it in every:
+            tell_points(it)
+        given = [alone(it)["resources"] for it in every]
         # Who is left out for one kind of actions is so for the other, so that each resource keeps one number.
         out = {of[n]["arn"] for of in given for n in self.refused_in("resources", of)}
         lists = [[item_of("resources", it) for it in of if it["arn"] not in out] for of in given]
         further = sum(it["arn"] not in out for it in every_role.further)
-        every = lists[0] if len(lists[0]) >= len(lists[1]) else lists[1]
-        if not every:
+        longest = lists[0] if len(lists[0]) >= len(lists[1]) else lists[1]
+        if not longest:
             raise Fault("the estate has no resources: see --resources, or ask for sts:AssumeRole")
-        refuse_doubles([it.value["arn"] for it in every[: len(every) - further]])
-        for n, it in enumerate(every):
+        refuse_doubles([it.value["arn"] for it in longest[: len(longest) - further]])
+        for n, it in enumerate(longest):
             fields = (n, it.value["arn"], self.account(it.value["account"]), int(it.value.get("sealed") is True))
             self.keep("resources", [fields])
             self.hold("resources", n, it.value)
         first = 0
         for group, items in zip(self.groups, lists):
             if group and items:
-                self.cut_resources((first, first + len(group)), items, len(every) - len(items))
+                self.cut_resources((first, first + len(group)), items, len(longest) - len(items))
             first += len(group)
 
     def cut_resources(self, actions: Tuple[int, int], items: List[Item], shift: int) -> None:

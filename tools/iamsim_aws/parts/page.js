@@ -21,6 +21,8 @@ const LAYERS = {
   identity: "identity policy",
   boundary: "permissions boundary",
   session: "session policy",
+  bucket: "the bucket's policy",
+  "bucket-control": "resource control policy on the bucket",
 };
 const LACKS = {
   org: "A level of the organisation above the principal's account has no statement that allows this.",
@@ -30,6 +32,7 @@ const LACKS = {
   boundary: "The principal's permissions boundary does not allow this.",
   session: "No session policy of the session allows this.",
 };
+const lacksWords = (lack) => LACKS[lack] || `On the bucket, by which the request goes: ${LACKS[lack.replace("bucket-", "")]}`;
 
 const lengths = data.axes.map((axis) => axis.length);
 const strides = [lengths[1] * lengths[2], lengths[2], 1];
@@ -450,12 +453,12 @@ function textsOf(n) {
 // What stands at a place, in words, with its policy's name, its Sid and its own text.
 function statementAt(layers, place, principal, resource) {
   const words = place.split("/"), layer = words[0];
-  const hasLevel = layer === "org" || layer === "control";
+  const hasLevel = ["org", "control", "bucket-control"].includes(layer);
   const [level, policy, statement] = hasLevel ? words.slice(1).map(Number) : [0, Number(words[1]), Number(words[2])];
   const ofPrincipal = layers.principals[principal], ofResource = layers.resources[resource];
   const levels = layer === "org" ? layers.org[ofPrincipal.account] : ofPrincipal[layer] || ofResource[layer];
   const [name, statements] = levels[level][policy], [sid, text] = data.statements[statements[statement]];
-  const isOne = layer === "resource" || layer === "boundary";
+  const isOne = ["resource", "bucket", "boundary"].includes(layer);
   const where = `${LAYERS[layer]}${hasLevel ? ` ${policy} of level ${level}` : isOne ? "" : ` ${policy}`}, statement ${statement}`;
   return { name: data.names[name], sid, text, where };
 }
@@ -497,7 +500,7 @@ function lacksPart(lacks) {
   const list = make("ul");
   lacks.forEach((lack) => {
     const line = make("li");
-    line.append(make("b", "", lack), `: ${LACKS[lack]}`);
+    line.append(make("b", "", lack), `: ${lacksWords(lack)}`);
     list.append(line);
   });
   return [make("h3", "", "What is lacking"), list];

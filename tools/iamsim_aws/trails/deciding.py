@@ -12,6 +12,7 @@ from ..documents import World
 from ..faults import Fault
 from ..files import compact, encoded
 from ..keys import DERIVED, context_of
+from ..points import tell_points
 from ..program import Refused, each_of, world_bytes
 from ..reports import HEAD, TAIL, Answer, Answers, words
 from ..splitting import parts
@@ -107,6 +108,8 @@ def names_given(world: World, holder: Dict[str, Any]) -> FrozenSet[str]:
 def decide(side: Side, some: List[Request], is_full: bool) -> Tuple[List[Answer], int]:
     """The answer to each request, without statements unless they are wanted, and how many worlds were asked."""
     jobs = list(jobs_of(side, some))
+    for it in jobs:
+        tell_points(it.world)
     found: List[Answer] = [Answer("", (), ())] * len(some)
     with tempfile.TemporaryDirectory() as room:
 

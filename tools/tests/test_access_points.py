@@ -1,0 +1,164 @@
+"""Requests by access points of S3, made by hand: the access point and its bucket both have to allow them. The answers are worked
+out from what AWS says of access points ("both the access point and the underlying bucket must permit the request")."""
+
+import json
+
+from harness import aws, document, file, same, statement
+
+OWN, OTHER = "111122223333", "444455556666"
+POINT = f"arn:aws:s3:eu-west-1:{OWN}:accesspoint/p"
+BUCKET, KEY = "arn:aws:s3:::data", f"{POINT}/object/in/k"
+USERS = f"arn:aws:iam::{OWN}:user/"
+
+
+def user(name, *policies):
+    some = [{"PolicyName": "own", "PolicyDocument": it} for it in policies]
+    return {"UserName": name, "UserId": f"AIDA{name}", "Arn": f"{USERS}{name}", "Path": "/", "UserPolicyList": some}
+
+
+# jane has no policy, wide may do all of S3, narrow may read by the access point alone.
+PEOPLE = [
+    user("jane"),
+    user("wide", document(statement(action="s3:*"))),
+    user("narrow", document(statement(action="s3:GetObject", resource=f"{POINT}/object/*"))),
+]
+EXPORT = file({"UserDetailList": PEOPLE, "GroupDetailList": [], "RoleDetailList": [], "Policies": []})
+
+
+def grant(who, *resources, action="s3:GetObject", effect="Allow", **equal):
+    made = {"Effect": effect, "Principal": who, "Action": action, "Resource": list(resources)}
+    return {**made, **({"Condition": {"StringEquals": {f"s3:{key}": it for key, it in equal.items()}}} if equal else {})}
+
+
+TO_JANE = document(grant({"AWS": f"{USERS}jane"}, f"{POINT}/object/*"))
+BOTH = (BUCKET, f"{BUCKET}/*")
+
+
+def delegated(**equal):
+    """The bucket lets access points decide, as AWS proposes it."""
+    return document(grant("*", *BOTH, action="*", **equal))
+
+
+TO_POINTS = delegated(DataAccessPointAccount=OWN)
+
+
+def resources(bucket=None, point=TO_JANE, account=OWN, name="data"):
+    made = {"arn": POINT, "account": OWN, "policy": point, **({"bucket": name} if name else {})}
+    return file([made, {"arn": BUCKET, "account": account, **({"policy": bucket} if bucket else {})}])
+
+
+def decisions(given, arn=KEY, action="s3:GetObject"):
+    """{user: (decision, what lacks)} of one request."""
+    out, _ = aws("who-can", action, arn, EXPORT, "--resources", given, "--format", "json")
+    own = [it for it in json.loads(out) if not it["outside"]]
+    return {it["principal"][len(USERS) :]: (it["decision"], it["lacks"]) for it in own}
+
+
+YES, NO = ("allowed", []), "implicitDeny"
+
+
+def test_both_have_to_allow():
+    # Without a policy of the bucket his own policy has to allow it there, and narrow's does not; jane has none.
+    found = decisions(resources())
+    same(found, {"jane": (NO, ["bucket-identity"]), "wide": YES, "narrow": (NO, ["bucket-identity"])})
+    # It delegates to all access points of the account: then the access point decides.
+    same(decisions(resources(TO_POINTS)), {"jane": YES, "wide": YES, "narrow": YES})
+    same(decisions(resources(delegated(DataAccessPointArn=POINT))), {"jane": YES, "wide": YES, "narrow": YES})
+    # To another access point, or another account's.
+    for other in ({"DataAccessPointArn": f"{POINT}q"}, {"DataAccessPointAccount": OTHER}):
+        same(decisions(resources(delegated(**other)))["jane"], (NO, ["bucket-identity"]), str(other))
+    # Where the access point grants nothing, the bucket's grant does not suffice.
+    nothing = document(grant({"AWS": f"{USERS}wide"}, f"{POINT}/object/*"))
+    same(decisions(resources(TO_POINTS, nothing))["jane"], (NO, ["identity"]))
+    # On the bucket itself nobody has the keys of an access point.
+    found = decisions(resources(TO_POINTS), f"{BUCKET}/in/k")
+    same(found, {"jane": (NO, ["identity"]), "wide": YES, "narrow": (NO, ["identity"])})
+
+
+def test_either_may_deny():
+    given = {"effect": "Deny", "action": "s3:*"}
+    of_bucket = document(*TO_POINTS["Statement"], grant("*", f"{BUCKET}/in/*", **given))
+    same({it[0] for it in decisions(resources(of_bucket)).values()}, {"explicitDeny"})
+    # What lies elsewhere in the bucket is not denied.
+    same(decisions(resources(of_bucket), f"{POINT}/object/out/k"), {"jane": YES, "wide": YES, "narrow": YES})
+    of_point = document(*TO_JANE["Statement"], grant("*", f"{POINT}/object/in/*", **given))
+    same({it[0] for it in decisions(resources(TO_POINTS, of_point)).values()}, {"explicitDeny"})
+    # A bucket that refuses what does not come by its access points.
+    only = document(
+        {
+            **grant("*", *BOTH, action="s3:*", effect="Deny"),
+            "Condition": {"StringNotEquals": {"s3:DataAccessPointAccount": OWN}},
+        }
+    )
+    same(decisions(resources(only))["wide"], YES)
+    same(decisions(resources(only), f"{BUCKET}/in/k")["wide"][0], "explicitDeny")
+    out, _ = aws("can", "wide", "s3:GetObject", KEY, EXPORT, "--resources", resources(of_bucket), status=3)
+    assert f"denied by {BUCKET} policy, statement 1 (the bucket's policy)" in out, out
+
+
+def test_a_bucket_of_another_account():
+    """The bucket's account has to grant, and all that the access point's account says counts too."""
+    found = decisions(resources(account=OTHER))
+    same(found["wide"], (NO, ["bucket-resource"]))
+    same(found["jane"][0], NO)
+    # jane is of another account than the bucket, so that her own policies have to allow it there; wide's do.
+    found = decisions(resources(TO_POINTS, account=OTHER))
+    same(found, {"jane": (NO, ["bucket-identity"]), "wide": YES, "narrow": (NO, ["bucket-identity"])})
+
+
+def test_the_access_point_itself():
+    """Listing is of the access point, and of the bucket."""
+    to_jane = document(grant({"AWS": f"{USERS}jane"}, POINT, action="s3:ListBucket"))
+    found = decisions(resources(TO_POINTS, to_jane), POINT, "s3:ListBucket")
+    same(found, {"jane": YES, "wide": YES, "narrow": (NO, ["identity"])})
+    only_objects = document(grant("*", f"{BUCKET}/*", action="*", DataAccessPointAccount=OWN))
+    same(decisions(resources(only_objects, to_jane), POINT, "s3:ListBucket")["jane"], (NO, ["bucket-identity"]))
+
+
+def test_rules_and_drafts():
+    rule = file(f"never * s3:GetObject {POINT}/object/* except wide\n")
+    words = ["rules", rule, EXPORT, "--resources"]
+    out, _ = aws(*words, resources(TO_POINTS), status=3)
+    for it in ("jane", "narrow"):
+        assert f"{USERS}{it} may s3:GetObject {POINT}/object/" in out, out
+    aws(*words, resources())
+    # A draft of the bucket's policy changes what goes by the access point, and not what goes by the bucket.
+    ask = ["--action", "s3:GetObject", "--resource", f"{POINT}/object/k", "--format", "csv"]
+    draft = f"{BUCKET}={file(TO_POINTS)}"
+    out, _ = aws("changes", EXPORT, "--resources", resources(document(grant("*", *BOTH, action="s3:Do"))), "--put", draft, *ask)
+    rows = [line.split(",")[:2] for line in out.splitlines()[1:]]
+    same(sorted(rows), [["gained", f"{USERS}jane"], ["gained", f"{USERS}narrow"]])
+    ask[3] = f"{BUCKET}/k"
+    same(aws("changes", EXPORT, "--resources", resources(TO_POINTS), "--put", draft, *ask)[0].count("\n"), 1)
+
+
+def test_a_bucket_that_nobody_knows():
+    """What the access point denies is denied; what it allows is not known, and no check is green by it."""
+    words = "its requests fall under the policy of its bucket too, which is not asked here"
+    for given in (resources(name=None), resources(name="elsewhere")):
+        out, said = aws("can", "jane", "s3:GetObject", KEY, EXPORT, "--resources", given, status=6)
+        assert f"{POINT}: {words}: name it by `bucket`" in said, said
+        aws("can", "jane", "s3:PutObject", KEY, EXPORT, "--resources", given, status=3)
+        out, _ = aws("rules", file(f"always jane s3:GetObject {KEY}\n"), EXPORT, "--resources", given, status=4)
+        assert "fall under the policy of its bucket too, which is not asked here" in out, out
+        # All who may are among those whom the access point lets in: what is never allowed by it is never.
+        put = file("s3:PutObject\n")
+        aws("rules", file(f"never jane s3:PutObject {KEY}\n"), EXPORT, "--resources", given, "--actions", put)
+        aws("rules", file(f"never jane s3:GetObject {KEY}\n"), EXPORT, "--resources", given, status=3)
+    aws("rules", file(f"always jane s3:GetObject {KEY}\n"), EXPORT, "--resources", resources(TO_POINTS))
+    for more in ({"bucket": 1}, {"arn": BUCKET, "bucket": "data"}):
+        bad = file([{"arn": POINT, "account": OWN, **more}])
+        _, said = aws("can", "jane", "s3:GetObject", KEY, EXPORT, "--resources", bad, status=1)
+        assert "bucket is no name of a bucket, or it is no access point" in said, said
+
+
+def test_where_the_bucket_is_not_asked():
+    """A world has one policy of a resource: who makes one is told."""
+    words = f"{POINT}: its requests fall under the policy of its bucket too, which is not asked here\n"
+    actions = file("s3:GetObject\n")
+    out, said = aws("world", EXPORT, "--resources", resources(TO_POINTS), "--actions", actions)
+    assert words in said and "through" not in out and '"bucket"' not in out, said
+    _, said = aws("can", "jane", "s3:*", "*", EXPORT, "--resources", resources(TO_POINTS), status=0)
+    assert words in said, said
+    page, said = aws("page", EXPORT, "--resources", resources(TO_POINTS), "--actions", actions)
+    assert words not in said and "bucket/0/0" in page, said
