@@ -26,8 +26,9 @@ EXPORT = file({"UserDetailList": PEOPLE, "GroupDetailList": [], "RoleDetailList"
 
 
 def grant(who, *resources, action="s3:GetObject", effect="Allow", **equal):
+    keys = {f"s3:{key}": it for key, it in equal.items()}
     made = {"Effect": effect, "Principal": who, "Action": action, "Resource": list(resources)}
-    return {**made, **({"Condition": {"StringEquals": {f"s3:{key}": it for key, it in equal.items()}}} if equal else {})}
+    return {**made, **({"Condition": {"StringEquals": keys}} if keys else {})}
 
 
 TO_JANE = document(grant({"AWS": f"{USERS}jane"}, f"{POINT}/object/*"))
@@ -125,7 +126,8 @@ def test_rules_and_drafts():
     # A draft of the bucket's policy changes what goes by the access point, and not what goes by the bucket.
     ask = ["--action", "s3:GetObject", "--resource", f"{POINT}/object/k", "--format", "csv"]
     draft = f"{BUCKET}={file(TO_POINTS)}"
-    out, _ = aws("changes", EXPORT, "--resources", resources(document(grant("*", *BOTH, action="s3:Do"))), "--put", draft, *ask)
+    before = resources(document(grant("*", *BOTH, action="s3:Do")))
+    out, _ = aws("changes", EXPORT, "--resources", before, "--put", draft, *ask)
     rows = [line.split(",")[:2] for line in out.splitlines()[1:]]
     same(sorted(rows), [["gained", f"{USERS}jane"], ["gained", f"{USERS}narrow"]])
     ask[3] = f"{BUCKET}/k"

@@ -518,7 +518,26 @@ IN_YAML = """Resources:
       PolicyName: &p p
       PolicyDocument: {Version: 2012-10-17, Statement: [{Effect: Allow, Action: "*", Resource: !Join ["", [a, *p]]}]}
 """
+POINT = "arn:aws:s3:eu-west-1:111122223333:accesspoint/p"
+TO_ALL = document({"Effect": "Allow", "Principal": "*", "Action": "*", "Resource": "*"})
+RESOURCES = [
+    {"arn": POINT, "account": "111122223333", "bucket": "b", "policy": TO_ALL},
+    {"arn": "arn:aws:s3:::b", "account": "111122223333", "policy": TO_ALL, "context": {"aws:ResourceTag/a": "b"}},
+]
+IN_HCL = """resource "aws_iam_role_policy" "r" {
+  role = "r" # whose it is
+  policy = jsonencode({ Statement = [{ Effect = "Allow", Action = ["s3:*"], Resource = "${aws_s3_bucket.b.arn}/*" }] })
+}
+"""
+OF_HCL = json.loads(json.dumps(PLAN))
+OF_HCL["resource_changes"][1]["change"].update(after={"role": "r", "name": "p"}, after_unknown={"policy": True})
+OF_HCL["configuration"]["root_module"]["resources"].append(
+    {"address": "aws_iam_role_policy.r", "expressions": {"policy": {"references": ["aws_s3_bucket.b.arn"]}}}
+)
+HCL_PLAN = file(OF_HCL)
 INPUTS = [
+    (RESOURCES, lambda it: ["can", "alice", "s3:GetObject", f"{POINT}/object/k", EXPORT, "--resources", it]),
+    (IN_HCL, lambda it: ["changes", EXPORT, "--terraform", HCL_PLAN, "--configuration", os.path.dirname(it)]),
     (TEMPLATE, lambda it: ["world", EXPORT, "--cloudformation", it]),
     (IN_YAML, lambda it: ["world", EXPORT, "--cloudformation", it]),
     (load(EXPORT), lambda it: ["can", "alice", "s3:PutObject", "*", it]),
@@ -530,11 +549,14 @@ INPUTS = [
 
 
 def test_inputs_that_are_changed_at_random():
-    """Each ends with an answer, or with status 1 and one line; MUTATIONS and SEED give another count and seed."""
+    """Each ends with an answer, or with status 1 and one line, and 200 of them end in 30 seconds, in this process with iamsim
+    beside it. MUTATIONS and SEED give another count and seed; SLOWER says how many times slower than the proved program the one
+    is that is asked, as an unproved one with its checks."""
     seed, count = int(os.environ.get("SEED", "7")), int(os.environ.get("MUTATIONS", "200"))
     print(f"test_inputs_that_are_changed_at_random: SEED={seed} MUTATIONS={count}")
+    at, own = time.monotonic(), time.process_time()
     any_of = random.Random(seed)
-    path = file("")
+    path = os.path.join(room(), "input.tf")
     for n in range(count):
         value, words = INPUTS[n % len(INPUTS)]
         if isinstance(value, str) or any_of.random() < 0.3:
@@ -545,10 +567,13 @@ def test_inputs_that_are_changed_at_random():
         with open(path, "wb") as it:
             it.write(text)
         status, said = call(*words(path))
-        assert status in (0, 1, 3, 4), (n, status)
+        assert status in (0, 1, 3, 4, 6), (n, status)
         assert all(line.startswith("iamsim-aws: ") for line in said.splitlines()), (n, said)
         assert status != 1 or said, n
         assert "it could not go on" not in said, (n, said, text[:3000])
+    took, most = time.monotonic() - at, 30 * max(1, count / 200)
+    assert time.process_time() - own < most, f"of this process: {time.process_time() - own} s"
+    assert took < patience(most) * int(os.environ.get("SLOWER", "1")), f"{took} s"
 
 
 def call(*words):
