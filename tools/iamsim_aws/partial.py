@@ -54,7 +54,6 @@ def known_statement(unknowns: Unknowns, place: str, it: Any) -> Any:
     texts = [of for of in each(it["Resource"]) if isinstance(of, str)]
     where = f"{place}.Resource ({why.why})"
     found = unknowns.resources(where, str(it.get("Effect")), texts, None)
-    if found is None:
+    if it.get("Effect") != "Allow":
         unknowns.denies.append(where)
-        return {}
-    return {**it, "Resource": found}
+    return {**it, "Resource": found} if found else {}

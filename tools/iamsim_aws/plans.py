@@ -11,7 +11,7 @@ from .exports import document
 from .faults import Fault
 from .partial import known_document
 from .planned import Change, Values, Where, any_true, iam_arn
-from .unknowns import LATER, Unknowns
+from .unknowns import DENY_LEFT, LATER, Unknowns
 from .yamls import Unclear
 
 INDEX = re.compile(r"\[[^\]]*\]")
@@ -304,13 +304,13 @@ class Statement(NamedTuple):
         return {key: value for key, value in made.items() if value}
 
     def resources(self, effect: str) -> Optional[List[str]]:
-        """None where the statement is left out: a deny on what nobody knows yet would hide what others allow."""
+        """None where the statement is left out, as a deny on what nobody knows yet."""
         known = [it for it in self.given.get("resources") or [] if isinstance(it, str)]
         if not any_true(self.unknown.get("resources")):
             return known
         place, unknowns = f"{self.change.address}.statement.{self.number}.resources", self.plan.unknowns
         if effect != "Allow":
-            unknowns.notes.append(f"{place} {LATER}: this deny is left out")
+            unknowns.notes.append(f"{place} {LATER}: {DENY_LEFT}")
         return unknowns.resources(place, effect, known, self.referred("resources") if effect == "Allow" else None)
 
     def referred(self, name: str) -> Optional[str]:

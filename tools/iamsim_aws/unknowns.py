@@ -4,7 +4,8 @@ from typing import Dict, Iterator, List, Optional
 
 from .faults import Fault
 
-LATER = "is known only after the apply"
+LATER, DENY_LEFT = "is known only after the apply", "there this deny is left out"
+ANY_RESOURCE = "taken to be any resource"
 
 
 class Unknowns:
@@ -25,10 +26,11 @@ class Unknowns:
         self.lacking.append(place)
 
     def resources(self, place: str, effect: str, known: List[str], found: Optional[str]) -> Optional[List[str]]:
-        """What stands for the resources of a statement of which not all are known; None where the statement is left out: a
-        deny on what nobody knows yet would hide what others allow. `found` is the ARN to which they refer."""
+        """What stands for the resources of a statement of which not all are known; None where the statement is left out. A deny
+        is of those that are known: on what nobody knows yet it would hide what others allow. `found` is the ARN to which they
+        refer."""
         if effect != "Allow":
-            return None
+            return known or None
         if found is None:
             self.opened.append(place)
             return ["*"]
@@ -52,8 +54,8 @@ class Unknowns:
     def lines(self) -> Iterator[str]:
         ends = (
             (self.lacking, "the change is left out"),
-            (self.opened, "taken to be any resource"),
-            (self.denies, "this deny is left out"),
+            (self.opened, ANY_RESOURCE),
+            (self.denies, DENY_LEFT),
         )
         for places, end in ends:
             yield from (f"{it} {LATER}: {end}" for it in dict.fromkeys(places))

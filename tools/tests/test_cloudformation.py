@@ -902,7 +902,7 @@ def test_unknowns_that_are_allowed():
         {
             f"R.Policies.1.PolicyDocument {later} the change is left out",
             f"{place}.0.Resource {later} taken to be any resource",
-            f"{place}.1.Resource {later} this deny is left out",
+            f"{place}.1.Resource {later} there this deny is left out",
         },
     )
     # A role that is there keeps what is not told of it.

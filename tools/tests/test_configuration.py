@@ -87,7 +87,11 @@ def test_what_does_not_follow_is_unknown_in_its_element():
     assert "policy.Statement.0.Resource (local.all): --allow-unknown" in puts(made, where, status=1)[1]
     found, said = puts(made, where, "--allow-unknown")
     same(found, {("gained", ALICE)})
-    assert "Statement.0.Resource (local.all) is known only after the apply: this deny is left out" in said, said
+    assert "Statement.0.Resource (local.all) is known only after the apply: there this deny is left out" in said, said
+    deny = deny.replace("local.all", f'[local.all, "{B}/k"]')
+    made, where = planned([*REFERS, "local.all"]), folder(MAIN % deny)
+    same(puts(made, where, "--allow-unknown")[0], set())
+    same(puts(made, where, "--allow-unknown", resource=f"{B}/l")[0], {("gained", ALICE)})
     # Where an action is not known, nothing stands for the statement.
     made = planned([*REFERS, "local.all"])
     where = folder(MAIN % '{ Effect = "Allow", Action = local.all, Resource = aws_s3_bucket.b.arn }')

@@ -112,7 +112,13 @@ def test_documents_that_are_read_at_the_apply():
     both = read_later([{**of, "resources": ["*"]}, deny], [{}, {"resources": [True]}], [{}, {"resources": refers}])
     found, said = gained(both, action="s3:PutObject", resource=f"{B}/k")
     same(found, {("gained", ALICE)})
-    assert "statement.1.resources is known only after the apply: this deny is left out" in said, said
+    assert "statement.1.resources is known only after the apply: there this deny is left out" in said, said
+    # Where a deny names more, it is of that.
+    known = {**deny, "resources": [None, f"{B}/in/*"]}
+    unknown = [{}, {"resources": [True, False]}]
+    both = read_later([{**of, "resources": ["*"]}, known], unknown, [{}, {"resources": refers}])
+    same(gained(both, action="s3:PutObject", resource=f"{B}/in/x")[0], set())
+    same(gained(both, action="s3:PutObject", resource=f"{B}/k")[0], {("gained", ALICE)})
 
 
 OIDC = "oidc-provider/token.actions.githubusercontent.com"

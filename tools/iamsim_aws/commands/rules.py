@@ -15,6 +15,7 @@ from ..ruling import Break, Outcome, check, read_rules
 from ..slips import slips
 from ..sources import add_source, source_of
 from ..telling import BY, LACKS, deciding
+from ..unknowns import ANY_RESOURCE, DENY_LEFT
 from .parsers import add, add_chains, add_verbose, whole
 
 STATUSES = {"kept": 0, "broken": 3, "empty": 4}
@@ -80,7 +81,8 @@ def cases_of(options: argparse.Namespace, outcomes: List[Outcome], fails: Set[st
 
 
 def is_unasked(line: str) -> bool:
-    return any(it in line for it in ("not asked", "nobody is asked", "no text stands", "the change is left out"))
+    unasked = ("not asked", "nobody is asked", "no text stands", "the change is left out", DENY_LEFT, ANY_RESOURCE)
+    return any(it in line for it in unasked)
 
 
 def checked(options: argparse.Namespace) -> int:
