@@ -1,12 +1,15 @@
 """The folder of a configuration of Terraform: the documents of which a plan has no text, since only the apply tells a part."""
 
 import os
-from typing import Any, Dict, List, NamedTuple, Optional
+from typing import Any, Dict, List, NamedTuple, Optional, Tuple
 
 from . import files
 from .exports import document
 from .faults import Fault
 from .hcl import Odd, Reader, Resolve
+
+# What stands in place of parts of other files, in a form that is not read.
+OVERRIDING = ("override.tf.json", ".tofu", ".tofu.json")
 
 
 class Place(NamedTuple):
@@ -39,8 +42,9 @@ class Configuration:
         return ", ".join(self.odd) or "the configuration has no text or call of jsonencode of it that is followed"
 
     def read_folder(self, folder: str) -> Dict[str, List[Place]]:
-        """Where each attribute of each resource stands."""
+        """Where each attribute of each resource stands; nowhere where a file is not followed, which may override others."""
         found: Dict[str, List[Place]] = {}
+        self.odd += [f"{it} is not read" for it in files_of(folder, OVERRIDING)]
         for path in files_of(folder):
             text = files.read_text(path)
             reader = Reader(text, 0)
@@ -52,7 +56,7 @@ class Configuration:
             except Odd:
                 line = text.count("\n", 0, reader.at) + 1
                 self.odd.append(f"{path} is not followed from line {line} on")
-        return found
+        return {} if self.odd else found
 
     def document(self, module: str, name: str, references: List[str], resolve: Resolve) -> Any:
         """The document of an attribute with Unclear for what does not follow; None where it is not read. `references` are
@@ -78,9 +82,9 @@ class Configuration:
         return document(found, f"{place.path}: {name}") if isinstance(found, str) else found
 
 
-def files_of(folder: str) -> List[str]:
+def files_of(folder: str, ends: Tuple[str, ...] = (".tf",)) -> List[str]:
     """The files of a folder that have a configuration."""
     try:
-        return sorted(os.path.join(folder, it) for it in os.listdir(folder) if it.endswith(".tf"))
+        return sorted(os.path.join(folder, it) for it in os.listdir(folder) if it.endswith(ends))
     except OSError as error:
         raise Fault(f"{folder}: {error.strerror or error}") from None

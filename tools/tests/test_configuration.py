@@ -133,8 +133,10 @@ def test_another_configuration_is_found_out():
         assert f"{where}/main.tf: aws_iam_user_policy.p.policy is not the one that the plan was made of" in said, said
     # A resource that two files have, as with override.tf, is not followed; nor is one that no file has.
     text = MAIN % (PUT % "aws_s3_bucket.b.arn")
-    for where in (folder(text, **{"override.tf": text}), folder(""), folder("resource {{{")):
+    others = [folder(text, **{it: text}) for it in ("override.tf", "main.tofu", "a_override.tf.json")]
+    for where in (*others, folder(text, **{"override.tf": "resource {{{"}), folder(""), folder("resource {{{")):
         assert "only the apply tells aws_iam_user_policy.p.policy:" in puts(planned(REFERS), where, status=1)[1]
+    assert "main.tofu is not read\n" in puts(planned(REFERS), others[1], status=1)[1]
     _, said = puts(planned(REFERS), folder("resource {{{"), status=1)
     assert said.endswith("main.tf is not followed from line 1 on\n"), said
     _, said = puts(planned(REFERS), "/nowhere", status=1)
@@ -215,7 +217,7 @@ def test_expressions():
 
 def test_expressions_made_to_take_long():
     at = time.process_time()
-    for text in ('"${' * 9000, "[" * 9000, "{a=" * 9000, '["${f(' * 9000, "/*" * 9000, "<<A\n" * 9000):
+    for text in ('"${' * 2000, "[" * 2000, "{a=" * 2000, '["${f(' * 2000, "/*" * 2000, "<<A\n" * 2000):
         try:
             Reader(f"jsonencode({text}", 0).document()
             assert False, text[:9]
@@ -225,4 +227,4 @@ def test_expressions_made_to_take_long():
     for _ in range(40):
         deep = f'"${{f({deep})}}"'
     same(type(Reader(f"jsonencode({deep})\n", 0).document()), Unclear)
-    assert time.process_time() - at < 20
+    assert time.process_time() - at < 10
