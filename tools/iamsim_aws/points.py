@@ -78,4 +78,4 @@ def join(answers: Answers, numbers: List[int], part: Answers) -> None:
             for n, r in enumerate(numbers):
                 cell = answers.cell(p, a, r)
                 it = joined(answers.at(cell), part.at(part.cell(p, a, n)))
-                answers.numbers[cell] = answers.number(it, lambda it=it: it)  # type: ignore[misc]
+                answers.numbers[cell] = answers.number(it, lambda it=it: it)
