@@ -130,8 +130,26 @@ def test_rules_and_drafts():
     out, _ = aws("changes", EXPORT, "--resources", before, "--put", draft, *ask)
     rows = [line.split(",")[:2] for line in out.splitlines()[1:]]
     same(sorted(rows), [["gained", f"{USERS}jane"], ["gained", f"{USERS}narrow"]])
+    # Nobody has to name the object: the access point's own pattern is asked for.
+    out, _ = aws("changes", EXPORT, "--resources", before, "--put", draft, *ask[:2], *ask[4:])
+    rows = [line.split(",")[:2] for line in out.splitlines() if f",{POINT}/object/x," in line]
+    same(sorted(rows), [["gained", f"{USERS}jane"], ["gained", f"{USERS}narrow"]])
     ask[3] = f"{BUCKET}/k"
     same(aws("changes", EXPORT, "--resources", resources(TO_POINTS), "--put", draft, *ask)[0].count("\n"), 1)
+
+
+def test_an_access_point_of_a_plan():
+    """A plan names the bucket of an access point: jane gains what the bucket delegates, and nothing where it does not."""
+    after = {"name": "p", "bucket": "data", "policy": json.dumps(TO_JANE)}
+    made = {"address": "aws_s3_access_point.p", "mode": "managed", "type": "aws_s3_access_point"}
+    made["change"] = {"actions": ["create"], "before": None, "after": after, "after_unknown": {"arn": True}}
+    region = {"aws": {"expressions": {"region": {"constant_value": "eu-west-1"}}}}
+    plan = file({"format_version": "1.2", "resource_changes": [made], "configuration": {"provider_config": region}})
+    words = ["changes", EXPORT, "--terraform", plan, "--action", "s3:GetObject", "--resource", KEY, "--format", "csv"]
+    for policy, wanted in ((TO_POINTS, 1), (None, 0)):
+        bucket = {"arn": BUCKET, "account": OWN, **({"policy": policy} if policy else {})}
+        out, _ = aws(*words, "--resources", file([bucket]))
+        same(out.count(f"gained,{USERS}jane,"), wanted, out)
 
 
 def test_a_bucket_that_nobody_knows():
