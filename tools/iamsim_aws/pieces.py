@@ -318,14 +318,11 @@ def own_policy(kind: str, target: str, place: str, by: str = "arn") -> Callable[
     def read(it: Pieces, given: Values) -> None:
         if place in given:
             found = it.names.arn(it.logical) if by == "arn" else it.names.name(it.logical)
-            it.resource(
-                kind,
-                target,
-                it.one("ARN" if by == "arn" else "name", found),
-                place,
-                given,
-                region=it.names.scope.region,
-            )
+            own = it.one("ARN" if by == "arn" else "name", found)
+            # An access point of S3 has its bucket's name.
+            bucket = it.names.text(it.logical, "Bucket")
+            more = {"bucket": bucket} if isinstance(bucket, str) else {}
+            it.resource(kind, target, own, place, given, region=it.names.scope.region, **more)
 
     return read
 

@@ -150,6 +150,14 @@ def test_an_access_point_of_a_plan():
         bucket = {"arn": BUCKET, "account": OWN, **({"policy": policy} if policy else {})}
         out, _ = aws(*words, "--resources", file([bucket]))
         same(out.count(f"gained,{USERS}jane,"), wanted, out)
+    # So it is of a template.
+    own = {"Name": "p", "Bucket": {"Fn::Join": ["", ["da", "ta"]]}, "Policy": TO_JANE}
+    template = file({"Resources": {"P": {"Type": "AWS::S3::AccessPoint", "Properties": own}}})
+    words[2:4] = ["--cloudformation", template, "--parameters", file({"AWS::Region": "eu-west-1"})]
+    for policy, wanted in ((TO_POINTS, 1), (None, 0)):
+        bucket = {"arn": BUCKET, "account": OWN, **({"policy": policy} if policy else {})}
+        out, _ = aws(*words, "--resources", file([bucket]))
+        same(out.count(f"gained,{USERS}jane,"), wanted, out)
 
 
 def test_a_bucket_that_nobody_knows():
