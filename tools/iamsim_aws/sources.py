@@ -24,7 +24,7 @@ def add_options(parser: argparse.ArgumentParser, has_session: bool = True) -> No
     add(
         "--resources",
         **files_of,
-        help="further resources, a JSON list of {arn, account, policy, sealed, context, runsAs}",
+        help="further resources, a JSON list of {arn, account, policy, sealed, context, runsAs, bucket}",
     )
     add("--organization", metavar="FILE", help="the organisation's policies, as iamsim-aws organization collects them")
     add("--context", **files_of, help="the condition keys of all requests, a JSON object")

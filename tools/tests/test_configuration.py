@@ -6,9 +6,9 @@ import sys
 import tempfile
 import time
 
-from harness import TOOLS, file, load, same
+from harness import TOOLS, aws, file, load, same
 from test_plans import gained
-from test_terraform import ACCOUNT, ALICE, change, configured, plan
+from test_terraform import ACCOUNT, ALICE, EXPORT, change, configured, plan
 
 sys.path.insert(0, TOOLS)
 from iamsim_aws.hcl import Odd, Reader  # noqa: E402
@@ -139,6 +139,8 @@ def test_another_configuration_is_found_out():
     assert "main.tofu is not read\n" in puts(planned(REFERS), others[1], status=1)[1]
     _, said = puts(planned(REFERS), folder("resource {{{"), status=1)
     assert said.endswith("main.tf is not followed from line 1 on\n"), said
+    _, said = aws("changes", EXPORT, "--configuration", folder(text), status=1)
+    same(said, "iamsim-aws: --configuration belongs to --terraform\n")
     _, said = puts(planned(REFERS), "/nowhere", status=1)
     same(said, "iamsim-aws: --configuration /nowhere: it is no folder\n")
 
