@@ -27,7 +27,7 @@ use Rattle.iam_app.specs.Ask.{HasWorld}
 use Rattle.iam_app.specs.Changes.{IsNoWorld}
 use Rattle.iam_app.specs.Output.{format_of}
 use Rattle.iam_app.specs.Selected.{Means, patterns_in}
-use Rattle.iam_app.specs.Streams.{AllRemained, MoreRemained}
+use Rattle.iam_app.specs.Streams.{AllRemained, ConsumesAtMost, MoreRemained}
 use Rattle.iam_app.specs.declared.every.Told.{Told}
 use Rattle.iam_app.specs.declared.fault.RunFault.{RunFault}
 use Rattle.iam_app.specs.declared.fault.RunFault.TheVariants as f
@@ -58,6 +58,12 @@ abbrev pub IsLongFile : Texts → Option (List ℕ) → Type 0
 IsLongFile (x.File name) file = MoreRemained file 8388608
 IsLongFile (x.Like pattern number) file = ⊥
 IsLongFile (x.Account pattern id) file = ⊥
+
+-- at most this much of the file is read, and nothing where the command line has the line
+abbrev pub ReadsOfFile : Texts → Option (List ℕ) → Option (List ℕ) → Type 0
+ReadsOfFile (x.File name) old new = ConsumesAtMost old new 8388609
+ReadsOfFile (x.Like pattern number) old new = new ≡ old
+ReadsOfFile (x.Account pattern id) old new = new ≡ old
 
 -- ---- what is asked
 -- all that the world says of this resource, or that they are of this account

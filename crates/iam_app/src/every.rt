@@ -8,7 +8,7 @@ ghost use Rattle.iam_every.specs.Every.{AreThere, every_of, line_of, pattern_in,
 ghost use Rattle.iam_matrix.specs.Workers.{IsUnlawful};
 ghost use Rattle.iam_selection.specs.Selection.{IsMeant, pattern_of};
 ghost use Rattle.iam_app.specs.Code.Naming.{AreKnown, EndsLinesBy, EndsReportBy, IsNoLine, IsNoLines, IsLent, IsNoReport, IsNoReportOf, NamesAll, OfAsked, WritesNames, patterns_of, told_of};
-ghost use Rattle.iam_app.specs.Names.{AreChosen, ArePrincipalsMeant, AreSaid, EndsNamesBy, HasNamesOutput, IsAskedOf, IsLineOf, IsNamesReport, IsOfNoWorld, IsOneLine, IsUnnamedOf};
+ghost use Rattle.iam_app.specs.Names.{AreChosen, ArePrincipalsMeant, AreSaid, EndsNamesBy, HasNamesOutput, IsAskedOf, IsLineOf, IsNamesReport, IsOfNoWorld, IsOneLine, IsUnnamedOf, ReadsOfFile};
 ghost use Rattle.iam_app.specs.Streams.{ConsumesAtMost};
 
 use crate::OutOfMemory;
@@ -80,6 +80,7 @@ fn lines_in<S: Read>(
 ) -> Result<Vec<TextLine>, NamesFault>
     ensures ok { IfOk result (λ lines. AreSaid texts.now (S.remaining file.old) world.now (map text_line_of lines.items)) }
     ensures fault { IfErr result (IsNoLines texts.now (S.remaining file.old) world.now) }
+    ensures most { ReadsOfFile texts.now (S.remaining file.old) (S.remaining file.new) }
 {
     match texts {
         Texts::File(_) => {
@@ -285,6 +286,7 @@ fn tell<T: Threads + Sync, S: Read, W: Write>(
 ) -> Result<Told, NamesFault>
     ensures done { IfOk result (NamesAll command.now world.now (S.remaining file.old) (W.contents writer.old) (W.contents writer.new)) }
     ensures fault { IfErr result (EndsLinesBy command.now world.now (S.remaining file.old) (W.contents writer.old) (W.contents writer.new)) }
+    ensures most { ReadsOfFile command.now.texts (S.remaining file.old) (S.remaining file.new) }
 {
     let lines = lines_in(alloc, &command.texts, world, file)?;
     answer(rt, alloc, command, world, lines.as_slice(), writer)
@@ -295,8 +297,8 @@ fn tell<T: Threads + Sync, S: Read, W: Write>(
 /// and whether there are rows, and whether a line could not be shown. The whole report is made before its first byte is written. At
 /// most 8,388,609 bytes are read of the world, and of the lines. The first fault in this order ends the run: of the world `Read`,
 /// `World`; of the lines `Read`, `Texts`; then `Matrix`, `Kinds`, `Write`. That there is no memory can come at any point before the
-/// writing. After every fault except `Write` nothing was written; after `Write` a beginning of the report. After `World` nothing was
-/// read of the lines.
+/// writing. After every fault except `Write` nothing was written; after `Write` a beginning of the report. After `World`, and where
+/// the command line has the line, nothing is read of the file.
 pub fn run_every<T: Threads + Sync, R: Read, S: Read, W: Write>(
     rt: &T,
     alloc: Global,
@@ -306,6 +308,7 @@ pub fn run_every<T: Threads + Sync, R: Read, S: Read, W: Write>(
     writer: &mut W,
 ) -> Result<Told, NamesFault>
     ensures most { ConsumesAtMost (R.remaining input.old) (R.remaining input.new) 8388609 }
+    ensures most_lines { ReadsOfFile command.now.texts (S.remaining file.old) (S.remaining file.new) }
     ensures done { IfOk result (HasNamesOutput command.now (R.remaining input.old) (S.remaining file.old) (Appends (W.contents writer.old) (W.contents writer.new))) }
     ensures fault { IfErr result (EndsNamesBy command.now (R.remaining input.old) (S.remaining file.old) (W.contents writer.old) (W.contents writer.new)) }
     ensures unread { IfErr result (λ fault. IsOfNoWorld fault → S.remaining file.new ≡ S.remaining file.old) }
