@@ -18,6 +18,7 @@ mod OwnLemmas
 mod ReportLemmas
 mod RowLemmas
 mod SideLemmas
+mod TellingLemmas
 mod TextLemmas
 mod ToldLemmas
 mod WalkLemmas

@@ -19,6 +19,7 @@ use Rattle.iam_every.specs.Groups.{AgreeOn}
 use Rattle.iam_every.specs.declared.asked.Line.{Line}
 use Rattle.iam_every.proofs.ListLemmas.{first_or, here, mapped, none, of_mapped}
 use Rattle.iam_every.proofs.NamesLemmas.{one_some}
+use Rattle.iam_every.proofs.TellingLemmas.{tells_enough}
 use Rattle.iam_every.proofs.WalkLemmas.{at_map}
 
 -- ---- members by their numbers
@@ -155,7 +156,14 @@ pub shown_unnamed : (every : EveryValue) (k : ℕ) (line : LineValue) (groups : 
 shown_unnamed every k line groups text meant is =
     meant.unnamed (mapped chars text (map (λ (x : ResourceValue). x.arn) every.world.resources) (named_in every.world text is))
 
--- of whose kind the text is: the same line is the first to speak of it
+-- of whose kind the text is: all groups agree, and the same line is the first to speak of it
+all_agree : (every : EveryValue) (k : ℕ) (line : LineValue) (groups : List (List (List Sign))) (shown text : List ℕ)
+    → IsMeant (line_question every k line groups) (chars shown) → Agree (line_question every k line groups) (chars shown) (chars text)
+    → IsFirst every.lines text k line → AgreeOn (groups ++ map (λ pattern. pattern ∷ []) (patterns_of (take k every.lines))) (chars shown) (chars text)
+all_agree every k line groups shown text meant agree is =
+    tells_enough line.pattern (groups ++ map (λ pattern. pattern ∷ []) (patterns_of (take k every.lines))) (chars shown) (chars text)
+    (meant.within line.pattern (here line.pattern (arn_signs ∷ []))) is.matches agree
+
 pub shown_first : (every : EveryValue) (k : ℕ) (line : LineValue) (groups : List (List (List Sign))) (shown text : List ℕ)
     → IsMeant (line_question every k line groups) (chars shown) → Agree (line_question every k line groups) (chars shown) (chars text)
     → IsFirst every.lines text k line → IsFirst every.lines shown k line
@@ -167,7 +175,8 @@ shown_first every k line groups shown text meant agree is = record {
       let front = take k every.lines in
       let among : Contains front other = front_in every.lines k j other before (slice_get_within every.lines k line is.at) at in
       let own = mapped alone other.pattern (patterns_of front) (mapped (λ (x : LineValue). x.pattern) other front among) in
-      let both = agree (alone other.pattern) (Contains-append_right groups (map alone (patterns_of front)) (alone other.pattern) own) in
+      let both = all_agree every k line groups shown text meant agree is (alone other.pattern)
+      (Contains-append_right groups (map alone (patterns_of front)) (alone other.pattern) own) in
       let (pattern, there, told) = both.0 (other.pattern, here other.pattern [], matches) in
       elim (first_or other.pattern pattern [] there) [
         | inl same ↦ is.first j other before at (subst (λ (x : List Sign). Matches x (chars text)) (sym same) told)
@@ -176,7 +185,8 @@ shown_first every k line groups shown text meant agree is = record {
 }
 
 pub shown_agree : (every : EveryValue) (k : ℕ) (line : LineValue) (groups : List (List (List Sign))) (shown text : List ℕ)
-    → Agree (line_question every k line groups) (chars shown) (chars text) → AgreeOn groups (chars shown) (chars text)
-shown_agree every k line groups shown text agree group in' =
-    let alone : List Sign → List (List Sign) = λ pattern. pattern ∷ [] in
-    agree group (Contains-append_left groups (map alone (patterns_of (take k every.lines))) group in')
+    → IsMeant (line_question every k line groups) (chars shown) → Agree (line_question every k line groups) (chars shown) (chars text)
+    → IsFirst every.lines text k line → AgreeOn groups (chars shown) (chars text)
+shown_agree every k line groups shown text meant agree is group in' =
+    all_agree every k line groups shown text meant agree is group
+    (Contains-append_left groups (map (λ pattern. pattern ∷ []) (patterns_of (take k every.lines))) group in')

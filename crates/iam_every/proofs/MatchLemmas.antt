@@ -1,4 +1,4 @@
--- Whether a pattern matches a text is known.
+-- Matches, character by character; and whether a pattern matches a text is known.
 use Rattle.std.proofs.Common.{◌≡◌, ◌⊎◌, inl, inr, ℕ, Bool, true, false, eqb, List, [], ◌∷◌, ◌++◌, ap, arith, map, refl, subst}
 use Rattle.std.proofs.lemmas.Bool.{eq-eqb, eqb-true}
 use Rattle.std.specs.List.{concat}
@@ -13,40 +13,40 @@ no_signs : (c : ℕ) (text : List ℕ) → ¬ Matches [] (c ∷ text)
 no_signs c text ([], fits, e) = cc
 no_signs c text (part ∷ parts, fits, e) = absurd fits
 
-given_on : (c : ℕ) (signs : List Sign) (text : List ℕ) → Matches signs text → Matches (Given c ∷ signs) (c ∷ text)
+pub given_on : (c : ℕ) (signs : List Sign) (text : List ℕ) → Matches signs text → Matches (Given c ∷ signs) (c ∷ text)
 given_on c signs text (parts, fit, e) = ((c ∷ []) ∷ parts, (refl, fit), ap (λ t. c ∷ t) e)
 
-given_off : (d : ℕ) (signs : List Sign) (c : ℕ) (text : List ℕ) → Matches (Given d ∷ signs) (c ∷ text) → (d ≡ c) × Matches signs text
+pub given_off : (d : ℕ) (signs : List Sign) (c : ℕ) (text : List ℕ) → Matches (Given d ∷ signs) (c ∷ text) → (d ≡ c) × Matches signs text
 given_off d signs c text ([], fits, e) = absurd fits
 given_off d signs c text (part ∷ parts, fits, e) =
     let own : part ≡ d ∷ [] = fits.0 in
     let whole : d ∷ concat parts ≡ c ∷ text = rw own at e in
     ((let same : d ≡ c = cc in same), (parts, fits.1, (let rest : concat parts ≡ text = cc in rest)))
 
-given_none : (d : ℕ) (signs : List Sign) → ¬ Matches (Given d ∷ signs) []
+pub given_none : (d : ℕ) (signs : List Sign) → ¬ Matches (Given d ∷ signs) []
 given_none d signs ([], fits, e) = absurd fits
 given_none d signs (part ∷ parts, fits, e) =
     let own : part ≡ d ∷ [] = fits.0 in
     let whole : d ∷ concat parts ≡ [] = rw own at e in cc
 
-one_on : (signs : List Sign) (c : ℕ) (text : List ℕ) → Matches signs text → Matches (One ∷ signs) (c ∷ text)
+pub one_on : (signs : List Sign) (c : ℕ) (text : List ℕ) → Matches signs text → Matches (One ∷ signs) (c ∷ text)
 one_on signs c text (parts, fit, e) = ((c ∷ []) ∷ parts, (refl, fit), ap (λ t. c ∷ t) e)
 
-one_off : (signs : List Sign) (c : ℕ) (text : List ℕ) → Matches (One ∷ signs) (c ∷ text) → Matches signs text
+pub one_off : (signs : List Sign) (c : ℕ) (text : List ℕ) → Matches (One ∷ signs) (c ∷ text) → Matches signs text
 one_off signs c text ([], fits, e) = absurd fits
 one_off signs c text ([] ∷ parts, fits, e) = absurd (omega (arith, fits.0))
 one_off signs c text ((x ∷ y ∷ part) ∷ parts, fits, e) = absurd (omega (arith, fits.0))
 one_off signs c text ((x ∷ []) ∷ parts, fits, e) = (parts, fits.1, (let rest : concat parts ≡ text = cc in rest))
 
-one_none : (signs : List Sign) → ¬ Matches (One ∷ signs) []
+pub one_none : (signs : List Sign) → ¬ Matches (One ∷ signs) []
 one_none signs ([], fits, e) = absurd fits
 one_none signs ([] ∷ parts, fits, e) = omega (arith, fits.0)
 one_none signs ((x ∷ part) ∷ parts, fits, e) = cc
 
-any_skip : (signs : List Sign) (text : List ℕ) → Matches signs text → Matches (Any ∷ signs) text
+pub any_skip : (signs : List Sign) (text : List ℕ) → Matches signs text → Matches (Any ∷ signs) text
 any_skip signs text (parts, fit, e) = ([] ∷ parts, (tt, fit), e)
 
-any_on : (signs : List Sign) (c : ℕ) (text : List ℕ) → Matches (Any ∷ signs) text → Matches (Any ∷ signs) (c ∷ text)
+pub any_on : (signs : List Sign) (c : ℕ) (text : List ℕ) → Matches (Any ∷ signs) text → Matches (Any ∷ signs) (c ∷ text)
 any_on signs c text ([], fits, e) = absurd fits
 any_on signs c text (part ∷ parts, fits, e) = ((c ∷ part) ∷ parts, fits, ap (λ t. c ∷ t) e)
 

@@ -87,7 +87,7 @@ rows_shown every p action k line groups texts rows names spelled_well at are kin
       let (row, there, of_it) = of.whole shown inside shown_is in
       let verdict = of_it.verdict in
       let decided = decided_by every p line.unnamed action shown verdict of_it.right in
-      let told = alike_names every.world p line.unnamed action shown text groups verdict.decision are (shown_agree every k line groups shown text alike) decided in
+      let told = alike_names every.world p line.unnamed action shown text groups verdict.decision are (shown_agree every k line groups shown text meant alike first) decided in
       let one_kind : AreOneKind every p action shown text = record {
         number = k;
         line = line;
@@ -97,7 +97,7 @@ rows_shown every p action k line groups texts rows names spelled_well at are kin
         other_unnamed = never;
         groups = groups;
         are = are;
-        agree = shown_agree every k line groups shown text alike;
+        agree = shown_agree every k line groups shown text meant alike first;
       } in
       let tells : Tells every p action text unnamed row = record {
         verdict = verdict;

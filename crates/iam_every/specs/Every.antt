@@ -102,11 +102,11 @@ Says every text unnamed =
 abbrev pub patterns_of : List LineValue → List (List Sign)
 patterns_of lines = map (λ line. line.pattern) lines
 
--- which texts of line k are asked about, by these groups: ARNs that its pattern matches and that no resource of the world has; they are
--- also told apart by the lines before
+-- which texts of line k are asked about, by those of these groups that tell them apart: ARNs that its pattern matches and that no resource
+-- of the world has; they are also told apart by the lines before
 abbrev pub line_question : EveryValue → ℕ → LineValue → List (List (List Sign)) → Question
 line_question every k line groups =
-    text_question groups (line.pattern ∷ (arn_signs ∷ [])) (patterns_of (take k every.lines))
+    text_question groups line.pattern (arn_signs ∷ []) (patterns_of (take k every.lines))
     (map (λ resource. resource.arn) every.world.resources)
 
 -- ---- rows

@@ -10,3 +10,4 @@ pub mod OwnActions
 pub mod OwnGroups
 pub mod Report
 pub mod Rows
+pub mod Telling

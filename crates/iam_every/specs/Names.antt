@@ -13,14 +13,15 @@ use Rattle.iam_layers.specs.Unnamed.{IsUnnamedAccess, IsUnnamedDecision}
 use Rattle.iam_layers.specs.declared.unnamed.Unnamed.{Unnamed}
 use Rattle.iam_every.specs.Alike.{AreAlikeActions}
 use Rattle.iam_every.specs.Groups.{AgreeOn, AreGroups}
+use Rattle.iam_every.specs.Telling.{telling}
 
--- which texts are asked about: all of these patterns match, and they are none of those named; two are of one kind where each of the
--- groups, and each of the patterns that are told apart, matches both or neither
-abbrev pub text_question : List (List (List Sign)) → List (List Sign) → List (List Sign) → List (List ℕ) → Question
-text_question groups within apart named = record {
+-- which texts are asked about: all of these patterns match, the line's own and others, and they are none of those named; two are of one
+-- kind where each of the groups that tell such texts apart, and each of the patterns that are told apart, matches both or neither
+abbrev pub text_question : List (List (List Sign)) → List Sign → List (List Sign) → List (List Sign) → List (List ℕ) → Question
+text_question groups line others apart named = record {
   grammar = AnyText;
-  within = within;
-  groups = groups ++ map (λ pattern. pattern ∷ []) apart;
+  within = line ∷ others;
+  groups = telling line (groups ++ map (λ pattern. pattern ∷ []) apart);
   named = map chars named;
 }
 

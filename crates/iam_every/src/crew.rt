@@ -5,11 +5,14 @@ ghost use Rattle.iam_decision.specs.Matched.{Selects};
 ghost use Rattle.iam_every.specs.Every.{AreThere, every_of, row_of};
 ghost use Rattle.iam_every.specs.Report.{IsWanted};
 ghost use Rattle.iam_every.specs.Code.Texts.{IsChosen, IsTile};
+ghost use Rattle.iam_every.specs.Code.Rows.{AreWalksOf};
 
 use crate::asked::Asked;
+use crate::given::names_of;
 use crate::rows::{Row, rows_of};
 use iam_crew::{Bound, Crew, Gate, gather};
 use iam_decision::Decision;
+use iam_kinds::Walks;
 use iam_match::OutOfMemory;
 use iam_text::Items;
 use std::alloc::Global;
@@ -38,31 +41,32 @@ pub struct Principals<'a> {
 }
 
 impl<'a> Crew for Principals<'a> {
-    ghost use Rattle.std.specs.Prelude.{⊤};
-
     type Output = Chosen;
 
-    type Tools = ();
+    type Tools = Walks;
 
-    ghost fits = { λ _ _. ⊤ };
+    ghost fits = { λ crew walks. AreWalksOf crew.asked.world.now walks };
 
     ghost takes = { λ crew tile. IsTile crew tile };
 
     ghost gives = { λ crew tile output _. IsChosen (every_of crew.asked) crew.decisions.now (slice_index crew.principals.now tile) output };
 
-    fn tools(&self, _alloc: Global) -> Result<(), OutOfMemory> {
-        Ok(())
+    fn tools(&self, alloc: Global) -> Result<Walks, OutOfMemory> {
+        let names = names_of(alloc, self.asked.world)?;
+        let walks = Walks::new(alloc, names.as_slice())?;
+        Ok(walks)
     }
 
     fn work(
         &self,
         alloc: Global,
-        _tools: &mut (),
+        walks: &mut Walks,
         _bound: &mut Bound<'_>,
         tile: u64,
     ) -> Result<Chosen, OutOfMemory> {
         chosen_of(
             alloc,
+            walks,
             self.asked,
             self.decisions,
             self.principals[tile as usize],
@@ -100,15 +104,18 @@ fn has_unshown(rows: &[Row]) -> bool
 /// The rows of principal p that are asked for.
 fn chosen_of(
     alloc: Global,
+    walks: &mut Walks,
     asked: Asked<'_>,
     decisions: &[Decision],
     p: u64,
 ) -> Result<Chosen, OutOfMemory>
     requires principal { p < length asked.world.now.principals }
     requires there { AreThere (every_of asked) }
-    ensures { IfOk result (IsChosen (every_of asked.entry) decisions.now p) }
+    requires walks { AreWalksOf asked.world.now walks.old }
+    ensures walks { AreWalksOf asked.entry.world.now walks.new }
+    ensures chosen { IfOk result (IsChosen (every_of asked.entry) decisions.now p) }
 {
-    let rows = rows_of(alloc, asked, p)?;
+    let rows = rows_of(alloc, walks, asked, p)?;
     let some = !rows.is_empty();
     let unshown = has_unshown(rows.as_slice());
     Ok(Chosen {

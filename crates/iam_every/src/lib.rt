@@ -15,6 +15,7 @@ mod pattern;
 mod report;
 mod row_text;
 mod rows;
+mod telling;
 mod text;
 mod texts;
 mod verdict;

@@ -6,7 +6,7 @@ ghost use Rattle.iam_decision.specs.Applicable.{IsNumbered, value_of};
 ghost use Rattle.iam_world.specs.World.{WorldValue};
 ghost use Rattle.iam_layers.specs.Unnamed.{IsUnnamedAccess};
 ghost use Rattle.iam_layers.specs.declared.unnamed.Unnamed.{Unnamed};
-ghost use Rattle.iam_every.specs.Code.Rows.{AreLineKinds, AreRowsOn, IsGiven, IsLined, IsSceneOf};
+ghost use Rattle.iam_every.specs.Code.Rows.{AreLineKinds, AreRowsOn, AreWalksOf, IsGiven, IsLined, IsSceneOf};
 ghost use Rattle.iam_every.specs.Every.{LineValue, every_of, row_of};
 ghost use Rattle.iam_every.specs.Made.{AreJoined, AreOfLine, AreOfText, IsRowOf};
 
@@ -17,7 +17,7 @@ use crate::texts::text_kinds;
 use crate::verdict::verdict_on;
 use iam_context::Context;
 use iam_decision::Applicable;
-use iam_kinds::Kinds;
+use iam_kinds::{Kinds, Walks};
 use iam_layers::one_request;
 use iam_match::{Access, OutOfMemory};
 use std::alloc::Global;
@@ -25,12 +25,15 @@ use std::alloc::Global;
 /// One row for each kind of texts of which line k is the first to speak, or one that says that they are too many.
 pub fn line_rows(
     alloc: Global,
+    walks: &mut Walks,
     given: Given<'_>,
     k: usize,
     action: &str,
 ) -> Result<Vec<Row>, OutOfMemory>
     requires given { IsGiven given }
     requires line { k < length given.asked.lines.now }
+    requires walks { AreWalksOf given.asked.world.now walks.old }
+    ensures walks { AreWalksOf given.entry.asked.world.now walks.new }
     ensures rows { IfOk result (λ rows. AreRowsOn (every_of given.entry.asked) given.entry.p action.now
         (IsLined (every_of given.entry.asked) k) (map row_of rows.items)) }
     ensures made { IfOk result (λ rows. AreOfLine (every_of given.entry.asked) given.entry.p action.now k (map row_of rows.items)) }
@@ -40,7 +43,7 @@ pub fn line_rows(
     let applicable = world.unnamed_applicable(given.p, line.unnamed);
     let derived = world.unnamed_derived(alloc, given.p, line.unnamed)?;
     let context = world.unnamed_context(alloc, given.p, line.unnamed, given.none, &derived)?;
-    match line_kinds(alloc, given, k, &applicable, &context, action)? {
+    match line_kinds(alloc, walks, given, k, &applicable, &context, action)? {
         Kinds::Shown(texts) => {
             text_rows(
                 alloc,
@@ -59,6 +62,7 @@ pub fn line_rows(
 /// One text of each kind of texts that line k speaks of.
 fn line_kinds<'a: 'c, 'c>(
     alloc: Global,
+    walks: &mut Walks,
     given: Given<'_>,
     k: usize,
     applicable: &Applicable<'a>,
@@ -67,7 +71,9 @@ fn line_kinds<'a: 'c, 'c>(
 ) -> Result<Kinds, OutOfMemory>
     requires given { IsGiven given }
     requires scene { IsSceneOf given k (value_of applicable.now) context.now }
-    ensures { IfOk result (λ kinds. (line : LineValue) → slice_get (every_of given.entry.asked).lines k ≡ Some line
+    requires walks { AreWalksOf given.asked.world.now walks.old }
+    ensures walks { AreWalksOf given.entry.asked.world.now walks.new }
+    ensures kinds { IfOk result (λ kinds. (line : LineValue) → slice_get (every_of given.entry.asked).lines k ≡ Some line
         → AreLineKinds (every_of given.entry.asked) given.entry.p action.now k line kinds) }
 {
     one_request();
@@ -79,10 +85,11 @@ fn line_kinds<'a: 'c, 'c>(
     let groups = text_groups(alloc, applicable, access, action)?;
     text_kinds(
         alloc,
+        walks,
         groups.as_slice(),
-        &[line.pattern.signs(), given.arn],
+        line.pattern.signs(),
+        given.arn,
         &given.patterns[..k],
-        given.names,
     )
 }
 

@@ -2,7 +2,7 @@
 ghost use Rattle.std.specs.Prelude.{◌≡◌, ◌<◌, IfOk, length, map, string_bytes};
 ghost use Rattle.std.specs.List.{range_with_len};
 ghost use Rattle.iam_layers.specs.Unnamed.{IsThere};
-ghost use Rattle.iam_every.specs.Code.Rows.{AreRowsOn, IsGiven, IsLinedBelow, IsNamedBelow, IsStar};
+ghost use Rattle.iam_every.specs.Code.Rows.{AreRowsOn, AreWalksOf, IsGiven, IsLinedBelow, IsNamedBelow, IsStar};
 ghost use Rattle.iam_every.specs.Every.{AreActions, AreRowsFor, AreThere, every_of, line_of, row_of, written_in};
 ghost use Rattle.iam_every.specs.Made.{AreAsked, AreJoined, AreOfAction, AreOfLine, AreOfResource, AreOfStar, IsRowOf, unshown_row};
 ghost use Rattle.iam_every.specs.Rows.{AreRows};
@@ -13,6 +13,7 @@ use crate::lines::{line_rows, row_on, unshown_row};
 use crate::meant::meant_actions;
 use iam_decision::Verdict;
 use iam_glob::Glob;
+use iam_kinds::Walks;
 use iam_layers::Unnamed;
 use iam_match::OutOfMemory;
 use std::alloc::Global;
@@ -31,10 +32,17 @@ pub struct Row {
 /// many kinds. Where the actions have too many kinds, a row for each line says so.
 ///
 /// AWS IAM User Guide, "Policy evaluation logic".
-pub fn rows_of(alloc: Global, asked: Asked<'_>, p: u64) -> Result<Vec<Row>, OutOfMemory>
+pub fn rows_of(
+    alloc: Global,
+    walks: &mut Walks,
+    asked: Asked<'_>,
+    p: u64,
+) -> Result<Vec<Row>, OutOfMemory>
+    requires walks { AreWalksOf asked.world.now walks.old }
     requires principal { p < length asked.world.now.principals }
     requires there { AreThere (every_of asked) }
-    ensures { IfOk result (λ rows. AreRows (every_of asked.entry) p (map row_of rows.items)) }
+    ensures walks { AreWalksOf asked.entry.world.now walks.new }
+    ensures rows { IfOk result (λ rows. AreRows (every_of asked.entry) p (map row_of rows.items)) }
 {
     let Some(actions) = meant_actions(alloc, asked, p)? else {
         return unshown_lines(alloc, asked.lines, action_text(asked.actions));
@@ -51,7 +59,7 @@ pub fn rows_of(alloc: Global, asked: Asked<'_>, p: u64) -> Result<Vec<Row>, OutO
         names: names.as_slice(),
         patterns: patterns.as_slice(),
     };
-    rows_for_all(alloc, given, actions.as_slice())
+    rows_for_all(alloc, walks, given, actions.as_slice())
 }
 
 /// Which actions are in question, as it is written.
@@ -78,32 +86,42 @@ fn unshown_lines(alloc: Global, lines: &[Line<'_>], actions: &str) -> Result<Vec
 /// The rows for each of the actions.
 fn rows_for_all(
     alloc: Global,
+    walks: &mut Walks,
     given: Given<'_>,
     actions: &[String],
 ) -> Result<Vec<Row>, OutOfMemory>
     requires given { IsGiven given }
     requires actions { AreActions (every_of given.asked) given.p (map string_bytes actions.now) }
     requires asked { AreAsked (every_of given.asked) given.p (map string_bytes actions.now) }
-    ensures { IfOk result (λ rows. AreRows (every_of given.entry.asked) given.entry.p (map row_of rows.items)) }
+    requires walks { AreWalksOf given.asked.world.now walks.old }
+    ensures walks { AreWalksOf given.entry.asked.world.now walks.new }
+    ensures rows { IfOk result (λ rows. AreRows (every_of given.entry.asked) given.entry.p (map row_of rows.items)) }
 {
     let mut rows = Vec::new(alloc);
     for action in actions {
-        let mut further = rows_for(alloc, given, action.as_str())?;
+        let mut further = rows_for(alloc, walks, given, action.as_str())?;
         rows.append(&mut further)?;
     }
     Ok(rows)
 }
 
 /// The rows for the action: those of the resources of the world, of `*` and of each line.
-fn rows_for(alloc: Global, given: Given<'_>, action: &str) -> Result<Vec<Row>, OutOfMemory>
-    requires { IsGiven given }
+fn rows_for(
+    alloc: Global,
+    walks: &mut Walks,
+    given: Given<'_>,
+    action: &str,
+) -> Result<Vec<Row>, OutOfMemory>
+    requires given { IsGiven given }
+    requires walks { AreWalksOf given.asked.world.now walks.old }
+    ensures walks { AreWalksOf given.entry.asked.world.now walks.new }
     ensures rows { IfOk result (λ rows. AreRowsFor (every_of given.entry.asked) given.entry.p action.now (map row_of rows.items)) }
     ensures made { IfOk result (λ rows. AreOfAction (every_of given.entry.asked) given.entry.p action.now (map row_of rows.items)) }
 {
     let mut rows = named_rows(alloc, given, action)?;
     let mut star = star_rows(alloc, given, action)?;
     rows.append(&mut star)?;
-    let mut lined = rows_of_lines(alloc, given, action)?;
+    let mut lined = rows_of_lines(alloc, walks, given, action)?;
     rows.append(&mut lined)?;
     Ok(rows)
 }
@@ -144,8 +162,15 @@ fn star_rows(alloc: Global, given: Given<'_>, action: &str) -> Result<Vec<Row>, 
 }
 
 /// The rows of each line.
-fn rows_of_lines(alloc: Global, given: Given<'_>, action: &str) -> Result<Vec<Row>, OutOfMemory>
-    requires { IsGiven given }
+fn rows_of_lines(
+    alloc: Global,
+    walks: &mut Walks,
+    given: Given<'_>,
+    action: &str,
+) -> Result<Vec<Row>, OutOfMemory>
+    requires given { IsGiven given }
+    requires walks { AreWalksOf given.asked.world.now walks.old }
+    ensures walks { AreWalksOf given.entry.asked.world.now walks.new }
     ensures rows { IfOk result (λ rows. AreRowsOn (every_of given.entry.asked) given.entry.p action.now
         (IsLinedBelow (every_of given.entry.asked) (length given.entry.asked.lines.now)) (map row_of rows.items)) }
     ensures made { IfOk result (λ rows. AreJoined (AreOfLine (every_of given.entry.asked) given.entry.p action.now)
@@ -153,7 +178,7 @@ fn rows_of_lines(alloc: Global, given: Given<'_>, action: &str) -> Result<Vec<Ro
 {
     let mut rows = Vec::new(alloc);
     for k in 0..given.asked.lines.len() {
-        let mut further = line_rows(alloc, given, k, action)?;
+        let mut further = line_rows(alloc, walks, given, k, action)?;
         rows.append(&mut further)?;
     }
     Ok(rows)

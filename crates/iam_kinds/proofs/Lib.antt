@@ -20,4 +20,5 @@ pub mod AnswerLemmas
 pub mod AskedLemmas
 pub mod CasedLemmas
 pub mod FoldLemmas
+pub mod KeptLemmas
 pub mod LawLemmas

@@ -1,5 +1,6 @@
 pub mod Answers
 pub mod Code
+pub mod Kept
 pub mod Kinds
 pub mod Laws
 pub mod Letters

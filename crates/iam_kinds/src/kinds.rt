@@ -5,6 +5,8 @@ ghost use Rattle.std.specs.String.{string_bytes};
 ghost use Rattle.iam_glob.specs.Glob.{folded, sign_by};
 ghost use Rattle.iam_glob.specs.Signs.{signs_in};
 ghost use Rattle.iam_kinds.specs.Answers.{IsAnswer, IsAnswerFold, characters_in, pairs_of, patterns_in, question_in, signs_of};
+ghost use Rattle.iam_kinds.specs.Kinds.{Question};
+ghost use Rattle.iam_kinds.specs.Walk.{Asks, IsReady};
 ghost use Rattle.iam_kinds.specs.States.{numbered_groups, numbered_within, with_number};
 
 use crate::OutOfMemory;
@@ -40,8 +42,18 @@ pub fn find_kinds(
 {
     let table = table_of(alloc, within, groups, false)?;
     let named = characters(alloc, named, false)?;
-    let asked = Asked::of(&table, within.len(), groups.len(), grammar, &named);
-    match find_texts(alloc, &asked)? {
+    answer(
+        alloc,
+        &Asked::of(&table, within.len(), groups.len(), grammar, &named),
+    )
+}
+
+/// The answer to what is asked.
+pub fn answer(alloc: Global, asked: &Asked<'_>) -> Result<Kinds, OutOfMemory>
+    requires { IsReady asked.now }
+    ensures { IfOk result (λ kinds. (question : Question) → Asks asked.now question → IsAnswer question kinds) }
+{
+    match find_texts(alloc, asked)? {
         Some(texts) => Ok(Kinds::Shown(strings_of(alloc, texts.as_slice())?)),
         None => Ok(Kinds::NotShown),
     }
@@ -74,7 +86,7 @@ pub fn find_kinds_fold(
 }
 
 /// The patterns, folded where `fold` says so, with the numbers of their groups: each of `within` is a group of its own.
-fn table_of(
+pub fn table_of(
     alloc: Global,
     within: &[Signs<'_>],
     groups: &[Vec<Signs<'_>>],
@@ -197,7 +209,7 @@ fn folded_sign(sign: Sign) -> Sign
 }
 
 /// The characters of texts, folded where `fold` says so.
-fn characters(alloc: Global, texts: &[&str], fold: bool) -> Result<Vec<Vec<char>>, OutOfMemory>
+pub fn characters(alloc: Global, texts: &[&str], fold: bool) -> Result<Vec<Vec<char>>, OutOfMemory>
     ensures { IfOk result (λ v. map (λ t. t.items) v.items ≡ map (λ t. characters_in fold (chars t.now)) texts.now) }
 {
     let mut listed = Vec::new(alloc);

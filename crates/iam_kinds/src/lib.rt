@@ -11,8 +11,10 @@ mod letters;
 mod lists;
 mod table;
 mod walk;
+mod walks;
 
 pub use grammar::Grammar;
 pub use iam_glob::{OutOfMemory, Sign, Signs};
 pub use kinds::{Kinds, find_kinds, find_kinds_fold};
 pub use laws::{one_list_of_kinds, one_list_of_kinds_fold};
+pub use walks::Walks;

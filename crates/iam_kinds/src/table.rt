@@ -35,7 +35,7 @@ impl SignList {
         SignList(signs)
     }
 
-    fn as_slice(&self) -> &[Sign]
+    pub fn as_slice(&self) -> &[Sign]
         ensures { result.now ≡ self.now }
     {
         self.0.as_slice()
@@ -47,6 +47,15 @@ impl SignList {
 pub struct Pattern {
     pub group: usize,
     pub signs: SignList,
+}
+
+impl Pattern {
+    /// Whether both are the same.
+    fn equals(&self, other: &Pattern) -> bool
+        ensures { IsTrue result ↔ self.now ≡ other.now }
+    {
+        self.group == other.group && are_same(self.signs.as_slice(), other.signs.as_slice())
+    }
 }
 
 /// A place in a pattern: so many of its signs stand before it.
@@ -141,6 +150,13 @@ impl Table {
         let mut all = goals(alloc, count)?;
         all.append(&mut patterns)?;
         Ok(Table { patterns: all })
+    }
+
+    /// Whether it has the same patterns as another.
+    pub fn equals(&self, other: &Table) -> bool
+        ensures { IsTrue result ↔ self.now.patterns.items ≡ other.now.patterns.items }
+    {
+        have_same(&self.patterns, &other.patterns)
     }
 
     /// The places where the patterns begin, which stand behind so many.
@@ -376,6 +392,36 @@ fn sorted_places(places: Vec<Place>) -> Vec<Place>
     places.sort_unstable();
     places.dedup();
     places
+}
+
+/// Whether both are the same signs in the same order.
+fn are_same(ones: &[Sign], others: &[Sign]) -> bool
+    ensures { IsTrue result ↔ ones.now ≡ others.now }
+{
+    if ones.len() != others.len() {
+        return false;
+    }
+    for i in 0..ones.len() {
+        if ones[i] != others[i] {
+            return false;
+        }
+    }
+    true
+}
+
+/// Whether both lists have the same patterns in the same order.
+fn have_same(ones: &[Pattern], others: &[Pattern]) -> bool
+    ensures { IsTrue result ↔ ones.now ≡ others.now }
+{
+    if ones.len() != others.len() {
+        return false;
+    }
+    for i in 0..ones.len() {
+        if !ones[i].equals(&others[i]) {
+            return false;
+        }
+    }
+    true
 }
 
 /// For each group below this number a pattern `Any`.

@@ -8,7 +8,9 @@ use Rattle.iam_glob.specs.declared.sign.Sign.{Sign}
 use Rattle.iam_context.specs.Context.{ContextValue}
 use Rattle.iam_decision.specs.Applicable.{ApplicableValue, IsNumbered}
 use Rattle.iam_kinds.specs.Answers.{IsAnswer}
+use Rattle.iam_kinds.specs.Kept.{AreFound, names_of}
 use Rattle.iam_kinds.specs.declared.kinds.Kinds.{Kinds}
+use Rattle.iam_kinds.specs.declared.walks.Walks.{Walks}
 use Rattle.iam_world.specs.World.{WorldValue}
 use Rattle.iam_layers.specs.Cell.{IsResource}
 use Rattle.iam_layers.specs.Unnamed.{AreUnnamedKeys, AreUnnamedPolicies, IsThere, IsUnnamedContext}
@@ -25,6 +27,11 @@ use Rattle.iam_every.specs.declared.given.Given.{Given}
 pub record AreNames (world : WorldValue) (names : List (List ℕ)) : Type 0 where
   pub are : names ≡ map (λ resource. resource.arn) world.resources
   pub utf8 : All IsUtf8 names
+
+-- kinds are sought, and were found, beside these texts
+pub record AreWalksOf (world : WorldValue) (walks : Walks) : Type 0 where
+  pub found : AreFound walks
+  pub names : names_of walks ≡ map chars (map (λ resource. resource.arn) world.resources)
 
 pub record IsGiven (given : Given) : Type 0 where
   pub principal : given.p < length given.asked.world.now.principals

@@ -6,15 +6,15 @@ use Rattle.iam_every.specs.Every.{RowValue, row_of}
 use Rattle.iam_every.specs.declared.rows.Row.{Row}
 use Rattle.iam_every.proofs.crew.chosen_of.Goals as goal
 
-pub returns : goal.returns
-returns c =
+pub returns-clause-chosen : goal.returns-clause-chosen
+returns-clause-chosen c =
     let items = c.in_ok-rows.rows.items in
     let some : IsTrue (mathlib.Core.Bool.not c.is_empty-some.result) ↔ (0 < length items) = search rules in
     let same : length (map row_of items) ≡ length items = length-map items row_of in
     record {
       principal = refl;
       rows = map row_of items;
-      are = c.in_ok-rows.ensures;
+      are = c.in_ok-rows.ensures.rows;
       wanted = search rules;
       some = (
         λ on. let less : 0 < length items = some.0 on in omega (arith, less, same),

@@ -1,4 +1,4 @@
-use Rattle.std.proofs.Common.{◌≡◌, ◌∷◌, [], List, ℕ, Some, arith, get_or, length, map, sym, ap, subst, take, ◌∙◌}
+use Rattle.std.proofs.Common.{◌≡◌, ◌∷◌, [], List, Some, arith, get_or, length, map, sym, ap, subst, take, ◌∙◌}
 use Rattle.std.proofs.lemmas.List.{length-map, length-take-le, take-map}
 use Rattle.std.proofs.lemmas.Option.{slice_get_within}
 use Rattle.std.proofs.lemmas.Result.{IfOk-weaker}
@@ -29,8 +29,8 @@ unnamed_access-access-requires-clause-context c =
     subst (λ (x : LineValue). (derived : ContextValue) × AreUnnamedKeys world given.p x.unnamed derived
     × IsUnnamedContext world given.p x.unnamed derived c.args.context.now) (sym same) (scene.derived, scene.keys, scene.within)
 
-pub slice_bounds-text_kinds-end-2 : goal.slice_bounds-text_kinds-end-2
-slice_bounds-text_kinds-end-2 c =
+pub slice_bounds-text_kinds-end : goal.slice_bounds-text_kinds-end
+slice_bounds-text_kinds-end c =
     let given = c.args.given in
     let scene = c.requires.scene in
     let lines = map line_of given.asked.lines.now in
@@ -40,8 +40,8 @@ slice_bounds-text_kinds-end-2 c =
     ∙ length-map lines (λ (x : LineValue). x.pattern) in
     sym (length-take-le c.args.k given.patterns.now (omega (arith, inside, long)))
 
-pub returns : goal.returns
-returns c =
+pub returns-clause-kinds : goal.returns-clause-kinds
+returns-clause-kinds c =
     let given = c.args.given in
     let every = every_of given.asked in
     let world = every.world in
@@ -59,21 +59,20 @@ returns c =
     subst (λ (x : LineValue). AreUnnamedPolicies world p x.unnamed a)
     (sym (line_there given.asked.lines.now k c.index-given-k.result scene.line scene.at)) scene.policies in
     let asks : IsUnnamedAccess world p found.unnamed action own a access = c.unnamed_access-access.ensures action a policies in
-    let ask = λ (gs : List (List (List Sign))) (pattern arn : List Sign) (before : List (List Sign)) (names : List (List ℕ)).
-    text_question gs (pattern ∷ (arn ∷ [])) before names in
+    let ask = λ (gs : List (List (List Sign))) (pattern arn : List Sign) (before : List (List Sign)).
+    text_question gs pattern (arn ∷ []) before arns in
     let before : map signs_in (take k given.patterns.now) ≡ patterns_of (take k every.lines) =
     sym (take-map signs_in k given.patterns.now) ∙ ap (take k) c.requires.given.patterns
     ∙ take-map (λ (x : LineValue). x.pattern) k every.lines in
     let question : (line : LineValue) → line_of found ≡ line
-    → ask (groups_of c.as_slice.result.now) (signs_in c.signs.result) (signs_in given.arn) (map signs_in (take k given.patterns.now)) (map (λ name. name.now) given.names.now)
+    → ask (groups_of c.as_slice.result.now) (signs_in c.signs.result) (signs_in given.arn) (map signs_in (take k given.patterns.now))
     ≡ line_question every k line groups = λ line same.
-    ap (λ gs. ask (groups_of gs) (signs_in c.signs.result) (signs_in given.arn) (map signs_in (take k given.patterns.now)) (map (λ name. name.now) given.names.now)) c.as_slice.ensures.value
-    ∙ ap (λ (x : List Sign). ask groups x (signs_in given.arn) (map signs_in (take k given.patterns.now)) (map (λ name. name.now) given.names.now)) (c.signs.ensures ∙ ap (λ (x : LineValue). x.pattern) same)
-    ∙ ap (λ (x : List Sign). ask groups line.pattern x (map signs_in (take k given.patterns.now)) (map (λ name. name.now) given.names.now)) c.requires.given.arn
-    ∙ ap (λ (x : List (List Sign)). ask groups line.pattern arn_signs x (map (λ name. name.now) given.names.now)) before
-    ∙ ap (λ (x : List (List ℕ)). ask groups line.pattern arn_signs (patterns_of (take k every.lines)) x) c.requires.given.names.are in
+    ap (λ gs. ask (groups_of gs) (signs_in c.signs.result) (signs_in given.arn) (map signs_in (take k given.patterns.now))) c.as_slice.ensures.value
+    ∙ ap (λ (x : List Sign). ask groups x (signs_in given.arn) (map signs_in (take k given.patterns.now))) (c.signs.ensures ∙ ap (λ (x : LineValue). x.pattern) same)
+    ∙ ap (λ (x : List Sign). ask groups line.pattern x (map signs_in (take k given.patterns.now))) c.requires.given.arn
+    ∙ ap (λ (x : List (List Sign)). ask groups line.pattern arn_signs x) before in
     IfOk-weaker c.text_kinds.result _ (λ kinds. (line : LineValue) → slice_get every.lines k ≡ Some line → AreLineKinds every p action k line kinds)
-    (λ (kinds : Kinds) answer line at.
+    (λ (kinds : Kinds) answers line at.
     let same = line_there given.asked.lines.now k c.index-given-k.result line at in
     let its : IsUnnamedAccess world p line.unnamed action own a access =
     subst (λ (x : LineValue). IsUnnamedAccess world p x.unnamed action own a access) same asks in
@@ -81,6 +80,6 @@ returns c =
       groups = groups;
       own = record { text = own; applicable = a; access = access; asks = its; are = c.in_ok-groups.ensures.own };
       are = groups_at c.one_request.ensures world p line.unnamed action own a access groups its c.in_ok-groups.ensures.groups;
-      answer = subst (λ (q : Question). IsAnswer q kinds) (question line same) answer;
+      answer = subst (λ (q : Question). IsAnswer q kinds) (question line same) (answers arns (sym c.requires.walks.names));
     })
-    c.text_kinds.ensures
+    c.text_kinds.ensures.answer

@@ -79,7 +79,7 @@ returns-in-Shown-clause-rows c =
     let line : LineValue = line_of (get_or given.asked.lines.now k c.index-given-k.result) in
     let at = line_read given.asked.lines.now k c.index-given-k.result c.requires.line in
     let told : AreLineKinds every p action k line (Shown c.in-Shown.texts) =
-    subst (AreLineKinds every p action k line) c.in-Shown.is (c.in_ok-texts.ensures line at) in
+    subst (AreLineKinds every p action k line) c.in-Shown.is (c.in_ok-texts.ensures.kinds line at) in
     let texts = c.as_slice.result.now in
     let names = subst (All IsUtf8) c.requires.given.names.are c.requires.given.names.utf8 in
     let kinds : AreKinds (line_question every k line told.groups) (map chars (map string_bytes texts)) =
@@ -101,7 +101,7 @@ returns-in-Shown-clause-made c =
     let line : LineValue = line_of (get_or given.asked.lines.now k c.index-given-k.result) in
     let at = line_read given.asked.lines.now k c.index-given-k.result c.requires.line in
     let told : AreLineKinds every p action k line (Shown c.in-Shown.texts) =
-    subst (AreLineKinds every p action k line) c.in-Shown.is (c.in_ok-texts.ensures line at) in
+    subst (AreLineKinds every p action k line) c.in-Shown.is (c.in_ok-texts.ensures.kinds line at) in
     let question = line_question every k line told.groups in
     let texts = c.as_slice.result.now in
     let shown : AreShown question (map string_bytes texts) = record {
@@ -127,7 +127,7 @@ returns-clause-rows c =
     let action = c.args.action.now in
     let line : LineValue = line_of (get_or given.asked.lines.now k c.index-given-k.result) in
     let at = line_read given.asked.lines.now k c.index-given-k.result c.requires.line in
-    let told : AreLineKinds every p action k line NotShown = subst (AreLineKinds every p action k line) c.in-NotShown.is (c.in_ok-texts.ensures line at) in
+    let told : AreLineKinds every p action k line NotShown = subst (AreLineKinds every p action k line) c.in-NotShown.is (c.in_ok-texts.ensures.kinds line at) in
     IfOk-weaker c.unshown_rows.result _ (λ rows. AreRowsOn every p action (IsLined every k) (map row_of rows.items))
     (λ rows is. rows_unshown every p action k line told.groups (map row_of rows.items) at told.own told.answer is)
     c.unshown_rows.ensures
@@ -141,7 +141,7 @@ returns-clause-made c =
     let action = c.args.action.now in
     let line : LineValue = line_of (get_or given.asked.lines.now k c.index-given-k.result) in
     let at = line_read given.asked.lines.now k c.index-given-k.result c.requires.line in
-    let told : AreLineKinds every p action k line NotShown = subst (AreLineKinds every p action k line) c.in-NotShown.is (c.in_ok-texts.ensures line at) in
+    let told : AreLineKinds every p action k line NotShown = subst (AreLineKinds every p action k line) c.in-NotShown.is (c.in_ok-texts.ensures.kinds line at) in
     let passes : TextsPass every p action k line = record { at = at; groups = told.groups; own = told.own; passes = told.answer } in
     IfOk-weaker c.unshown_rows.result _ (λ rows. AreOfLine every p action k (map row_of rows.items))
     (λ rows is. (line, at, inl (passes, is)))

@@ -30,6 +30,7 @@ loop-action-preserved c =
     let now = map row_of c.append.new.self.items in
     let Made = AreOfAction every p in
     record {
+      walks = c.rows_for.ensures.walks;
       rows = subst (λ (xs : List (List ℕ)). AreRowsOfActions every p xs now) taken
           (subst (AreRowsOfActions every p (before ++ (action ∷ []))) (sym joined)
           (actions_more every p before rows more action c.loop-action.invariant.rows meant c.in_ok-further.ensures.rows));
@@ -38,8 +39,8 @@ loop-action-preserved c =
           (joined_more Made before action rows more c.loop-action.invariant.made c.in_ok-further.ensures.made));
     }
 
-pub returns : goal.returns
-returns c =
+pub returns-clause-rows : goal.returns-clause-rows
+returns-clause-rows c =
     let given = c.args.given in
     let every = every_of given.asked in
     let actions = c.args.actions.now in

@@ -12,8 +12,8 @@ use Rattle.iam_every.proofs.LineLemmas.{ascii}
 use Rattle.iam_every.proofs.RowLemmas.{unshown_all}
 use Rattle.iam_every.proofs.rows.rows_of.Goals as goal
 
-pub returns-in_default : goal.returns-in_default
-returns-in_default c =
+pub returns-in_default-clause-rows : goal.returns-in_default-clause-rows
+returns-in_default-clause-rows c =
     let every = every_of c.args.asked in
     let p = c.args.p in
     let passes : ActionsPass every p =

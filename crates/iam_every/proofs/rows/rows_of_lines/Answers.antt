@@ -18,6 +18,7 @@ loop-k-preserved c =
     ap (map row_of) c.in_ok-append.ensures.items ∙ map-append row_of c.loop-k.rows.items c.in_ok-further.further.items in
     let Made = AreOfLine every given.p c.args.action.now in
     record {
+      walks = c.line_rows.ensures.walks;
       rows = subst (AreRowsOn every given.p c.args.action.now (IsLinedBelow every (c.loop-k.k + 1))) (sym joined)
           (lined_more every given.p c.args.action.now c.loop-k.k rows more c.loop-k.invariant.rows c.in_ok-further.ensures.rows);
       made = subst (AreJoined Made (range_with_len 0 (c.loop-k.k + 1))) (sym joined)

@@ -1,7 +1,0 @@
-use Rattle.std.proofs.Common.{◌≡◌, map, take}
-use Rattle.iam_glob.specs.Signs.{signs_in}
-use Rattle.iam_every.specs.Groups.{signs_of}
-use Rattle.iam_every.proofs.texts.lent_patterns.Given as goal
-
-abbrev pub invariant-loop-pattern : goal.invariant-loop-pattern
-invariant-loop-pattern l = map signs_in l.lent.items ≡ map signs_of (take l.pattern-index l.patterns)
