@@ -2,10 +2,11 @@
 
 from typing import Any, Dict, List
 
-from .asking import ask_all
 from .chains import Steps, Way, chains, steps_of
 from .questions import Scope
-from .ruling import Break, Outcome, Rule, asked_by, breaks, cells_of
+from .faults import TOLD
+from .never import Break, Finding, findings, never
+from .ruling import Outcome, Rule
 from .sources import ASSUME
 from .strangers import is_excepted, is_meant, shown, strangers
 
@@ -13,11 +14,15 @@ from .strangers import is_excepted, is_meant, shown, strangers
 def with_chains(scope: Scope, outcomes: List[Outcome], as_given: bool, depth: int) -> List[Outcome]:
     """The outcomes, in which those too break a `never` who come to it by roles."""
     asks = [it.rule.kind == "never" and it.state != "empty" for it in outcomes]
+    told = len(TOLD)
     steps = steps_of(scope.source) if any(asks) else {}
     people = people_of(scope) if any(asks) else []
+    unasked = [it for it in dict.fromkeys(TOLD[told:]) if "not asked" in it]
 
     def more(it: Outcome) -> Outcome:
-        return it._replace(broken=it.broken + coming(scope, it, steps, people, as_given, depth))
+        found = open_to(scope, it.rule, as_given)
+        opens = list(dict.fromkeys(it.opens + found.opens + unasked))
+        return it._replace(broken=it.broken + coming(it, found.broken, steps, people, as_given, depth), opens=opens)
 
     return [more(it) if is_asked else it for it, is_asked in zip(outcomes, asks)]
 
@@ -28,28 +33,25 @@ def people_of(scope: Scope) -> List[Dict[str, Any]]:
     return [*world["principals"], *strangers(scope.source, [world])]
 
 
-def open_to(scope: Scope, rule: Rule, as_given: bool) -> List[Break]:
+def open_to(scope: Scope, rule: Rule, as_given: bool) -> Finding:
     """The requests of a rule that are allowed to anybody, those that need no key first."""
-    every = rule._replace(question=rule.question._replace(principal="*", exceptions=[]))
-    asked, found = asked_by(scope, every), []
-    for it, answers in zip(asked, ask_all([it.world for it in asked])):
-        found += breaks(every, it, answers, cells_of(scope, answers), as_given)
-    return sorted(found, key=lambda it: (it.turn is not None, it.is_mixed()))
+    every = rule.question._replace(principal="*", exceptions=[])
+    [found] = findings(scope, [never(scope, every, as_given)], as_given)
+    return found._replace(broken=sorted(found.broken, key=lambda it: (it.turn is not None, it.is_mixed())))
 
 
 def coming(
-    scope: Scope, outcome: Outcome, steps: Steps, people: List[Dict[str, Any]], as_given: bool, depth: int
+    outcome: Outcome, ends_of: List[Break], steps: Steps, people: List[Dict[str, Any]], as_given: bool, depth: int
 ) -> List[Break]:
     """For each principal that a rule means, and that does not break it by itself, a way to a request of the rule."""
-    rule = outcome.rule
     ends: Dict[str, Break] = {}
-    for it in open_to(scope, rule, as_given):
+    for it in ends_of:
         ends.setdefault(it.answers.row(it.cell).principal, it)
     plain = {who for who, it in ends.items() if it.turn is None}
     keyed = {who: it.turn.words() for who, it in ends.items() if it.turn is not None}
     known = steps if not as_given else {it: [one for one in of if not one.given] for it, of in steps.items()}
     own = {it.answers.row(it.cell).principal for it in outcome.broken}
-    question = rule.question
+    question = outcome.rule.question
     meant = {
         shown(it) for it in people if is_meant(it, question.principal) and not is_excepted(it, question.exceptions)
     }

@@ -1,34 +1,26 @@
 """What principals may do at all: all actions on all resources, asked by 'iamsim every' (docs/LOGIC.md, 11.6 and 13.9)."""
 
-import json
-import os
 import re
-import tempfile
 from typing import Any, Dict, Iterator, List, NamedTuple, Set, Tuple
 
 from .arns import account_of, owner_of, principal_arn, principal_text, service_of
-from .asking import explained, whole
+from .asking import whole
 from .documents import World, places, statements_of
+from .every import NOT_SHOWN, UNNAMED, WORLDS, Job, ask_every
 from .faults import Fault, tell
 from .kinds import owners, patterns_of_actions, speaks_of, texts_of
 from .making import bound
 from .patterns import common, is_pattern, matcher, of_given
 from .points import tell_points
-from .program import Refused, each_of, world_bytes
 from .questions import Question, Scope, missing, principals
 from .references import is_mixed
-from .reports import rows_of
 from .slips import is_wide
 from .sources import ASSUME
 from .telling import Cause, cause_of
 
-# An action for each world: for iam roles are resources without policies, for sts with their trust policies.
-WORLDS = {"": "s3:GetObject", "iam": "iam:PassRole", "sts": "sts:AssumeRole"}
 ACCOUNT = re.compile(r"arn:[^:]*:[^:]*:[^:]*:([0-9]{12}):")
-NOT_SHOWN = "notShown"
 # The services that no run of their own is of.
 REST = "*"
-UNNAMED = "what-nothing-names"
 # Names of one kind that are told in words.
 MOST = 10
 
@@ -176,28 +168,10 @@ def answered(some: List[Run], services: List[str]) -> Iterator[List[Dict[str, An
     """The rows of each run, where runs are of these services."""
     for it in some:
         tell_points(it.lines.world)
-    with tempfile.TemporaryDirectory() as room:
-        worlds: Dict[int, Tuple[str, bytes]] = {}
-
-        def jobs() -> Iterator[Tuple[List[str], bytes]]:
-            for it in some:
-                if id(it.lines) not in worlds:
-                    path = os.path.join(room, str(len(worlds)))
-                    with open(path, "w", encoding="utf-8") as to:
-                        to.write("".join(f"{json.dumps(one)}\n" for one in it.lines.texts))
-                    worlds[id(it.lines)] = path, world_bytes(it.lines.world)
-                path, world = worlds[id(it.lines)]
-                words = ["every", "--format", "json", "--texts", path, "--action", it.pattern, "--allow-empty"]
-                yield words, world
-
-        texts = each_of(jobs(), len(some))
-        for it in some:
-            try:
-                text = next(texts).decode()
-            except Refused as refused:
-                raise explained(it.lines.world, refused) from None
-            rows = [row for row in rows_of(text) if it.lines.is_asked(row["resource"])]
-            yield [row for row in rows if it.service != REST or not is_of_another(row, services)]
+    jobs = (Job(it.lines.world, it.lines.texts, ["--action", it.pattern]) for it in some)
+    for it, rows in zip(some, ask_every(jobs, len(some))):
+        own = [row for row in rows if it.lines.is_asked(row["resource"])]
+        yield [row for row in own if it.service != REST or not is_of_another(row, services)]
 
 
 def statements_for(lines: Lines, principal: Dict[str, Any], action: str, allowed: List[Dict[str, Any]]) -> List[Cause]:

@@ -5,7 +5,7 @@ import difflib
 import functools
 import itertools
 import re
-from typing import Callable, Dict, Iterable, List, Optional, Sequence, Tuple
+from typing import Callable, Dict, Iterable, Iterator, List, Optional, Sequence, Tuple
 
 VARIABLE = re.compile(r"\$\{([^${},'*?]+)(?:, *'([^']*)')?\}|\$\{([*?$])\}")
 SIGN = re.compile(r"\\[*?\\]|.", re.DOTALL)
@@ -156,6 +156,52 @@ def meeting(first: Sequence[str], second: Sequence[str], fold: bool) -> Optional
                     seen[state] = seen[i, j] + (given[0] if given else "x")
                     queue.append(state)
     return None
+
+
+def written(sign: str) -> str:
+    """A sign as patterns have it."""
+    return of_given(sign[1]) if is_given(sign) else sign
+
+
+def ones(signs: Sequence[str], at: int, wanted: Optional[str], bars: str) -> Iterator[Tuple[int, str]]:
+    """Where one character leads, and the pattern of it: the one that is wanted, or each that is not barred."""
+    for n in (it for it in steps(signs, at) if it < len(signs)):
+        sign = written(signs[n]) if is_given(signs[n]) else "?"
+        if wanted is not None:
+            if not is_given(signs[n]) or signs[n][1] == wanted:
+                yield taken(signs, n), of_given(wanted)
+        elif sign == "?" or signs[n][1] != bars:
+            yield taken(signs, n), sign
+
+
+def runs(signs: Sequence[str], at: int, bars: str) -> Iterator[Tuple[int, str]]:
+    """Where a run leads that has no barred character, and the pattern of it; what stands for a run may go on behind it."""
+    made = ""
+    for n in range(at, len(signs) + 1):
+        is_run = n < len(signs) and signs[n] == "*"
+        if is_run or n == at or signs[n - 1] != "*":
+            yield n, made + ("*" if is_run else "")
+        if n < len(signs) and is_given(signs[n]) and signs[n][1] == bars:
+            return
+        made += written(signs[n]) if n < len(signs) else ""
+
+
+@functools.lru_cache(maxsize=None)
+def overlap(pattern: str, form: str) -> Tuple[str, ...]:
+    """Patterns that together match the texts that a pattern and a form match. A form is a pattern of ARNs of which no '*' and no
+    '?' stands for a colon, but in the last part; where they would in the patterns, these match more of the first one's texts.
+    """
+    signs, colons = signs_of(pattern), 0
+    found: Dict[Tuple[int, str], None] = {(0, ""): None}
+    for it in signs_of(form):
+        bars, some = ":" if colons < 5 else "", list(found)
+        if it == "*":
+            found = {(to, made + more): None for at, made in some for to, more in runs(signs, at, bars)}
+        else:
+            wanted = it[1] if is_given(it) else None
+            found = {(to, made + more): None for at, made in some for to, more in ones(signs, at, wanted, bars)}
+        colons += it == "\\:"
+    return tuple(dict.fromkeys(made for at, made in found if steps(signs, at)[-1] == len(signs)))
 
 
 @functools.lru_cache(maxsize=None)

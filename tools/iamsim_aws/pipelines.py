@@ -12,6 +12,7 @@ from .files import compact
 DESCRIBED = {
     "broken": "A rule of access is broken",
     "empty": "A rule of access meets no request",
+    "open": "Something that a rule of access hangs on was not asked",
     "fault": "The rules were not checked",
     "unasked": "Something was not asked",
     "note": "What a rule does not tell",

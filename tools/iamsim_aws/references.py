@@ -9,6 +9,7 @@ from . import files
 from .arns import service_of
 from .documents import World
 from .faults import Fault, tell
+from .patterns import of_given
 
 FORM = re.compile(r"\$\{[^}]*\}")
 
@@ -33,7 +34,7 @@ def is_mixed(action: str, resource: str) -> bool:
 
 class Service:
     def __init__(self, reference: Dict[str, Any]):
-        self.name = reference["Name"]
+        self.name, self.reference = reference["Name"], reference
         self.names = [it["Name"] for it in reference["Actions"]]
         self.types = {
             it["Name"]: [expression(form) for form in it.get("ARNFormats", [])] for it in reference.get("Resources", [])
@@ -52,6 +53,13 @@ class Service:
             most = max((given for given, _ in fits), default=0)
             self.known[resource] = {name for given, name in fits if given == most}
         return self.known[resource]
+
+    def formats(self) -> List[Tuple[str, Set[str]]]:
+        """The ARN formats as patterns, those with the most given characters first, each with the types that have one of so many."""
+        texts = {(it["Name"], form) for it in self.reference.get("Resources", []) for form in it.get("ARNFormats", [])}
+        given = {form: sum(map(len, FORM.split(form))) for _, form in texts}
+        types = {form: {name for name, other in texts if given[other] == given[form]} for form in given}
+        return [("*".join(map(of_given, FORM.split(it))), types[it]) for it in sorted(given, key=lambda it: -given[it])]
 
     def has(self, action: str, resource: str) -> bool:
         if action not in self.actions:

@@ -1,23 +1,19 @@
 """Rules that a team keeps: which requests are never allowed, and which always."""
 
-import functools
 import re
-from typing import Dict, List, NamedTuple, Optional, Tuple
+from typing import Dict, List, NamedTuple, Optional
 
 from . import files
 from .arns import principal_arn, principal_text
 from .asking import ask_all
-from .chains import Way
 from .documents import World
 from .documents import cells_of as count_of
 from .faults import Fault, tell
-from .hanging import MOST, Turn, is_too_much, later, together, turns
-from .keys import with_key
-from .kinds import Origins
+from .hanging import later, together
+from .never import Break, Finding, Never, cells_of, findings, never
 from .patterns import is_pattern, near
 from .points import is_half_known
-from .questions import Asked, Question, Scope, lacked, missing, worlds
-from .references import is_mixed
+from .questions import Asked, Question, Scope, missing, worlds
 from .reports import Answers
 from .slips import is_unnamed, unnamed
 from .sources import ASSUME
@@ -43,36 +39,31 @@ class Rule(NamedTuple):
         return f"{self.file}:{self.line}"
 
 
-class Break(NamedTuple):
-    """A request that breaks a rule: its answer as it is, or with a key that nothing gives; what its texts stand for; its
-    answer before a draft, where it was allowed; and by which roles somebody comes to it."""
-
-    answers: Answers
-    cell: int
-    turn: Optional[Turn]
-    stand: Origins
-    before: Optional[Tuple[Answers, int]] = None
-    way: Optional[Way] = None
-
-    def is_mixed(self) -> bool:
-        """Whether hardly any service has such a request: it is told last."""
-        row = self.answers.row(self.cell)
-        return is_mixed(row.action, row.resource)
-
-
 class Outcome(NamedTuple):
-    """How a rule fares: the requests that it meets, those that break it, why it meets none, and what gives keys."""
+    """How a rule fares: how many requests it meets, or principals that it means with every name; those that break it, what its
+    answer hangs on that was not asked, why it meets none, and what gives keys."""
 
     rule: Rule
     requests: int
+    is_of_names: bool
     broken: List[Break]
+    opens: List[str]
     asked: List[Asked]
     empty: str
     giver: str
 
     @property
     def state(self) -> str:
-        return "broken" if self.broken else "kept" if self.requests else "empty"
+        return "broken" if self.broken else "empty" if self.empty else "open" if self.opens else "kept"
+
+    @property
+    def scope(self) -> str:
+        """What the answer is for, in words."""
+        if not self.is_of_names:
+            return f"{self.requests} requests"
+        question = self.rule.question
+        open_names = [name for name, it in (("action", question.action), ("resource", question.resource)) if is_pattern(it)]
+        return f"{self.requests} principals, every name of {' and '.join(open_names)}"
 
 
 def words_of(line: str) -> List[str]:
@@ -119,43 +110,54 @@ def exceptions(scope: Scope, rule: Rule) -> Dict[str, List[str]]:
     return found
 
 
-def asked_by(scope: Scope, rule: Rule) -> List[Asked]:
-    """The worlds of a rule's requests; what must never be is asked of texts for the policies' patterns and of who is
-    outside too."""
+def of_rule(scope: Scope, rule: Rule, as_given: bool) -> Never:
+    """What a rule asks: what must never be is asked of who is outside too, and of every name that its patterns mean."""
     for it, people in exceptions(scope, rule).items():
         if not people:
             names = map(principal_arn, scope.source.world([ASSUME])["principals"])
             tell(f"{rule.name}: the exception {it} matches no principal{near(it, names)}")
-    question = rule.question
-    is_never = rule.kind == "never"
-    has_kinds = is_never and (is_pattern(question.resource) or is_pattern(question.action))
     try:
-        return worlds(scope._replace(kinds=scope.kinds or has_kinds, outside=is_never), question)
+        if rule.kind == "never":
+            return never(scope, rule.question, as_given)
+        asked = worlds(scope, rule.question)
+        return Never(rule.question, asked, [], bool(asked), [])
     except Fault as fault:
         raise Fault(f"{rule.name}: {fault}") from None
 
 
 def check(scope: Scope, rules: List[Rule], as_given: bool = False, before: Optional[Scope] = None) -> List[Outcome]:
     """The outcome of each rule, all asked side by side; over a draft with what was allowed before it."""
-    asked = [asked_by(scope, rule) for rule in rules]
-    flat = [it for of in asked for it in of]
-    answers: Dict[int, Answers] = {id(it): found for it, found in zip(flat, ask_all([it.world for it in flat]))}
-    tell_later([it.world for it in flat])
+    some = [of_rule(scope, rule, as_given) for rule in rules]
+    of_never = [it for rule, it in zip(rules, some) if rule.kind == "never"]
+    found = {id(it): one for it, one in zip(of_never, findings(scope, of_never, as_given))}
+    tell_later([it.world for of in some for it in of.asked])
     if not as_given:
-        tell_several([it.world for rule, of in zip(rules, asked) for it in of if rule.kind == "never"])
-    outcomes = []
-    for rule, of in zip(rules, asked):
-        kept = [(answers[id(it)], cells_of(scope, answers[id(it)])) for it in of]
-        broken = [more for it, found in zip(of, kept) for more in breaks(rule, it, *found, as_given)]
-        requests = sum(met(it, *found) for it, found in zip(of, kept)) or len(broken)
-        why = "" if requests else missing(scope, rule.question) if not of else NOTHING_SPEAKS
-        if requests and not broken and is_unnamed(scope, rule.question):
-            requests, why = 0, unnamed(scope, rule.question.action)
-        if rule.kind == "always" and any(is_half_known(one) for it in of for one in it.world["resources"]):
-            requests, why = 0, HALF_KNOWN
-        broken = sorted(since(before, rule, broken) if before else broken, key=Break.is_mixed)
-        outcomes.append(Outcome(rule, requests, broken, of, why, scope.source.giver))
-    return outcomes
+        tell_several([it.world for of in of_never for it in of.asked])
+    return [outcome(scope, rule, of, found.get(id(of)) or lacking(scope, rule, of, before)) for rule, of in zip(rules, some)]
+
+
+def outcome(scope: Scope, rule: Rule, of: Never, found: Finding) -> Outcome:
+    """How a rule fares by what is found."""
+    why = "" if of.is_met else missing(scope, rule.question) if not of.asked else NOTHING_SPEAKS
+    requests = len({principal_text(it) for one in of.names for it in one.people})
+    if not of.names:
+        requests = sum(len(cells_of(scope, Answers(it.world, count_of(it.world)))) for it in of.asked)
+        why = why or ("" if requests else NOTHING_SPEAKS)
+    if not why and not found.broken and is_unnamed(scope, rule.question):
+        why = unnamed(scope, rule.question.action)
+    if rule.kind == "always" and any(is_half_known(one) for it in of.asked for one in it.world["resources"]):
+        why = HALF_KNOWN
+    broken = sorted(found.broken, key=Break.is_mixed)
+    return Outcome(rule, requests, bool(of.names), broken, found.opens, of.asked, why, scope.source.giver)
+
+
+def lacking(scope: Scope, rule: Rule, of: Never, before: Optional[Scope]) -> Finding:
+    """The requests that have to be allowed and are not."""
+    found = []
+    for it, answers in zip(of.asked, ask_all([it.world for it in of.asked])):
+        flags = answers.flags()
+        found += [Break(answers, cell, None, it.witnesses) for cell in cells_of(scope, answers) if not flags[cell]]
+    return Finding(since(before, rule, found) if before else found, [])
 
 
 def tell_several(some: List[World]) -> None:
@@ -174,55 +176,8 @@ def tell_later(some: List[World]) -> None:
 
 def since(before: Scope, rule: Rule, broken: List[Break]) -> List[Break]:
     """The requests that have to be allowed and are not, with those answers before a draft that allowed them."""
-    if rule.kind == "never" or not broken:
+    if not broken:
         return broken
     answers = ask_all([it.world for it in worlds(before, rule.question)])
     allowed = {found.row(cell)[:3]: (found, cell) for found in answers for cell in found.allowed()}
     return [it._replace(before=allowed.get(it.answers.row(it.cell)[:3])) for it in broken]
-
-
-def met(asked: Asked, answers: Answers, cells: List[int]) -> int:
-    """How many requests are of what is named, or of what a policy speaks of; others stand for a pattern of the rule that
-    may have a slip."""
-    own, world = {text for text, origin in asked.witnesses.items() if not origin.policy}, answers.world
-    is_met = [action not in own and it["arn"] not in own for action in world["actions"] for it in world["resources"]]
-    return sum(is_met[cell % len(is_met)] for cell in cells)
-
-
-def breaks(rule: Rule, asked: Asked, answers: Answers, cells: List[int], as_given: bool) -> List[Break]:
-    """The requests that break a rule. What is never allowed is not with a key that nothing gives either."""
-    flags, wrong = answers.flags(), int(rule.kind == "never")
-    found = [Break(answers, cell, None, asked.witnesses) for cell in cells if flags[cell] == wrong]
-    if rule.kind == "always" or as_given or not cells:
-        return found
-    if is_too_much(answers.world):
-        tell(f"{rule.name}: what its answers hang on was not asked, since they are too many")
-        return found
-    turned = turns(answers.world, answers)
-    opened = [(cell, it) for cell in cells for it in turned.get(cell, []) if it.decision == "allowed"]
-    keys = list(dict.fromkeys((it.key, it.value) for _, it in opened))
-    given = dict(zip(keys, ask_all([with_key(answers.world, *it) for it in keys])))
-    found += [Break(given[it.key, it.value], cell, it, asked.witnesses) for cell, it in opened]
-    done = {it.cell for it in found}
-    return found + several_keys(rule, asked, answers.world, [it for it in cells if it not in done])
-
-
-def several_keys(rule: Rule, asked: Asked, world: World, cells: List[int]) -> List[Break]:
-    """The requests that are allowed with all keys at once that one statement asks for and that nothing gives."""
-    several = together(world) if cells else []
-    if len(several) * count_of(world) > MOST:
-        tell(f"{rule.name}: what several keys at once allow was not asked, since they are too many")
-        return []
-    found: List[Break] = []
-    given = [functools.reduce(lambda made, key: with_key(made, *key), of.items(), world) for of in several]
-    for of, answers in zip(several, ask_all(given)):
-        (key, value), *rest = of.items()
-        turn, flags, done = Turn(key, value, "allowed", (), tuple(rest)), answers.flags(), {it.cell for it in found}
-        found += [Break(answers, it, turn, asked.witnesses) for it in cells if flags[it] and it not in done]
-    return found
-
-
-def cells_of(scope: Scope, answers: Answers) -> List[int]:
-    """The requests that some service has, as far as the service reference is given."""
-    kept = scope.source.references.pairs(answers.world, lacked(scope.source, answers.world["actions"]))
-    return [cell for cell in range(len(answers.numbers)) if kept[cell % len(kept)]]

@@ -41,7 +41,7 @@ def test_a_wide_rule_is_broken_where_a_narrow_one_is():
         same(broken(f"never {who} s3:GetObject *", "--world", file(WORLD)), found, who)
     # What a request has it has: `has` may not.
     out, _ = aws("rules", file("never *:user/has s3:GetObject *"), "--world", file(WORLD))
-    assert out.endswith("1 rules: 1 kept, 0 broken, 0 empty\n"), out
+    assert out.endswith("1 rules: 1 kept, 0 broken, 0 empty, 0 open\n"), out
 
 
 def test_who_can_with_a_key_that_others_have():

@@ -527,7 +527,7 @@ def test_an_account_past_the_limits_of_a_world():
         "--resources",
         resources,
     )
-    assert out.endswith("2 rules: 2 kept, 0 broken, 0 empty\n"), out
+    assert out.endswith("2 rules: 2 kept, 0 broken, 0 empty, 0 open\n"), out
 
 
 def test_decimals_need_no_word():

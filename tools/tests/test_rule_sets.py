@@ -152,7 +152,7 @@ def test_what_keeps_and_what_breaks_each_set():
             same(len(found), len(states), name)
             for (status, out, said), state in zip(found, states):
                 same(status, {"kept": 0, "broken": 3}[state], f"{name} {n}: {out}{said}")
-                counts = {"kept": 0, "broken": 0, "empty": 0, state: rules}
+                counts = {"kept": 0, "broken": 0, "empty": 0, "open": 0, state: rules}
                 last = ", ".join(f"{count} {it}" for it, count in counts.items())
                 same(out.splitlines()[-1], f"{rules} rules: {last}", f"{name} {n}: {out}{said}")
                 assert "is it a slip" not in said, f"{name} {n}: {said}"

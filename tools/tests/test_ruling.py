@@ -22,7 +22,7 @@ def rules_of(made, text, *words, status=0):
 
 
 def states(out):
-    return [line.split(":")[0] for line in out.splitlines() if line.split(":")[0] in ("kept", "broken", "empty")]
+    return [line.split(":")[0] for line in out.splitlines() if line.split(":")[0] in ("kept", "broken", "empty", "open")]
 
 
 def test_rules_that_are_kept():
@@ -30,7 +30,10 @@ def test_rules_that_are_kept():
     text = "# what we keep\nalways *:role/app/deploy s3:GetObject arn:aws:s3:::releases/app.zip\n\nnever * iam:* *   # not at all\n"
     out, said = rules(text)
     same(states(out), ["kept", "kept"])
-    same(out.splitlines()[-1], "2 rules: 2 kept, 0 broken, 0 empty")
+    assert out.splitlines()[1].endswith(" (8 principals, every name of action and resource)"), out
+    same(out.splitlines()[-1], "2 rules: 2 kept, 0 broken, 0 empty, 0 open")
+    same(said, "")
+    out, said = rules("always bob s3:Get* arn:aws:s3:::releases/app.zip\n")
     assert (
         "without --services an action pattern is taken over the actions of the world and of its policies" in said
     ), said
@@ -43,11 +46,11 @@ def test_rules_that_are_broken():
     )
     same(states(out), ["broken", "broken"])
     lines = [line for line in out.splitlines() if line.startswith("  ")]
-    # Each of the three may on app.zip, and on x, which stands for whatever else is there.
+    # Each of the three may on app.zip, and on whatever else is there, of which `releases/` is the shortest name.
     people = [ALICE, BOB, f"{SESSION}deploy/session"]
     same(
         [line.split(": ")[0].strip() for line in lines[:6]],
-        [f"{who} may s3:GetObject arn:aws:s3:::releases/{it}" for who in people for it in ("app.zip", "x")],
+        [f"{who} may s3:GetObject arn:aws:s3:::releases/{it}" for who in people for it in ("app.zip", "")],
     )
     same(
         lines[0],
@@ -85,18 +88,18 @@ def test_exceptions_by_name_mean_one():
 def test_names_in_rules_cover_what_is_not_named():
     # No object of the bucket is named; its name alone is a pattern of resources too.
     out, _ = aws("rules", file("never * s3:PutObject releases/*\n"), EXPORT, status=3)
-    assert f"{BOB} may s3:PutObject arn:" in out and ":releases/x: " in out, out
+    assert f"{BOB} may s3:PutObject arn:aws:s3:::releases/: " in out, out
 
 
 def test_a_never_covers_the_patterns_of_policies():
-    """alice may put into her home, which no resource of the world is."""
+    """alice may put into her home and her team's folder, which no resource of the world is; one name is told for both."""
     out, _ = rules("never * s3:PutObject * except bob\n", status=3)
-    assert f"{ALICE} may s3:PutObject arn:aws:s3:::homes/alice/x" in out, out
+    assert f"{ALICE} may s3:PutObject arn:aws:s3:::teams/red/: " in out, out
+    out, _ = rules("never * s3:PutObject arn:aws:s3:::homes/* except bob\n", status=3)
+    assert f"{ALICE} may s3:PutObject arn:aws:s3:::homes/alice/: " in out, out
     # bob may everything of s3, an action that nobody names too.
-    out, _ = rules("never * s3:Put* arn:aws:s3:::releases/app.zip\n", status=3)
-    assert f"{BOB} may s3:PutObject arn:aws:s3:::releases/app.zip" in out, out
     out, _ = rules("never * s3:Delete* arn:aws:s3:::releases/app.zip\n", status=3)
-    assert f"{BOB} may s3:Deletex arn:aws:s3:::releases/app.zip" in out, out
+    assert f"{BOB} may s3:Delete arn:aws:s3:::releases/app.zip" in out, out
 
 
 def test_what_is_named_does_not_hide_the_rest():
@@ -257,7 +260,7 @@ def test_an_action_that_a_policy_names_and_its_service_lacks():
         ("s3:NewThing", "arn:aws:s3:::homes/x"),
     ):
         out, said = rules(f"never alice {action} {resource}\n", *given, status=3)
-        assert "alice may s3:NewThing arn:aws:s3:::homes/x" in out and said.count(said_of) == 1, out + said
+        assert f"alice may s3:NewThing arn:aws:s3:::homes/{resource[-1:].strip('*')}" in out and said.count(said_of) == 1, out + said
     out, said = aws("who-can", "s3:New*", "arn:aws:s3:::homes/x", EXPORT, *given)
     assert "allowed: arn:aws:iam::111122223333:user/alice s3:NewThing" in out and said.count(said_of) == 1, out + said
     # What no policy names is met by no request, as before.
@@ -304,26 +307,28 @@ def test_texts_that_are_made_up():
     """It is said for which pattern of which policy they stand."""
     # alice may put into her home, which stands for what the policy of her group names; bob's policy is for anything.
     out, _ = rules("never * s3:Put* arn:aws:s3:::homes/*\n", status=3)
-    found = [line for line in out.splitlines() if f"{ALICE} may s3:PutObject arn:aws:s3:::homes/alice/x: " in line]
+    found = [line for line in out.splitlines() if f"{ALICE} may s3:PutObject arn:aws:s3:::homes/alice/: " in line]
     same(len(found), 1)
     home = (
-        "arn:aws:s3:::homes/alice/x stands for arn:aws:s3:::homes/alice/* of arn:aws:iam::111122223333:group/Developers"
+        "arn:aws:s3:::homes/alice/ stands for arn:aws:s3:::homes/alice/* of arn:aws:iam::111122223333:group/Developers"
     )
     assert found[0].endswith(f"; {home} inline Homes"), found
     # Of what no pattern of a policy names.
     rest = small_world(document({"Effect": "Allow", "NotAction": "iam:*", "Resource": "*"}))
     out, _ = rules_of(rest, "never ann s3:* arn:aws:s3:::b/k\n", status=3)
-    assert out.splitlines()[2].endswith("; s3:x stands for what else s3:* means"), out
+    assert out.splitlines()[1].endswith("; s3:x stands for what else s3:* means"), out
 
 
 def test_an_action_of_one_service_on_a_resource_of_another():
-    """Such a request is told last, of all who break the rule."""
+    """Such a request is not told where others break the rule."""
     draft = file(document(statement(action="kms:Decrypt")))
     out, _ = rules("never * kms:Decrypt *\n", "--put", f"ReadObjects={draft}", "--session", "s1", status=3)
-    # alice and deploy may decrypt anything, for which `*` stands.
+    # alice and deploy may decrypt anything: `*`, and any key of their account, but no object that is named.
     people = [ALICE, f"{SESSION}deploy/s1"]
-    wanted = [f"  {who} may kms:Decrypt {it}" for it in ("*", FURTHER[0]["arn"]) for who in people]
+    wanted = [f"  {who} may kms:Decrypt {it}" for who in people for it in ("*", "arn:aws:kms::111122223333:1")]
     same([line.split(": ")[0] for line in out.splitlines()[1:-1]], wanted)
+    out, _ = rules("never alice kms:Decrypt arn:aws:s3:::releases/*\n", "--put", f"ReadObjects={draft}", status=3)
+    assert f"  {ALICE} may kms:Decrypt {FURTHER[0]['arn']}: " in out, out
 
 
 def test_spaces_and_signs_in_rules():

@@ -4,7 +4,8 @@ import argparse
 from typing import Any, Dict, List
 
 from .. import files
-from ..everything import NOT_SHOWN, REST, Found, Kinds, everything, listed, statement_words
+from ..every import NOT_SHOWN
+from ..everything import REST, Found, Kinds, everything, listed, statement_words
 from ..faults import line_of, tell
 from ..hanging import silent_words
 from ..questions import Question, Scope

@@ -11,14 +11,15 @@ from ..faults import TOLD, Fault, line_of, tell
 from ..kinds import stand_words
 from ..pipelines import Case, fault, junit, sarif
 from ..questions import Scope, account_words, lacked
-from ..ruling import Break, Outcome, check, read_rules
+from ..never import Break
+from ..ruling import Outcome, check, read_rules
 from ..slips import slips
 from ..sources import add_source, source_of
 from ..telling import BY, LACKS, deciding
 from ..unknowns import ANY_RESOURCE, DENY_LEFT
 from .parsers import add, add_chains, add_verbose, whole
 
-STATUSES = {"kept": 0, "broken": 3, "empty": 4}
+STATUSES = {"kept": 0, "broken": 3, "empty": 4, "open": 5}
 
 
 def add_all(commands: Any) -> None:
@@ -28,6 +29,8 @@ def add_all(commands: Any) -> None:
     add_source(parser)
     drafts.add_options(parser)
     parser.add_argument("--allow-empty", action="store_true", help="let a rule pass that meets no request")
+    help_of_open = "let a rule pass of which something could not be asked"
+    parser.add_argument("--allow-open", action="store_true", help=help_of_open)
     help_of_given = "take keys that nothing gives as absent; without it 'never' means with any one of them too"
     parser.add_argument("--as-given", action="store_true", help=help_of_given)
     parser.add_argument(
@@ -101,15 +104,16 @@ def checked(options: argparse.Namespace) -> int:
     files.write("".join(f"{line_of(line)}\n" for it in outcomes for line in lines_of(it, options)))
     counts = {state: sum(it.state == state for it in outcomes) for state in STATUSES}
     files.write(f"{len(outcomes)} rules: " + ", ".join(f"{n} {state}" for state, n in counts.items()) + "\n")
-    fails = {"broken"} if options.allow_empty else {"broken", "empty"}
+    passing = {"kept", *(["empty"] if options.allow_empty else []), *(["open"] if options.allow_open else [])}
+    fails = set(STATUSES) - passing
     report(options, *cases_of(options, outcomes, fails))
-    found = [STATUSES[state] for state in ("broken", "empty") if counts[state] and state in fails]
+    found = [STATUSES[state] for state in STATUSES if counts[state] and state in fails]
     return found[0] if found else 0
 
 
 def notes(scope: Scope, outcomes: List[Outcome]) -> None:
     """What the outcomes cover."""
-    tell_actions(scope.source, [it.rule.question.action for it in outcomes])
+    tell_actions(scope.source, [it.rule.question.action for it in outcomes if it.rule.kind == "always"])
     actions = dict.fromkeys(it for of in outcomes for asked in of.asked for it in asked.world["actions"])
     tell_lacked(lacked(scope.source, actions))
     tell_strangers(scope.source, [asked.world for it in outcomes for asked in it.asked])
@@ -155,18 +159,24 @@ def lines_of(outcome: Outcome, options: argparse.Namespace) -> List[str]:
     rule = outcome.rule
     if outcome.state == "empty":
         return [f"empty: {rule.name}: {rule.text}: {outcome.empty}"]
-    lines = [f"{outcome.state}: {rule.name}: {rule.text} ({outcome.requests} requests)"]
+    lines = [f"{outcome.state}: {rule.name}: {rule.text} ({outcome.scope})"]
     lines += [f"  {it}" for it in messages(outcome, options)]
     more = len(outcome.broken) - options.most
-    return [*lines, f"  and {more} more"] if more > 0 else lines
+    lines += [f"  and {more} more"] if more > 0 else []
+    return lines + [f"  open: {it}" for it in opens_of(outcome, options)]
+
+
+def opens_of(outcome: Outcome, options: argparse.Namespace) -> List[str]:
+    """What the answer hangs on that was not asked."""
+    more = len(outcome.opens) - options.most
+    return outcome.opens[: options.most] + ([f"and {more} more"] if more > 0 else [])
 
 
 def case_of(outcome: Outcome, options: argparse.Namespace, fails: Set[str], notes: List[str]) -> Case:
     """An outcome as reports for pipelines have it, with what was told of it."""
-    rule, unasked = outcome.rule, [it for it in notes if is_unasked(it)]
-    rest = [it for it in notes if it not in unasked]
+    rule = outcome.rule
     if outcome.state not in fails:
-        return Case(rule.file, rule.line, rule.text, "unasked" if unasked else outcome.state, unasked, unasked, rest)
-    reasons = messages(outcome, options) or [outcome.empty]
-    lines = lines_of(outcome, options) + unasked
-    return Case(rule.file, rule.line, rule.text, outcome.state, lines, reasons + unasked, rest)
+        return Case(rule.file, rule.line, rule.text, outcome.state, [], [], notes)
+    empty = [outcome.empty] if outcome.state == "empty" else []
+    reasons = [*messages(outcome, options), *empty, *opens_of(outcome, options)]
+    return Case(rule.file, rule.line, rule.text, outcome.state, lines_of(outcome, options), reasons, notes)
