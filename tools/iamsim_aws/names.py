@@ -1,7 +1,7 @@
 """All names that a question means, in worlds and lines for 'iamsim every': what holds of the texts that nothing names."""
 
 import itertools
-from typing import Any, Dict, FrozenSet, Iterable, Iterator, List, NamedTuple, Optional, Set, Tuple
+from typing import Any, Dict, FrozenSet, Iterable, Iterator, List, NamedTuple, Optional, Tuple
 
 from . import kinds, questions
 from .arns import account_of, names_of_resource, principal_arn, principal_text, service_of
@@ -90,12 +90,14 @@ def unnamed(estate: Any, service: str, account: str) -> Resource:
     return bound(estate, one) if estate else one
 
 
-def owners_lines(estate: Any, resources: List[Resource], asked: List[str]) -> List[Line]:
-    """Lines for the objects of buckets and access points that the world speaks of."""
+def owners_lines(estate: Any, resources: List[Resource], asked: List[str], account: str) -> List[Line]:
+    """Lines for the objects of buckets and access points that have more than those of an account that nothing names."""
     found, of = [], owners(resources)
     for owner in (it for it in of if service_of(it) == "s3"):
         one = owned(of, f"{owner}/{UNNAMED}", "")
         one = bound(estate, one) if estate else one
+        if set(one) <= {"arn", "account"} and one["account"] == account:
+            continue
         for form in (of_given(owner), f"{of_given(owner)}/?*"):
             found += [Line(it, one) for pattern in asked for it in overlap(pattern, form)]
     return found
@@ -106,6 +108,7 @@ def account_lines(
 ) -> List[Line]:
     """Lines for all else that may be of an account: first for what the action's service is likely to have, where that is one."""
     service = action.partition(":")[0].lower()
+    asked = [it for it in asked if not names_another(it, account)]
     likely = [] if is_pattern(service) else {"sts": ["iam", "sts"]}.get(service, [service])
     found = []
     for partition in sorted({principal_arn(it).split(":")[1] for it in people}):
@@ -116,7 +119,7 @@ def account_lines(
         form, one = f"arn:?*:{it}:*:*:?*", unnamed(estate, it, account)
         found += [Line(of, one, FAR) for pattern in asked for of in overlap(pattern, form)]
     rest = unnamed(estate, "", account)
-    found += [Line("arn:?*:?*:*:*:?*" if it == "*" else it, rest, FAR) for it in asked if not names_another(it, account)]
+    found += [Line("arn:?*:?*:*:*:?*" if it == "*" else it, rest, FAR) for it in asked]
     return found + ([Line("\\*", {"arn": "*", "account": account})] if any_matches(asked, ["*"]) else [])
 
 
@@ -159,7 +162,7 @@ def lines_of(scope: Scope, world: World, question: Question, action: str, accoun
     named = [Line(of_given(it["arn"]), it) for it in world["resources"] if is_named(question, it["arn"])]
     if not is_pattern(question.resource):
         return named
-    lines = owners_lines(estate, world["resources"], asked)
+    lines = owners_lines(estate, world["resources"], asked, account)
     if not account:
         return lines + named
     of = account_lines(estate, action, world["principals"], account, asked)
@@ -336,16 +339,28 @@ def is_met(scope: Scope, world: World, question: Question, chosen: Dict[str, Opt
     met = [action for action, of in chosen.items() if of is None or of.policy]
     found = [it for it in world["resources"] if is_named(question, it["arn"])]
     if is_pattern(question.resource):
-        found += [it.resource for it in kinds.resources(world, question.resource, list(chosen)).found if it.origin.policy]
+        spoken = kinds.resources(world, question.resource, list(chosen))
+        if met and spoken.without:
+            return True
+        found += [it.resource for it in spoken.found if it.origin.policy]
     return any(scope.source.references.pairs({"actions": met, "resources": found}, lacked(scope.source, met)))
 
 
-def typed(line: Line, formats: List[Tuple[str, Set[str]]]) -> List[Line]:
-    """The lines for the types of resources that a service has, and behind them the line for what is of no type."""
-    if line.is_shut:
-        return [line]
-    found = [line._replace(pattern=it, types=frozenset(types)) for form, types in formats for it in overlap(line.pattern, form)]
-    return [*found, line]
+def typed_lines(scope: Scope, names: Names, service: str) -> List[Line]:
+    """The lines for the types of resources that a service has, in place of those for what it is likely to have; behind these the
+    lines for what may be of any service."""
+    reference, estate = scope.source.references.services[service], scope.source.estate
+    found: List[Line] = []
+    far = [it for it in names.lines if it.far or it.is_shut or not is_pattern(it.pattern)]
+    homes = {(principal_arn(it).split(":")[1], account_of(principal_arn(it))) for it in names.people if not is_stranger(it)}
+    own = [it for it in names.lines if it not in far and set(it.of) > {"arn", "account"}]
+    for partition, account in sorted(homes or {("aws", "")}):
+        formats = reference.formats(partition, account)
+        rest = [Line(it, unnamed(estate, service, account)) for it in patterns_of(names.question.resource) if account]
+        for line in [*own, *rest]:
+            for form, types in formats:
+                found += [line._replace(pattern=it, types=frozenset(types)) for it in overlap(line.pattern, form)]
+    return [*found, *far]
 
 
 def parted(scope: Scope, names: Names, found: Found) -> Tuple[Found, List[Names]]:
@@ -358,7 +373,7 @@ def parted(scope: Scope, names: Names, found: Found) -> Tuple[Found, List[Names]
     for service in dict.fromkeys(it["action"].partition(":")[0].lower() for it in rest):
         own = [it for it in rest if it["action"].lower().startswith(f"{service}:")]
         who, actions = {it["principal"] for it in own}, [it for it in known if it.lower().startswith(f"{service}:")]
-        lines = [it for line in names.lines for it in typed(line, references.services[service].formats())]
+        lines = typed_lines(scope, names, service)
         people = [it for it in names.people if principal_text(it) in who]
         world = {**names.world, "principals": people, "actions": actions}
         again += [names._replace(world=world, lines=lines, pattern="")] if actions else []

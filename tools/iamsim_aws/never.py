@@ -15,7 +15,7 @@ from .faults import Fault
 from .hanging import MOST, Turn, is_too_much, together, turns, wanted
 from .keys import with_key
 from .kinds import Origin, Origins
-from .names import Found, Names, Row, answers_of, ask_names, fitting, is_met, names_of, owners_lines, parted, patterns_of
+from .names import Found, Line, Names, Row, answers_of, ask_names, fitting, is_met, names_of, owners_lines, parted, patterns_of
 from .names import unresolved, untried
 from .patterns import is_pattern, matcher, opened, overlap, pattern_of, plain
 from .questions import Asked, Question, Scope, actions, asked_in, lacked, principals, worlds
@@ -105,7 +105,7 @@ def never(scope: Scope, question: Question, as_given: bool) -> Never:
 def asked_of(scope: Scope, world: World, question: Question) -> Asked:
     """The principals that a question means, and who is outside and let in by a policy of what it means."""
     asked = asked_in(scope._replace(kinds=False, outside=False), world, question)
-    further = owners_lines(scope.source.estate, world["resources"], patterns_of(question.resource))
+    further = owners_lines(scope.source.estate, world["resources"], patterns_of(question.resource), "")
     meant = asked.world["resources"] + [it.of for it in further]
     some = strangers(scope.source, [{**asked.world, "resources": meant}], question.principal)
     resources = world["resources"] if is_pattern(question.resource) else asked.world["resources"]
@@ -161,14 +161,17 @@ def settled(scope: Scope, some: Iterable[Names], count: int, turned: Sequence[Op
 
 
 def of_names(names: Names, found: Found, turn: Optional[Turn]) -> Finding:
-    """The requests that are found to be allowed: of each principal and action those first that a service is likely to have."""
-    rows: Dict[Tuple[str, str], Dict[int, List[Row]]] = {}
-    named = {it["arn"] for it in names.world["resources"]}
-    for row in found.rows:
-        far = 0 if row["resource"] in named else names.line_of(row["resource"]).far
-        far = max(far, int(is_mixed(row["action"], row["resource"])))
-        rows.setdefault((row["principal"], row["action"]), {}).setdefault(far, []).append(row)
-    some = [row for of in rows.values() for row in of[min(of)]]
+    """The requests that are found to be allowed: of each principal and action those that a service is likely to have, if there are
+    such; of texts of which the same holds the shortest."""
+    rows: Dict[Tuple[str, str], Dict[int, Dict[str, Row]]] = {}
+    named = {it["arn"]: it for it in names.world["resources"]}
+    for row in sorted(found.rows, key=lambda it: (it["resource"] not in named, len(it["resource"]))):
+        text = row["resource"]
+        line = Line(text, named[text]) if text in named else names.line_of(text)
+        far = max(line.far, int(is_mixed(row["action"], text)))
+        of = rows.setdefault((row["principal"], row["action"]), {}).setdefault(far, {})
+        of.setdefault(text if text in named or text == "*" else line.of["arn"], row)
+    some = [row for of in rows.values() for row in of[min(of)].values()]
     answers = answers_of(names, some)
     return Finding([Break(answers, it, turn, stand_of(names, answers, it)) for it in answers.allowed()], found.opens)
 

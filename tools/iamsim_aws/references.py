@@ -54,12 +54,19 @@ class Service:
             self.known[resource] = {name for given, name in fits if given == most}
         return self.known[resource]
 
-    def formats(self) -> List[Tuple[str, Set[str]]]:
-        """The ARN formats as patterns, those with the most given characters first, each with the types that have one of so many."""
+    def formats(self, partition: str, account: str) -> List[Tuple[str, Set[str]]]:
+        """The ARN formats as patterns of what an account has, those with the most given characters first, each with the types that
+        have one of so many."""
         texts = {(it["Name"], form) for it in self.reference.get("Resources", []) for form in it.get("ARNFormats", [])}
         given = {form: sum(map(len, FORM.split(form))) for _, form in texts}
         types = {form: {name for name, other in texts if given[other] == given[form]} for form in given}
-        return [("*".join(map(of_given, FORM.split(it))), types[it]) for it in sorted(given, key=lambda it: -given[it])]
+        known = {"${Partition}": partition, "${Account}": account}
+
+        def pattern(form: str) -> str:
+            parts = zip(FORM.split(form), [*FORM.findall(form), ""])
+            return "".join(of_given(text) + known.get(key, "*" if key else "") for text, key in parts)
+
+        return [(pattern(it), types[it]) for it in sorted(given, key=lambda it: (-given[it], it))]
 
     def has(self, action: str, resource: str) -> bool:
         if action not in self.actions:
