@@ -3,9 +3,9 @@
 from typing import Any, Dict, List
 
 from .chains import Steps, Way, chains, steps_of
-from .questions import Scope
 from .faults import TOLD
 from .never import Break, Finding, findings, never
+from .questions import Scope
 from .ruling import Outcome, Rule
 from .sources import ASSUME
 from .strangers import is_excepted, is_meant, shown, strangers

@@ -12,7 +12,18 @@ from .exports import ACCOUNT
 from .keys import givers, has_variables, lacks
 from .kinds import Origin, Resource, may_come, owned, owners, patterns_of_actions, statements, texts_of, values_of
 from .making import bound
-from .patterns import any_matches, common, is_pattern, matcher, of_given, of_policy, opened, overlap, resolved, variables_of
+from .patterns import (
+    any_matches,
+    common,
+    is_pattern,
+    matcher,
+    of_given,
+    of_policy,
+    opened,
+    overlap,
+    resolved,
+    variables_of,
+)
 from .questions import Question, Scope, lacked, with_account
 from .reports import REFUSED, Answer, Answers, axes_of
 from .splitting import Part, parts
@@ -163,11 +174,9 @@ def lines_of(scope: Scope, world: World, question: Question, action: str, accoun
     if not is_pattern(question.resource):
         return named
     lines = owners_lines(estate, world["resources"], asked, account)
-    if not account:
-        return lines + named
-    of = account_lines(estate, action, world["principals"], account, asked)
+    of = account_lines(estate, action, world["principals"], account, asked) if account else []
     shut = {"arn": "", "account": nobody_of(world)}
-    closed = elsewhere(world, account, of, action.lower().startswith("sts:"))
+    closed = elsewhere(world, account, of, action.lower().startswith("sts:")) if of else asked
     return [*lines, *(Line(it, shut, 0, True) for it in closed), *of, *named]
 
 
@@ -184,7 +193,8 @@ def names_of(
         for people in of:
             own = {**world, "principals": people}
             lines = lines_of(scope, own, question, action, account)
-            known = {it["arn"]: it for it in world["resources"] if any(matcher(one.pattern)(it["arn"]) for one in lines)}
+            meant = (it for it in world["resources"] if any(matcher(one.pattern)(it["arn"]) for one in lines))
+            known = {it["arn"]: it for it in meant}
             for it in lines:
                 if set(it.of) > {"arn", "account"}:
                     known.setdefault(it.of["arn"], it.of)
@@ -324,7 +334,8 @@ def untried(world: World, asked: str) -> List[str]:
                 if is_open and resolved(text, values_of(world, place.path)[0]) is None:
                     lacking.append(key)
                 if lacking:
-                    found[f"{', '.join(lacking)}: nothing gives it, and {place.policy.name} compares {key} with {text}"] = None
+                    what = f"{place.policy.name} compares {key} with {text}"
+                    found[f"{', '.join(lacking)}: nothing gives it, and {what}"] = None
     return list(found)
 
 
@@ -352,7 +363,8 @@ def typed_lines(scope: Scope, names: Names, service: str) -> List[Line]:
     reference, estate = scope.source.references.services[service], scope.source.estate
     found: List[Line] = []
     far = [it for it in names.lines if it.far or it.is_shut or not is_pattern(it.pattern)]
-    homes = {(principal_arn(it).split(":")[1], account_of(principal_arn(it))) for it in names.people if not is_stranger(it)}
+    known = (principal_arn(it) for it in names.people if not is_stranger(it))
+    homes = {(it.split(":")[1], account_of(it)) for it in known}
     own = [it for it in names.lines if it not in far and set(it.of) > {"arn", "account"}]
     for partition, account in sorted(homes or {("aws", "")}):
         formats = reference.formats(partition, account)
@@ -393,5 +405,6 @@ def fitting(scope: Scope, names: Names, found: Found) -> Found:
         if action in further or references.keeps(action, text):
             kept.rows.append(row)
         elif text not in named and references.services[service].actions[name] & names.line_of(text).types:
-            kept.opens.append(f"{row['principal']} {action} {text} is allowed, and may stand for a resource that {service} has")
+            request = f"{row['principal']} {action} {text}"
+            kept.opens.append(f"{request} is allowed, and may stand for a resource that {service} has")
     return kept

@@ -15,8 +15,22 @@ from .faults import Fault
 from .hanging import MOST, Turn, is_too_much, together, turns, wanted
 from .keys import with_key
 from .kinds import Origin, Origins
-from .names import Found, Line, Names, Row, answers_of, ask_names, fitting, is_met, names_of, owners_lines, parted, patterns_of
-from .names import unresolved, untried
+from .names import (
+    Found,
+    Line,
+    Names,
+    Row,
+    answers_of,
+    ask_names,
+    fitting,
+    is_met,
+    names_of,
+    owners_lines,
+    parted,
+    patterns_of,
+    unresolved,
+    untried,
+)
 from .patterns import is_pattern, matcher, opened, overlap, pattern_of, plain
 from .questions import Asked, Question, Scope, actions, asked_in, lacked, principals, worlds
 from .references import is_mixed

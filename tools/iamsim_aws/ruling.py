@@ -62,7 +62,8 @@ class Outcome(NamedTuple):
         if not self.is_of_names:
             return f"{self.requests} requests"
         question = self.rule.question
-        open_names = [name for name, it in (("action", question.action), ("resource", question.resource)) if is_pattern(it)]
+        both = (("action", question.action), ("resource", question.resource))
+        open_names = [name for name, it in both if is_pattern(it)]
         return f"{self.requests} principals, every name of {' and '.join(open_names)}"
 
 
@@ -133,7 +134,9 @@ def check(scope: Scope, rules: List[Rule], as_given: bool = False, before: Optio
     tell_later([it.world for of in some for it in of.asked])
     if not as_given:
         tell_several([it.world for of in of_never for it in of.asked])
-    return [outcome(scope, rule, of, found.get(id(of)) or lacking(scope, rule, of, before)) for rule, of in zip(rules, some)]
+    return [
+        outcome(scope, rule, of, found.get(id(of)) or lacking(scope, rule, of, before)) for rule, of in zip(rules, some)
+    ]
 
 
 def outcome(scope: Scope, rule: Rule, of: Never, found: Finding) -> Outcome:

@@ -89,7 +89,8 @@ def test_what_goes_and_comes():
     deletes = "s3:DeleteObject"
     made = small_world(document(on("homes/*", action=deletes), on("homes/x*", action=deletes, effect="Deny")))
     broken(made, f"never * {deletes} {S3}homes/*", (deletes, f"{S3}homes/"))
-    kept(small_world(document(on("homes/x*", action=deletes), on("homes/*", action=deletes, effect="Deny"))), f"never * {deletes} {S3}homes/*")
+    denied = [on("homes/x*", action=deletes), on("homes/*", action=deletes, effect="Deny")]
+    kept(small_world(document(*denied)), f"never * {deletes} {S3}homes/*")
     but_one = [on("homes/*"), on("homes/?", effect="Deny")]
     broken(small_world(document(*but_one)), f"never * s3:GetObject {S3}homes/??*", ("s3:GetObject", f"{S3}homes/xx"))
     kept(small_world(document(*but_one)), f"never * s3:GetObject {S3}homes/?")
@@ -110,8 +111,6 @@ def test_objects_of_a_bucket_with_a_policy():
     made = small_world(document(statement(action="sqs:*")), resources=[bucket])
     ann = f"arn:aws:iam::{ACCOUNT}:user/ann"
     broken(made, f"never {ann} s3:GetObject {S3}*/op*", ("s3:GetObject", f"{S3}b//open"))
-    kept(made, f"never {ann} s3:GetObject {S3}*/closed")
-    kept(made, f"never {ann} s3:GetObject {S3}c*/open")
     denies = document({"Effect": "Deny", "Principal": "*", "Action": "s3:*", "Resource": [f"{S3}b", f"{S3}b/*"]})
     may = small_world(document(statement(action="s3:*")), resources=[{**bucket, "policy": denies}])
     kept(may, f"never {ann} s3:GetObject {S3}b/*")
@@ -166,6 +165,23 @@ def test_variables_that_nothing_gives():
     made = small_world(document(statement(action="sqs:*")), resources=[bucket])
     broken(made, "never *:user/ann s3:GetObject arn:aws:s3:::homes/*", ("s3:GetObject", f"{S3}homes/ann/"))
     kept(made, "never *:user/ann s3:GetObject arn:aws:s3:::homes/bob/*")
+
+
+def test_keys_that_nothing_gives():
+    """Each name is asked with each key too, and with all of one statement."""
+    rule = f"never * s3:GetObject {S3}secrets/*"
+    mfa = {"Bool": {"aws:MultiFactorAuthPresent": "true"}}
+    both = {**mfa, "StringEquals": {"aws:SourceVpc": "vpc-1"}}
+    denied = on("secrets/x", effect="Deny")
+    for condition, words in (
+        (mfa, "`aws:MultiFactorAuthPresent` is `true`"),
+        (both, "`aws:MultiFactorAuthPresent` is `true` and `aws:SourceVpc` is `vpc-1`"),
+    ):
+        made = small_world(document(on("secrets/*", Condition=condition), denied))
+        _, _, out = asked(made, rule, status=3)
+        assert f" may s3:GetObject {S3}secrets/ if {words}, which nothing gives" in out, out
+        kept(made, rule, "--as-given")
+        kept(small_world(document(on("secrets/*", Condition=condition), on("secrets/*", effect="Deny"))), rule)
 
 
 def test_whom_nobody_asks():

@@ -79,8 +79,10 @@ def cases_of(options: argparse.Namespace, outcomes: List[Outcome], fails: Set[st
     cases = [case_of(it, options, fails, of_rules[it.rule.name]) for it in outcomes]
     rest = [line for line in every if not any(line in of for of in of_rules.values())]
     file = files.name_of(options.rules)
-    unasked = [Case(file, 1, "what was not asked", "unasked", [it], [it]) for it in filter(is_unasked, rest)]
-    return cases + unasked, [it for it in rest if not is_unasked(it)]
+    opens = {line_of(line) for it in outcomes for line in it.opens}
+    unasked = [it for it in rest if is_unasked(it) and it not in opens]
+    cases += [Case(file, 1, "what was not asked", "unasked", [it], [it]) for it in unasked]
+    return cases, [it for it in rest if not is_unasked(it)]
 
 
 def is_unasked(line: str) -> bool:
