@@ -109,7 +109,7 @@ def owners_lines(estate: Any, resources: List[Resource], asked: List[str], accou
         one = bound(estate, one) if estate else one
         if set(one) <= {"arn", "account"} and one["account"] == account:
             continue
-        for form in (of_given(owner), f"{of_given(owner)}/?*"):
+        for form in (of_given(owner), f"{of_given(owner)}/*"):
             found += [Line(it, one) for pattern in asked for it in overlap(pattern, form)]
     return found
 

@@ -305,7 +305,7 @@ def test_who_is_no_principal_of_an_account():
     names = f"{role} trust policy names Federated {federated}, for whom nobody is asked"
     for action, wanted in (("sts:AssumeRoleWithSAML", True), ("sts:AssumeRole", False)):
         rule = file(f"never * {action} {role}\n")
-        for words, status in ((["who-can", action, role], 0), (["rules", rule, "--allow-empty"], 0)):
+        for words, status in ((["who-can", action, role], 0), (["rules", rule, "--allow-empty"], 5 if wanted else 0)):
             same(names in aws(*words, EXPORT, status=status)[1], wanted, str(words))
     canonical = bucket({**grant(), "Principal": {"CanonicalUser": "79a5"}})
     _, said = aws("who-can", "s3:GetObject", BUCKET, EXPORT, "--resources", canonical)
