@@ -36,7 +36,7 @@ def hangs(*words, status=0):
 
 
 def test_a_wide_rule_is_broken_where_a_narrow_one_is():
-    found = [BROKEN.format(f"{USER}may", "s3:GetObject", it, "k", "yes", IN_WORLD) for it in (OBJECT, "*")]
+    found = [BROKEN.format(f"{USER}may", "s3:GetObject", it, "k", "yes", IN_WORLD) for it in (OBJECT, "*", "arn:aws:s3:::x")]
     for who in ("*:user/may", "*", "*:user/*"):
         same(broken(f"never {who} s3:GetObject *", "--world", file(WORLD)), found, who)
     # What a request has it has: `has` may not.
