@@ -391,10 +391,10 @@ def test_hostile_texts_in_reports_of_rules():
     )
     assert lines_are_clean(out), out
     [case] = xml.etree.ElementTree.parse(junit).getroot()
-    # The five, and '*', which stands for what else is there.
-    same(case[0].text.count("\n"), 6)
+    # The five, '*', and a name of S3, for all others.
+    same(case[0].text.count("\n"), 7)
     results = load(sarif)["runs"][0]["results"]
-    same(len(results), 6)
+    same(len(results), 7)
     assert all(ARNS[4] in it["message"]["text"] or "allowed by" in it["message"]["text"] for it in results)
     same(re.search(r"[ <>&\"]", results[0]["locations"][0]["physicalLocation"]["artifactLocation"]["uri"]), None)
 
