@@ -1,7 +1,7 @@
 """What an answer does not cover, in lines on standard error."""
 
 import re
-from typing import Any, Iterable, Iterator, List, Set
+from typing import Any, Dict, Iterable, Iterator, List, Set
 
 from .arns import account_of
 from .documents import World, conditions_of, each, statements_of
