@@ -10,6 +10,7 @@ from .documents import World
 from .documents import cells_of as count_of
 from .faults import Fault, tell
 from .hanging import later, together
+from .names import is_named
 from .never import Break, Finding, Never, cells_of, findings, never
 from .patterns import is_pattern, near
 from .points import is_half_known
@@ -139,9 +140,16 @@ def check(scope: Scope, rules: List[Rule], as_given: bool = False, before: Optio
     ]
 
 
+def reason(scope: Scope, question: Question, of: Never) -> str:
+    """Why a rule meets no request. A role that is not there is asked for by none."""
+    resources = [it for one in of.asked for it in one.world["resources"]]
+    is_absent = question.action.lower().startswith("sts:") and not any(is_named(question, it["arn"]) for it in resources)
+    return missing(scope, question) if is_absent or not of.asked else NOTHING_SPEAKS
+
+
 def outcome(scope: Scope, rule: Rule, of: Never, found: Finding) -> Outcome:
     """How a rule fares by what is found."""
-    why = "" if of.is_met else missing(scope, rule.question) if not of.asked else NOTHING_SPEAKS
+    why = "" if of.is_met else reason(scope, rule.question, of)
     requests = len({principal_text(it) for one in of.names for it in one.people})
     if not of.names:
         requests = sum(len(cells_of(scope, Answers(it.world, count_of(it.world)))) for it in of.asked)

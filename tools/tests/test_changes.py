@@ -665,12 +665,14 @@ def test_patterns_for_which_no_text_stands():
     resources = ["--resources", file([{"arn": "arn:aws:s3:::homes", "account": "111122223333"}])]
     _, said = aws("changes", EXPORT, *resources, "--put", f"homes={file(document(grant))}")
     assert f"{line}homes/${{aws:username}}/*\n" in said, said
-    junit = file("")
-    given = file([{"arn": "arn:aws:s3:::homes", "account": "111122223333", "policy": document(grant)}])
-    aws(
-        "rules", file("never chain s3:GetObject arn:aws:s3:::homes/*\n"), EXPORT, "--resources", given, "--junit", junit
-    )
-    assert 'failures="1"' in open(junit).read()
+    # A session has no user's name, and may have a tag.
+    rule = file("never chain s3:GetObject arn:aws:s3:::homes/*\n")
+    for variable, status, failures in (("aws:username", 0, 0), ("aws:PrincipalTag/none", 5, 1)):
+        grant["Resource"] = f"arn:aws:s3:::homes/${{{variable}}}/*"
+        given = file([{"arn": "arn:aws:s3:::homes", "account": "111122223333", "policy": document(grant)}])
+        junit = file("")
+        aws("rules", rule, EXPORT, "--resources", given, "--junit", junit, status=status)
+        assert f'failures="{failures}"' in open(junit).read(), variable
 
 
 def test_an_action_of_one_service_on_a_resource_of_another():
