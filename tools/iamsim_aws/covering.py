@@ -46,7 +46,8 @@ def unasked(source: Source, worlds: Iterable[World], has_services: bool = False)
                 lines = [(text, why_nobody(text, known)) for text in named_by(statement)]
                 lines += [(text, f"for whom {NOT_ASKED}") for text in others(statement, world, has_services)]
                 told = [f"{it['policy'].name} names {text}, {why}" for text, why in lines if why]
-                if in_organization and named_by(statement) and asks_for_members(statement):
+                is_spoken_of = speaks_of(statement, tuple(world["actions"]))
+                if in_organization and is_spoken_of and named_by(statement) and asks_for_members(statement):
                     what = f"grants to members of an organisation: of those without an export {NOT_ASKED}"
                     told.append(f"{it['policy'].name} {what}")
                 for line in told:

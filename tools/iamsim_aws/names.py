@@ -4,7 +4,7 @@ import itertools
 from typing import Any, Dict, FrozenSet, Iterable, Iterator, List, NamedTuple, Optional, Tuple
 
 from . import kinds, questions
-from .arns import account_of, names_of_resource, principal_arn, principal_text, service_of
+from .arns import account_of, is_access_point, names_of_resource, principal_arn, principal_text, service_of
 from .asking import whole
 from .documents import World, cells_of, conditions_of, each
 from .every import NOT_SHOWN, UNNAMED, Job, ask_every
@@ -253,6 +253,8 @@ def found_in(names: Names, rows: List[Row]) -> Found:
         elif row["decision"] == NOT_SHOWN:
             if not any(it.is_shut for it in names.lines if it.pattern == text):
                 found.opens.append(f"{request} has too many kinds to be shown")
+        elif is_access_point(text):
+            found.opens.append(f"{request} is allowed by the access point: what its bucket says is not asked of all names")
         elif text in named:
             found.rows.extend([row] if names.is_meant(text) else [])
         elif not names.line_of(text).is_shut:

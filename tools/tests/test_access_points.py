@@ -117,12 +117,19 @@ def test_the_access_point_itself():
 
 
 def test_rules_and_drafts():
-    rule = file(f"never * s3:GetObject {POINT}/object/* except wide\n")
+    rule = file(f"never * s3:GetObject {POINT}/object/k except wide\n")
     words = ["rules", rule, EXPORT, "--resources"]
     out, _ = aws(*words, resources(TO_POINTS), status=3)
     for it in ("jane", "narrow"):
-        assert f"{USERS}{it} may s3:GetObject {POINT}/object/" in out, out
+        assert f"{USERS}{it} may s3:GetObject {POINT}/object/k" in out, out
     aws(*words, resources())
+    # Of all names the access point is asked by itself: what it allows is open.
+    words[1] = file(f"never * s3:GetObject {POINT}/object/* except wide\n")
+    out, _ = aws(*words, resources(), status=5)
+    for it in ("jane", "narrow"):
+        assert f"  open: {USERS}{it} s3:GetObject {POINT}/object/" in out, out
+    words[1] = file(f"never nobody s3:GetObject {POINT}/object/*\n")
+    aws(*words, resources(), status=4)
     # A draft of the bucket's policy changes what goes by the access point, and not what goes by the bucket.
     ask = ["--action", "s3:GetObject", "--resource", f"{POINT}/object/k", "--format", "csv"]
     draft = f"{BUCKET}={file(TO_POINTS)}"

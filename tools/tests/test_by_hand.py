@@ -229,12 +229,15 @@ never * s3:GetObject {LEDGER}/public/x except pia *:role/app *:role/breakglass *
 always *:role/app s3:PutObject {LEDGER}/reports/q1
 never * sts:AssumeRole {BREAK} except tom
 """
-    out, _ = aws("rules", file(kept), *GIVEN)
-    assert out.endswith("5 rules: 5 kept, 0 broken, 0 empty\n"), out
+    # The ledger lets members of the organisation read, of whom those without an export are not asked.
+    out, _ = aws("rules", file(kept), *GIVEN, status=5)
+    assert out.endswith("5 rules: 3 kept, 0 broken, 0 empty, 2 open\n"), out
+    same([line.split(":")[2] for line in out.splitlines() if line.startswith("open: ")], ["2", "3"])
+    aws("rules", file(kept), *GIVEN, "--allow-open")
     broken = kept.replace(max_and_break, "max").replace("pia *:role/app ", "*:role/app ").replace(" *:role/ci", "")
     broken = broken.replace("always *:role/app", "always pia").replace(" except tom", "")
     out, _ = aws("rules", file(broken), *GIVEN, status=3)
-    assert out.endswith("5 rules: 0 kept, 5 broken, 0 empty\n"), out
+    assert out.endswith("5 rules: 0 kept, 5 broken, 0 empty, 0 open\n"), out
     for who, what in (("assumed-role/breakglass/s", DELETE), ("user/pia", READ), ("assumed-role/ci/s", READ)):
         assert f"{who} may {what} {LEDGER}/" in out, (who, out)
     assert f"user/pia may not {PUT}" in out and f"user/tom may {ASSUME} {BREAK} if `aws:Multi" in out, out
