@@ -10,7 +10,7 @@ use Rattle.iam_batch.specs.declared.lanes.Decided.{Decided}
 use Rattle.iam_world.specs.World.{WorldValue}
 use Rattle.iam_index.specs.Elements.{AreActRows}
 use Rattle.iam_index.proofs.ListLemmas.{get_more}
-use Rattle.iam_slots.proofs.SlotLemmas.{all_weaker}
+use Rattle.iam_columns.proofs.SlotLemmas.{all_weaker}
 use Rattle.iam_span.specs.Span.{IsBatchOf, count_of}
 use Rattle.iam_classes.specs.Batches.{AreBatches, IsBatch}
 use Rattle.iam_classes.specs.Memo.{HasMore, MemoValue}

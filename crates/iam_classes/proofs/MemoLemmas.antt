@@ -12,13 +12,13 @@ use Rattle.iam_decision.specs.declared.living.Matched.{Matched}
 use Rattle.iam_layers.specs.Cell.{IsAction, IsSharedAt}
 use Rattle.iam_world.specs.World.{WorldValue}
 use Rattle.iam_index.specs.Elements.{ActAlike, AreActRows}
-use Rattle.iam_slots.specs.Slots.{AllAre}
+use Rattle.iam_columns.specs.Slots.{AllAre}
 use Rattle.iam_classes.specs.Memo.{AreAnswers, ArePairs, AreWithin, cost, FindsAlike, HasClass, HasMore, HasNumber, HasRuling, HasShared, HaveRows, IsFreeFor, IsSharedVerdict, MemoValue}
-use Rattle.iam_slots.specs.declared.numbered.Numbered.{Numbered}
+use Rattle.iam_columns.specs.declared.numbered.Numbered.{Numbered}
 use Rattle.iam_classes.specs.declared.memo.Class.{Class}
 use Rattle.iam_classes.specs.declared.memo.Room.{Room}
 use Rattle.iam_index.proofs.ListLemmas.{get_back, get_more, get_within, is_asked}
-use Rattle.iam_slots.proofs.SlotLemmas.{all_weaker}
+use Rattle.iam_columns.proofs.SlotLemmas.{all_weaker}
 
 pub pairs_more : (world : WorldValue) (classes more : List Class) (pairs : List (Option Numbered)) → ArePairs world classes pairs
     → ArePairs world (classes ++ more) pairs

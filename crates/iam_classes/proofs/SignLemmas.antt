@@ -13,7 +13,7 @@ use Rattle.iam_index.specs.declared.signs.Sign.{Sign}
 use Rattle.iam_classes.specs.Memo.{AreSigns, HasNumber, HasSigned, IsSign}
 use Rattle.iam_classes.specs.declared.memo.Class.{Class}
 use Rattle.iam_index.proofs.ListLemmas.{get_more, some_same}
-use Rattle.iam_slots.proofs.SlotLemmas.{all_weaker}
+use Rattle.iam_columns.proofs.SlotLemmas.{all_weaker}
 
 -- the same statements act on two actions of one signature
 pub alike_signed : (one other : List ℕ) (living : List LivingValue) (word : ℕ) → AreActs one living word → AreActs other living word

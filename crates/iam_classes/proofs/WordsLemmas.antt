@@ -9,8 +9,8 @@ use Rattle.iam_layers.specs.Cell.{IsApplicableAt, IsSharedAt}
 use Rattle.iam_world.specs.World.{WorldValue}
 use Rattle.iam_index.proofs.IndexLemmas.{access_applies}
 use Rattle.iam_index.proofs.ListLemmas.{get_more, if_some, some_same}
-use Rattle.iam_slots.specs.Slots.{AllAre, AreEmpty, GainsOnly, Keeps}
-use Rattle.iam_slots.proofs.SlotLemmas.{all_empty, all_gained, all_weaker}
+use Rattle.iam_columns.specs.Slots.{AllAre, AreEmpty, GainsOnly, Keeps}
+use Rattle.iam_columns.proofs.SlotLemmas.{all_empty, all_gained, all_weaker}
 use Rattle.iam_living.specs.Asker.{AreBitsAt, IsAsker}
 use Rattle.iam_living.specs.Listing.{AreAlikes, LiveAt, statements_of}
 use Rattle.iam_living.specs.Living.{NoneConcerns}

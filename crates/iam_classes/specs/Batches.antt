@@ -3,7 +3,7 @@ use Rattle.std.specs.Prelude.{◌≡◌, ◌≤◌, ◌+◌, ◌*◌, ℕ, All, 
 use Rattle.std.specs.List.{slice_get}
 use Rattle.iam_batch.specs.declared.lanes.Decided.{Decided}
 use Rattle.iam_world.specs.World.{WorldValue}
-use Rattle.iam_slots.specs.Slots.{AllAre}
+use Rattle.iam_columns.specs.Slots.{AllAre}
 use Rattle.iam_span.specs.Span.{IsBatchOf, count_of}
 use Rattle.iam_classes.specs.declared.memo.Class.{Class}
 use Rattle.iam_classes.specs.declared.batches.Batches.{Batches}

@@ -14,8 +14,8 @@ use Rattle.iam_decision.specs.declared.verdict.Verdict.{Verdict}
 use Rattle.iam_layers.specs.Cell.{IsAction, IsSharedAt, IsVerdictAt}
 use Rattle.iam_world.specs.World.{WorldValue}
 use Rattle.iam_index.specs.Elements.{ActAlike, AreActRows, AreActs, AreElements}
-use Rattle.iam_slots.specs.Slots.{AllAre}
-use Rattle.iam_slots.specs.declared.numbered.Numbered.{Numbered}
+use Rattle.iam_columns.specs.Slots.{AllAre}
+use Rattle.iam_columns.specs.declared.numbered.Numbered.{Numbered}
 use Rattle.iam_index.specs.declared.elements.Element.{Element}
 use Rattle.iam_index.specs.declared.signs.Sign.{Sign}
 use Rattle.iam_classes.specs.declared.memo.Class.{Class}

@@ -5,7 +5,7 @@ use Rattle.iam_match.specs.Statement.{AccessValue}
 use Rattle.iam_decision.specs.Living.{AreLiving, LivingValue}
 use Rattle.iam_decision.specs.Matched.{Placed}
 use Rattle.iam_world.specs.World.{WorldValue}
-use Rattle.iam_slots.specs.Slots.{AllAre, Keeps}
+use Rattle.iam_columns.specs.Slots.{AllAre, Keeps}
 use Rattle.iam_living.specs.Asker.{AreBitsOf, IsAsker}
 use Rattle.iam_living.specs.Listing.{LiveAt, statements_of}
 use Rattle.iam_living.specs.declared.asker.Asker.{Asker}

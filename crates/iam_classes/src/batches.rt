@@ -2,7 +2,7 @@
 
 use crate::memo::Memo;
 use iam_layers::World;
-use iam_slots::{empty, keep, kept, slot_of, slots_or_none};
+use iam_columns::{empty, keep, kept, slot_of, slots_or_none};
 use iam_span::{Decided, TOGETHER};
 use std::alloc::Global;
 
@@ -25,7 +25,7 @@ pub struct Batches {
 
 impl Batches {
     ghost use Rattle.std.specs.Prelude.{◌<◌, ◌*◌, IfSome, List, length};
-    ghost use Rattle.iam_slots.specs.Slots.{AreEmpty};
+    ghost use Rattle.iam_columns.specs.Slots.{AreEmpty};
     ghost use Rattle.iam_world.specs.World.{WorldValue};
     ghost use Rattle.iam_classes.specs.Batches.{AreBatches, IsBatch};
     ghost use Rattle.iam_classes.specs.declared.memo.Class.{Class};

@@ -11,7 +11,7 @@ use crate::source::Source;
 use crate::words::Words;
 use iam_index::Index;
 use iam_layers::{Decision, Matched, Verdict, World};
-use iam_slots::Numbered;
+use iam_columns::Numbered;
 use iam_span::{Known, Span, TOGETHER};
 use iam_survey::Survey;
 use iam_text::OutOfMemory;
@@ -48,7 +48,7 @@ impl<'a> Model for ClassEngine<'a> {
 impl<'a> ClassEngine<'a> {
     ghost use Rattle.iam_world.specs.World.{world_cells};
     ghost use Rattle.iam_layers.specs.Cell.{IsDecisionAt, IsDecisionOf, IsVerdictAt, IsVerdictOf};
-    ghost use Rattle.iam_slots.specs.Slots.{AllAre};
+    ghost use Rattle.iam_columns.specs.Slots.{AllAre};
     ghost use Rattle.iam_span.specs.Span.{AreKnownFrom};
     ghost use Rattle.iam_classes.specs.Engine.{HasMore, IsClassAt, IsNumberAt, IsSameEngine, OfClass};
 

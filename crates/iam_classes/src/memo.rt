@@ -1,6 +1,6 @@
 // What an engine keeps: the classes of pairs, the acts of action elements, and verdicts by their numbers.
 ghost use Rattle.std.specs.Prelude.{◌≡◌, ◌<◌, ◌≤◌, ◌+◌, ◌*◌, [], IfOk, ℕ, IfSome, None, OnOk, Some, false, length, true};
-ghost use Rattle.iam_slots.specs.Slots.{AreEmpty};
+ghost use Rattle.iam_columns.specs.Slots.{AreEmpty};
 ghost use Rattle.iam_classes.specs.Memo.{ArePairs, FindsAlike, HasClass, HasMore, HasNumber, HasRuling, HasShared, HasVerdict, HasSigned, IsFreeFor, IsSameMemo, IsSign, IsRight, MemoValue};
 
 use crate::held::Held;
@@ -8,7 +8,7 @@ use iam_batch::decided;
 use iam_decision::acting_are_found;
 use iam_index::{Elements, Index, Sign, keep_signed, number_signed, put_acting, signature};
 use iam_layers::{Frame, Matched, Ruling, Shared, Verdict, World};
-use iam_slots::{
+use iam_columns::{
     Numbered, WIDTH, empty, empty_slots, keep, keep_number, kept, number_in, slot_at, slot_of,
 };
 use iam_span::{Decided, TOGETHER};

@@ -7,7 +7,7 @@ use crate::source::{Source, Told};
 use iam_index::Index;
 use iam_layers::{Frame, Shared, World};
 use iam_living::{Asking, Bits};
-use iam_slots::{empty, empty_slots, keep, kept, slot_of};
+use iam_columns::{empty, empty_slots, keep, kept, slot_of};
 use iam_text::OutOfMemory;
 use std::alloc::Global;
 
@@ -37,7 +37,7 @@ pub struct Words<'a> {
 impl<'a> Words<'a> {
     ghost use Rattle.iam_layers.specs.Cell.{IsSharedAt};
     ghost use Rattle.iam_world.specs.World.{WorldValue};
-    ghost use Rattle.iam_slots.specs.Slots.{AreEmpty, GainsOnly, Keeps};
+    ghost use Rattle.iam_columns.specs.Slots.{AreEmpty, GainsOnly, Keeps};
     ghost use Rattle.iam_classes.specs.Memo.{HasClass, HasMore, HasShared, IsSameMemo};
     ghost use Rattle.iam_classes.specs.Told.{IsTold};
     ghost use Rattle.iam_classes.specs.Words.{AreWords, GainsAt, IsFoundAmong, LiveByBits};

@@ -3,7 +3,7 @@ use Rattle.std.proofs.Common.{◌≡◌, ◌↔◌, inl, inr, ℕ, ◌+◌, ◌<
 use Rattle.std.specs.List.{slice_get}
 use Rattle.iam_match.specs.Statement.{ResourceMatches}
 use Rattle.iam_world.specs.World.{ResourceValue, WorldValue}
-use Rattle.iam_slots.specs.Slots.{Keeps}
+use Rattle.iam_columns.specs.Slots.{Keeps}
 use Rattle.iam_columns.specs.Columns.{AreColumns, HasFirst, HaveOneColumn, MatchesBoth}
 use Rattle.iam_columns.specs.declared.rows.Row.{Row}
 use Rattle.iam_columns.proofs.ListLemmas.{get_back, get_more, get_within, less_or_last, some_same}

@@ -1,3 +1,4 @@
 mod ColumnLemmas
 pub mod ListLemmas
 pub mod RowLemmas
+pub mod SlotLemmas

@@ -6,7 +6,7 @@ use Rattle.iam_element.specs.Reading.{ResourceElement}
 use Rattle.iam_match.specs.Statement.{ResourceMatches}
 use Rattle.iam_layers.specs.Code.Statements.{AreSameButPolicy}
 use Rattle.iam_world.specs.World.{ResourceValue, WorldValue}
-use Rattle.iam_slots.specs.Slots.{Keeps}
+use Rattle.iam_columns.specs.Slots.{Keeps}
 use Rattle.iam_columns.specs.declared.rows.Row.{Row}
 
 -- the resource element matches both resources or neither, in whatever context

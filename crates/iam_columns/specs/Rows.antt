@@ -6,7 +6,7 @@ use Rattle.iam_decision.specs.declared.scan.Standing.{Standing}
 use Rattle.iam_element.specs.Reading.{ResourceElement}
 use Rattle.iam_match.specs.Statement.{ResourceMatches}
 use Rattle.iam_world.specs.World.{ResourceValue, WorldValue}
-use Rattle.iam_slots.specs.Slots.{Keeps}
+use Rattle.iam_columns.specs.Slots.{Keeps}
 use Rattle.iam_columns.specs.declared.rows.Row.{Row}
 
 -- this says whether the element matches resource r of the world, in whatever context

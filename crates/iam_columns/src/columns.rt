@@ -2,7 +2,7 @@
 ghost use Rattle.std.specs.Prelude.{◌≡◌, ◌++◌, ◌<◌, ℕ, IfOk, IfSome, IsTrue, List, Some, is_some, length, true};
 ghost use Rattle.std.specs.List.{slice_get};
 ghost use Rattle.iam_world.specs.World.{WorldValue};
-ghost use Rattle.iam_slots.specs.Slots.{Keeps};
+ghost use Rattle.iam_columns.specs.Slots.{Keeps};
 ghost use Rattle.iam_columns.specs.Columns.{AllMatchBoth, AreColumns, HasFirst, MatchesBoth};
 ghost use Rattle.iam_columns.specs.Rows.{AreRows, IsRow};
 ghost use Rattle.iam_columns.specs.declared.rows.Row.{Row};

@@ -1,19 +1,19 @@
 mod ActionLemmas
 mod AlikeLemmas
-mod AtLemmas
+pub mod AtLemmas
 mod ElementLemmas
-mod FirstLemmas
+pub mod FirstLemmas
 mod GroupLemmas
-mod LineLemmas
-mod ListLemmas
+pub mod LineLemmas
+pub mod ListLemmas
 mod MadeLemmas
 mod MatchLemmas
-mod MeantLemmas
+pub mod MeantLemmas
 mod MemberLemmas
 mod NamedCellLemmas
-mod NamesLemmas
-mod OneLemmas
-mod OneRowsLemmas
+pub mod NamesLemmas
+pub mod OneLemmas
+pub mod OneRowsLemmas
 mod OwnLemmas
 mod ReportLemmas
 mod RowLemmas
@@ -21,4 +21,4 @@ mod SideLemmas
 mod TellingLemmas
 mod TextLemmas
 mod ToldLemmas
-mod WalkLemmas
+pub mod WalkLemmas

@@ -52,7 +52,7 @@ one_row_if Due P alone rows others (inl (due, h)) (inr (never, k)) = absurd (nev
 one_row_if Due P alone rows others (inr (never, h)) (inl (due, k)) = absurd (never due)
 one_row_if Due P alone rows others (inr (never, is)) (inr (nor, same)) = is ∙ sym same
 
-one_verdict : OneVerdictAt → (world : WorldValue) (p : ℕ) (unnamed : Unnamed) (action text : List ℕ) (verdict other : Verdict)
+pub one_verdict : OneVerdictAt → (world : WorldValue) (p : ℕ) (unnamed : Unnamed) (action text : List ℕ) (verdict other : Verdict)
     → IsUnnamedVerdict world p unnamed action text verdict → IsUnnamedVerdict world p unnamed action text other → verdict ≡ other
 one_verdict one world p unnamed action text verdict other (resource, said, is) (found, told, too) =
     let same : found ≡ resource = one_said world unnamed text found resource told said in
@@ -85,7 +85,7 @@ one_spelling (text ∷ texts) (other ∷ others) utf8 too same =
     ∙ ap (λ l. other ∷ l)
     (one_spelling texts others (λ t among. utf8 t (behind text t texts among)) (λ t among. too t (behind other t others among)) rest)
 
-spelled_alike : (texts others : List (List ℕ)) → All IsUtf8 texts → All IsUtf8 others → map chars texts ≡ map chars others → texts ≡ others
+pub spelled_alike : (texts others : List (List ℕ)) → All IsUtf8 texts → All IsUtf8 others → map chars texts ≡ map chars others → texts ≡ others
 spelled_alike texts others utf8 too =
     one_spelling texts others (λ text among. All-contains IsUtf8 texts text utf8 among) (λ text among. All-contains IsUtf8 others text too among)
 

@@ -22,15 +22,17 @@ mod verdict;
 
 pub use actions::{action_groups, action_kinds};
 pub use asked::{Asked, Line, Which};
+pub use given::{first_line, is_among, is_first_line, line_patterns};
 pub use groups::{Side, text_groups};
 pub use laws::{
     alike_actions_at_decide_alike, alike_actions_decide_alike, alike_names_decide_alike,
     alike_texts_decide_alike, named_resources_have_their_cells, one_every_report,
     one_list_of_groups, one_list_of_rows, own_groups_tell_apart,
 };
-pub use meant::meant_actions;
+pub use meant::{all_said, meant_actions, policies_of};
 pub use pattern::Pattern;
 pub use report::{EveryAnswer, EveryFault, every_report};
 pub use rows::{Row, rows_of};
 pub use text::EveryText;
 pub use texts::text_kinds;
+pub use verdict::verdict_on;

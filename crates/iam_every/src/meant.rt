@@ -76,7 +76,7 @@ fn kinds_of(
 }
 
 /// What the lines say, and what is said of the resources of the world that some line matches, in order.
-fn all_said<'a>(alloc: Global, asked: Asked<'a>) -> Result<Vec<Unnamed<'a>>, OutOfMemory>
+pub fn all_said<'a>(alloc: Global, asked: Asked<'a>) -> Result<Vec<Unnamed<'a>>, OutOfMemory>
     ensures { IfOk result (λ said. AreSaid (every_of asked.entry) said.items) }
 {
     let mut said = of_lines(alloc, asked.lines)?;
@@ -116,7 +116,7 @@ fn is_matched(lines: &[Line<'_>], text: &str) -> bool
 
 /// Policies that tell apart all actions that those do which apply where principal p asks for a resource of which some of this is said:
 /// those of the first, and of each further one with which policies stand; p has to be below `principals()`.
-fn policies_of<'a>(
+pub fn policies_of<'a>(
     alloc: Global,
     world: &'a World,
     p: u64,

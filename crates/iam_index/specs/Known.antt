@@ -4,7 +4,7 @@ use Rattle.iam_decision.specs.Matched.{Placed}
 use Rattle.iam_decision.specs.declared.scan.Standing.{Standing}
 use Rattle.iam_layers.specs.Code.Statements.{AreSameButPolicy}
 use Rattle.iam_world.specs.World.{WorldValue}
-use Rattle.iam_slots.specs.Slots.{Keeps}
+use Rattle.iam_columns.specs.Slots.{Keeps}
 use Rattle.iam_columns.specs.Columns.{MatchesBoth}
 
 -- statements of a world

@@ -1,6 +1,6 @@
 -- Numbers that are kept under a class and a signature. LOGIC 1.1.
 use Rattle.std.specs.Prelude.{◌≡◌, ◌⊎◌, ℕ, List, Option, Some}
-use Rattle.iam_slots.specs.Slots.{Keeps}
+use Rattle.iam_columns.specs.Slots.{Keeps}
 use Rattle.iam_index.specs.declared.signs.Sign.{Sign}
 
 -- there is a signature, and some slot keeps the number under it and the class

@@ -19,7 +19,7 @@ use iam_layers::{Living, Matched, World};
 use iam_match::action_matches;
 use iam_policy::Actions;
 use iam_services::{Services, Tried};
-use iam_slots::{empty_slots, keep, kept, slot_of};
+use iam_columns::{empty_slots, keep, kept, slot_of};
 use iam_text::{Glob, OutOfMemory};
 use std::alloc::Global;
 

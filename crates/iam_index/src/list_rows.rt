@@ -2,7 +2,7 @@
 ghost use Rattle.std.specs.Prelude.{◌≡◌, ◌++◌, ℕ, IfSome, IsTrue, List, Some, length};
 ghost use Rattle.std.specs.List.{slice_get};
 ghost use Rattle.iam_decision.specs.declared.scan.Standing.{Standing};
-ghost use Rattle.iam_slots.specs.Slots.{Keeps};
+ghost use Rattle.iam_columns.specs.Slots.{Keeps};
 ghost use Rattle.iam_columns.specs.Rows.{AreRows, AreStatementRows, HasRow};
 ghost use Rattle.iam_columns.specs.declared.rows.Row.{Row};
 ghost use Rattle.iam_index.specs.Rows.{AllHaveRows, AreListRows, IsListRows};

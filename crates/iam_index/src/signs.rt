@@ -2,7 +2,7 @@
 ghost use Rattle.std.specs.Prelude.{IfSome};
 ghost use Rattle.iam_index.specs.Signs.{GainsSign, HasSign};
 
-use iam_slots::{keep, kept, slot_of};
+use iam_columns::{keep, kept, slot_of};
 
 /// A number that is kept under a class and a signature.
 #[derive(Clone, Copy)]

@@ -8,7 +8,7 @@ use Rattle.iam_match.specs.Statement.{AccessValue}
 use Rattle.iam_decision.specs.Applicable.{ApplicableValue}
 use Rattle.iam_decision.specs.Code.Scan.{placed_value}
 use Rattle.iam_layers.specs.Cell.{IsAccessAt}
-use Rattle.iam_slots.specs.Slots.{Keeps}
+use Rattle.iam_columns.specs.Slots.{Keeps}
 use Rattle.iam_world.specs.World.{PrincipalValue, WorldValue}
 use Rattle.iam_index.specs.declared.lists.Listed.{Listed}
 use Rattle.iam_index.proofs.ListLemmas.{some_same}

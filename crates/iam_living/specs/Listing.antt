@@ -9,7 +9,7 @@ use Rattle.iam_decision.specs.declared.frame.Frame.{Frame}
 use Rattle.iam_decision.specs.declared.scan.Standing.{Standing}
 use Rattle.iam_layers.specs.Cell.{IsAccessAt, IsApplicableAt}
 use Rattle.iam_world.specs.World.{WorldValue}
-use Rattle.iam_slots.specs.Slots.{Keeps}
+use Rattle.iam_columns.specs.Slots.{Keeps}
 use Rattle.iam_index.specs.Index.{ListsResource}
 use Rattle.iam_living.specs.Living.{NoneConcerns, NoneLives}
 

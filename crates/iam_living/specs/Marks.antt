@@ -6,7 +6,7 @@ use Rattle.iam_match.specs.Entry.{EntryHolds}
 use Rattle.iam_decision.specs.Matched.{Placed}
 use Rattle.iam_layers.specs.Cell.{IsContextAt}
 use Rattle.iam_world.specs.World.{WorldValue}
-use Rattle.iam_slots.specs.Slots.{Keeps}
+use Rattle.iam_columns.specs.Slots.{Keeps}
 use Rattle.iam_living.specs.Listing.{ListingValue}
 use Rattle.iam_living.specs.declared.marks.Mark.{Mark}
 use Rattle.iam_living.specs.declared.marks.Mark.TheVariants.{Held}

@@ -9,7 +9,7 @@ use crate::asker::{Asker, Bits};
 use crate::keys::{Keys, Lives, known, lives_with, staying};
 use iam_index::Index;
 use iam_layers::Living;
-use iam_slots::{keep, kept, slots_or_none};
+use iam_columns::{keep, kept, slots_or_none};
 use iam_text::OutOfMemory;
 use std::alloc::Global;
 use std::marker::Model;
@@ -39,7 +39,7 @@ impl<'a> Asking<'a> {
     ghost use Rattle.iam_match.specs.Statement.{AccessValue};
     ghost use Rattle.iam_decision.specs.Living.{AreLiving, living_value};
     ghost use Rattle.iam_decision.specs.Matched.{Placed};
-    ghost use Rattle.iam_slots.specs.Slots.{Keeps};
+    ghost use Rattle.iam_columns.specs.Slots.{Keeps};
     ghost use Rattle.iam_world.specs.World.{WorldValue};
     ghost use Rattle.iam_living.specs.Listing.{AreAlikes};
     ghost use Rattle.iam_living.specs.Living.{NoneConcerns};

@@ -17,7 +17,7 @@ use iam_decision::push_living;
 use iam_index::{Index, Known, Theirs};
 use iam_layers::{Living, Standing, World};
 use iam_match::{Access, Requester};
-use iam_slots::{kept, slots_or_none};
+use iam_columns::{kept, slots_or_none};
 use iam_text::OutOfMemory;
 use std::alloc::Global;
 use std::marker::Model;
@@ -49,7 +49,7 @@ impl<'a> Model for Listing<'a> {
 impl<'a> Listing<'a> {
     ghost use Rattle.iam_match.specs.Statement.{AccessValue};
     ghost use Rattle.iam_decision.specs.Matched.{Placed};
-    ghost use Rattle.iam_slots.specs.Slots.{Keeps};
+    ghost use Rattle.iam_columns.specs.Slots.{Keeps};
     ghost use Rattle.iam_living.specs.Listing.{AreAlikes, Lists, statements_of};
 
     /// Those that an index lists for principal p.

@@ -5,7 +5,7 @@ ghost use Rattle.iam_context.specs.Context.{ContextValue};
 ghost use Rattle.iam_match.specs.Request.{access_of};
 ghost use Rattle.iam_decision.specs.Code.Scan.{placed_value};
 ghost use Rattle.iam_layers.specs.Cell.{IsContextAt};
-ghost use Rattle.iam_slots.specs.Slots.{Keeps};
+ghost use Rattle.iam_columns.specs.Slots.{Keeps};
 ghost use Rattle.iam_index.specs.declared.lists.Listed.{Listed};
 ghost use Rattle.iam_living.specs.Asker.{AreListWords, AsksForNone};
 ghost use Rattle.iam_living.specs.Word.{AreBits};
@@ -14,7 +14,7 @@ use crate::word::with_bit;
 use iam_index::{Index, ResourceLists};
 use iam_layers::Standing;
 use iam_match::{Access, rest_matches};
-use iam_slots::{keep, kept, slots_or_none};
+use iam_columns::{keep, kept, slots_or_none};
 use iam_text::OutOfMemory;
 use std::alloc::Global;
 

@@ -13,7 +13,7 @@ ghost use Rattle.iam_living.specs.declared.marks.Mark.TheVariants as mark;
 
 use iam_index::Known;
 use iam_match::{Context, Entry, holds};
-use iam_slots::{keep, kept};
+use iam_columns::{keep, kept};
 use iam_text::OutOfMemory;
 use std::alloc::Global;
 

@@ -4,8 +4,8 @@ use Rattle.iam_decision.specs.declared.verdict.Verdict.{Verdict}
 use Rattle.iam_world.specs.World.{WorldValue}
 use Rattle.iam_layers.specs.Cell.{IsVerdictAt}
 use Rattle.iam_index.proofs.ListLemmas.{get_more}
-use Rattle.iam_slots.proofs.SlotLemmas.{all_weaker}
-use Rattle.iam_slots.specs.declared.numbered.Numbered.{Numbered}
+use Rattle.iam_columns.proofs.SlotLemmas.{all_weaker}
+use Rattle.iam_columns.specs.declared.numbered.Numbered.{Numbered}
 use Rattle.iam_classes.specs.Engine.{EngineValue, HasMore, OfClass}
 use Rattle.iam_classes.proofs.EngineLemmas.{of_class_more}
 use Rattle.iam_matrix.specs.Code.Leads.{AreLeads, IsLead}

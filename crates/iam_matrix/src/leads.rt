@@ -11,7 +11,7 @@ use iam_classes::ClassEngine;
 use iam_layers::Verdict;
 use iam_report::Kept;
 use iam_row::Position;
-use iam_slots::{Numbered, empty_slots, keep_number, number_in, slot_of};
+use iam_columns::{Numbered, empty_slots, keep_number, number_in, slot_of};
 use iam_text::OutOfMemory;
 use std::alloc::Global;
 

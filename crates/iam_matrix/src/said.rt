@@ -11,7 +11,7 @@ use iam_classes::ClassEngine;
 use iam_layers::{Decision, Verdict};
 use iam_report::{Decisions, Kept};
 use iam_row::Position;
-use iam_slots::{Numbered, empty};
+use iam_columns::{Numbered, empty};
 use iam_text::OutOfMemory;
 use std::alloc::Global;
 

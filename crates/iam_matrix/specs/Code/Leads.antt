@@ -4,8 +4,8 @@ use Rattle.std.specs.List.{slice_get}
 use Rattle.iam_decision.specs.declared.verdict.Verdict.{Verdict}
 use Rattle.iam_world.specs.World.{WorldValue}
 use Rattle.iam_layers.specs.Cell.{IsVerdictAt}
-use Rattle.iam_slots.specs.Slots.{AllAre}
-use Rattle.iam_slots.specs.declared.numbered.Numbered.{Numbered}
+use Rattle.iam_columns.specs.Slots.{AllAre}
+use Rattle.iam_columns.specs.declared.numbered.Numbered.{Numbered}
 use Rattle.iam_classes.specs.Engine.{EngineValue, IsClassAt, OfClass}
 
 -- the verdict on principal p's request for action a on resource r stands at this place

@@ -1,6 +1,6 @@
 use Rattle.std.proofs.Common.{inl, inr, ℕ, arith, sym, subst}
 use Rattle.std.proofs.lemmas.Option.{slice_get_within}
-use Rattle.iam_slots.specs.Slots.{Keeps}
+use Rattle.iam_columns.specs.Slots.{Keeps}
 use Rattle.iam_columns.proofs.ListLemmas.{less_or_last}
 use Rattle.iam_index.proofs.list_rows.have_rows.Goals as goal
 

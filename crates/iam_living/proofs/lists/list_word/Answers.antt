@@ -1,7 +1,7 @@
 use Rattle.std.proofs.Common.{ℕ, IfSome, List, Option, map, refl, subst}
 use Rattle.iam_match.specs.Request.{access_of}
 use Rattle.iam_decision.specs.Code.Scan.{placed_value}
-use Rattle.iam_slots.specs.Slots.{Keeps}
+use Rattle.iam_columns.specs.Slots.{Keeps}
 use Rattle.iam_living.specs.Word.{AreBits}
 use Rattle.iam_living.proofs.ListWordLemmas.{lists_told_more}
 use Rattle.iam_living.proofs.lists.list_word.Goals as goal

@@ -2,7 +2,7 @@ use Rattle.std.proofs.Common.{◌↔◌, ◌∙◌, All, IfOk, IsTrue, List, Opt
 use Rattle.iam_match.specs.Entry.{EntryHolds}
 use Rattle.iam_decision.specs.Code.Scan.{placed_value}
 use Rattle.iam_decision.specs.declared.scan.Standing.{Standing}
-use Rattle.iam_slots.specs.Slots.{Keeps}
+use Rattle.iam_columns.specs.Slots.{Keeps}
 use Rattle.iam_living.specs.declared.marks.Mark.{Mark}
 use Rattle.iam_living.specs.declared.marks.Mark.TheVariants as mark
 use Rattle.iam_living.proofs.MarkLemmas.{get_map, read_at, told_more}

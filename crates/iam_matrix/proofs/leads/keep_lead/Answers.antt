@@ -1,6 +1,6 @@
-use Rattle.iam_slots.proofs.SlotLemmas.{all_gained}
+use Rattle.iam_columns.proofs.SlotLemmas.{all_gained}
 use Rattle.iam_matrix.specs.Code.Leads.{IsLead}
-use Rattle.iam_slots.specs.declared.numbered.Numbered.{Numbered}
+use Rattle.iam_columns.specs.declared.numbered.Numbered.{Numbered}
 use Rattle.iam_matrix.proofs.leads.keep_lead.Goals as goal
 
 pub returns : goal.returns

@@ -1,6 +1,6 @@
 use Rattle.std.proofs.Common.{ℕ}
-use Rattle.iam_slots.specs.Slots.{Keeps}
-use Rattle.iam_slots.specs.declared.numbered.Numbered.{Numbered}
+use Rattle.iam_columns.specs.Slots.{Keeps}
+use Rattle.iam_columns.specs.declared.numbered.Numbered.{Numbered}
 use Rattle.iam_index.proofs.ListLemmas.{if_some}
 use Rattle.iam_layers.specs.Cell.{IsVerdictAt}
 use Rattle.iam_classes.proofs.EngineLemmas.{of_class}

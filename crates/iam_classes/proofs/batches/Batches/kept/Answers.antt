@@ -1,5 +1,5 @@
 use Rattle.std.proofs.Common.{ℕ, List, Option, subst}
-use Rattle.iam_slots.specs.Slots.{Keeps}
+use Rattle.iam_columns.specs.Slots.{Keeps}
 use Rattle.iam_classes.specs.Batches.{IsBatch}
 use Rattle.iam_classes.specs.declared.batches.Batch.{Batch}
 use Rattle.iam_classes.proofs.batches.Batches.kept.Goals as goal

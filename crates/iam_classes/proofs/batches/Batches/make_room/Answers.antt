@@ -1,4 +1,4 @@
-use Rattle.iam_slots.proofs.SlotLemmas.{all_empty}
+use Rattle.iam_columns.proofs.SlotLemmas.{all_empty}
 use Rattle.iam_classes.specs.Batches.{IsBatch}
 use Rattle.iam_classes.specs.declared.batches.Batch.{Batch}
 use Rattle.iam_classes.proofs.batches.Batches.make_room.Goals as goal

@@ -1,5 +1,5 @@
 use Rattle.std.proofs.Common.{◌≡◌, ap, sym, ◌∙◌, subst}
-use Rattle.iam_slots.proofs.SlotLemmas.{all_empty}
+use Rattle.iam_columns.proofs.SlotLemmas.{all_empty}
 use Rattle.iam_world.specs.World.{WorldValue}
 use Rattle.iam_span.specs.Span.{IsSpan}
 use Rattle.iam_span.specs.declared.span.Span.{Span}

@@ -1,7 +1,7 @@
 use Rattle.std.proofs.Common.{subst}
-use Rattle.iam_slots.specs.Slots.{AllAre}
+use Rattle.iam_columns.specs.Slots.{AllAre}
 use Rattle.iam_classes.specs.Engine.{EngineValue, IsClassAt}
-use Rattle.iam_slots.specs.declared.numbered.Numbered.{Numbered}
+use Rattle.iam_columns.specs.declared.numbered.Numbered.{Numbered}
 use Rattle.iam_classes.proofs.engine.ClassEngine.known_from.Goals as goal
 
 pub returns : goal.returns

@@ -1,5 +1,5 @@
 use Rattle.std.proofs.Common.{ap, sym, ◌∙◌}
-use Rattle.iam_slots.proofs.SlotLemmas.{all_empty}
+use Rattle.iam_columns.proofs.SlotLemmas.{all_empty}
 use Rattle.iam_classes.specs.Batches.{IsBatch}
 use Rattle.iam_classes.specs.Engine.{SourceValue}
 use Rattle.iam_classes.specs.declared.batches.Batch.{Batch}

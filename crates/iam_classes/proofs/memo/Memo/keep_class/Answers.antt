@@ -1,7 +1,7 @@
 use Rattle.std.proofs.Common.{sym, subst}
 use Rattle.iam_classes.specs.Memo.{HasClass, MemoValue}
-use Rattle.iam_slots.specs.declared.numbered.Numbered.{Numbered}
-use Rattle.iam_slots.proofs.SlotLemmas.{all_gained}
+use Rattle.iam_columns.specs.declared.numbered.Numbered.{Numbered}
+use Rattle.iam_columns.proofs.SlotLemmas.{all_gained}
 use Rattle.iam_classes.proofs.memo.Memo.keep_class.Goals as goal
 
 pub invariant_of-self : goal.invariant_of-self

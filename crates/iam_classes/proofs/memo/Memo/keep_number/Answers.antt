@@ -1,7 +1,7 @@
 use Rattle.std.proofs.Common.{IfSome, sym, subst}
 use Rattle.iam_classes.specs.Memo.{HasNumber, HasSigned, MemoValue}
-use Rattle.iam_slots.specs.declared.numbered.Numbered.{Numbered}
-use Rattle.iam_slots.proofs.SlotLemmas.{all_gained}
+use Rattle.iam_columns.specs.declared.numbered.Numbered.{Numbered}
+use Rattle.iam_columns.proofs.SlotLemmas.{all_gained}
 use Rattle.iam_classes.proofs.SignLemmas.{signs_gained}
 use Rattle.iam_classes.proofs.memo.Memo.keep_number.Goals as goal
 

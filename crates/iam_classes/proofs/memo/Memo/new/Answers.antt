@@ -4,9 +4,9 @@ use Rattle.iam_world.specs.World.{WorldValue}
 use Rattle.iam_index.specs.Elements.{AreElements}
 use Rattle.iam_classes.specs.Memo.{HasClass, HasNumber, HasSigned}
 use Rattle.iam_index.specs.declared.signs.Sign.{Sign}
-use Rattle.iam_slots.specs.declared.numbered.Numbered.{Numbered}
+use Rattle.iam_columns.specs.declared.numbered.Numbered.{Numbered}
 use Rattle.iam_classes.proofs.MemoLemmas.{no_rows, none_within}
-use Rattle.iam_slots.proofs.SlotLemmas.{all_empty}
+use Rattle.iam_columns.proofs.SlotLemmas.{all_empty}
 use Rattle.iam_classes.proofs.memo.Memo.new.Goals as goal
 
 pub invariant_of-result : goal.invariant_of-result

@@ -1,7 +1,7 @@
 use Rattle.std.proofs.Common.{ℕ, List, Option, IfSome, subst}
-use Rattle.iam_slots.specs.Slots.{Keeps}
+use Rattle.iam_columns.specs.Slots.{Keeps}
 use Rattle.iam_classes.specs.Memo.{HasNumber, MemoValue}
-use Rattle.iam_slots.specs.declared.numbered.Numbered.{Numbered}
+use Rattle.iam_columns.specs.declared.numbered.Numbered.{Numbered}
 use Rattle.iam_index.proofs.ListLemmas.{if_some}
 use Rattle.iam_classes.proofs.memo.Memo.number_of.Goals as goal
 

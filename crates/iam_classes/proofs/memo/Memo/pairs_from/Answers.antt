@@ -1,8 +1,8 @@
 use Rattle.std.proofs.Common.{◌-◌, List, Option, drop, length, subst, sym, take}
 use Rattle.std.proofs.lemmas.List.{take_rest}
-use Rattle.iam_slots.specs.Slots.{AllAre}
+use Rattle.iam_columns.specs.Slots.{AllAre}
 use Rattle.iam_classes.specs.Memo.{ArePairs, HasClass, MemoValue}
-use Rattle.iam_slots.specs.declared.numbered.Numbered.{Numbered}
+use Rattle.iam_columns.specs.declared.numbered.Numbered.{Numbered}
 use Rattle.iam_classes.proofs.MemoLemmas.{pairs_behind}
 use Rattle.iam_classes.proofs.memo.Memo.pairs_from.Goals as goal
 

@@ -1,5 +1,5 @@
 use Rattle.std.proofs.Common.{ℕ, List, Option, subst}
-use Rattle.iam_slots.specs.Slots.{Keeps}
+use Rattle.iam_columns.specs.Slots.{Keeps}
 use Rattle.iam_classes.proofs.words.Words.alike_class.Goals as goal
 
 pub returns-then-none_concerns-clause-class : goal.returns-then-none_concerns-clause-class

@@ -1,5 +1,5 @@
 use Rattle.std.proofs.Common.{ℕ, sym, subst}
-use Rattle.iam_slots.proofs.SlotLemmas.{all_empty}
+use Rattle.iam_columns.proofs.SlotLemmas.{all_empty}
 use Rattle.iam_living.specs.Asker.{IsAsker}
 use Rattle.iam_classes.specs.Words.{IsWord}
 use Rattle.iam_classes.proofs.words.Words.begin.Goals as goal

@@ -1,7 +1,7 @@
 use Rattle.std.proofs.Common.{◌≡◌, ◌∙◌, ℕ, IfSome, Option, Some, sym, ap, subst}
 use Rattle.iam_world.specs.World.{WorldValue}
 use Rattle.iam_index.proofs.ListLemmas.{some_same}
-use Rattle.iam_slots.specs.Slots.{Keeps}
+use Rattle.iam_columns.specs.Slots.{Keeps}
 use Rattle.iam_living.specs.Asker.{IsAsker}
 use Rattle.iam_living.specs.Listing.{AreAlikes}
 use Rattle.iam_living.specs.Living.{NoneConcerns}

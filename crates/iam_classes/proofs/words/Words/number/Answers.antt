@@ -1,5 +1,5 @@
 use Rattle.iam_index.proofs.ListLemmas.{if_some}
-use Rattle.iam_slots.specs.Slots.{Keeps}
+use Rattle.iam_columns.specs.Slots.{Keeps}
 use Rattle.iam_classes.proofs.words.Words.number.Goals as goal
 
 pub returns-in-Some : goal.returns-in-Some

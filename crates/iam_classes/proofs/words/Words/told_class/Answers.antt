@@ -2,7 +2,7 @@ use Rattle.std.proofs.Common.{◌≡◌, ◌∙◌, ℕ, IfSome, Option, Some, s
 use Rattle.iam_layers.specs.Cell.{IsSharedAt}
 use Rattle.iam_world.specs.World.{WorldValue}
 use Rattle.iam_index.proofs.ListLemmas.{if_some, some_same}
-use Rattle.iam_slots.specs.Slots.{Keeps}
+use Rattle.iam_columns.specs.Slots.{Keeps}
 use Rattle.iam_living.specs.Asker.{AreBitsAt, IsAsker}
 use Rattle.iam_living.specs.Listing.{AreAlikes, statements_of}
 use Rattle.iam_living.specs.declared.asker.Asker.{Asker}

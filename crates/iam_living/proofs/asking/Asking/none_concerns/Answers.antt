@@ -1,5 +1,5 @@
 use Rattle.std.proofs.Common.{Bool, List, Option, sym, subst}
-use Rattle.iam_slots.specs.Slots.{Keeps}
+use Rattle.iam_columns.specs.Slots.{Keeps}
 use Rattle.iam_living.specs.Asker.{IsAsker}
 use Rattle.iam_living.proofs.AskerLemmas.{concerns_more, has_list, has_number, none_concern}
 use Rattle.iam_living.proofs.asking.Asking.none_concerns.Goals as goal

@@ -1,6 +1,6 @@
 use Rattle.std.proofs.Common.{IfSome, map, subst}
 use Rattle.iam_decision.specs.Code.Scan.{placed_value}
-use Rattle.iam_slots.specs.Slots.{Keeps}
+use Rattle.iam_columns.specs.Slots.{Keeps}
 use Rattle.iam_living.specs.Listing.{AreAlikes, ListingValue}
 use Rattle.iam_living.proofs.AlikeLemmas.{are_alikes}
 use Rattle.iam_living.proofs.listing.Listing.alike.Goals as goal

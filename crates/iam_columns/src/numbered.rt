@@ -1,7 +1,7 @@
 // Numbers that are kept under two others.
 ghost use Rattle.std.specs.Prelude.{◌≡◌, ◌<◌, ◌^◌, IfSome, Some, length};
-ghost use Rattle.iam_slots.specs.Slots.{GainsOnly, Keeps};
-ghost use Rattle.iam_slots.specs.declared.numbered.Numbered.{Numbered};
+ghost use Rattle.iam_columns.specs.Slots.{GainsOnly, Keeps};
+ghost use Rattle.iam_columns.specs.declared.numbered.Numbered.{Numbered};
 
 use crate::slots::{keep, kept};
 

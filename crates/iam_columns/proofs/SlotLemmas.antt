@@ -1,7 +1,7 @@
 -- Slots, changed one at a time.
 use Rattle.std.proofs.Common.{◌≡◌, inl, inr, ℕ, zero, suc, List, [], ◌∷◌, Option, Some, sym, subst}
 use Rattle.std.proofs.Math.ListN.{set}
-use Rattle.iam_slots.specs.Slots.{AllAre, AreEmpty, GainsOnly, Keeps}
+use Rattle.iam_columns.specs.Slots.{AllAre, AreEmpty, GainsOnly, Keeps}
 
 pub gains_set : {T : Type 0} (slots : List (Option T)) (i : ℕ) (kept : T) → GainsOnly slots (set slots i (Some kept)) kept
 gains_set [] i kept j other at = inr at

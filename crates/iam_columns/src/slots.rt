@@ -1,7 +1,7 @@
 // Tables of slots, each of which holds what was kept there last.
 ghost use Rattle.std.specs.Prelude.{◌≡◌, ◌<◌, ◌≤◌, ◌≢◌, ℕ, IfOk, IfSome, Some, length};
 ghost use Rattle.std.specs.List.{slice_get};
-ghost use Rattle.iam_slots.specs.Slots.{AreEmpty, GainsOnly, Keeps};
+ghost use Rattle.iam_columns.specs.Slots.{AreEmpty, GainsOnly, Keeps};
 
 use iam_text::OutOfMemory;
 use std::alloc::Global;
