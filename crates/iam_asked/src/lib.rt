@@ -28,6 +28,7 @@ pub use iam_context::{ContextFault, Part};
 pub use iam_layers::World;
 pub use iam_text::OutOfMemory;
 pub use laws::{no_fault_of_request, no_fault_of_text_line, one_asked, one_text_line};
+pub use places::{Place, resource_places};
 pub use read::read_requests;
 pub use reading::Reading;
 pub use requests::Requests;
