@@ -6,7 +6,7 @@ pub mod FirstLemmas
 mod GroupLemmas
 pub mod LineLemmas
 pub mod ListLemmas
-mod MadeLemmas
+pub mod MadeLemmas
 mod MatchLemmas
 pub mod MeantLemmas
 mod MemberLemmas
@@ -16,7 +16,7 @@ pub mod OneLemmas
 pub mod OneRowsLemmas
 mod OwnLemmas
 mod ReportLemmas
-mod RowLemmas
+pub mod RowLemmas
 mod SideLemmas
 mod TellingLemmas
 mod TextLemmas

@@ -188,13 +188,13 @@ plain_placed a plain =
     ap (λ control. in_layer Org a.org ++ (in_layer Control control ++ (in_level Resource 0 (option_to_list a.resource) ++ requester_placed a))) plain.control
     ∙ ap (λ resource. in_layer Org a.org ++ (in_level Resource 0 (option_to_list resource) ++ requester_placed a)) plain.resource
 
-covers : (a b : ApplicableValue) → ((s : Placed) → Contains (placed b) s → Contains (placed a) s) → Covers a b
+pub covers : (a b : ApplicableValue) → ((s : Placed) → Contains (placed b) s → Contains (placed a) s) → Covers a b
 covers a b inside one other alike =
     all_members (λ (s : Placed). ActionMatches s.statement.action one ↔ ActionMatches s.statement.action other) (placed b)
     (λ s among.
     All-contains (λ (s : Placed). ActionMatches s.statement.action one ↔ ActionMatches s.statement.action other) (placed a) s alike (inside s among))
 
-plain_covered : (world : WorldValue) (principal : PrincipalValue) (one other : ResourceValue) (a b : ApplicableValue)
+pub plain_covered : (world : WorldValue) (principal : PrincipalValue) (one other : ResourceValue) (a b : ApplicableValue)
     → a ≡ applicable_of world principal one → b ≡ applicable_of world principal other → IsPlain b → Covers a b
 plain_covered world principal one other a b a_is b_is plain =
     let own : ApplicableValue → List Placed = λ x. in_layer Org x.org ++ requester_placed x in

@@ -27,7 +27,7 @@ use Rattle.iam_every.proofs.ListLemmas.{behind, here, mapped, of_mapped}
 use Rattle.iam_every.proofs.NamesLemmas.{alike_names, one_some}
 
 -- ---- a row
-decided_by : (every : EveryValue) (p : ℕ) (unnamed : Unnamed) (action text : List ℕ) (verdict : Verdict)
+pub decided_by : (every : EveryValue) (p : ℕ) (unnamed : Unnamed) (action text : List ℕ) (verdict : Verdict)
     → IsUnnamedVerdict every.world p unnamed action text verdict → IsUnnamedDecision every.world p unnamed action text verdict.decision
 decided_by every p unnamed action text verdict (resource, said, (a, request, at, is)) = (resource, said, (a, request, at, is.decided))
 

@@ -22,7 +22,7 @@ mod verdict;
 
 pub use actions::{action_groups, action_kinds};
 pub use asked::{Asked, Line, Which};
-pub use given::{first_line, is_among, is_first_line, line_patterns};
+pub use given::{first_line, is_first_line, line_patterns, names_of};
 pub use groups::{Side, text_groups};
 pub use laws::{
     alike_actions_at_decide_alike, alike_actions_decide_alike, alike_names_decide_alike,
