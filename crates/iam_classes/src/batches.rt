@@ -1,8 +1,8 @@
 // Decisions on requests of classes, up to 64 actions at once.
 
 use crate::memo::Memo;
-use iam_layers::World;
 use iam_columns::{empty, keep, kept, slot_of, slots_or_none};
+use iam_layers::World;
 use iam_span::{Decided, TOGETHER};
 use std::alloc::Global;
 

@@ -10,9 +10,9 @@ mod source;
 mod words;
 
 pub use engine::ClassEngine;
+pub use iam_columns::Numbered;
 pub use iam_index::Index;
 pub use iam_layers::{Decision, Shared, Verdict, World};
-pub use iam_columns::Numbered;
 pub use iam_span::Known;
 pub use iam_text::OutOfMemory;
 pub use memo::Found;

@@ -4,10 +4,10 @@ ghost use Rattle.std.specs.Prelude.{◌≡◌, ◌<◌, IfSome, IsTrue, Some, �
 use crate::held::Held;
 use crate::memo::{Found, Memo};
 use crate::source::{Source, Told};
+use iam_columns::{empty, empty_slots, keep, kept, slot_of};
 use iam_index::Index;
 use iam_layers::{Frame, Shared, World};
 use iam_living::{Asking, Bits};
-use iam_columns::{empty, empty_slots, keep, kept, slot_of};
 use iam_text::OutOfMemory;
 use std::alloc::Global;
 

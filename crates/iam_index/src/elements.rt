@@ -13,13 +13,13 @@ ghost use Rattle.iam_world.specs.World.{WorldValue};
 ghost use Rattle.iam_index.specs.Elements.{AreActRows, AreActs, AreElements, AreKept, HasElement, IsElement, Marked, MatchesNone, TellActs, TellSome};
 ghost use Rattle.iam_index.specs.declared.elements.Element.{Element};
 
+use iam_columns::{empty_slots, keep, kept, slot_of};
 use iam_decision::acting_are_found;
 use iam_equal::action_print;
 use iam_layers::{Living, Matched, World};
 use iam_match::action_matches;
 use iam_policy::Actions;
 use iam_services::{Services, Tried};
-use iam_columns::{empty_slots, keep, kept, slot_of};
 use iam_text::{Glob, OutOfMemory};
 use std::alloc::Global;
 

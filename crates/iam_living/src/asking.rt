@@ -7,9 +7,9 @@ ghost use Rattle.iam_living.specs.declared.asker.Asker.{Asker};
 
 use crate::asker::{Asker, Bits};
 use crate::keys::{Keys, Lives, known, lives_with, staying};
+use iam_columns::{keep, kept, slots_or_none};
 use iam_index::Index;
 use iam_layers::Living;
-use iam_columns::{keep, kept, slots_or_none};
 use iam_text::OutOfMemory;
 use std::alloc::Global;
 use std::marker::Model;

@@ -11,10 +11,10 @@ ghost use Rattle.iam_living.specs.Asker.{AreListWords, AsksForNone};
 ghost use Rattle.iam_living.specs.Word.{AreBits};
 
 use crate::word::with_bit;
+use iam_columns::{keep, kept, slots_or_none};
 use iam_index::{Index, ResourceLists};
 use iam_layers::Standing;
 use iam_match::{Access, rest_matches};
-use iam_columns::{keep, kept, slots_or_none};
 use iam_text::OutOfMemory;
 use std::alloc::Global;
 

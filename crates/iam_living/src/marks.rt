@@ -11,9 +11,9 @@ ghost use Rattle.iam_index.specs.Given.{IsFree};
 ghost use Rattle.iam_living.specs.Marks.{AreMarks};
 ghost use Rattle.iam_living.specs.declared.marks.Mark.TheVariants as mark;
 
+use iam_columns::{keep, kept};
 use iam_index::Known;
 use iam_match::{Context, Entry, holds};
-use iam_columns::{keep, kept};
 use iam_text::OutOfMemory;
 use std::alloc::Global;
 

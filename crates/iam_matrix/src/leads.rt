@@ -8,10 +8,10 @@ ghost use Rattle.iam_matrix.specs.Code.Leads.{AreKnown, AreLeads, HasVerdict, Is
 ghost use Rattle.iam_matrix.specs.Code.Tiles.{Adds};
 
 use iam_classes::ClassEngine;
+use iam_columns::{Numbered, empty_slots, keep_number, number_in, slot_of};
 use iam_layers::Verdict;
 use iam_report::Kept;
 use iam_row::Position;
-use iam_columns::{Numbered, empty_slots, keep_number, number_in, slot_of};
 use iam_text::OutOfMemory;
 use std::alloc::Global;
 

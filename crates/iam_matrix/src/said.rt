@@ -8,10 +8,10 @@ ghost use Rattle.iam_matrix.specs.Code.Tiles.{Adds};
 
 use crate::leads::{keep_lead, no_leads, put_known};
 use iam_classes::ClassEngine;
+use iam_columns::{Numbered, empty};
 use iam_layers::{Decision, Verdict};
 use iam_report::{Decisions, Kept};
 use iam_row::Position;
-use iam_columns::{Numbered, empty};
 use iam_text::OutOfMemory;
 use std::alloc::Global;
 
