@@ -170,7 +170,7 @@ fn have_same(ones: &[Glob], others: &[Glob]) -> bool
 }
 
 /// Whether both are the same signs in the same order.
-fn are_same(ones: Signs<'_>, others: Signs<'_>) -> bool
+pub fn are_same(ones: Signs<'_>, others: Signs<'_>) -> bool
     ensures { IsTrue result ↔ signs_in ones.entry ≡ signs_in others.entry }
 {
     if ones.len() != others.len() {

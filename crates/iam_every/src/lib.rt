@@ -20,7 +20,7 @@ mod text;
 mod texts;
 mod verdict;
 
-pub use actions::{action_groups, action_kinds};
+pub use actions::{action_groups, action_kinds, are_same};
 pub use asked::{Asked, Line, Which};
 pub use given::{first_line, is_first_line, line_patterns, names_of};
 pub use groups::{Side, text_groups};
