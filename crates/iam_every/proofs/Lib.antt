@@ -1,5 +1,5 @@
 mod ActionLemmas
-mod AlikeLemmas
+pub mod AlikeLemmas
 pub mod AtLemmas
 mod ElementLemmas
 pub mod FirstLemmas
@@ -9,16 +9,16 @@ pub mod ListLemmas
 pub mod MadeLemmas
 mod MatchLemmas
 pub mod MeantLemmas
-mod MemberLemmas
+pub mod MemberLemmas
 mod NamedCellLemmas
 pub mod NamesLemmas
 pub mod OneLemmas
 pub mod OneRowsLemmas
-mod OwnLemmas
+pub mod OwnLemmas
 mod ReportLemmas
 pub mod RowLemmas
 mod SideLemmas
-mod TellingLemmas
+pub mod TellingLemmas
 mod TextLemmas
 mod ToldLemmas
 pub mod WalkLemmas

@@ -51,7 +51,7 @@ take_next xs texts i text copy all at same =
 
 -- ---- what is said
 -- where a line says something of a text, it is said
-says_said : (every : EveryValue) (text : List ℕ) (unnamed : Unnamed) → Says every text unnamed → IsSaid every unnamed
+pub says_said : (every : EveryValue) (text : List ℕ) (unnamed : Unnamed) → Says every text unnamed → IsSaid every unnamed
 says_said every text unnamed (k, line, first, told) = elim told [
   | inl (r, (resource, at, arn), is) ↦
       let matches : Matches line.pattern (chars resource.arn) = subst (λ (t : List ℕ). Matches line.pattern (chars t)) (sym arn) first.matches in
@@ -138,7 +138,7 @@ pub all_said : (every : EveryValue) (old new : List Unnamed) → old ≡ map (λ
     → AreMore every.world every.lines (length every.world.resources) old new → AreSaid every new
 all_said every old new lines (matched, chosen, is) = (matched, chosen, is ∙ ap (λ l. l ++ map like matched) lines)
 
-is_said : (every : EveryValue) (said : List Unnamed) (unnamed : Unnamed) → AreSaid every said → Contains said unnamed → IsSaid every unnamed
+pub is_said : (every : EveryValue) (said : List Unnamed) (unnamed : Unnamed) → AreSaid every said → Contains said unnamed → IsSaid every unnamed
 is_said every said unnamed (matched, chosen, is) among =
     let unnamed_of : LineValue → Unnamed = λ line. line.unnamed in
     elim (Contains-append_cases (map unnamed_of every.lines) (map like matched) unnamed (subst (λ (l : List Unnamed). Contains l unnamed) is among)) [
@@ -149,7 +149,7 @@ is_said every said unnamed (matched, chosen, is) among =
           inr (r, (chosen_in (IsMatched every.world every.lines) numbers matched r chosen there).1, sym same)
     ]
 
-said_in : (every : EveryValue) (said : List Unnamed) (unnamed : Unnamed) → AreSaid every said → IsSaid every unnamed → Contains said unnamed
+pub said_in : (every : EveryValue) (said : List Unnamed) (unnamed : Unnamed) → AreSaid every said → IsSaid every unnamed → Contains said unnamed
 said_in every said unnamed (matched, chosen, is) told =
     let unnamed_of : LineValue → Unnamed = λ line. line.unnamed in
     subst (λ (l : List Unnamed). Contains l unnamed) (sym is) (elim told [
@@ -317,7 +317,7 @@ looked_kept world p said i d before b below looked are there some plain =
     })
 
 -- ---- actions
-only : (x y : List Sign) → Contains (x ∷ []) y → x ≡ y
+pub only : (x y : List Sign) → Contains (x ∷ []) y → x ≡ y
 only x y among = elim (first_or x y [] among) [ inl same ↦ same | inr rest ↦ absurd (none y rest) ]
 
 -- the bytes of a string

@@ -78,7 +78,7 @@ other_true true other is some = absurd (let wrong : ⊥ = cc in wrong)
 other_true false other is some = some
 
 -- ---- lists and tests
-in_filter : {X : Type 0} (p : X → Bool) (xs : List X) (x : X) → Contains xs x → p x ≡ true → Contains (filter p xs) x
+pub in_filter : {X : Type 0} (p : X → Bool) (xs : List X) (x : X) → Contains xs x → p x ≡ true → Contains (filter p xs) x
 in_filter p [] x in' is = absurd (none x in')
 in_filter {X} p (y ∷ xs) x in' is = elim (first_or y x xs in') [
   | inl same ↦ let passes : p y ≡ true = ap p same ∙ is in rw passes (subst (Contains (y ∷ filter p xs)) same (here y (filter p xs)))
@@ -89,7 +89,7 @@ in_filter {X} p (y ∷ xs) x in' is = elim (first_or y x xs in') [
     by_test true is there = rw is (behind y x (filter p xs) there)
     by_test false is there = rw is there
 
-of_filter : {X : Type 0} (p : X → Bool) (xs : List X) (x : X) → Contains (filter p xs) x → Contains xs x
+pub of_filter : {X : Type 0} (p : X → Bool) (xs : List X) (x : X) → Contains (filter p xs) x → Contains xs x
 of_filter p [] x in' = absurd (none x in')
 of_filter {X} p (y ∷ xs) x in' = by_test (of_filter p xs x) (p y) refl in'
   where
