@@ -4,7 +4,7 @@ import functools
 from typing import Any, Callable, Dict, Iterable, Iterator, List, NamedTuple, Optional, Sequence, Tuple
 
 from . import hanging, kinds
-from .arns import is_access_point, principal_text
+from .arns import is_access_point, owner_of, principal_text
 from .asking import ask_all, ask_changes, whole
 from .checking import NOTHING
 from .covering import tell_lacked
@@ -315,27 +315,37 @@ def with_witnesses(scopes: Sequence[Scope], worlds: Sequence[World], pattern: st
     documents that speak, and what these stand for. An ARN that no world names is asked for all the same."""
     if is_named(worlds, pattern):
         account = account_for(scopes[0], worlds[0], plain(pattern))
-        return [with_named(scope, world, plain(pattern), account) for scope, world in zip(scopes, worlds)], {}
+        some = zip(scopes, worlds, may_be(worlds, plain(pattern)))
+        return [with_named(scope, world, [plain(pattern)][: int(it)], account) for scope, world, it in some], {}
     named = {it["arn"] for world in worlds for it in world["resources"]}
     every = witnesses_of(worlds, pattern) if scopes[0].source.estate and is_pattern(pattern) else {}
     # A resource that one of the worlds has is not made up in the other.
     found = {key: origin for key, origin in every.items() if key[0] not in named}
 
-    def joined(estate: Optional[Estate], world: World) -> World:
+    def joined(estate: Optional[Estate], world: World, n: int) -> World:
         ids = {it["id"] for it in world["accounts"]}
-        more = [kinds.beside(world, arn, account) for arn, account in found if account in ids]
+        there = [it for it in found if it[1] in ids and may_be(worlds, it[0])[n]]
+        more = [kinds.beside(world, *it) for it in there]
         more = [bound(estate, it) if estate else it for it in more]
         chosen = [it for it in [*world["resources"], *more] if matcher(pattern)(it["arn"])]
         return {**world, "resources": chosen}
 
     stand = {arn: origin for (arn, _), origin in found.items()}
-    return [joined(scope.source.estate, world) for scope, world in zip(scopes, worlds)], stand
+    return [joined(scope.source.estate, world, n) for n, (scope, world) in enumerate(zip(scopes, worlds))], stand
 
 
-def with_named(scope: Scope, world: World, arn: str, account: str) -> World:
-    """The world with that resource alone."""
-    one, estate = kinds.beside(world, arn, account), scope.source.estate
-    resources = [bound(estate, one) if estate else one]
+def may_be(worlds: Sequence[World], arn: str) -> List[bool]:
+    """In which of the worlds a resource may be that neither names: by an access point that comes or goes in the one that
+    has it."""
+    point = owner_of(arn) if is_access_point(arn) else ""
+    there = [bool(point) and any(owner_of(it["arn"]) == point for it in of["resources"]) for of in worlds]
+    return there if any(there) else [True] * len(worlds)
+
+
+def with_named(scope: Scope, world: World, arns: List[str], account: str) -> World:
+    """The world with these resources alone."""
+    some, estate = [kinds.beside(world, it, account) for it in arns], scope.source.estate
+    resources = [bound(estate, it) if estate else it for it in some]
     return {**world, "resources": resources, "accounts": with_account(scope, world, resources)}
 
 

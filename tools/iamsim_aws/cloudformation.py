@@ -8,7 +8,7 @@ from .effects import TARGETS, Apply, is_meant
 from .exports import Account
 from .faults import Fault
 from .functions import Functions, Scope, text_of
-from .making import Estate
+from .making import BUCKET, Estate
 from .pieces import NESTED, READ, Key, Pieces
 from .planned import Change, Values
 from .sam import expanded, is_made, unfollowed
@@ -293,7 +293,7 @@ def is_replaced(kind: str, before: Values, after: Values) -> bool:
 def like(kind: str, values: Optional[Values]) -> Optional[Values]:
     """A resource's policy before the template, of which nobody knows what it was."""
     target = TARGETS.get(kind)
-    return {target: values[target]} if target and values else None
+    return {it: values[it] for it in (target, BUCKET) if it in values} if target and values else None
 
 
 def applied(estate: Estate, given: Given) -> Tuple[Estate, Estate, List[str]]:

@@ -3,7 +3,7 @@
 import re
 from typing import Any, Callable, Dict, List, NamedTuple, Optional, Tuple
 
-from .arns import account_of, bucket_of, resource_part, service_of
+from .arns import account_of, bucket_of, is_access_point, owner_of, resource_part, service_of
 from .documents import Policy, statements_of
 from .exports import Account, policy
 from .faults import Fault
@@ -17,6 +17,8 @@ from .unknowns import Unknowns
 QUEUE = re.compile(r"https://sqs\.((?!us-gov-)[a-z0-9-]+)\.amazonaws\.com/([0-9]{12})/([^/]+)")
 # Resources of these providers have nothing of AWS.
 OTHERS = ("random_", "null_", "time_", "tls_", "local_", "archive_", "http_", "terraform_")
+# An access point of S3, whose policy may be a resource of its own.
+POINT, POINT_POLICY = "aws_s3_access_point", "aws_s3control_access_point_policy"
 # What trust policies name, of which only the ARN matters here.
 PROVIDERS = ("aws_iam_openid_connect_provider", "aws_iam_saml_provider")
 ROLE_LISTS = ("inline_policy", "managed_policy_arns")
@@ -71,6 +73,7 @@ class Apply:
     def run(self) -> Estate:
         """What goes goes first, before what it hangs on: so nothing of it is left, and nothing new gets it."""
         changes = [it for it in self.changes if it.is_changed()]
+        give_points(self, changes)
         for change in changes:
             if change.kind in TARGETS:
                 give_before(self, change)
@@ -294,6 +297,8 @@ def is_meant(arn: str, target: str, kind: str) -> bool:
     bucket, part = bucket_of(arn), resource_part(arn)
     if bucket:
         return target in (arn, bucket) or bucket_of(target) == bucket and "/" not in target
+    if is_access_point(arn):
+        return target in (arn, owner_of(arn))
     queue = target.split("://")[-1].split("/")
     is_queue = "://" in target and len(queue) == 3 and arn.endswith(f":{queue[1]}:{queue[2]}")
     service, before = REGIONAL.get(kind, (service_of(arn), ""))
@@ -301,17 +306,18 @@ def is_meant(arn: str, target: str, kind: str) -> bool:
 
 
 def on_resource(apply: Apply, change: Change) -> None:
-    """A resource's policy, for the resource that an attribute names."""
+    """A resource's policy, for the resource that an attribute names. Where the resource itself has none, another may give it."""
     target = TARGETS[change.kind]
-    old, name = ((of or {}).get(target) for of in (change.before, change.after))
-    for it in apply.estate.further if old and not change.after else ():
+    before, after = change.before or {}, change.after or {}
+    old, name = before.get(target), after.get(target)
+    for it in apply.estate.further if old and not change.after and before.get("policy", True) else ():
         if is_meant(it["arn"], str(old), change.kind):
             it.pop("policy", None)
-    if name and change.after and change.after.get("policy"):
-        for it in meant(apply, change, name):
-            it["policy"] = policy(resource_policy(it["arn"]), change.after["policy"])
-            if change.kind == "aws_s3_access_point" and isinstance(change.after.get(BUCKET), str):
-                it[BUCKET] = change.after[BUCKET]
+    for it in meant(apply, change, name) if name and (after.get("policy") or change.kind == POINT) else ():
+        if after.get("policy"):
+            it["policy"] = policy(resource_policy(it["arn"]), after["policy"])
+        if change.kind == POINT and isinstance(after.get(BUCKET), str):
+            it[BUCKET] = after[BUCKET]
 
 
 def statement_of(values: Values, arn: str) -> Values:
@@ -373,7 +379,7 @@ def arn_of(apply: Apply, change: Change, name: str) -> Optional[str]:
     if name.startswith("arn:"):
         return name
     where, region = apply.where(change), change.values.get("region") or apply.region
-    if change.kind == "aws_s3_bucket_policy":
+    if change.kind in ("aws_s3_bucket", "aws_s3_bucket_policy"):
         return f"arn:{where.partition}:s3:::{name}"
     if change.kind in REGIONAL and where.account and region:
         service, before = REGIONAL[change.kind]
@@ -399,6 +405,18 @@ def meant(apply: Apply, change: Change, name: str) -> List[Values]:
     return apply.estate.further[-1:]
 
 
+def give_points(apply: Apply, changes: List[Change]) -> None:
+    """Gives the access points that are there before the plan their buckets; those that change have to be there."""
+    changed = {it.values.get(TARGETS[it.kind]) for it in changes if it.kind in (POINT, POINT_POLICY)}
+    for change in (it for it in apply.changes if it.kind == POINT and it.before):
+        arn, bucket = ((change.before or {}).get(name) for name in (TARGETS[POINT], BUCKET))
+        if arn in changed:
+            meant(apply, change._replace(after=None), str(arn))
+        for it in apply.estate.further if isinstance(bucket, str) else ():
+            if is_meant(it["arn"], str(arn), POINT):
+                it.setdefault(BUCKET, bucket)
+
+
 def give_before(apply: Apply, change: Change) -> None:
     """Gives resources whose policy is not known the one that the plan has from before it."""
     before, after = change.before or {}, change.after or {}
@@ -416,9 +434,11 @@ def give_before(apply: Apply, change: Change) -> None:
 
 def before_plan(apply: Apply, change: Change) -> Dict[str, Any]:
     """The attributes of a resource that are there before the plan, by the names that it gives them."""
-    name = (change.before or {}).get(TARGETS[change.kind]) if change.kind in TARGETS else None
+    before = change.before or {}
+    name = before.get(TARGETS[change.kind]) if change.kind in TARGETS else None
     if name:
-        own = [it for it in apply.first.further if is_meant(it["arn"], name, change.kind) and "policy" in it]
+        some = apply.first.further if before.get("policy") is not None else []
+        own = [it for it in some if is_meant(it["arn"], name, change.kind) and "policy" in it]
         return {"policy": it["policy"].document for it in own}
     account = apply.found(change, apply.first)
     return in_export(change, account) if account else {}
@@ -488,9 +508,10 @@ def on_organization_attachment(apply: Apply, change: Change) -> None:
 
 # The attribute that names whose policy it is, of each kind of resource with a policy.
 TARGETS = {
+    "aws_s3_bucket": "bucket",
     "aws_s3_bucket_policy": "bucket",
-    "aws_s3_access_point": "arn",
-    "aws_s3control_access_point_policy": "access_point_arn",
+    POINT: "arn",
+    POINT_POLICY: "access_point_arn",
     "aws_kms_key": "arn",
     "aws_kms_key_policy": "key_id",
     "aws_sqs_queue": "arn",
@@ -507,7 +528,7 @@ REGIONAL = {
     "aws_ecr_repository_policy": ("ecr", "repository/"),
     "aws_efs_file_system_policy": ("elasticfilesystem", "file-system/"),
     "aws_lambda_permission": ("lambda", "function:"),
-    "aws_s3_access_point": ("s3", "accesspoint/"),
+    POINT: ("s3", "accesspoint/"),
     "aws_sqs_queue": ("sqs", ""),
     "aws_sns_topic": ("sns", ""),
 }

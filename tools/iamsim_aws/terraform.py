@@ -2,10 +2,11 @@
 
 from typing import List, Optional, Tuple
 
+from .arns import owner_of
 from .configurations import Configuration
-from .effects import KINDS, REGIONAL, TARGETS, Apply, arn_of
+from .effects import KINDS, POINT, REGIONAL, TARGETS, Apply, arn_of
 from .faults import Fault
-from .making import Estate
+from .making import BUCKET, Estate
 from .planned import Change, any_true
 from .plans import Plan
 
@@ -27,14 +28,15 @@ class ApplyPlan(Apply):
         if change.unknown.get("name") is True and not after.get("name"):
             plan.lacks(change, "name")
             return None
-        if kind.is_link and kind.document and not after.get(kind.document):
-            if not change.unknown.get(kind.document):
-                return change
-            if not plan.is_configured(change, kind.document):
-                return None  # AWS gives it
-        if TARGETS.get(change.kind) == "arn" and change.kind in REGIONAL:
-            after["arn"] = after.get("arn") or arn_of(self, change, str(after.get("name")))
         where = self.where(change)
+        if TARGETS.get(change.kind) == "arn" and change.kind in REGIONAL:
+            after["arn"] = self.arn_after(change)
+        if change.kind == POINT:
+            after[BUCKET] = after.get(BUCKET) or plan.referred(change, BUCKET, where)
+        if change.kind in TARGETS and not plan.is_configured(change, kind.document):
+            return self.without_own(change)
+        if kind.is_link and kind.document and not after.get(kind.document) and not change.unknown.get(kind.document):
+            return change
         for name in kind.texts:
             after[name] = plan.text(change, name, where)
         if kind.document:
@@ -47,6 +49,27 @@ class ApplyPlan(Apply):
         begin = f"{change.address}."
         untold = [it[len(begin) :].partition(".")[0] for it in unknown[count:] if it.startswith(begin)]
         return change._replace(after={name: it for name, it in after.items() if name not in untold})
+
+    def without_own(self, change: Change) -> Optional[Change]:
+        """A resource whose policy the configuration does not give: AWS or another resource gives it, so it stays as it is, but
+        where the resource is made anew."""
+        before, after = change.before, {**(change.after or {}), "policy": None}
+        if change.kind == POINT:
+            kept = {**before, "policy": None} if before and not change.is_replaced else before
+            return change._replace(before=kept, after=after, unknown={})
+        return change._replace(after=None) if before and change.is_replaced else None
+
+    def run(self) -> Estate:
+        """Of an access point that goes nothing is left to be asked."""
+        made, points = super().run(), [it for it in self.changes if it.kind == POINT]
+        there = {self.arn_after(it) for it in points if it.after}
+        gone = {it.before.get("arn") for it in points if it.before} - there
+        return made._replace(further=[it for it in made.further if owner_of(it["arn"]) not in gone])
+
+    def arn_after(self, change: Change) -> Optional[str]:
+        """The ARN of a resource after the change, also where it follows from the name."""
+        after = change.after or {}
+        return after.get("arn") or arn_of(self, change, str(after.get("name")))
 
 
 def applied(

@@ -167,6 +167,37 @@ def test_an_access_point_of_a_plan():
         same(out.count(f"gained,{USERS}jane,"), wanted, out)
 
 
+def of_plan(before, after, policy=None):
+    """{(change, user)} of a plan that has the access point so, with the bucket's policy."""
+    made = {"address": "aws_s3_access_point.p", "mode": "managed", "type": "aws_s3_access_point"}
+    actions = ["update"] if before and after else ["create"] if after else ["delete"]
+    unknown = {} if before else {"arn": True}
+    made["change"] = {"actions": actions, "before": before, "after": after, "after_unknown": unknown}
+    region = {"aws": {"expressions": {"region": {"constant_value": "eu-west-1"}}}}
+    plan = file({"format_version": "1.2", "resource_changes": [made], "configuration": {"provider_config": region}})
+    bucket = {"arn": BUCKET, "account": OWN, **({"policy": policy} if policy else {})}
+    words = ["--action", "s3:GetObject", "--resource", KEY, "--format", "csv", "--resources", file([bucket])]
+    out, _ = aws("changes", EXPORT, "--terraform", plan, *words)
+    rows = [line.split(",") for line in out.splitlines()[1:]]
+    return {(row[0], row[1][len(USERS) :]) for row in rows}
+
+
+def test_what_is_not_there_before_a_plan_allows_nothing():
+    """By an access point that comes nobody was allowed before, and by one that goes nobody is after."""
+    new = {"name": "p", "bucket": "data", "policy": json.dumps(TO_JANE)}
+    old = {**new, "arn": POINT}
+    same(of_plan(None, new), {("gained", "wide")})
+    same(of_plan(None, new, TO_POINTS), {("gained", it) for it in ("jane", "wide", "narrow")})
+    deny = json.dumps(document(grant("*", f"{POINT}/object/*", effect="Deny")))
+    same(of_plan(None, {**new, "policy": deny}), set())
+    same(of_plan(old, None, TO_POINTS), {("lost", it) for it in ("jane", "wide", "narrow")})
+    same(of_plan({**old, "policy": deny}, None), set())
+    # The bucket counts before a plan as it does after: without its grant jane and narrow were not allowed either.
+    put = json.dumps(document(grant({"AWS": f"{USERS}jane"}, f"{POINT}/object/*", action="s3:PutObject")))
+    same(of_plan(old, {**old, "policy": put}), set())
+    same(of_plan(old, {**old, "policy": put}, TO_POINTS), {("lost", "jane")})
+
+
 def test_a_bucket_that_nobody_knows():
     """What the access point denies is denied; what it allows is not known, and no check is green by it."""
     words = "its requests fall under the policy of its bucket too, which is not asked here"

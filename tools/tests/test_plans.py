@@ -229,6 +229,39 @@ def test_a_bucket_policy_that_moves():
     same(gained(made, "--resources", resources)[0], wanted)
 
 
+READERS = (ALICE, f"{ACCOUNT}user/ops/bob", f"{SESSION}deploy/s1")
+
+
+def test_the_policy_that_a_bucket_has_of_its_own():
+    """By the old argument of aws_s3_bucket. Where the configuration does not give it, what another resource gives stays."""
+    deny = {"Effect": "Deny", "Principal": "*", "Action": "s3:GetObject", "Resource": "arn:aws:s3:::releases/*"}
+    own, gone = {"bucket": "releases", "policy": text(deny)}, {"bucket": "releases", "policy": ""}
+    given = file([{"arn": OBJECT, "account": "111122223333"}])
+    same(gained(plan(change("aws_s3_bucket.b", None, own)), "--resources", given)[0], {("lost", it) for it in READERS})
+    made = plan(change("aws_s3_bucket.b", own, gone))
+    same(gained(made, "--resources", given)[0], {("gained", it) for it in READERS})
+    # The bucket itself tells its policy before and after, which is the one of another resource that goes.
+    other = [configured("aws_s3_bucket.b", bucket=["var.name"])]
+    tagged = change("aws_s3_bucket.b", own, {**own, "tags": {"a": "b"}})
+    both = [change("aws_s3_bucket_policy.p", own, None), tagged]
+    found, said = gained(plan(*both, configuration={"resources": other}), "--resources", given)
+    same(found, {("gained", it) for it in READERS}, said)
+    assert "aws_s3_bucket" not in said, said
+    # Of one that is made anew nothing is left; one that tells no policy leaves the one that is there.
+    anew = made_anew("aws_s3_bucket.b", own, {"bucket": "releases"}, policy=True)
+    same(gained(plan(anew, configuration={"resources": other}))[0], {("gained", it) for it in READERS})
+    denied = file([{"arn": OBJECT, "account": "111122223333", "policy": document(deny)}])
+    silent = {"bucket": "releases", "policy": None}
+    made = plan(change("aws_s3_bucket.b", silent, {**silent, "tags": {"a": "b"}}))
+    found, said = gained(made, "--resources", denied)
+    same((found, "take" in said), (set(), False), said)
+    # What only the apply tells is told.
+    later = [configured("aws_s3_bucket.b", policy=["aws_kms_key.k.arn", "aws_kms_key.k"])]
+    made = plan(change("aws_s3_bucket.b", None, {"bucket": "releases"}, policy=True), configuration={"resources": later})
+    assert "only the apply tells aws_s3_bucket.b.policy" in gained(made, status=1)[1]
+    same(gained(made, "--allow-unknown", "--resources", denied)[0], set())
+
+
 def test_new_arns_are_of_the_accounts_partition():
     export = json.loads(json.dumps(load(EXPORT)).replace("arn:aws:", "arn:aws-us-gov:"))
     inline = {"user": "zoe", "name": "Read", "policy": READ}
