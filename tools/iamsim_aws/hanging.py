@@ -4,12 +4,12 @@ import datetime
 import re
 from typing import Any, Dict, Iterator, List, NamedTuple, Optional, Tuple
 
-from .asking import ask_all
 from .documents import World, cells_of, conditions_of, each, statements_of
-from .keys import givers, lacks, plain_operator, with_key
+from .keys import givers, lacks, plain_operator
 from .kinds import first_text, statements, values_of
 from .patterns import common, of_policy, resolved
 from .reports import Answers
+from .requests import decisions
 
 # Requests that are asked at most.
 MOST = 50_000_000
@@ -146,12 +146,6 @@ def silent_words(keys: List[str]) -> str:
     return f"{what}: {', '.join(keys)}"
 
 
-def questions(world: World) -> Iterator[Tuple[str, str, World]]:
-    for key, texts in wanted(world).items():
-        for text in texts:
-            yield key, text, with_key(world, key, text)
-
-
 def is_too_much(world: World) -> bool:
     """Whether the questions are too many to be asked within minutes."""
     return sum(map(len, wanted(world).values())) * cells_of(world) > MOST
@@ -159,10 +153,10 @@ def is_too_much(world: World) -> bool:
 
 def turns(world: World, answers: Answers) -> Dict[int, List[Turn]]:
     """For each cell the keys, each with its values, with which it becomes allowed or is no longer."""
-    asked = [] if is_too_much(world) else list(questions(world))
+    asked = [(key, text) for key, texts in wanted(world).items() for text in texts] if not is_too_much(world) else []
     found: Dict[int, List[Turn]] = {}
     before = answers.flags()
-    for (key, text, _), other in zip(asked, ask_all([it for _, _, it in asked], brief=True)):
+    for (key, text), other in zip(asked, decisions(world, [{key: text} for key, text in asked])):
         after = other.flags()
         for cell in range(len(before)) if after != before else ():
             if before[cell] != after[cell]:

@@ -97,6 +97,14 @@ def test_either_may_deny():
     assert f"denied by {BUCKET} policy, statement 1 (the bucket's policy)" in out, out
 
 
+def test_what_it_hangs_on_in_the_bucket():
+    """A key that the bucket's policy alone asks for."""
+    deny = {**grant("*", f"{BUCKET}/*", effect="Deny"), "Condition": {"StringEquals": {"aws:SourceVpc": "vpc-1"}}}
+    given = resources(document(*TO_POINTS["Statement"], deny))
+    out, _ = aws("can", "wide", "s3:GetObject", KEY, EXPORT, "--resources", given)
+    assert "  denied if `aws:SourceVpc` is `vpc-1`\n" in out, out
+
+
 def test_a_bucket_of_another_account():
     """The bucket's account has to grant, and all that the access point's account says counts too."""
     found = decisions(resources(account=OTHER))

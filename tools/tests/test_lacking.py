@@ -44,6 +44,23 @@ def test_a_wide_rule_is_broken_where_a_narrow_one_is():
     assert out.endswith("1 rules: 1 kept, 0 broken, 0 empty, 0 open\n"), out
 
 
+def test_who_stands_twice_is_asked_as_both():
+    """Of two that have one name, and of two resources that have one, each is asked with what it lacks."""
+    both = {**WORLD, "principals": [{**it, "user": f"{USER}may"} for it in WORLD["principals"]]}
+    both["resources"] = [*WORLD["resources"], {**WORLD["resources"][0], "context": {"aws:ResourceTag/t": "x"}}]
+    out, _ = aws("who-can", "s3:GetObject", OBJECT, "--world", file(both), "--format", "json", "--moment", "0")
+    found = [[(it["key"], it["value"]) for it in row["hangsOn"]] for row in json.loads(out)]
+    same(found, [[], [], [("k", "yes")], [("k", "yes")]])
+
+
+def test_a_key_with_decimals():
+    """It is told as the policy has it."""
+    over = {"NumericGreaterThan": {"s3:TlsVersion": "1.2"}, "NumericEquals": {"s3:TlsVersion": ["1.15", "1.3"]}}
+    made = file(small_world(document(statement(Condition=over))))
+    found = hangs("can", "ann", "s3:GetObject", OBJECT, "--world", made, status=3)
+    same(found, {(f"{USER}ann", OBJECT): {"s3:TlsVersion": "1.3"}})
+
+
 def test_who_can_with_a_key_that_others_have():
     same(
         hangs("who-can", "s3:GetObject", OBJECT, "--world", file(WORLD)),

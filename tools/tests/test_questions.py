@@ -3,8 +3,9 @@
 import csv
 import io
 import json
+import os
 
-from harness import aws, data, document, file, load, same, small_world, statement
+from harness import IAMSIM, aws, data, document, file, load, same, small_world, statement
 
 ACCOUNT = "arn:aws:iam::111122223333:"
 SESSION = "arn:aws:sts::111122223333:assumed-role/"
@@ -359,6 +360,25 @@ def test_all_values_of_a_key_are_told():
     assert f",allowed if {told}\n" in out, out
     out, _ = aws("rules", file("never ann s3:GetObject *\n"), "--world", made, status=3)
     assert f"ann may s3:GetObject arn:aws:s3:::b/k if {told}, which nothing gives" in out, out
+
+
+def test_what_answers_hang_on_is_asked_in_one_run():
+    """Two keys with ten values each, for two users: beside the answers themselves one run, with a request for each value."""
+    words = [f"v{n}" for n in range(10)]
+    allowed = [statement(Condition={"StringEquals": {key: words}}) for key in ("k", "m")]
+    made = small_world(document(*allowed))
+    made["principals"].append({**made["principals"][0], "user": "arn:aws:iam::111122223333:user/bob"})
+    ran = file("")
+    counting = file(f'#!/bin/sh\necho "$1" >> {ran}\nexec {IAMSIM} "$@"\n')
+    os.chmod(counting, 0o700)
+    os.environ["IAMSIM"] = counting
+    try:
+        found = rows("who-can", "s3:GetObject", "*", "--world", file(made))
+    finally:
+        os.environ["IAMSIM"] = IAMSIM
+    same([[(it["key"], it["values"]) for it in row["hangsOn"]] for row in found], [[("k", words), ("m", words)]] * 2)
+    with open(ran) as it:
+        same(it.read().split(), ["matrix", "ask"])
 
 
 def test_an_allow_may_hang_on_a_key_too():
