@@ -3,7 +3,7 @@
 import argparse
 from typing import List, Optional, Set, Tuple
 
-from . import cloudformation, configurations, files, putting, terraform
+from . import cloudformation, files, putting, terraform
 from .documents import World
 from .faults import Fault, tell
 from .making import Estate
@@ -35,7 +35,6 @@ def inputs(options: argparse.Namespace) -> List[str]:
     """The files that these options name."""
     found = [it.rpartition("=")[2] for it in [*options.put, *options.parameters, *options.stack]]
     found += [it.partition("=")[2].partition("@")[0] for it in options.attach]
-    found += configurations.files_of(options.configuration) if options.configuration else []
     return [*found, *options.cloudformation, *filter(None, [options.terraform])]
 
 

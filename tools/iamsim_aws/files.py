@@ -11,6 +11,8 @@ from typing import Any, Dict, Iterable, List, Optional, Tuple
 
 from .faults import Fault, tell
 
+# How the names of files of Terraform end.
+CONFIGURATION = (".tf", ".tf.json", ".tfvars", ".tofu", ".tofu.json")
 # The bytes that a gzip file may hold: many times an export, and a part of a machine's memory.
 MOST = 1 << 28
 
@@ -141,13 +143,16 @@ def unwritten(error: OSError) -> Fault:
 
 
 def refuse_taken(written: Iterable[Optional[str]], read: Iterable[Optional[str]]) -> None:
-    """No file that a command writes is one that it reads, or writes twice; and the answer has standard output."""
+    """No file that a command writes is one that it reads, or writes twice, or a configuration; and the answer has standard
+    output."""
     taken = [it for it in read if it and it != "-"]
     for path in (it for it in written if it is not None):
         if path == "-":
             raise Fault("a report cannot be standard output, which has the answer: name a file")
         if any(is_same(path, it) for it in taken):
             raise Fault(f"{path}: it is read or written by this command already: name another file")
+        if os.path.realpath(path).endswith(CONFIGURATION):
+            raise Fault(f"{path}: it is named as a configuration of Terraform: name another file")
         taken.append(path)
 
 

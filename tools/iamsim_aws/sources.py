@@ -1,6 +1,8 @@
 """Where a command's worlds come from: exports with further files, or a world that was made before."""
 
 import argparse
+import glob
+import os
 import time
 from typing import Any, Callable, Dict, List, Optional, Tuple
 
@@ -151,6 +153,14 @@ def refuse_untrusted(world: World) -> None:
     for it in world["resources"]:
         if is_role(it) and "policy" not in it:
             raise Fault(f"the world has no trust policy of {it['arn']}: make it with an sts: action")
+
+
+def inputs(options: argparse.Namespace) -> List[str]:
+    """The files that the options of a source name, and those of their folders."""
+    named = [options.world, options.actions, options.organization]
+    further = [*options.exports, *options.resources, *options.context, *options.sessions, *options.services]
+    inside = (one for it in options.services for one in glob.glob(f"{glob.escape(it)}{os.sep}*"))
+    return [*filter(None, named), *further, *inside]
 
 
 class Source:

@@ -292,6 +292,31 @@ def test_a_report_takes_no_file_that_is_read():
     export = file(load(EXPORT))
     aws("world", export, "--names", export, status=1)
     same(load(export), load(EXPORT))
+    organization = file(load(data("organization.json")))
+    aws("world", export, "--organization", organization, "--names", organization, status=1)
+    same(load(organization), load(data("organization.json")))
+
+
+def test_a_report_takes_no_configuration():
+    """A file of a folder below the configuration's, or by a link, is one of its files too; so is one of the service reference."""
+    folder = room()
+    path, link = os.path.join(folder, "sub", "main.tf"), os.path.join(folder, "r.xml")
+    reference = os.path.join(folder, "services", "s3.json")
+    for it in (path, reference):
+        os.mkdir(os.path.dirname(it))
+        with open(it, "w") as to:
+            to.write("#")
+    os.symlink(path, link)
+    given = ["rules", file(RULE), EXPORT, "--services", os.path.dirname(reference)]
+    for it, why in (
+        (path, "it is named as a configuration of Terraform: name another file"),
+        (link, "it is named as a configuration of Terraform: name another file"),
+        (reference, "it is read or written by this command already"),
+    ):
+        _, said = aws(*given, "--junit", it, status=1)
+        assert why in said, said
+        with open(it) as kept:
+            same(kept.read(), "#")
 
 
 def test_streams_that_are_closed_or_full():

@@ -10,7 +10,7 @@ from ..escalation.search import Found, Search
 from ..covering import tell_strangers
 from ..faults import Fault
 from ..patterns import near
-from ..sources import add_options, add_sessions, source_of
+from ..sources import add_options, add_sessions, inputs, source_of
 from .parsers import add
 
 WRITE = {"text": reporting.as_text, "json": reporting.as_json, "markdown": reporting.as_markdown}
@@ -30,8 +30,7 @@ def add_all(commands: Any) -> None:
 
 
 def run(options: argparse.Namespace) -> int:
-    read = [*options.exports, *options.resources, *options.context, *options.sessions, options.organization]
-    files.refuse_taken([options.svg], read)
+    files.refuse_taken([options.svg], inputs(options))
     source = source_of(options)
     search = Search(source, options.to)
     if not search.people.own:

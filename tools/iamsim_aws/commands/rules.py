@@ -14,7 +14,7 @@ from ..questions import Scope, account_words, lacked
 from ..never import Break
 from ..ruling import Outcome, check, read_rules
 from ..slips import slips
-from ..sources import add_source, source_of
+from ..sources import add_source, inputs, source_of
 from ..telling import BY, LACKS, deciding
 from ..unknowns import ANY_RESOURCE, DENY_LEFT
 from .parsers import add, add_chains, add_verbose, whole
@@ -44,26 +44,14 @@ def add_all(commands: Any) -> None:
 
 def run(options: argparse.Namespace) -> int:
     """The status; where there is no answer, the reports for pipelines say so and none of an earlier run is left."""
-    files.refuse_taken([options.junit, options.sarif], inputs(options))
+    read = [options.rules, options.names, *inputs(options), *drafts.inputs(options)]
+    files.refuse_taken([options.junit, options.sarif], read)
     report(options, [fault(files.name_of(options.rules), "it came to no answer")])
     try:
         return checked(options)
     except Fault as why:
         report(options, [fault(files.name_of(options.rules), str(why))])
         raise
-
-
-def inputs(options: argparse.Namespace) -> List[str]:
-    """The files that are read."""
-    named = [options.rules, options.world, options.names, options.actions, options.organization]
-    return [
-        *filter(None, named),
-        *options.exports,
-        *options.resources,
-        *options.context,
-        *options.sessions,
-        *drafts.inputs(options),
-    ]
 
 
 def report(options: argparse.Namespace, cases: List[Case], notes: Sequence[str] = ()) -> None:

@@ -19,6 +19,7 @@ from ..sources import (
     add_options,
     add_sessions,
     estate_of,
+    inputs,
     read_actions,
     read_object,
     read_world,
@@ -64,6 +65,7 @@ def add_maker(commands: Any) -> None:
         help_of_pattern = f"only {what} that match; '*' and '?' are wild; may stand several times"
         parser.add_argument(f"--{name}", action="append", default=[], metavar="PATTERN", help=help_of_pattern)
     parser.add_argument("--names", metavar="FILE", help="writes there the name of each policy")
+    parser.set_defaults(world=None)
 
 
 def add_world(parser: argparse.ArgumentParser) -> None:
@@ -75,15 +77,7 @@ def write_world(value: World) -> None:
 
 
 def world(options: argparse.Namespace) -> int:
-    read = [
-        *options.exports,
-        *options.resources,
-        *options.context,
-        *options.sessions,
-        options.actions,
-        *drafts.inputs(options),
-    ]
-    files.refuse_taken([options.names], read)
+    files.refuse_taken([options.names], [*inputs(options), *drafts.inputs(options)])
     chosen = read_actions(options.actions) if options.actions else [ASSUME]
     refuse_unknown(References(options.services), chosen)
     made = chosen_of(options, chosen)
