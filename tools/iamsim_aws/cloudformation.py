@@ -14,7 +14,7 @@ from .planned import Change, Values
 from .sam import expanded, is_made, unfollowed
 from .standins import ENTITIES, PATHS, Names, entity_of, plain_name
 from .templates import Stack, Template, account_in, parameters_of, read_template, stacks_of, with_previous
-from .unknowns import Unknowns
+from .unknowns import Applied, Unknowns
 from .yamls import Unclear
 
 RETAIN = ("Retain", "RetainExceptOnCreate")
@@ -40,9 +40,17 @@ class Given(NamedTuple):
 class Reader:
     """Finds the changes that a template brings to its stack."""
 
-    def __init__(self, template: Template, given: Dict[str, Any], stack: Stack, estate: Estate, option: Optional[str]):
+    def __init__(
+        self,
+        template: Template,
+        given: Dict[str, Any],
+        stack: Stack,
+        estate: Estate,
+        option: Optional[str],
+        is_narrow: bool = False,
+    ):
         self.template, self.stack, self.estate = template, stack, estate
-        self.unknowns = Unknowns(template.path, "template")
+        self.unknowns = Unknowns(template.path, "template", is_narrow)
         self.account = self.account_of(given, option)
         self.changes: List[Change] = []
         region = text_of(given.get("AWS::Region")) or (stack.arn.split(":") + [""] * 4)[3]
@@ -296,24 +304,36 @@ def like(kind: str, values: Optional[Values]) -> Optional[Values]:
     return {it: values[it] for it in (target, BUCKET) if it in values} if target and values else None
 
 
-def applied(estate: Estate, given: Given) -> Tuple[Estate, Estate, List[str]]:
+def applied(estate: Estate, given: Given) -> Applied:
     """The estate before the templates, with the policies that the deployed ones give, and after them; and what is to be told."""
     templates = [read_template(it) for it in given.templates]
     parameters, stacks = parameters_of(templates, given.parameters), stacks_of(templates, given.stacks)
     values = [with_previous(of, template, stack) for of, template, stack in zip(parameters, templates, stacks)]
-    three = zip(templates, values, stacks)
-    readers = [guarded(template, of, stack, estate, given.account) for template, of, stack in three]
-    refuse_twice(readers)
-    for reader in readers:
-        some = [it for it in readers if it.account is reader.account]
-        reader.run({key for it in some for of in it.after.found.values() for key in of})
+    three = list(zip(templates, values, stacks))
+    readers = read(three, estate, given)
     unknowns = together(readers)
     apply = Apply([change for it in readers for change in it.changes], estate, given.account, unknowns)
     made = apply.run()
     ignored: Dict[str, int] = {}
     for kind in (kind for it in readers for kind in it.after.unread.values() if kind not in PLAIN):
         ignored[kind] = ignored.get(kind, 0) + 1
-    return apply.first, made, unknowns.settled(apply.notes, ignored, given.allows_unknown)
+    told = unknowns.settled(apply.notes, ignored, given.allows_unknown)
+    if not any(it.unknowns.has_guesses for it in readers):
+        return Applied(apply.first, made, *told, None)
+    narrow = [change for it in read(three, estate, given, True) for change in it.changes]
+    return Applied(apply.first, made, *told, Apply(narrow, estate, given.account, unknowns.narrow()).run())
+
+
+def read(
+    three: List[Tuple[Template, Dict[str, Any], Stack]], estate: Estate, given: Given, is_narrow: bool = False
+) -> List[Reader]:
+    """A reader of each template, with its parameters and its stack, that has found the changes."""
+    readers = [guarded(*it, estate, given.account, is_narrow) for it in three]
+    refuse_twice(readers)
+    for reader in readers:
+        some = [it for it in readers if it.account is reader.account]
+        reader.run({key for it in some for of in it.after.found.values() for key in of})
+    return readers
 
 
 def has_statement(it: Values, kind: str, old: str) -> bool:
@@ -342,9 +362,11 @@ def refuse_twice(readers: List[Reader]) -> None:
                 seen[own] = logical
 
 
-def guarded(template: Template, of: Dict[str, Any], stack: Stack, estate: Estate, account: Optional[str]) -> Reader:
+def guarded(
+    template: Template, of: Dict[str, Any], stack: Stack, estate: Estate, account: Optional[str], is_narrow: bool
+) -> Reader:
     try:
-        return Reader(template, of, stack, estate, account)
+        return Reader(template, of, stack, estate, account, is_narrow)
     except RecursionError:
         raise Fault(f"{template.path}: its functions hang on one another too deep") from None
 

@@ -9,6 +9,7 @@ from .faults import Fault, tell
 from .making import Estate
 from .reports import axes_of
 from .sources import ASSUME, Source, source_of
+from .unknowns import Applied
 
 
 def add_options(parser: argparse.ArgumentParser) -> None:
@@ -42,13 +43,17 @@ def before_and_after(source: Source, options: argparse.Namespace) -> Tuple[Sourc
     """The source without and with the drafts and the plan of the options."""
     first = estate = source.estate
     lines: List[str] = []
+    left: List[str] = []
+    narrow: Optional[Estate] = None
     if options.terraform or options.configuration or options.cloudformation or options.parameters or options.stack:
-        first, estate, lines = applied(estate, options)
+        first, estate, lines, left, narrow = applied(estate, options)
     if options.attach and estate is None:
         raise Fault("--attach: a policy is attached in exports, and not in a world")
     attached = [putting.read_attachment(it) for it in options.attach]
     drafts = [putting.read_draft(it) for it in options.put]
-    estate = putting.with_drafts(putting.with_attachments(estate, attached), drafts) if estate else None
+    estate, narrow = (
+        putting.with_drafts(putting.with_attachments(it, attached), drafts) if it else None for it in (estate, narrow)
+    )
     aliases = estate.organization.names() if estate else {}
     if first and estate and (options.terraform or options.cloudformation):
         refuse_unheld(first, estate, "plan" if options.terraform else "template")
@@ -60,11 +65,13 @@ def before_and_after(source: Source, options: argparse.Namespace) -> Tuple[Sourc
     def change(world: World) -> World:
         return putting.put(world, meant)
 
-    return source.like(first, lambda world: world), source.like(estate, change)
+    after = source.like(estate, change)
+    after.left, after.narrow = left, source.like(narrow, change) if narrow else None
+    return source.like(first, lambda world: world), after
 
 
-def applied(estate: Optional[Estate], options: argparse.Namespace) -> Tuple[Estate, Estate, List[str]]:
-    """The estate before and after the plan, or the templates, and what is to be told of them."""
+def applied(estate: Optional[Estate], options: argparse.Namespace) -> Applied:
+    """What the plan, or the templates, make of the estate."""
     if options.configuration and not options.terraform:
         raise Fault("--configuration belongs to --terraform")
     if options.terraform and (options.cloudformation or options.parameters or options.stack):

@@ -140,6 +140,15 @@ def check(scope: Scope, rules: List[Rule], as_given: bool = False, before: Optio
     ]
 
 
+def in_doubt(scope: Scope, rule: Rule, broken: List[Break]) -> List[str]:
+    """The requests that have to be allowed and are, but for what only the apply of a plan tells."""
+    if scope.source.narrow is None:
+        return []
+    narrow, known = scope._replace(source=scope.source.narrow), {it.answers.row(it.cell)[:3] for it in broken}
+    rows = [it.answers.row(it.cell)[:3] for it in refused(narrow, worlds(narrow, rule.question))]
+    return [f"{' '.join(it)} may be refused by what is known only after the apply" for it in rows if it not in known]
+
+
 def reason(scope: Scope, question: Question, of: Never) -> str:
     """Why a rule meets no request. A role that is not there is asked for by none."""
     resources = [it for one in of.asked for it in one.world["resources"]]
@@ -156,19 +165,26 @@ def outcome(scope: Scope, rule: Rule, of: Never, found: Finding) -> Outcome:
         why = why or ("" if requests else NOTHING_SPEAKS)
     if not why and not found.broken and is_unnamed(scope, rule.question):
         why = unnamed(scope, rule.question.action)
+    opens = [*found.opens, *scope.source.left]
     if rule.kind == "always" and any(is_half_known(one) for it in of.asked for one in it.world["resources"]):
-        why = HALF_KNOWN
+        opens.append(HALF_KNOWN)
     broken = sorted(found.broken, key=Break.is_mixed)
-    return Outcome(rule, requests, bool(of.names), broken, found.opens, of.asked, why, scope.source.giver)
+    return Outcome(rule, requests, bool(of.names), broken, opens, of.asked, why, scope.source.giver)
 
 
 def lacking(scope: Scope, rule: Rule, of: Never, before: Optional[Scope]) -> Finding:
     """The requests that have to be allowed and are not."""
+    found = refused(scope, of.asked)
+    return Finding(since(before, rule, found) if before else found, in_doubt(scope, rule, found))
+
+
+def refused(scope: Scope, asked: List[Asked]) -> List[Break]:
+    """The requests that are not allowed."""
     found = []
-    for it, answers in zip(of.asked, ask_all([it.world for it in of.asked])):
+    for it, answers in zip(asked, ask_all([it.world for it in asked])):
         flags = answers.flags()
         found += [Break(answers, cell, None, it.witnesses) for cell in cells_of(scope, answers) if not flags[cell]]
-    return Finding(since(before, rule, found) if before else found, [])
+    return found
 
 
 def tell_several(some: List[World]) -> None:

@@ -172,6 +172,9 @@ class Source:
         self.actions = actions
         self.references = references
         self.change: Callable[[World], World] = lambda world: world
+        # What a plan leaves out, in lines; and the same with what only the apply tells taken to allow nothing and to deny all.
+        self.left: List[str] = []
+        self.narrow: Optional[Source] = None
         self.made: Dict[Tuple[bool, bool], World] = {}
         # Whether roles have trust policies, so that iam: actions want a world of their own.
         self.has_trust = given is None or any(is_role(it) and "policy" in it for it in given["resources"])

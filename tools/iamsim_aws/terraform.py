@@ -1,6 +1,6 @@
 """A plan of Terraform ('terraform show -json PLAN') put into effect on what exports have."""
 
-from typing import List, Optional, Tuple
+from typing import Optional
 
 from .arns import owner_of
 from .configurations import Configuration
@@ -9,6 +9,7 @@ from .faults import Fault
 from .making import BUCKET, Estate
 from .planned import Change, any_true
 from .plans import Plan
+from .unknowns import Applied
 
 
 class ApplyPlan(Apply):
@@ -74,13 +75,16 @@ class ApplyPlan(Apply):
 
 def applied(
     estate: Estate, path: str, account: Optional[str], allows_unknown: bool, folder: Optional[str] = None
-) -> Tuple[Estate, Estate, List[str]]:
+) -> Applied:
     """The estate before the plan, with the policies that the plan has from then, and after it; and what is to be told.
     `folder` has the configuration that the plan is made of."""
     plan = Plan(path, Configuration(folder) if folder is not None else None)
-    doubts = plan.unknowns.doubts
-    if doubts and not allows_unknown:
-        raise Fault(f"{plan.path}: {', '.join(doubts)}: --allow-unknown takes it as it is")
+    unknowns = plan.unknowns
+    if unknowns.doubts and not allows_unknown:
+        raise Fault(f"{plan.path}: {', '.join(unknowns.doubts)}: --allow-unknown takes it as it is")
     apply = ApplyPlan(plan, estate, account)
     made = apply.run()
-    return apply.first, made, plan.unknowns.settled(apply.notes, apply.ignored, allows_unknown)
+    told = unknowns.settled(apply.notes, apply.ignored, allows_unknown)
+    plan.unknowns = unknowns.narrow()
+    narrow = ApplyPlan(plan, estate, account).run() if unknowns.has_guesses else None
+    return Applied(apply.first, made, *told, narrow)

@@ -213,7 +213,7 @@ def test_a_bucket_that_nobody_knows():
         out, said = aws("can", "jane", "s3:GetObject", KEY, EXPORT, "--resources", given, status=6)
         assert f"{POINT}: {words}: name it by `bucket`" in said, said
         aws("can", "jane", "s3:PutObject", KEY, EXPORT, "--resources", given, status=3)
-        out, _ = aws("rules", file(f"always jane s3:GetObject {KEY}\n"), EXPORT, "--resources", given, status=4)
+        out, _ = aws("rules", file(f"always jane s3:GetObject {KEY}\n"), EXPORT, "--resources", given, status=5)
         assert "fall under the policy of its bucket too, which is not asked here" in out, out
         # All who may are among those whom the access point lets in: what is never allowed by it is never.
         put = file("s3:PutObject\n")

@@ -16,7 +16,7 @@ from ..ruling import Outcome, check, read_rules
 from ..slips import slips
 from ..sources import add_source, inputs, source_of
 from ..telling import BY, LACKS, deciding
-from ..unknowns import ANY_RESOURCE, DENY_LEFT
+from ..unknowns import ANY_RESOURCE
 from .parsers import add, add_chains, add_verbose, whole
 
 STATUSES = {"kept": 0, "broken": 3, "empty": 4, "open": 5}
@@ -74,7 +74,7 @@ def cases_of(options: argparse.Namespace, outcomes: List[Outcome], fails: Set[st
 
 
 def is_unasked(line: str) -> bool:
-    unasked = ("not asked", "nobody is asked", "no text stands", "the change is left out", DENY_LEFT, ANY_RESOURCE)
+    unasked = ("not asked", "nobody is asked", "no text stands", "is left out", ANY_RESOURCE)
     return any(it in line for it in unasked)
 
 
@@ -90,6 +90,9 @@ def checked(options: argparse.Namespace) -> int:
     outcomes = check(scope, rules, options.as_given, before)
     if options.chains:
         outcomes = with_chains(scope, outcomes, options.as_given, options.depth)
+    if options.allow_empty:
+        # What was left out may be what such a rule means.
+        outcomes = [it._replace(empty="") if it.opens else it for it in outcomes]
     notes(scope, outcomes)
     files.write("".join(f"{line_of(line)}\n" for it in outcomes for line in lines_of(it, options)))
     counts = {state: sum(it.state == state for it in outcomes) for state in STATUSES}
