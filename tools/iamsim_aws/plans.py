@@ -45,8 +45,12 @@ def object_or_none(value: Any) -> Optional[Values]:
 def change_of(it: Any) -> Change:
     of, unknown = it["change"], it["change"].get("after_unknown")
     before, after = object_or_none(of.get("before")), object_or_none(of.get("after"))
+    actions = set(of.get("actions") or [])
+    if "forget" in actions:
+        # It stays there, and Terraform knows nothing of it any more.
+        before, after = (None, after) if "create" in actions else (before, before)
     is_renamed = it["type"] in RENAMED and before and after and before.get("name") != after.get("name")
-    is_replaced = bool(is_renamed) or {"delete", "create"} <= set(of.get("actions") or [])
+    is_replaced = bool(is_renamed) or {"delete", "create"} <= actions
     known = unknown if isinstance(unknown, dict) else {}
     return Change(str(it["address"]), str(it["type"]), before, after, known, is_replaced)
 
@@ -110,14 +114,29 @@ class Plan:
             }
             self.had = dict(read_before(given.get("prior_state", {}).get("values", {}).get("root_module", {})))
             self.unknowns.doubts = doubts(given)
-            self.region = region_of(configuration)
+            self.providers = {
+                it.path + of["address"]: str(of.get("provider_config_key"))
+                for it in self.modules.values()
+                for of in it.given.get("resources", [])
+            }
+            self.regions = regions_of(configuration)
         except (KeyError, TypeError, AttributeError):
             raise Fault(f"{self.path}: it is no plan of 'terraform show -json'") from None
-        self.changes = [it for it, mode in every if mode == "managed"]
+        # Where one of several providers does not tell its region, no other one's is taken for it.
+        self.region = self.regions.get("aws", "") if all(self.regions.values()) else ""
+        self.changes = [self.in_region(it) for it, mode in every if mode == "managed"]
         self.read = [it for it, mode in every if mode == "data" and it.kind == DATA_DOCUMENT]
         # What is read again when the plan is applied.
         for it, mode in every:
             self.had.pop(it.address if mode == "data" else "", None)
+
+    def in_region(self, change: Change) -> Change:
+        """The change with the region of its provider, where that is another than the first one's."""
+        region = self.regions.get(self.providers.get(INDEX.sub("", change.address), ""), "")
+        if region == self.region:
+            return change
+        before, after = ({"region": region, **it} if it else it for it in (change.before, change.after))
+        return change._replace(before=before, after=after)
 
     def configured(self, change: Change) -> Tuple[str, Values]:
         """The path of the module of a resource, and its expressions."""
@@ -232,11 +251,16 @@ class Plan:
         return {"Version": values.get("version") or "2012-10-17", "Statement": made}
 
 
-def region_of(configuration: Any) -> str:
-    """The region of the provider, where the configuration gives it as a text."""
-    provider = (configuration.get("provider_config") or {}).get("aws") or {}
-    found = (provider.get("expressions") or {}).get("region") or {}
-    return str(found.get("constant_value") or "")
+def regions_of(configuration: Any) -> Dict[str, str]:
+    """The region of each provider of AWS, where the configuration gives it as a text."""
+    some = (configuration.get("provider_config") or {}).items()
+    given = {key: (it.get("expressions") or {}).get("region") or {} for key, it in some if is_of_aws(key)}
+    return {key: str(it.get("constant_value") or "") for key, it in given.items()}
+
+
+def is_of_aws(provider: str) -> bool:
+    """Whether a provider is AWS's, by its key: module.m:aws.west."""
+    return provider.rpartition(":")[2].partition(".")[0] == "aws"
 
 
 def full_references(expression: Any) -> List[str]:

@@ -11,8 +11,8 @@ ANY_RESOURCE = "taken to be any resource"
 # How kinds of resources are called that may hold a policy of access, and how those of them that hold none.
 MAY_HOLD = re.compile(r"_iam_|::IAM::|_ssoadmin_|::SSO::|polic(y|ies)|permission|grant", re.IGNORECASE)
 HOLD_NONE = re.compile(
-    "scaling|lifecycle|balanc|_lb_|stickiness|cloudfront|traffic|firewall|data_?protection|password|alias|certificate|login"
-    "|access_?key|ssh|mfa|instance_?profile|service_?linked|oidc|saml",
+    "scaling|lifecycle|balanc|_lb_|stickiness|cloudfront|traffic|firewall|data_?protection|password|alias|certificate"
+    "|login|access_?key|ssh|mfa|instance_?profile|service_?linked|oidc|saml",
     re.IGNORECASE,
 )
 
