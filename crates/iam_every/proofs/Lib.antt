@@ -1,5 +1,5 @@
 mod ActionLemmas
-pub mod AlikeLemmas
+mod AlikeLemmas
 pub mod AtLemmas
 mod ElementLemmas
 pub mod FirstLemmas
@@ -17,6 +17,7 @@ pub mod OneRowsLemmas
 pub mod OwnLemmas
 mod ReportLemmas
 pub mod RowLemmas
+mod SharingLemmas
 mod SideLemmas
 pub mod TellingLemmas
 mod TextLemmas

@@ -14,6 +14,8 @@ use Rattle.iam_glob.specs.Glob.{Matches}
 use Rattle.iam_glob.specs.declared.sign.Sign.{Sign}
 use Rattle.iam_kinds.specs.Kinds.{Agree, IsMeant, IsText}
 use Rattle.iam_world.specs.World.{ResourceValue, WorldValue}
+use Rattle.iam_layers.specs.Cell.{IsResource}
+use Rattle.iam_every.specs.Code.Rows.{AreMatched, IsFirstOf}
 use Rattle.iam_every.specs.Every.{EveryValue, IsFirst, IsNamed, LineValue, arn_signs, line_of, line_question, patterns_of}
 use Rattle.iam_every.specs.Groups.{AgreeOn}
 use Rattle.iam_every.specs.declared.asked.Line.{Line}
@@ -190,3 +192,14 @@ pub shown_agree : (every : EveryValue) (k : ℕ) (line : LineValue) (groups : Li
 shown_agree every k line groups shown text meant agree is group in' =
     all_agree every k line groups shown text meant agree is group
     (Contains-append_left groups (map (λ pattern. pattern ∷ []) (patterns_of (take k every.lines))) group in')
+
+-- ---- resources that some line matches
+pub matched_first : (every : EveryValue) (matched : List ℕ) (i r : ℕ) → AreMatched every.world every.lines matched → i < length matched
+    → r ≡ get_or matched i r → IsResource every.world r (λ resource. (k : ℕ) × IsFirstOf every.lines resource.arn k)
+matched_first every matched i r are below is =
+    subst (λ (s : ℕ). IsResource every.world s (λ resource. (k : ℕ) × IsFirstOf every.lines resource.arn k)) (sym is) (are.first i r below)
+
+pub matched_there : (every : EveryValue) (matched : List ℕ) (i r : ℕ) → AreMatched every.world every.lines matched → i < length matched
+    → r ≡ get_or matched i r → r < length every.world.resources
+matched_there every matched i r are below is =
+    let (resource, at, first) = matched_first every matched i r are below is in slice_get_within every.world.resources r resource at

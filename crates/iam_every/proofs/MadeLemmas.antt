@@ -1,16 +1,15 @@
 -- Rows are made of one member after the other.
-use Rattle.std.proofs.Common.{◌≡◌, ◌⊎◌, inl, inr, ◌∷◌, [], ◌++◌, ◌+◌, ◌∙◌, List, ℕ, String, Some, All, Any, Contains, append_assoc, ap, chars, codes, map, refl, subst, sym, string_bytes}
+use Rattle.std.proofs.Common.{◌≡◌, ◌⊎◌, inl, inr, ◌∷◌, [], ◌++◌, ◌+◌, ◌∙◌, List, ℕ, String, All, Any, Contains, append_assoc, ap, chars, codes, map, refl, subst, sym, string_bytes}
 use Rattle.std.proofs.lemmas.List.{append-nil}
 use Rattle.std.proofs.lemmas.List.Elements.{All-cons, All-nil}
 use Rattle.std.proofs.lemmas.Str.{IsUtf8-string_bytes}
 use Rattle.std.specs.Global.{Global}
-use Rattle.std.specs.List.{range_with_len, slice_get}
+use Rattle.std.specs.List.{range_with_len}
 use Rattle.std.specs.Str.{IsUtf8}
 use Rattle.iam_glob.specs.Glob.{Matches}
-use Rattle.iam_world.specs.World.{ResourceValue}
+use Rattle.iam_decision.specs.Matched.{Selects}
 use Rattle.iam_layers.specs.declared.unnamed.Unnamed.{Unnamed}
-use Rattle.iam_layers.specs.declared.unnamed.Unnamed.TheVariants.{Like}
-use Rattle.iam_every.specs.Code.Rows.{AreRowsOfTexts, IsFirstOf}
+use Rattle.iam_every.specs.Code.Rows.{AreOfMatched, AreRowsOfTexts}
 use Rattle.iam_every.specs.Every.{EveryValue, IsFirst, IsMatched, IsNamed, LineValue, RowValue}
 use Rattle.iam_every.specs.Made.{AreJoined, AreOfResource, AreOfStar, AreOfText, IsRowOf}
 use Rattle.iam_every.proofs.ListLemmas.{first_or, here, none, behind}
@@ -29,12 +28,6 @@ pub joined_next : (Made : ℕ → List RowValue → Type 0) (n : ℕ) (rows more
     → AreJoined Made (range_with_len 0 (n + 1)) (rows ++ more)
 joined_next Made n rows more are made =
     subst (λ (l : List ℕ). AreJoined Made l (rows ++ more)) (sym (next_range n)) (joined_more Made (range_with_len 0 n) n rows more are made)
-
--- of which no row is made
-pub joined_skip : (Made : ℕ → List RowValue → Type 0) (n : ℕ) (rows : List RowValue) → AreJoined Made (range_with_len 0 n) rows → Made n []
-    → AreJoined Made (range_with_len 0 (n + 1)) rows
-joined_skip Made n rows are made =
-    subst (AreJoined Made (range_with_len 0 (n + 1))) (append-nil rows) (joined_next Made n rows [] are made)
 
 -- ---- the texts of a line
 pub of_texts : (every : EveryValue) (p : ℕ) (action : List ℕ) (k : ℕ) (line : LineValue) (texts : List (List ℕ)) (rows : List RowValue)
@@ -86,20 +79,17 @@ pub all_utf8 : (texts : List (String Global)) → All IsUtf8 (map string_bytes t
 all_utf8 [] = All-nil IsUtf8
 all_utf8 (text ∷ texts) = All-cons IsUtf8 (string_bytes text) (map string_bytes texts) (IsUtf8-string_bytes text) (all_utf8 texts)
 
--- ---- a resource of the world
--- some line matches it just where one is the first to do so
-matched_first : (every : EveryValue) (r k : ℕ) (resource : ResourceValue) → slice_get every.world.resources r ≡ Some resource
-    → IsFirstOf every.lines resource.arn k → IsMatched every.world every.lines r
-matched_first every r k resource at (line, first) = (resource, at, first_some every.lines resource.arn k line first)
-
-pub resource_row : (every : EveryValue) (p : ℕ) (action : List ℕ) (r : ℕ) (resource : ResourceValue) (text : List ℕ) (k : ℕ) (row : RowValue)
-    → slice_get every.world.resources r ≡ Some resource → text ≡ resource.arn → IsFirstOf every.lines text k
-    → IsRowOf every.world p (Like r) action text row → AreOfResource every p action r (row ∷ [])
-resource_row every p action r resource text k row at is first of =
-    inl (
-      matched_first every r k resource at (subst (λ (t : List ℕ). IsFirstOf every.lines t k) is first),
-      (row, (resource, at, subst (λ (t : List ℕ). IsRowOf every.world p (Like r) action t row) is of), refl),
-    )
+-- ---- the resources of the world
+-- rows of those that some line matches are those of all
+pub joined_matched : (every : EveryValue) (p : ℕ) (action : List ℕ) (xs matched : List ℕ) (rows : List RowValue)
+    → Selects (IsMatched every.world every.lines) xs matched → AreJoined (AreOfMatched every p action) matched rows
+    → AreJoined (AreOfResource every p action) xs rows
+joined_matched every p action [] matched rows none made = subst (λ (l : List ℕ). AreJoined (AreOfMatched every p action) l rows) none made
+joined_matched every p action (x ∷ xs) matched rows (inl (holds, (rest, is, chosen))) made =
+    let (one, more, (row, at, alone), are, both) = subst (λ (l : List ℕ). AreJoined (AreOfMatched every p action) l rows) is made in
+    (one, more, inl (holds, (row, at, alone)), joined_matched every p action xs rest more chosen are, both)
+joined_matched every p action (x ∷ xs) matched rows (inr (not, chosen)) made =
+    ([], rows, inr (not, refl), joined_matched every p action xs matched rows chosen made, refl)
 
 -- ---- `*`
 pub star_made : (every : EveryValue) (p : ℕ) (action : List ℕ) (k : ℕ) (line : LineValue) (unnamed : Unnamed) (row : RowValue)

@@ -1,5 +1,5 @@
 -- One action of each kind is decided like each that the pattern matches.
-use Rattle.std.proofs.Common.{◌≡◌, ◌⊎◌, inl, inr, ◌↔◌, ◌<◌, ◌+◌, ◌∷◌, ◌++◌, [], ℕ, suc, zero, List, Option, None, Some, ◌∙◌, All, Any, Contains, append_assoc, arith, ap, chars, get_or, length, map, refl, subst, sym, take, string_bytes, String}
+use Rattle.std.proofs.Common.{◌≡◌, ◌⊎◌, inl, inr, ◌↔◌, ◌<◌, ◌+◌, ◌∷◌, ◌++◌, [], ℕ, suc, zero, List, Option, None, Some, ◌∙◌, All, Contains, arith, ap, chars, get_or, length, map, refl, subst, sym, take, string_bytes, String}
 use Rattle.std.proofs.lemmas.List.{length-map, map-append, take_more}
 use Rattle.std.proofs.lemmas.List.FromFn.{get_or-range_with_len, length-range_with_len}
 use Rattle.std.proofs.lemmas.List.Elements.{All-contains, All-push, All-take, Contains-append_cases, Contains-append_left, Contains-append_right, Contains-get_or, Contains-push_cases}
@@ -21,12 +21,11 @@ use Rattle.iam_decision.specs.Matched.{Placed, Selects, in_layer, in_level, plac
 use Rattle.iam_decision.specs.declared.place.Layer.TheVariants.{Org, Control, Resource}
 use Rattle.iam_world.specs.World.{PrincipalValue, ResourceValue, WorldValue}
 use Rattle.iam_layers.specs.Applicable.{applicable_of}
-use Rattle.iam_layers.specs.Cell.{IsResource}
 use Rattle.iam_layers.specs.Unnamed.{AreUnnamedPolicies, IsSaid as IsSaidOf, IsThere, bare_resource}
 use Rattle.iam_layers.specs.declared.unnamed.Unnamed.{Unnamed}
 use Rattle.iam_layers.specs.declared.unnamed.Unnamed.TheVariants.{Like, Of}
 use Rattle.iam_every.specs.Alike.{AreAlikeActions}
-use Rattle.iam_every.specs.Code.Meant.{AreMore, CoverAll, Covers, IsSaid}
+use Rattle.iam_every.specs.Code.Meant.{CoverAll, Covers, IsSaid}
 use Rattle.iam_every.specs.Every.{ActionsPass, AreActions, AreOwnActionGroupsAt, AreSaid, AreThere, EveryValue, IsMatched, IsMeantBy, LineValue, Says, line_of}
 use Rattle.iam_every.specs.declared.asked.Line.{Line}
 use Rattle.iam_every.specs.Names.{AgreeOnFold, AreActionGroups, action_question}
@@ -68,14 +67,7 @@ said_there every unnamed there said = elim said [
   | inr (r, (resource, at, some), is) ↦ subst (IsThere every.world) (sym is) (slice_get_within every.world.resources r resource at)
 ]
 
--- ---- what is said of the first n resources
-any_mapped : {X Y : Type 0} (f : X → Y) (P : Y → Type 0) (xs : List X) → Any (λ x. P (f x)) xs ↔ Any P (map f xs)
-any_mapped {X} {Y} f P xs = (
-  λ (k, x, below, at, holds). let (i, inside, is) = mapped f x xs (k, below, at) in (i, f x, inside, is, holds),
-  λ (k, y, below, at, holds).
-      let (x, (i, inside, is), same) = of_mapped f y xs (k, below, at) in (i, x, inside, is, subst P (sym same) holds),
-)
-
+-- ---- numbers
 -- one more number
 range_more : (a n : ℕ) → range_with_len a (n + 1) ≡ range_with_len a n ++ (a + n) ∷ []
 range_more a zero = ap (λ (i : ℕ). i ∷ []) (let same : a ≡ a + 0 = omega arith in same)
@@ -87,30 +79,23 @@ range_more a (suc n) =
 pub next_range : (n : ℕ) → range_with_len 0 (n + 1) ≡ range_with_len 0 n ++ n ∷ []
 next_range n = range_more 0 n ∙ ap (λ (i : ℕ). range_with_len 0 n ++ i ∷ []) (let same : 0 + n ≡ n = omega arith in same)
 
-in_range : (n r : ℕ) → r < n → Contains (range_with_len 0 n) r
+pub in_range : (n r : ℕ) → r < n → Contains (range_with_len 0 n) r
 in_range n r below =
     (r, omega (arith, below, length-range_with_len 0 n), get_or-range_with_len 0 n r r below ∙ (let same : 0 + r ≡ r = omega arith in same))
 
 abbrev pub like : ℕ → Unnamed
 like r = Like r
 
-pub more_added : (world : WorldValue) (lines : List LineValue) (n : ℕ) (old new : List Unnamed) → AreMore world lines n old new
-    → IsMatched world lines n → AreMore world lines (n + 1) old (new ++ Like n ∷ [])
-more_added world lines n old new (matched, chosen, is) here = (
-  matched ++ n ∷ [],
-  subst (λ (l : List ℕ). Selects (IsMatched world lines) l (matched ++ n ∷ [])) (sym (next_range n))
-      (select_push (IsMatched world lines) (range_with_len 0 n) n matched chosen here),
-  ap (λ l. l ++ Like n ∷ []) is ∙ append_assoc old (map like matched) (Like n ∷ []) ∙ ap (λ l. old ++ l) (sym (map-append like matched (n ∷ []))),
-)
+-- the next number is chosen too, or is not
+pub next_chosen : (P : ℕ → Type 0) (n : ℕ) (chosen : List ℕ) → Selects P (range_with_len 0 n) chosen → P n
+    → Selects P (range_with_len 0 (n + 1)) (chosen ++ n ∷ [])
+next_chosen P n chosen before holds =
+    subst (λ (l : List ℕ). Selects P l (chosen ++ n ∷ [])) (sym (next_range n)) (select_push P (range_with_len 0 n) n chosen before holds)
 
-pub more_kept : (world : WorldValue) (lines : List LineValue) (n : ℕ) (old new : List Unnamed) → AreMore world lines n old new
-    → ¬ IsMatched world lines n → AreMore world lines (n + 1) old new
-more_kept world lines n old new (matched, chosen, is) not = (
-  matched,
-  subst (λ (l : List ℕ). Selects (IsMatched world lines) l matched) (sym (next_range n))
-      (select_pass (IsMatched world lines) (range_with_len 0 n) n matched chosen not),
-  is,
-)
+pub next_passed : (P : ℕ → Type 0) (n : ℕ) (chosen : List ℕ) → Selects P (range_with_len 0 n) chosen → ¬ P n
+    → Selects P (range_with_len 0 (n + 1)) chosen
+next_passed P n chosen before not =
+    subst (λ (l : List ℕ). Selects P l chosen) (sym (next_range n)) (select_pass P (range_with_len 0 n) n chosen before not)
 
 told : (lines : List Line) → map (λ (line : Line). line.unnamed) lines ≡ map (λ (line : LineValue). line.unnamed) (map line_of lines)
 told [] = refl
@@ -120,23 +105,11 @@ pub said_lines : (lines : List Line) (said : List Unnamed) → said ≡ map (λ 
     → said ≡ map (λ (line : LineValue). line.unnamed) (map line_of lines)
 said_lines lines said is = is ∙ told lines
 
--- some line matches the resource just where it matches its text
-pub matched_at : (world : WorldValue) (lines : List Line) (r : ℕ) (text : List ℕ) → IsResource world r (λ resource. text ≡ resource.arn)
-    → Any (λ (line : Line). Matches line.pattern.now (chars text)) lines
-    ↔ IsResource world r (λ resource. Any (λ (line : LineValue). Matches line.pattern (chars resource.arn)) (map line_of lines))
-matched_at world lines r text (resource, at, arn) =
-    let both = any_mapped line_of (λ (line : LineValue). Matches line.pattern (chars text)) lines in
-    let P : List ℕ → Type 0 = λ t. Any (λ (line : LineValue). Matches line.pattern (chars t)) (map line_of lines) in (
-      λ some. (resource, at, subst P arn (both.0 some)),
-      λ (other, found, some).
-          let same : other ≡ resource = one_some (slice_get world.resources r) other resource found at in
-          both.1 (subst P (sym (arn ∙ ap (λ (x : ResourceValue). x.arn) (sym same))) some),
-    )
-
 -- what the lines say, and what is said of all resources, is all
-pub all_said : (every : EveryValue) (old new : List Unnamed) → old ≡ map (λ (line : LineValue). line.unnamed) every.lines
-    → AreMore every.world every.lines (length every.world.resources) old new → AreSaid every new
-all_said every old new lines (matched, chosen, is) = (matched, chosen, is ∙ ap (λ l. l ++ map like matched) lines)
+pub all_said : (every : EveryValue) (old new : List Unnamed) (matched : List ℕ) → old ≡ map (λ (line : LineValue). line.unnamed) every.lines
+    → Selects (IsMatched every.world every.lines) (range_with_len 0 (length every.world.resources)) matched → new ≡ old ++ map like matched
+    → AreSaid every new
+all_said every old new matched lines chosen is = (matched, chosen, is ∙ ap (λ l. l ++ map like matched) lines)
 
 pub is_said : (every : EveryValue) (said : List Unnamed) (unnamed : Unnamed) → AreSaid every said → Contains said unnamed → IsSaid every unnamed
 is_said every said unnamed (matched, chosen, is) among =

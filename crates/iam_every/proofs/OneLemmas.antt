@@ -12,7 +12,7 @@ use Rattle.iam_every.proofs.FirstLemmas.{one_selected, one_zipped}
 use Rattle.iam_every.proofs.MeantLemmas.{like, some_said}
 use Rattle.iam_every.proofs.NamesLemmas.{one_some}
 
-one_said_list : (every : EveryValue) (one other : List Unnamed) → AreSaid every one → AreSaid every other → one ≡ other
+pub one_said_list : (every : EveryValue) (one other : List Unnamed) → AreSaid every one → AreSaid every other → one ≡ other
 one_said_list every one other (matched, chosen, is) (found, selected, same) =
     let numbers = range_with_len 0 (length every.world.resources) in
     is
@@ -32,7 +32,7 @@ one_needed [] one other h k = h ∙ sym k
 one_needed (a ∷ applicables) one other (rest, is, chosen) (more, same, selected) =
     is ∙ ap (λ l. a ∷ l) (one_selected (λ b. ¬ IsPlain b) applicables rest more chosen selected) ∙ sym same
 
-one_policies : (world : WorldValue) (p : ℕ) (said : List Unnamed) (one other : List ApplicableValue) → AreOwnPolicies world p said one
+pub one_policies : (world : WorldValue) (p : ℕ) (said : List Unnamed) (one other : List ApplicableValue) → AreOwnPolicies world p said one
     → AreOwnPolicies world p said other → one ≡ other
 one_policies world p said one other (applicables, fit, needed) (found, fits, too) =
     let same = one_zipped (ApplyTo world p) said applicables found (one_applies world p) fit fits in

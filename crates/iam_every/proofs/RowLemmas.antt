@@ -4,7 +4,7 @@ use Rattle.std.proofs.lemmas.Bool.{cases_lt}
 use Rattle.std.proofs.lemmas.List.Elements.{All-append, All-cons, All-contains, All-nil, Contains-append_left, Contains-append_right, Contains-get_or, Contains-push_cases}
 use Rattle.std.proofs.lemmas.Option.{slice_get_within}
 use Rattle.std.proofs.lemmas.Str.{IsUtf8-from_ascii}
-use Rattle.std.specs.List.{slice_get}
+use Rattle.std.specs.List.{range_with_len, slice_get}
 use Rattle.std.specs.Str.{IsUtf8}
 use Rattle.iam_glob.specs.Glob.{Matches}
 use Rattle.iam_glob.specs.declared.sign.Sign.{Sign}
@@ -16,14 +16,16 @@ use Rattle.iam_world.specs.World.{ResourceValue}
 use Rattle.iam_layers.specs.Unnamed.{IsUnnamedDecision, IsUnnamedVerdict}
 use Rattle.iam_layers.specs.declared.unnamed.Unnamed.{Unnamed}
 use Rattle.iam_layers.specs.declared.unnamed.Unnamed.TheVariants.{Like}
-use Rattle.iam_every.specs.Code.Rows.{AreRowsOfTexts, AreRowsOn, IsFirstOf, IsLined, IsLinedBelow, IsNamedBelow, IsStar, IsToldAs}
-use Rattle.iam_every.specs.Every.{ActionsPass, AreActions, AreDecidedAlike, AreOneKind, AreRowsFor, EveryValue, HasVerdict, IsFirst, IsMeantAction, IsNamed, IsOver, IsResourceText, IsRight, IsToldBy, LineValue, RowValue, Says, Tells, TextsPass, arn_signs, line_question}
+use Rattle.iam_every.specs.Code.Rows.{AreMatched, AreRowsOfTexts, AreRowsOn, IsFirstOf, IsLined, IsLinedBelow, IsNamedAmong, IsNamedBelow, IsStar, IsToldAs}
+use Rattle.iam_every.specs.Every.{ActionsPass, AreActions, AreDecidedAlike, AreOneKind, AreRowsFor, EveryValue, HasVerdict, IsFirst, IsMatched, IsMeantAction, IsNamed, IsOver, IsResourceText, IsRight, IsToldBy, LineValue, RowValue, Says, Tells, TextsPass, arn_signs, line_question}
 use Rattle.iam_every.specs.Made.{AreMade, IsRowOf, unshown_row}
 use Rattle.iam_every.specs.Names.{AreGroupsAt}
 use Rattle.iam_every.specs.OwnGroups.{AreOwnGroupsAt}
 use Rattle.iam_every.specs.Rows.{AreRows}
 use Rattle.iam_every.proofs.LineLemmas.{ascii, asked_about, at_in, in_at, first_some, one_first, shown_agree, shown_first, shown_unnamed, text_scalars}
 use Rattle.iam_every.proofs.ListLemmas.{behind, here, mapped, of_mapped}
+use Rattle.iam_every.proofs.MeantLemmas.{in_range}
+use Rattle.iam_every.proofs.MemberLemmas.{in_chosen}
 use Rattle.iam_every.proofs.NamesLemmas.{alike_names, one_some}
 
 -- ---- a row
@@ -183,36 +185,32 @@ row_alone every p action P text unnamed row of can says only = record {
 }
 
 -- ---- of the resources of the world, of `*` and of the lines
-pub named_more : (every : EveryValue) (p : ℕ) (action : List ℕ) (r : ℕ) (resource : ResourceValue) (text : List ℕ) (k : ℕ) (rows : List RowValue) (row : RowValue)
-    → AreRowsOn every p action (IsNamedBelow every r) rows → slice_get every.world.resources r ≡ Some resource → text ≡ resource.arn
-    → IsFirstOf every.lines text k → (unnamed : Unnamed) → unnamed ≡ Like r → IsRowOf every.world p unnamed action text row
-    → AreRowsOn every p action (IsNamedBelow every (r + 1)) (rows ++ (row ∷ []))
-named_more every p action r resource text k rows row are at is (line, first) unnamed like of =
-    let At : List ℕ → Unnamed → Type 0 = λ its said. (its ≡ text) × (said ≡ unnamed) in
-    rows_joined every p action (IsNamedBelow every r) At (IsNamedBelow every (r + 1)) rows (row ∷ []) are
-    (row_alone every p action At text unnamed row of (inl (r, (resource, at, sym is))) (k, line, first, inl (r, (resource, at, sym is), like)) (λ its said says same. same))
-    (λ its said (s, below, (found, there, named), alike). elim (lt_or_eq s r below) [
+pub named_more : (every : EveryValue) (p : ℕ) (action : List ℕ) (done : List ℕ) (r : ℕ) (resource : ResourceValue) (text : List ℕ) (k : ℕ)
+    (rows : List RowValue) (row : RowValue) → AreRowsOn every p action (IsNamedAmong every done) rows → slice_get every.world.resources r ≡ Some resource
+    → text ≡ resource.arn → IsFirstOf every.lines text k → IsRowOf every.world p (Like r) action text row
+    → AreRowsOn every p action (IsNamedAmong every (done ++ (r ∷ []))) (rows ++ (row ∷ []))
+named_more every p action done r resource text k rows row are at is (line, first) of =
+    let At : List ℕ → Unnamed → Type 0 = λ its said. (its ≡ text) × (said ≡ Like r) in
+    rows_joined every p action (IsNamedAmong every done) At (IsNamedAmong every (done ++ (r ∷ []))) rows (row ∷ []) are
+    (row_alone every p action At text (Like r) row of (inl (r, (resource, at, sym is))) (k, line, first, inl (r, (resource, at, sym is), refl)) (λ its said says same. same))
+    (λ its said (s, among, (found, there, named), alike). elim (Contains-push_cases done r s among) [
       | inl before ↦ inl (s, before, (found, there, named), alike)
       | inr same ↦
           let one : found ≡ resource =
-          one_some (slice_get every.world.resources r) found resource (subst (λ n. slice_get every.world.resources n ≡ Some found) same there) at in
-          inr (sym named ∙ ap (λ (x : ResourceValue). x.arn) one ∙ sym is, alike ∙ ap (λ n. Like n) same ∙ sym like)
+          one_some (slice_get every.world.resources r) found resource (subst (λ n. slice_get every.world.resources n ≡ Some found) (sym same) there) at in
+          inr (sym named ∙ ap (λ (x : ResourceValue). x.arn) one ∙ sym is, alike ∙ ap (λ n. Like n) (sym same))
     ])
 
-pub named_skip : (every : EveryValue) (p : ℕ) (action : List ℕ) (r : ℕ) (resource : ResourceValue) (text : List ℕ) (rows : List RowValue)
-    → AreRowsOn every p action (IsNamedBelow every r) rows → slice_get every.world.resources r ≡ Some resource → text ≡ resource.arn
-    → ¬ ((k : ℕ) × IsFirstOf every.lines text k) → AreRowsOn every p action (IsNamedBelow every (r + 1)) rows
-named_skip every p action r resource text rows are at is never =
-    rows_on_less every p action (IsNamedBelow every r) (IsNamedBelow every (r + 1)) rows are
-    (λ its said says (s, below, (found, there, named), alike). elim (lt_or_eq s r below) [
-      | inl before ↦ (s, before, (found, there, named), alike)
-      | inr same ↦
-          let one : found ≡ resource =
-          one_some (slice_get every.world.resources r) found resource (subst (λ n. slice_get every.world.resources n ≡ Some found) same there) at in
-          let its_text : its ≡ text = sym named ∙ ap (λ (x : ResourceValue). x.arn) one ∙ sym is in
-          let (k, line, first, how) = says in
-          absurd (never (k, (line, subst (λ (x : List ℕ). IsFirst every.lines x k line) its_text first)))
-    ])
+-- those of the resources that some line matches are those of all
+pub named_all : (every : EveryValue) (p : ℕ) (action : List ℕ) (matched : List ℕ) (rows : List RowValue) → AreMatched every.world every.lines matched
+    → AreRowsOn every p action (IsNamedAmong every matched) rows → AreRowsOn every p action (IsNamedBelow every (length every.world.resources)) rows
+named_all every p action matched rows are_matched are =
+    let n = length every.world.resources in
+    rows_on_less every p action (IsNamedAmong every matched) (IsNamedBelow every n) rows are
+    (λ text unnamed (k, line, first, how) (r, below, (resource, at, is), like).
+    let holds : IsMatched every.world every.lines r =
+    (resource, at, first_some every.lines resource.arn k line (subst (λ (t : List ℕ). IsFirst every.lines t k line) (sym is) first)) in
+    (r, in_chosen (IsMatched every.world every.lines) (range_with_len 0 n) matched r are_matched.selected (in_range n r below) holds, (resource, at, is), like))
 
 pub star_row : (every : EveryValue) (p : ℕ) (action : List ℕ) (k : ℕ) (line : LineValue) (unnamed : Unnamed) (row : RowValue)
     → ¬ IsNamed every.world (codes "*") → IsFirst every.lines (codes "*") k line → unnamed ≡ line.unnamed

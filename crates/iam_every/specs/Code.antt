@@ -1,4 +1,5 @@
 pub mod Meant
 pub mod Rows
+pub mod Sharing
 pub mod Sides
 pub mod Texts

@@ -2,13 +2,13 @@
 ghost use Rattle.std.specs.Prelude.{◌≡◌, ◌↔◌, ◌<◌, ◌≤◌, All, IfOk, IsTrue, is_none, length, map, slice_index};
 ghost use Rattle.std.specs.List.{AllZip, list_any};
 ghost use Rattle.iam_decision.specs.Matched.{Selects};
-ghost use Rattle.iam_every.specs.Every.{AreThere, every_of, row_of};
+ghost use Rattle.iam_every.specs.Every.{AreThere, every_of, line_of, row_of};
 ghost use Rattle.iam_every.specs.Report.{IsWanted};
 ghost use Rattle.iam_every.specs.Code.Texts.{IsChosen, IsTile};
-ghost use Rattle.iam_every.specs.Code.Rows.{AreWalksOf};
+ghost use Rattle.iam_every.specs.Code.Rows.{AreMatched, AreWalksOf};
 
 use crate::asked::Asked;
-use crate::given::names_of;
+use crate::given::{matched_resources, names_of};
 use crate::rows::{Row, rows_of};
 use iam_crew::{Bound, Crew, Gate, gather};
 use iam_decision::Decision;
@@ -36,6 +36,8 @@ pub struct Chosen {
 #[derive(Clone, Copy)]
 pub struct Principals<'a> {
     pub asked: Asked<'a>,
+    /// The resources of the world that a line matches.
+    pub matched: &'a [u64],
     pub principals: &'a [u64],
     pub decisions: &'a [Decision],
 }
@@ -68,6 +70,7 @@ impl<'a> Crew for Principals<'a> {
             alloc,
             walks,
             self.asked,
+            self.matched,
             self.decisions,
             self.principals[tile as usize],
         )
@@ -106,16 +109,18 @@ fn chosen_of(
     alloc: Global,
     walks: &mut Walks,
     asked: Asked<'_>,
+    matched: &[u64],
     decisions: &[Decision],
     p: u64,
 ) -> Result<Chosen, OutOfMemory>
     requires principal { p < length asked.world.now.principals }
     requires there { AreThere (every_of asked) }
+    requires matched { AreMatched asked.world.now (map line_of asked.lines.now) matched.now }
     requires walks { AreWalksOf asked.world.now walks.old }
     ensures walks { AreWalksOf asked.entry.world.now walks.new }
     ensures chosen { IfOk result (IsChosen (every_of asked.entry) decisions.now p) }
 {
-    let rows = rows_of(alloc, walks, asked, p)?;
+    let rows = rows_of(alloc, walks, asked, matched, p)?;
     let some = !rows.is_empty();
     let unshown = has_unshown(rows.as_slice());
     Ok(Chosen {
@@ -131,6 +136,7 @@ fn chosen_of_few<R: Threads + Sync, G: Gate + Sync>(
     rt: &R,
     alloc: Global,
     asked: Asked<'_>,
+    matched: &[u64],
     principals: &[u64],
     decisions: &[Decision],
     workers: u32,
@@ -139,12 +145,14 @@ fn chosen_of_few<R: Threads + Sync, G: Gate + Sync>(
     requires tiles { length principals.now ≤ 4096 }
     requires known { All (λ p. p < length asked.world.now.principals) principals.now }
     requires there { AreThere (every_of asked) }
+    requires matched { AreMatched asked.world.now (map line_of asked.lines.now) matched.now }
     requires some { 1 ≤ workers }
     requires few { workers ≤ 64 }
     ensures { IfOk result (λ all. AllZip (IsChosen (every_of asked.entry) decisions.now) principals.now all.items) }
 {
     let crew = Principals {
         asked,
+        matched,
         principals,
         decisions,
     };
@@ -168,9 +176,19 @@ pub fn chosen_of_all<R: Threads + Sync, G: Gate + Sync>(
     requires few { workers ≤ 64 }
     ensures { IfOk result (λ all. AllZip (IsChosen (every_of asked.entry) decisions.now) principals.now all.items) }
 {
+    let matched = matched_resources(alloc, asked.world, asked.lines)?;
     let mut all = Vec::new(alloc);
     for some in principals.chunks(TILES) {
-        let mut more = chosen_of_few(rt, alloc, asked, some, decisions, workers, gate)?;
+        let mut more = chosen_of_few(
+            rt,
+            alloc,
+            asked,
+            matched.as_slice(),
+            some,
+            decisions,
+            workers,
+            gate,
+        )?;
         all.append(&mut more)?;
     }
     Ok(all)

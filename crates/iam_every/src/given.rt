@@ -4,7 +4,7 @@ ghost use Rattle.std.specs.List.{Any, Contains};
 ghost use Rattle.std.specs.Str.{chars};
 ghost use Rattle.iam_glob.specs.Glob.{Matches};
 ghost use Rattle.iam_glob.specs.Signs.{signs_in};
-ghost use Rattle.iam_every.specs.Code.Rows.{AreNames, IsFirstOf};
+ghost use Rattle.iam_every.specs.Code.Rows.{AreMatched, AreNames, IsFirstOf};
 ghost use Rattle.iam_every.specs.Every.{line_of, patterns_of};
 
 use crate::asked::{Asked, Line};
@@ -23,6 +23,8 @@ pub struct Given<'a> {
     pub arn: Signs<'a>,
     /// No keys.
     pub none: &'a Part,
+    /// The resources of the world that a line matches.
+    pub matched: &'a [u64],
     /// The texts of all resources of the world.
     pub names: &'a [&'a str],
     /// The patterns of all lines.
@@ -38,6 +40,23 @@ pub fn names_of<'a>(alloc: Global, world: &'a World) -> Result<Vec<&'a str>, Out
         names.push(world.resource_text(r))?;
     }
     Ok(names)
+}
+
+/// The resources of the world that some line matches, by number.
+pub fn matched_resources(
+    alloc: Global,
+    world: &World,
+    lines: &[Line<'_>],
+) -> Result<Vec<u64>, OutOfMemory>
+    ensures { IfOk result (λ matched. AreMatched world.now (map line_of lines.now) matched.items) }
+{
+    let mut matched = Vec::new(alloc);
+    for r in 0..world.resources() {
+        if has_line(lines, world.resource_text(r)) {
+            matched.push(r)?;
+        }
+    }
+    Ok(matched)
 }
 
 /// Whether the text is one of those.

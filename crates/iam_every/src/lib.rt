@@ -15,6 +15,7 @@ mod pattern;
 mod report;
 mod row_text;
 mod rows;
+mod sharing;
 mod telling;
 mod text;
 mod texts;

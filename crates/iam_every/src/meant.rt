@@ -1,16 +1,16 @@
 // Actions of which one is decided like each that is in question.
-ghost use Rattle.std.specs.Prelude.{◌≡◌, ◌⊎◌, ◌<◌, ◌↔◌, [], All, Any, IfOk, IsTrue, MatchOption, OnOk, Some, false, length, map, string_bytes};
-ghost use Rattle.std.specs.Str.{chars};
-ghost use Rattle.iam_glob.specs.Glob.{Matches};
+ghost use Rattle.std.specs.Prelude.{◌≡◌, ◌⊎◌, ◌++◌, ◌<◌, [], All, IfOk, IsTrue, MatchOption, OnOk, Some, false, length, map, string_bytes};
 ghost use Rattle.iam_decision.specs.Applicable.{IsNumbered, value_of};
 ghost use Rattle.iam_layers.specs.Unnamed.{IsThere};
-ghost use Rattle.iam_every.specs.Code.Meant.{AreMore, CoverAll};
-ghost use Rattle.iam_every.specs.Every.{ActionsPass, AreActions, AreSaid, AreThere, every_of, line_of, pattern_in};
+ghost use Rattle.iam_layers.specs.declared.unnamed.Unnamed.TheVariants.{Like};
+ghost use Rattle.iam_every.specs.Code.Meant.{CoverAll};
+ghost use Rattle.iam_every.specs.Every.{ActionsPass, AreActions, AreSaid, AreThere, every_of, pattern_in};
 ghost use Rattle.iam_every.specs.Made.{AreAsked};
 ghost use Rattle.iam_every.specs.OwnActions.{AreOwnPolicies, IsPlain};
 
 use crate::actions::{action_groups, action_kinds};
 use crate::asked::{Asked, Line, Which};
+use crate::given::matched_resources;
 use iam_decision::Applicable;
 use iam_glob::Glob;
 use iam_kinds::Kinds;
@@ -79,8 +79,9 @@ fn kinds_of(
 pub fn all_said<'a>(alloc: Global, asked: Asked<'a>) -> Result<Vec<Unnamed<'a>>, OutOfMemory>
     ensures { IfOk result (λ said. AreSaid (every_of asked.entry) said.items) }
 {
+    let matched = matched_resources(alloc, asked.world, asked.lines)?;
     let mut said = of_lines(alloc, asked.lines)?;
-    add_resources(&mut said, asked.world, asked.lines)?;
+    add_resources(&mut said, matched.as_slice())?;
     Ok(said)
 }
 
@@ -91,27 +92,14 @@ fn of_lines<'a>(alloc: Global, lines: &[Line<'a>]) -> Result<Vec<Unnamed<'a>>, O
     lines.iter().map(|line| line.unnamed).collect(alloc)
 }
 
-/// Adds what is said of each resource of the world that some line matches.
-fn add_resources(
-    said: &mut Vec<Unnamed<'_>>,
-    world: &World,
-    lines: &[Line<'_>],
-) -> Result<(), OutOfMemory>
-    ensures { OnOk result (AreMore world.now (map line_of lines.now) (length world.now.resources) said.old.items said.new.items) }
+/// Adds what is said of these resources of the world.
+fn add_resources(said: &mut Vec<Unnamed<'_>>, resources: &[u64]) -> Result<(), OutOfMemory>
+    ensures { OnOk result (said.new.items ≡ said.old.items ++ map (λ r. Like r) resources.now) }
 {
-    for r in 0..world.resources() {
-        if is_matched(lines, world.resource_text(r)) {
-            said.push(Unnamed::Like(r))?;
-        }
+    for &r in resources {
+        said.push(Unnamed::Like(r))?;
     }
     Ok(())
-}
-
-/// Whether some line matches the text.
-fn is_matched(lines: &[Line<'_>], text: &str) -> bool
-    ensures { IsTrue result ↔ Any (λ line. Matches line.pattern.now (chars text.now)) lines.now }
-{
-    lines.iter().any(|line| line.pattern.matches(text))
 }
 
 /// Policies that tell apart all actions that those do which apply where principal p asks for a resource of which some of this is said:

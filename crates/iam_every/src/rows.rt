@@ -1,20 +1,20 @@
 // The rows that answer for a principal what is asked of all names.
-ghost use Rattle.std.specs.Prelude.{◌≡◌, ◌<◌, IfOk, length, map, string_bytes};
-ghost use Rattle.std.specs.List.{range_with_len};
-ghost use Rattle.iam_layers.specs.Unnamed.{IsThere};
-ghost use Rattle.iam_every.specs.Code.Rows.{AreRowsOn, AreWalksOf, IsGiven, IsLinedBelow, IsNamedBelow, IsStar};
+ghost use Rattle.std.specs.Prelude.{◌≡◌, ◌<◌, IfOk, length, map, slice_index, string_bytes};
+ghost use Rattle.std.specs.List.{AllZip, range_with_len};
+ghost use Rattle.iam_every.specs.Code.Rows.{AreMatched, AreRowsOn, AreWalksOf, IsGiven, IsLinedBelow, IsNamedBelow, IsRowOfResource};
+ghost use Rattle.iam_every.specs.Code.Sharing.{AreNamed, AreStar, IsRowFor};
 ghost use Rattle.iam_every.specs.Every.{AreActions, AreRowsFor, AreThere, every_of, line_of, row_of, written_in};
-ghost use Rattle.iam_every.specs.Made.{AreAsked, AreJoined, AreOfAction, AreOfLine, AreOfResource, AreOfStar, IsRowOf, unshown_row};
+ghost use Rattle.iam_every.specs.Made.{AreAsked, AreJoined, AreOfAction, AreOfLine, AreOfResource, unshown_row};
 ghost use Rattle.iam_every.specs.Rows.{AreRows};
 
 use crate::asked::{Asked, Line, Which};
-use crate::given::{Given, first_line, has_line, is_among, line_patterns, names_of};
-use crate::lines::{line_rows, row_on, unshown_row};
+use crate::given::{Given, line_patterns, names_of};
+use crate::lines::{line_rows, unshown_row};
 use crate::meant::meant_actions;
+use crate::sharing::{Sharing, named_sharings, resource_sharing, shared_row, star_sharings};
 use iam_decision::Verdict;
 use iam_glob::Glob;
 use iam_kinds::Walks;
-use iam_layers::Unnamed;
 use iam_match::OutOfMemory;
 use std::alloc::Global;
 
@@ -28,17 +28,19 @@ pub struct Row {
 }
 
 /// The rows of principal p, which has to be below `principals()`, action by action: of each resource of the world that a line matches,
-/// of `*`, and line by line of each kind of texts that the line is the first to speak of one, or one that says that the line has too
-/// many kinds. Where the actions have too many kinds, a row for each line says so.
+/// which have to be these, of `*`, and line by line of each kind of texts that the line is the first to speak of one, or one that says
+/// that the line has too many kinds. Where the actions have too many kinds, a row for each line says so.
 ///
 /// AWS IAM User Guide, "Policy evaluation logic".
 pub fn rows_of(
     alloc: Global,
     walks: &mut Walks,
     asked: Asked<'_>,
+    matched: &[u64],
     p: u64,
 ) -> Result<Vec<Row>, OutOfMemory>
     requires walks { AreWalksOf asked.world.now walks.old }
+    requires matched { AreMatched asked.world.now (map line_of asked.lines.now) matched.now }
     requires principal { p < length asked.world.now.principals }
     requires there { AreThere (every_of asked) }
     ensures walks { AreWalksOf asked.entry.world.now walks.new }
@@ -56,10 +58,37 @@ pub fn rows_of(
         p,
         arn: arn.signs(),
         none: &none,
+        matched,
         names: names.as_slice(),
         patterns: patterns.as_slice(),
     };
-    rows_for_all(alloc, walks, given, actions.as_slice())
+    given_rows(alloc, walks, given, actions.as_slice())
+}
+
+/// The rows for each of the actions, where it is worked out once what the requests share.
+fn given_rows(
+    alloc: Global,
+    walks: &mut Walks,
+    given: Given<'_>,
+    actions: &[String],
+) -> Result<Vec<Row>, OutOfMemory>
+    requires given { IsGiven given }
+    requires actions { AreActions (every_of given.asked) given.p (map string_bytes actions.now) }
+    requires asked { AreAsked (every_of given.asked) given.p (map string_bytes actions.now) }
+    requires walks { AreWalksOf given.asked.world.now walks.old }
+    ensures walks { AreWalksOf given.entry.asked.world.now walks.new }
+    ensures rows { IfOk result (λ rows. AreRows (every_of given.entry.asked) given.entry.p (map row_of rows.items)) }
+{
+    let named = named_sharings(alloc, given)?;
+    let star = star_sharings(alloc, given)?;
+    rows_for_all(
+        alloc,
+        walks,
+        given,
+        named.as_slice(),
+        star.as_slice(),
+        actions,
+    )
 }
 
 /// Which actions are in question, as it is written.
@@ -84,13 +113,17 @@ fn unshown_lines(alloc: Global, lines: &[Line<'_>], actions: &str) -> Result<Vec
 }
 
 /// The rows for each of the actions.
-fn rows_for_all(
+fn rows_for_all<'a>(
     alloc: Global,
     walks: &mut Walks,
-    given: Given<'_>,
+    given: Given<'a>,
+    named: &[Sharing<'a>],
+    star: &[Sharing<'a>],
     actions: &[String],
 ) -> Result<Vec<Row>, OutOfMemory>
     requires given { IsGiven given }
+    requires named { AreNamed given named.now }
+    requires star { AreStar (every_of given.asked) given.p star.now }
     requires actions { AreActions (every_of given.asked) given.p (map string_bytes actions.now) }
     requires asked { AreAsked (every_of given.asked) given.p (map string_bytes actions.now) }
     requires walks { AreWalksOf given.asked.world.now walks.old }
@@ -99,64 +132,86 @@ fn rows_for_all(
 {
     let mut rows = Vec::new(alloc);
     for action in actions {
-        let mut further = rows_for(alloc, walks, given, action.as_str())?;
+        let mut further = rows_for(alloc, walks, given, named, star, action.as_str())?;
         rows.append(&mut further)?;
     }
     Ok(rows)
 }
 
 /// The rows for the action: those of the resources of the world, of `*` and of each line.
-fn rows_for(
+fn rows_for<'a>(
     alloc: Global,
     walks: &mut Walks,
-    given: Given<'_>,
+    given: Given<'a>,
+    named: &[Sharing<'a>],
+    star: &[Sharing<'a>],
     action: &str,
 ) -> Result<Vec<Row>, OutOfMemory>
     requires given { IsGiven given }
+    requires named { AreNamed given named.now }
+    requires star { AreStar (every_of given.asked) given.p star.now }
     requires walks { AreWalksOf given.asked.world.now walks.old }
     ensures walks { AreWalksOf given.entry.asked.world.now walks.new }
     ensures rows { IfOk result (λ rows. AreRowsFor (every_of given.entry.asked) given.entry.p action.now (map row_of rows.items)) }
     ensures made { IfOk result (λ rows. AreOfAction (every_of given.entry.asked) given.entry.p action.now (map row_of rows.items)) }
 {
-    let mut rows = named_rows(alloc, given, action)?;
-    let mut star = star_rows(alloc, given, action)?;
-    rows.append(&mut star)?;
+    let mut rows = named_rows(alloc, given, named, action)?;
+    let mut starred = star_rows(alloc, star, action)?;
+    rows.append(&mut starred)?;
     let mut lined = rows_of_lines(alloc, walks, given, action)?;
     rows.append(&mut lined)?;
     Ok(rows)
 }
 
-/// A row for each resource of the world that a line speaks of.
-fn named_rows(alloc: Global, given: Given<'_>, action: &str) -> Result<Vec<Row>, OutOfMemory>
-    requires { IsGiven given }
+/// A row for each resource of the world that a line speaks of; what requests for the first of them share is known.
+fn named_rows<'a>(
+    alloc: Global,
+    given: Given<'a>,
+    kept: &[Sharing<'a>],
+    action: &str,
+) -> Result<Vec<Row>, OutOfMemory>
+    requires given { IsGiven given }
+    requires kept { AreNamed given kept.now }
     ensures rows { IfOk result (λ rows. AreRowsOn (every_of given.entry.asked) given.entry.p action.now
         (IsNamedBelow (every_of given.entry.asked) (length given.entry.asked.world.now.resources)) (map row_of rows.items)) }
     ensures made { IfOk result (λ rows. AreJoined (AreOfResource (every_of given.entry.asked) given.entry.p action.now)
         (range_with_len 0 (length given.entry.asked.world.now.resources)) (map row_of rows.items)) }
 {
-    let mut rows = Vec::new(alloc);
-    for r in 0..given.asked.world.resources() {
-        let text = given.asked.world.resource_text(r);
-        if has_line(given.asked.lines, text) {
-            rows.push(row_of_text(alloc, given, Unnamed::Like(r), action, text)?)?;
-        }
+    let mut rows = Vec::with_capacity(alloc, given.matched.len())?;
+    for i in 0..given.matched.len() {
+        rows.push(named_row(alloc, given, kept, i, action)?)?;
     }
     Ok(rows)
 }
 
-/// A row for `*`, if a line speaks of it and no resource of the world has it.
-fn star_rows(alloc: Global, given: Given<'_>, action: &str) -> Result<Vec<Row>, OutOfMemory>
-    requires { IsGiven given }
-    ensures rows { IfOk result (λ rows. AreRowsOn (every_of given.entry.asked) given.entry.p action.now
-        (IsStar (every_of given.entry.asked)) (map row_of rows.items)) }
-    ensures made { IfOk result (λ rows. AreOfStar (every_of given.entry.asked) given.entry.p action.now (map row_of rows.items)) }
+/// The row of the resource with this place among those that a line speaks of.
+fn named_row<'a>(
+    alloc: Global,
+    given: Given<'a>,
+    kept: &[Sharing<'a>],
+    i: usize,
+    action: &str,
+) -> Result<Row, OutOfMemory>
+    requires given { IsGiven given }
+    requires kept { AreNamed given kept.now }
+    requires inside { i < length given.matched.now }
+    ensures { IfOk result (λ row. IsRowOfResource (every_of given.entry.asked) given.entry.p action.now
+        (slice_index given.entry.matched.now i) (row_of row)) }
 {
-    let mut rows = Vec::new(alloc);
-    if !is_among(given.names, "*") {
-        if let Some(k) = first_line(given.asked.lines, "*") {
-            let unnamed = given.asked.lines[k].unnamed;
-            rows.push(row_of_text(alloc, given, unnamed, action, "*")?)?;
-        }
+    if i < kept.len() {
+        return shared_row(alloc, &kept[i], action);
+    }
+    let sharing = resource_sharing(alloc, given, given.matched[i])?;
+    shared_row(alloc, &sharing, action)
+}
+
+/// A row for `*`, if there is one.
+fn star_rows(alloc: Global, star: &[Sharing<'_>], action: &str) -> Result<Vec<Row>, OutOfMemory>
+    ensures { IfOk result (λ rows. AllZip (IsRowFor action.now) star.now (map row_of rows.items)) }
+{
+    let mut rows = Vec::with_capacity(alloc, star.len())?;
+    for sharing in star {
+        rows.push(shared_row(alloc, sharing, action)?)?;
     }
     Ok(rows)
 }
@@ -182,24 +237,4 @@ fn rows_of_lines(
         rows.append(&mut further)?;
     }
     Ok(rows)
-}
-
-/// The row of the resource of the text, of which this is said.
-fn row_of_text(
-    alloc: Global,
-    given: Given<'_>,
-    unnamed: Unnamed<'_>,
-    action: &str,
-    text: &str,
-) -> Result<Row, OutOfMemory>
-    requires given { IsGiven given }
-    requires there { IsThere given.asked.world.now unnamed }
-    ensures { IfOk result (λ row. IsRowOf given.entry.asked.world.now given.entry.p unnamed.entry action.now text.now (row_of row)) }
-{
-    let world = given.asked.world;
-    let applicable = world.unnamed_applicable(given.p, unnamed);
-    let derived = world.unnamed_derived(alloc, given.p, unnamed)?;
-    let context = world.unnamed_context(alloc, given.p, unnamed, given.none, &derived)?;
-    let access = world.unnamed_access(given.p, unnamed, text, &context);
-    row_on(alloc, &applicable, access, action)
 }

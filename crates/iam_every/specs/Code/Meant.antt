@@ -1,24 +1,17 @@
 -- What is said of resources, and the policies that are looked at for it, where one action of each kind is looked for. LOGIC 11.2.
-use Rattle.std.specs.Prelude.{◌≡◌, ◌⊎◌, ◌++◌, ℕ, List, Any, Contains, map}
-use Rattle.std.specs.List.{range_with_len}
+use Rattle.std.specs.Prelude.{◌≡◌, ◌⊎◌, ℕ, List, Any, Contains}
 use Rattle.iam_decision.specs.Applicable.{ApplicableValue}
-use Rattle.iam_decision.specs.Matched.{Selects}
 use Rattle.iam_world.specs.World.{WorldValue}
 use Rattle.iam_layers.specs.Unnamed.{AreUnnamedPolicies}
 use Rattle.iam_layers.specs.declared.unnamed.Unnamed.{Unnamed}
 use Rattle.iam_layers.specs.declared.unnamed.Unnamed.TheVariants.{Like}
 use Rattle.iam_every.specs.Alike.{AreAlikeActions}
-use Rattle.iam_every.specs.Every.{EveryValue, IsMatched, LineValue}
+use Rattle.iam_every.specs.Every.{EveryValue, IsMatched}
 
 -- a line says this, or it is said of a resource of the world that some line matches
 abbrev pub IsSaid : EveryValue → Unnamed → Type 0
 IsSaid every unnamed =
     Any (λ line. unnamed ≡ line.unnamed) every.lines ⊎ ((r : ℕ) × IsMatched every.world every.lines r × (unnamed ≡ Like r))
-
--- what is said of the first n resources has been added, in order
-abbrev pub AreMore : WorldValue → List LineValue → ℕ → List Unnamed → List Unnamed → Type 0
-AreMore world lines n old new =
-    (matched : List ℕ) × Selects (IsMatched world lines) (range_with_len 0 n) matched × (new ≡ old ++ map (λ r. Like r) matched)
 
 -- actions that the first policies do not tell apart, the second do not either
 abbrev pub Covers : ApplicableValue → ApplicableValue → Type 0

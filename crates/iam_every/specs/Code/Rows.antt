@@ -1,12 +1,13 @@
 -- Rows for some of the texts that lines match, as they are collected.
-use Rattle.std.specs.Prelude.{◌≡◌, ◌<◌, [], ℕ, List, Contains, Some, codes, length, map}
-use Rattle.std.specs.List.{All, slice_get}
+use Rattle.std.specs.Prelude.{◌≡◌, ◌<◌, ◌∷◌, [], ℕ, List, Contains, Some, codes, length, map}
+use Rattle.std.specs.List.{All, range_with_len, slice_get}
 use Rattle.std.specs.Str.{IsUtf8, chars}
 use Rattle.iam_glob.specs.Glob.{Matches}
 use Rattle.iam_glob.specs.Signs.{signs_in}
 use Rattle.iam_glob.specs.declared.sign.Sign.{Sign}
 use Rattle.iam_context.specs.Context.{ContextValue}
 use Rattle.iam_decision.specs.Applicable.{ApplicableValue, IsNumbered}
+use Rattle.iam_decision.specs.Matched.{Selects}
 use Rattle.iam_kinds.specs.Answers.{IsAnswer}
 use Rattle.iam_kinds.specs.Kept.{AreFound, names_of}
 use Rattle.iam_kinds.specs.declared.kinds.Kinds.{Kinds}
@@ -16,7 +17,7 @@ use Rattle.iam_layers.specs.Cell.{IsResource}
 use Rattle.iam_layers.specs.Unnamed.{AreUnnamedKeys, AreUnnamedPolicies, IsThere, IsUnnamedContext}
 use Rattle.iam_layers.specs.declared.unnamed.Unnamed.{Unnamed}
 use Rattle.iam_layers.specs.declared.unnamed.Unnamed.TheVariants.{Like}
-use Rattle.iam_every.specs.Every.{AreThere, EveryValue, IsFirst, IsMeantAction, IsNamed, IsResourceText, IsRight, IsToldBy, LineValue, RowValue, Says, arn_signs, every_of, line_question, patterns_of}
+use Rattle.iam_every.specs.Every.{AreThere, EveryValue, IsFirst, IsMatched, IsMeantAction, IsNamed, IsResourceText, IsRight, IsToldBy, LineValue, RowValue, Says, arn_signs, every_of, line_question, patterns_of}
 use Rattle.iam_every.specs.Made.{IsRowOf}
 use Rattle.iam_every.specs.Names.{AreGroupsAt}
 use Rattle.iam_every.specs.OwnGroups.{AreOwnGroupsAt}
@@ -33,11 +34,21 @@ pub record AreWalksOf (world : WorldValue) (walks : Walks) : Type 0 where
   pub found : AreFound walks
   pub names : names_of walks ≡ map chars (map (λ resource. resource.arn) world.resources)
 
+-- line k is the first whose pattern matches the text
+abbrev pub IsFirstOf : List LineValue → List ℕ → ℕ → Type 0
+IsFirstOf lines text k = (line : LineValue) × IsFirst lines text k line
+
+-- the resources that some line matches, in order; of each some line is the first
+pub record AreMatched (world : WorldValue) (lines : List LineValue) (matched : List ℕ) : Type 0 where
+  pub selected : Selects (IsMatched world lines) (range_with_len 0 (length world.resources)) matched
+  pub first : All (λ r. IsResource world r (λ resource. (k : ℕ) × IsFirstOf lines resource.arn k)) matched
+
 pub record IsGiven (given : Given) : Type 0 where
   pub principal : given.p < length given.asked.world.now.principals
   pub there : AreThere (every_of given.asked)
   pub arn : signs_in given.arn ≡ arn_signs
   pub none : given.none.now.items ≡ []
+  pub matched : AreMatched given.asked.world.now (every_of given.asked).lines given.matched.now
   pub names : AreNames given.asked.world.now (map (λ name. name.now) given.names.now)
   pub patterns : map signs_in given.patterns.now ≡ patterns_of (every_of given.asked).lines
 
@@ -51,10 +62,6 @@ pub record IsSceneOf (given : Given) (k : ℕ) (applicable : ApplicableValue) (c
   pub derived : ContextValue
   pub keys : AreUnnamedKeys given.asked.world.now given.p line.unnamed derived
   pub within : IsUnnamedContext given.asked.world.now given.p line.unnamed derived context
-
--- line k is the first whose pattern matches the text
-abbrev pub IsFirstOf : List LineValue → List ℕ → ℕ → Type 0
-IsFirstOf lines text k = (line : LineValue) × IsFirst lines text k line
 
 -- ---- rows
 -- some row tells the resource of this text, of which this is said
@@ -72,6 +79,18 @@ pub record AreRowsOn (every : EveryValue) (p : ℕ) (action : List ℕ) (P : Lis
 abbrev pub IsNamedBelow : EveryValue → ℕ → List ℕ → Unnamed → Type 0
 IsNamedBelow every i text unnamed =
     (r : ℕ) × (r < i) × IsResource every.world r (λ resource. resource.arn ≡ text) × (unnamed ≡ Like r)
+
+-- or one of these
+abbrev pub IsNamedAmong : EveryValue → List ℕ → List ℕ → Unnamed → Type 0
+IsNamedAmong every among text unnamed =
+    (r : ℕ) × Contains among r × IsResource every.world r (λ resource. resource.arn ≡ text) × (unnamed ≡ Like r)
+
+-- the row of resource r, and it alone
+abbrev pub IsRowOfResource : EveryValue → ℕ → List ℕ → ℕ → RowValue → Type 0
+IsRowOfResource every p action r row = IsResource every.world r (λ resource. IsRowOf every.world p (Like r) action resource.arn row)
+
+abbrev pub AreOfMatched : EveryValue → ℕ → List ℕ → ℕ → List RowValue → Type 0
+AreOfMatched every p action r rows = (row : RowValue) × IsRowOfResource every p action r row × (rows ≡ row ∷ [])
 
 -- the text `*`, which no resource has
 abbrev pub IsStar : EveryValue → List ℕ → Unnamed → Type 0

@@ -11,6 +11,7 @@ use Rattle.iam_row.specs.Report.{CellTexts}
 use Rattle.iam_row.specs.declared.quoted.Format.{Format}
 use Rattle.iam_row.specs.declared.quoted.Format.TheVariants.{Csv, Json}
 use Rattle.iam_row.specs.declared.tail.Tail.{Tail}
+use Rattle.iam_every.specs.Code.Rows.{AreMatched}
 use Rattle.iam_every.specs.Every.{AreThere, EveryValue, RowValue, every_of, row_of}
 use Rattle.iam_every.specs.Report.{IsWanted, NamedRow, has_unshown}
 use Rattle.iam_every.specs.Rows.{AreRows}
@@ -73,6 +74,7 @@ pub record IsTile (crew : Principals) (tile : ℕ) : Type 0 where
   pub inside : tile < length crew.principals.now
   pub known : All (λ p. p < length crew.asked.world.now.principals) crew.principals.now
   pub there : AreThere (every_of crew.asked)
+  pub matched : AreMatched crew.asked.world.now (every_of crew.asked).lines crew.matched.now
 
 -- the text of a principal, if it is there
 abbrev pub text_if : Option PrincipalValue → List ℕ

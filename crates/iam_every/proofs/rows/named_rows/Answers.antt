@@ -1,52 +1,61 @@
-use Rattle.std.proofs.Common.{◌≡◌, ◌+◌, ◌∷◌, [], ◌++◌, inr, ℕ, Any, List, chars, map, refl, sym, ap, subst, ◌∙◌}
-use Rattle.std.proofs.lemmas.List.{map-append}
+use Rattle.std.proofs.Common.{◌≡◌, ◌<◌, ◌∷◌, [], ◌++◌, ◌∙◌, ℕ, List, ap, arith, get_or, length, map, refl, slice_index, subst, sym, take}
+use Rattle.std.proofs.lemmas.Grind.{get_or_default_zero}
+use Rattle.std.proofs.lemmas.List.{map-append, take_all}
 use Rattle.std.specs.List.{range_with_len, slice_get}
-use Rattle.iam_glob.specs.Glob.{Matches}
 use Rattle.iam_world.specs.World.{ResourceValue}
-use Rattle.iam_layers.specs.declared.unnamed.Unnamed.TheVariants.{Like}
-use Rattle.iam_every.specs.Code.Rows.{AreRowsOn, IsFirstOf, IsNamedBelow}
-use Rattle.iam_every.specs.Every.{IsMatched, RowValue, every_of, row_of}
-use Rattle.iam_every.specs.Made.{AreJoined, AreOfResource}
-use Rattle.iam_every.proofs.MadeLemmas.{joined_next, joined_skip, resource_row}
+use Rattle.iam_every.specs.Code.Rows.{AreOfMatched, AreRowsOn, IsFirstOf, IsNamedAmong, IsRowOfResource}
+use Rattle.iam_every.specs.Every.{RowValue, every_of, row_of}
+use Rattle.iam_every.specs.Made.{AreJoined}
+use Rattle.iam_every.proofs.LineLemmas.{matched_first}
+use Rattle.iam_every.proofs.MadeLemmas.{joined_matched, joined_more}
 use Rattle.iam_every.proofs.NamesLemmas.{one_some}
-use Rattle.iam_every.proofs.RowLemmas.{named_more, named_skip}
+use Rattle.iam_every.proofs.RowLemmas.{named_all, named_more}
+use Rattle.iam_every.proofs.WalkLemmas.{taken_more}
 use Rattle.iam_every.proofs.rows.named_rows.Goals as goal
-use Rattle.iam_every.proofs.rows.named_rows.Goals.{then-has_line+in_ok-row_of_text+in_ok-push, else-has_line}
 
-pub loop-r-preserved : goal.loop-r-preserved
-loop-r-preserved c =
+pub loop-i-preserved : goal.loop-i-preserved
+loop-i-preserved c =
     let given = c.args.given in
     let every = every_of given.asked in
     let p = given.p in
     let action = c.args.action.now in
-    let r = c.loop-r.r in
-    let text = c.resource_text-text.result.now in
-    let (resource, at, is) = c.resource_text-text.ensures in
-    let rows = map row_of c.loop-r.rows.items in
-    let Rows = AreRowsOn every p action (IsNamedBelow every (r + 1)) in
-    let Of = AreOfResource every p action in
-    let Made = AreJoined Of (range_with_len 0 (r + 1)) in
-    elim c.if-has_line.branch [
-      | then-has_line+in_ok-row_of_text+in_ok-push w ↦
-          let row : RowValue = row_of w.in_ok-row_of_text.field-0 in
-          let (k, first) = c.has_line.ensures.some.0 w.if-has_line.true in
-          let pushed : map row_of c.if-has_line.rows.items ≡ rows ++ (row ∷ []) =
-          ap (λ v. map row_of v.items) w.rows-is ∙ ap (map row_of) w.in_ok-push.ensures.items ∙ map-append row_of c.loop-r.rows.items _ in
-          record {
-            rows = subst Rows (sym pushed)
-                (named_more every p action r resource text k rows row c.loop-r.invariant.rows at is first (Like r) refl w.in_ok-row_of_text.ensures);
-            made = subst Made (sym pushed)
-                (joined_next Of r rows (row ∷ []) c.loop-r.invariant.made
-                (resource_row every p action r resource text k row at is first w.in_ok-row_of_text.ensures));
-          }
-      | else-has_line w ↦
-          let never : ¬ ((k : ℕ) × IsFirstOf every.lines text k) =
-          λ some. let yes = c.has_line.ensures.some.1 some in let no = w.if-has_line.false in let wrong : ⊥ = cc in wrong in
-          let unmatched : ¬ IsMatched every.world every.lines r = λ (found, there, some).
-          let same : found.arn ≡ text = ap (λ (x : ResourceValue). x.arn) (one_some (slice_get every.world.resources r) found resource there at) ∙ sym is in
-          c.has_line.ensures.none w.if-has_line.false (subst (λ (x : List ℕ). Any (λ line. Matches line.pattern (chars x)) every.lines) same some) in
-          record {
-            rows = subst Rows (ap (λ v. map row_of v.items) (sym w.rows-is)) (named_skip every p action r resource text rows c.loop-r.invariant.rows at is never);
-            made = subst Made (ap (λ v. map row_of v.items) (sym w.rows-is)) (joined_skip Of r rows c.loop-r.invariant.made (inr (unmatched, refl)));
-          }
-    ]
+    let matched = given.matched.now in
+    let i = c.loop-i.i in
+    let below : i < length matched = omega (arith, c.loop-i-test.true, c.loop-i.auto.i-end) in
+    let r = slice_index matched i in
+    let is : r ≡ get_or matched i r = sym (get_or_default_zero matched i r below) in
+    let row : RowValue = row_of c.in_ok-named_row.field-0 in
+    let (resource, at, of) : IsRowOfResource every p action r row = c.in_ok-named_row.ensures in
+    let (found, there, (k, first)) = matched_first every matched i r c.requires.given.matched below is in
+    let same : found ≡ resource = one_some (slice_get every.world.resources r) found resource there at in
+    let rows = map row_of c.loop-i.rows.items in
+    let pushed : map row_of c.push.new.self.items ≡ rows ++ row ∷ [] =
+    ap (map row_of) c.in_ok-push.ensures.items ∙ map-append row_of c.loop-i.rows.items _ in
+    let Of = AreOfMatched every p action in
+    let Both : List ℕ → List RowValue → Type 0 = λ done some. AreRowsOn every p action (IsNamedAmong every done) some × AreJoined Of done some in
+    let now : Both (take i matched ++ r ∷ []) (rows ++ row ∷ []) = (
+      named_more every p action (take i matched) r resource resource.arn k rows row c.loop-i.invariant.rows at refl
+          (subst (λ (x : ResourceValue). IsFirstOf every.lines x.arn k) same first) of,
+      joined_more Of (take i matched) r rows (row ∷ []) c.loop-i.invariant.made (row, (resource, at, of), refl),
+    ) in
+    let both = subst (λ (done : List ℕ). Both done (map row_of c.push.new.self.items)) (sym (taken_more matched i r below is))
+    (subst (Both (take i matched ++ r ∷ [])) (sym pushed) now) in
+    record { rows = both.0; made = both.1 }
+
+pub returns-clause-rows : goal.returns-clause-rows
+returns-clause-rows c =
+    let given = c.args.given in
+    let every = every_of given.asked in
+    let rows = map row_of c.loop-i.rows.items in
+    named_all every given.p c.args.action.now given.matched.now rows c.requires.given.matched
+    (subst (λ (done : List ℕ). AreRowsOn every given.p c.args.action.now (IsNamedAmong every done) rows)
+    (take_all c.loop-i.i given.matched.now (omega (arith, c.loop-i-test.false, c.loop-i.auto.i-end))) c.loop-i.invariant.rows)
+
+pub returns-clause-made : goal.returns-clause-made
+returns-clause-made c =
+    let given = c.args.given in
+    let every = every_of given.asked in
+    let rows = map row_of c.loop-i.rows.items in
+    joined_matched every given.p c.args.action.now (range_with_len 0 (length every.world.resources)) given.matched.now rows c.requires.given.matched.selected
+    (subst (λ (done : List ℕ). AreJoined (AreOfMatched every given.p c.args.action.now) done rows)
+    (take_all c.loop-i.i given.matched.now (omega (arith, c.loop-i-test.false, c.loop-i.auto.i-end))) c.loop-i.invariant.made)

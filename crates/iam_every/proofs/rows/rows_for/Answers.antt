@@ -5,6 +5,7 @@ use Rattle.iam_every.specs.Code.Rows.{AreRowsOn, IsLinedBelow}
 use Rattle.iam_every.specs.Every.{AreRowsFor, every_of, line_of, row_of}
 use Rattle.iam_every.specs.Made.{AreJoined, AreOfLine}
 use Rattle.iam_every.proofs.RowLemmas.{rows_for_one}
+use Rattle.iam_every.proofs.SharingLemmas.{star_both}
 use Rattle.iam_every.proofs.rows.rows_for.Goals as goal
 
 pub returns-clause-rows : goal.returns-clause-rows
@@ -14,16 +15,17 @@ returns-clause-rows c =
     let p = given.p in
     let action = c.args.action.now in
     let named = map row_of c.in_ok-rows.rows.items in
-    let star = map row_of c.in_ok-star.star.items in
+    let star = map row_of c.in_ok-starred.starred.items in
     let lined = map row_of c.in_ok-lined.lined.items in
     let first : map row_of c.append.new.self.items ≡ named ++ star =
-    ap (map row_of) c.in_ok-append.ensures.items ∙ map-append row_of c.in_ok-rows.rows.items c.in_ok-star.star.items in
+    ap (map row_of) c.in_ok-append.ensures.items ∙ map-append row_of c.in_ok-rows.rows.items c.in_ok-starred.starred.items in
     let all : map row_of c.append-2.new.self.items ≡ (named ++ star) ++ lined =
     ap (map row_of) c.in_ok-append-2.ensures.items ∙ map-append row_of c.append.new.self.items c.in_ok-lined.lined.items
     ∙ ap (λ xs. xs ++ lined) first in
     let below : AreRowsOn every p action (IsLinedBelow every (length every.lines)) lined =
     subst (λ (n : ℕ). AreRowsOn every p action (IsLinedBelow every n) lined) (sym (length-map given.asked.lines.now line_of)) c.in_ok-lined.ensures.rows in
-    subst (AreRowsFor every p action) (sym all) (rows_for_one every p action named star lined c.in_ok-rows.ensures.rows c.in_ok-star.ensures.rows below)
+    subst (AreRowsFor every p action) (sym all) (rows_for_one every p action named star lined c.in_ok-rows.ensures.rows
+    (star_both every p action c.args.star.now star c.requires.star c.in_ok-starred.ensures).0 below)
 
 pub returns-clause-made : goal.returns-clause-made
 returns-clause-made c =
@@ -32,10 +34,10 @@ returns-clause-made c =
     let p = given.p in
     let action = c.args.action.now in
     let named = map row_of c.in_ok-rows.rows.items in
-    let star = map row_of c.in_ok-star.star.items in
+    let star = map row_of c.in_ok-starred.starred.items in
     let lined = map row_of c.in_ok-lined.lined.items in
     let first : map row_of c.append.new.self.items ≡ named ++ star =
-    ap (map row_of) c.in_ok-append.ensures.items ∙ map-append row_of c.in_ok-rows.rows.items c.in_ok-star.star.items in
+    ap (map row_of) c.in_ok-append.ensures.items ∙ map-append row_of c.in_ok-rows.rows.items c.in_ok-starred.starred.items in
     let all : map row_of c.append-2.new.self.items ≡ (named ++ star) ++ lined =
     ap (map row_of) c.in_ok-append-2.ensures.items ∙ map-append row_of c.append.new.self.items c.in_ok-lined.lined.items
     ∙ ap (λ xs. xs ++ lined) first in
@@ -43,7 +45,7 @@ returns-clause-made c =
       named = named;
       are_named = c.in_ok-rows.ensures.made;
       star = star;
-      is_star = c.in_ok-star.ensures.made;
+      is_star = (star_both every p action c.args.star.now star c.requires.star c.in_ok-starred.ensures).1;
       lined = lined;
       are_lined = subst (λ (n : ℕ). AreJoined (AreOfLine every p action) (range_with_len 0 n) lined) (sym (length-map given.asked.lines.now line_of))
           c.in_ok-lined.ensures.made;

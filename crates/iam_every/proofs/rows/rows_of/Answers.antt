@@ -24,18 +24,19 @@ returns-in_default-clause-rows c =
     (λ rows are. unshown_all every p (map row_of rows.items) (are ∙ ap (λ (w : List ℕ). map (unshown_row w) every.lines) written) passes)
     c.unshown_lines.ensures
 
-pub rows_for_all-requires-clause-given : goal.rows_for_all-requires-clause-given
-rows_for_all-requires-clause-given c = record {
+pub given_rows-requires-clause-given : goal.given_rows-requires-clause-given
+given_rows-requires-clause-given c = record {
   principal = c.requires.principal;
   there = c.requires.there;
   arn = c.signs.ensures ∙ c.in_ok-arn.ensures ∙ ap (map wild_sign) (chars-IsAscii (codes "arn:*:*:*:*:*") (ascii (codes "arn:*:*:*:*:*") refl));
   none = c.new-none.ensures.items;
+  matched = c.requires.matched;
   names = subst (λ names. AreNames c.args.asked.world.now (map (λ name. name.now) names)) (sym c.as_slice.ensures.value) c.in_ok-names.ensures;
   patterns = ap (λ patterns. map signs_in patterns) c.as_slice-2.ensures.value ∙ c.in_ok-patterns.ensures;
 }
 
-pub rows_for_all-requires-clause-asked : goal.rows_for_all-requires-clause-asked
-rows_for_all-requires-clause-asked c =
+pub given_rows-requires-clause-asked : goal.given_rows-requires-clause-asked
+given_rows-requires-clause-asked c =
     let every = every_of c.args.asked in
     let p = c.args.p in
     let asked : AreAsked every p (map string_bytes c.in-Some.actions.items) =
