@@ -1,0 +1,10 @@
+mod ActionLemmas
+mod CodeLemmas
+mod JoinLemmas
+mod LineLemmas
+mod OneLemmas
+mod OptionLemmas
+mod RightLemmas
+mod TargetLemmas
+mod TellLemmas
+mod WholeLemmas
