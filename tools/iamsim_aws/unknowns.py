@@ -62,8 +62,9 @@ class Unknowns:
         if found is None:
             self.opened.append(place)
             return ["*"]
-        self.notes.append(f"{place} {LATER}: taken to be {found} and all below it")
-        return [*known, found, f"{found}/*"]
+        # What stands behind the reference, as in "${aws_s3_bucket.b.arn}-logs/*", is not told.
+        self.notes.append(f"{place} {LATER}: taken to be all that begins with {found}")
+        return [*known, f"{found}*"]
 
     def names(self) -> List[str]:
         return list(dict.fromkeys([*self.lacking, *self.opened, *self.denies]))

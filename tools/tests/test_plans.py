@@ -92,15 +92,17 @@ def read_later(statements, unknown, expressions):
 
 
 def test_documents_that_are_read_at_the_apply():
-    """What follows from the bucket's name is known; else an Allow is of any resource, and a Deny is left out."""
+    """What follows from the bucket's name is known, but not what stands behind it; else an Allow is of any resource, and a Deny is
+    left out."""
     of = {"effect": "Allow", "actions": ["s3:PutObject"], "resources": [None], "sid": None}
     refers = {"references": ["aws_s3_bucket.b.arn", "aws_s3_bucket.b"]}
     made = read_later([of], [{"actions": [False], "resources": [True]}], [{"resources": refers}])
-    for resource, wanted in ((f"{B}/k", {("gained", ALICE)}), (B, {("gained", ALICE)}), (f"{B}x/k", set())):
-        found, said = gained(made, action="s3:PutObject", resource=resource, *[])
-        same(found, wanted, resource)
+    for resource in (f"{B}/k", B, f"{B}x/k"):
+        found, said = gained(made, action="s3:PutObject", resource=resource)
+        same(found, {("gained", ALICE)}, resource)
+    same(gained(made, action="s3:PutObject", resource="arn:aws:s3:::c/k")[0], set())
     where = "data.aws_iam_policy_document.d.statement.0.resources is known only after the apply"
-    assert f"{where}: taken to be {B} and all below it" in said, said
+    assert f"{where}: taken to be all that begins with {B}" in said, said
     # Of a key nothing tells the ARN.
     refers = {"references": ["aws_kms_key.k.arn", "aws_kms_key.k"]}
     unknown = read_later([of], [{"resources": [True]}], [{"resources": refers}])
@@ -183,7 +185,7 @@ def test_arns_that_follow_from_names():
         assert arn or "only the apply tells data.aws_iam_policy_document.d.statement.0.resources" in said, said
         same(found, {("gained", ALICE)} if arn else set(), str((kind, values)))
         if arn:
-            same(gained(file(made), action="x:Do", resource=f"{arn}x")[0], set())
+            same(gained(file(made), action="x:Do", resource=f"{arn[:-1]}z")[0], set())
 
 
 def test_tags_that_are_all_removed():
