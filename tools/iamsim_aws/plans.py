@@ -15,6 +15,8 @@ from .unknowns import DENY_LEFT, LATER, Unknowns
 from .yamls import Unclear
 
 INDEX = re.compile(r"\[[^\]]*\]")
+# What of the settings of a provider says as whom it signs in.
+SIGN_IN = ("assume_role", "assume_role_with_web_identity", "profile", "access_key", "shared_credentials_files", "shared_config_files")
 DATA_DOCUMENT = "aws_iam_policy_document"
 # Attributes that are documents, which a document may be taken from as a whole.
 DOCUMENTS = ("policy", "json", "assume_role_policy", "content", "inline_policy")
@@ -120,19 +122,25 @@ class Plan:
                 for of in it.given.get("resources", [])
             }
             self.regions = regions_of(configuration)
+            strangers = strangers_of(configuration)
         except (KeyError, TypeError, AttributeError):
             raise Fault(f"{self.path}: it is no plan of 'terraform show -json'") from None
         # Where one of several providers does not tell its region, no other one's is taken for it.
         self.region = self.regions.get("aws", "") if all(self.regions.values()) else ""
         self.changes = [self.in_region(it) for it, mode in every if mode == "managed"]
+        used = {self.provider_of(it) for it in self.changes}
+        self.unknowns.doubts += [f"it does not tell the account of {it}" for it in strangers if it in used]
         self.read = [it for it, mode in every if mode == "data" and it.kind == DATA_DOCUMENT]
         # What is read again when the plan is applied.
         for it, mode in every:
             self.had.pop(it.address if mode == "data" else "", None)
 
+    def provider_of(self, change: Change) -> str:
+        return self.providers.get(INDEX.sub("", change.address), "")
+
     def in_region(self, change: Change) -> Change:
         """The change with the region of its provider, where that is another than the first one's."""
-        region = self.regions.get(self.providers.get(INDEX.sub("", change.address), ""), "")
+        region = self.regions.get(self.provider_of(change), "")
         if region == self.region:
             return change
         before, after = ({"region": region, **it} if it else it for it in (change.before, change.after))
@@ -256,6 +264,15 @@ def regions_of(configuration: Any) -> Dict[str, str]:
     some = (configuration.get("provider_config") or {}).items()
     given = {key: (it.get("expressions") or {}).get("region") or {} for key, it in some if is_of_aws(key)}
     return {key: str(it.get("constant_value") or "") for key, it in given.items()}
+
+
+def strangers_of(configuration: Any) -> List[str]:
+    """The providers of AWS that do not sign in as the first one does, and so may be of another account."""
+    some = (configuration.get("provider_config") or {}).items()
+    given = {key: it.get("expressions") or {} for key, it in some if is_of_aws(key)}
+    ways = {key: [it.get(name) for name in SIGN_IN] for key, it in given.items()}
+    first = ways.get("aws", next(iter(ways.values()), None))
+    return [key for key, it in ways.items() if it != first]
 
 
 def is_of_aws(provider: str) -> bool:
