@@ -1,5 +1,5 @@
 -- The laws of changes, of two worlds whose requests can be told apart.
-use Rattle.std.proofs.Common.{◌≡◌, ◌↔◌, ℕ, true, Contains, List, Option, Some, None, refl, sym, ap, subst, ◌∙◌, inl, inr}
+use Rattle.std.proofs.Common.{◌≡◌, ◌↔◌, ℕ, true, Contains, List, Option, Some, None, map, refl, sym, ap, subst, ◌∙◌, inl, inr}
 use Rattle.std.specs.List.{AllZip, slice_get}
 use Rattle.std.proofs.lemmas.Option.{get_or_from_slice_get, slice_get-get_or, slice_get_within}
 use Rattle.iam_decision.specs.declared.verdict.Decision.TheVariants.{Allowed}
@@ -7,18 +7,19 @@ use Rattle.iam_decision.specs.declared.verdict.Verdict.{Verdict}
 use Rattle.iam_layers.specs.Cell.{IsDecisionOf, IsVerdictOf}
 use Rattle.iam_layers.specs.Laws.{OneDecisionOf, OneTriple, OneVerdictOf}
 use Rattle.iam_world.specs.World.{WorldValue}
+use Rattle.iam_row.specs.Changes.{allows, changes_text, is_allowed}
 use Rattle.iam_row.specs.Report.{CellTexts}
+use Rattle.iam_row.specs.declared.changes.Change.{Change}
+use Rattle.iam_row.specs.declared.changes.Change.TheVariants.{Gained, Lost}
 use Rattle.iam_selection.specs.Selection.{Selects}
 use Rattle.iam_changes.specs.RequestLaws.{OneRequests}
 use Rattle.iam_changes.specs.Lists.{somes}
 use Rattle.iam_changes.specs.Requests.{AreRequests, Has}
 use Rattle.iam_changes.specs.Twice.{IsApart}
-use Rattle.iam_changes.specs.Change.{AskedValue, ChangeValue, Changes, IsChange, IsRow, Says, allows, is_allowed}
+use Rattle.iam_changes.specs.Change.{AskedValue, ChangeValue, Changes, IsChange, IsRow, Says}
 use Rattle.iam_changes.specs.Laws
 use Rattle.iam_changes.specs.Laws.{Allows, turned}
-use Rattle.iam_changes.specs.Report.{HasKinds, changes_text}
-use Rattle.iam_changes.specs.declared.change.Change.{Change}
-use Rattle.iam_changes.specs.declared.change.Change.TheVariants.{Gained, Lost}
+use Rattle.iam_changes.specs.Report.{HasKinds, row_of}
 use Rattle.iam_changes.proofs.Cells.{has_after, has_before, once_requests, one_said, same_cell}
 use Rattle.iam_changes.proofs.Changing.{allows_only, must, no_change, one_kind, one_kinds, some_side, turn, turn_back}
 use Rattle.iam_changes.proofs.Somes.{none_there, once_zip, one_zip, zip_from, zip_to}
@@ -71,7 +72,7 @@ one_list verdicts one asked before after changes others apart also (requests, ro
 pub one_report : OneVerdictOf → OneRequests → Laws.OneChangesReport
 one_report verdicts one format brief asked before after text other kinds others apart also (changes, are, is, has) (more, too, same, fits) =
     let alike = one_list verdicts one asked before after changes more apart also are too in
-    (is ∙ ap (changes_text format brief) alike ∙ sym same, one_kinds more kinds others (subst (λ cs. HasKinds cs kinds) alike has) fits)
+    (is ∙ ap (λ (cs : List ChangeValue). changes_text format brief (map row_of cs)) alike ∙ sym same, one_kinds more kinds others (subst (λ cs. HasKinds cs kinds) alike has) fits)
 
 -- ---- exactly the changes
 

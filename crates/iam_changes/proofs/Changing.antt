@@ -4,11 +4,12 @@ use Rattle.std.specs.Bool.{one_answer}
 use Rattle.iam_decision.specs.declared.verdict.Decision.{Decision}
 use Rattle.iam_decision.specs.declared.verdict.Decision.TheVariants.{Allowed, ExplicitDeny, ImplicitDeny}
 use Rattle.iam_decision.specs.declared.verdict.Verdict.{Verdict}
-use Rattle.iam_changes.specs.Change.{ChangeValue, Changes, allows}
+use Rattle.iam_row.specs.Changes.{allows}
+use Rattle.iam_row.specs.declared.changes.Change.{Change}
+use Rattle.iam_row.specs.declared.changes.Change.TheVariants.{Gained, Lost, Differs}
+use Rattle.iam_changes.specs.Change.{ChangeValue, Changes}
 use Rattle.iam_changes.specs.Laws.{turned_kind}
 use Rattle.iam_changes.specs.Report.{HasKinds}
-use Rattle.iam_changes.specs.declared.change.Change.{Change}
-use Rattle.iam_changes.specs.declared.change.Change.TheVariants.{Gained, Lost, Differs}
 use Rattle.iam_changes.specs.declared.change.Kinds.{Kinds}
 
 pub one_kind : (all : Bool) (x y : Option Verdict) (c d : Change) → Changes all x y c → Changes all x y d → c ≡ d

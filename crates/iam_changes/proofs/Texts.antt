@@ -6,13 +6,13 @@ use Rattle.std.proofs.lemmas.Option.{get_or_from_slice_get, slice_get-map, slice
 use Rattle.std.proofs.lemmas.List.{map_more}
 use Rattle.iam_layers.specs.Cell.{principal_text}
 use Rattle.iam_world.specs.World.{PrincipalValue, ResourceValue, WorldValue}
+use Rattle.iam_row.specs.Code.ChangeParts.{change_action, change_pieces}
 use Rattle.iam_row.specs.Piece.{pieces_at, principal_piece, resource_piece}
 use Rattle.iam_row.specs.Report.{CellTexts, HasTexts}
 use Rattle.iam_row.specs.declared.position.Position.{Position}
 use Rattle.iam_row.specs.declared.quoted.Quoted.{Quoted}
 use Rattle.iam_row.proofs.Texts.{same_three}
-use Rattle.iam_changes.specs.Code.Pieces.{ArePiecesOf, action_piece}
-use Rattle.iam_changes.proofs.Rendered.{pieces_of}
+use Rattle.iam_changes.specs.Code.Pieces.{ArePiecesOf}
 
 -- one more image, as at a step of a loop
 pub one_more : {A : Type 0} (f : A → List ℕ) (xs : List A) (texts : List (List ℕ)) (i : ℕ) (x : A) (text : List ℕ) → texts ≡ map f (take i xs) → slice_get xs i ≡ Some x → text ≡ f x
@@ -28,11 +28,11 @@ mapped f xs ys i x all there =
 
 -- what stands at a position is of the texts of its principal, action and resource
 pub pieces_there : (world : WorldValue) (quoted : Quoted) (at : Position) (texts : CellTexts) → ArePiecesOf world quoted
-    → HasTexts world at.principal at.action at.resource texts → pieces_at quoted at ≡ pieces_of quoted.format texts
+    → HasTexts world at.principal at.action at.resource texts → pieces_at quoted at ≡ change_pieces quoted.format texts
 pieces_there world quoted at texts same has =
     same_three _ _ _ _ _ _
     (mapped (λ (x : PrincipalValue). principal_piece quoted.format (principal_text x)) world.principals quoted.principals at.principal has.principal.0 same.principals has.principal.1
     ∙ ap (principal_piece quoted.format) (sym has.principal.2))
-    (mapped (action_piece quoted.format) world.actions quoted.actions at.action texts.action same.actions has.action)
+    (mapped (change_action quoted.format) world.actions quoted.actions at.action texts.action same.actions has.action)
     (mapped (λ (x : ResourceValue). resource_piece quoted.format x.arn) world.resources quoted.resources at.resource has.resource.0 same.resources has.resource.1
     ∙ ap (resource_piece quoted.format) (sym has.resource.2))

@@ -3,12 +3,13 @@ use Rattle.std.proofs.Common.{◌≡◌, ℕ, suc, ◌+◌, ◌<◌, ◌||◌, B
 use Rattle.std.specs.List.{flat_map}
 use Rattle.std.proofs.lemmas.Grind.{flat_map-append}
 use Rattle.std.proofs.lemmas.List.Concat.{flat_map-cons}
+use Rattle.iam_row.specs.Code.ChangeParts.{changes_opening}
 use Rattle.iam_row.specs.Piece.{closing_text}
 use Rattle.iam_row.specs.declared.tail.Tail.{Tail}
 use Rattle.iam_report.proofs.Buffered.{flat_map_at}
 use Rattle.iam_tiles.specs.Code.Numbered.{no_tail}
 use Rattle.iam_changes.specs.Code.Kept.{cell_behind, joined_kinds, no_kinds, row_at}
-use Rattle.iam_changes.specs.Code.Pieces.{PartValue, ReportValue, lead_of, opening_text, report_text, row_text, rows_in, rows_text}
+use Rattle.iam_changes.specs.Code.Pieces.{PartValue, ReportValue, lead_of, report_text, row_text, rows_in, rows_text}
 use Rattle.iam_changes.specs.declared.change.Kinds.{Kinds}
 use Rattle.iam_changes.specs.declared.text.Pieces.{Pieces}
 
@@ -20,7 +21,7 @@ parts_text pieces (part ∷ parts) =
     ∙ sym (flat_map-append (row_text pieces) part.rows (rows_in parts)) ∙ ap (rows_text pieces) (sym (flat_map-cons (λ (p : PartValue). p.rows) part parts))
 
 pub text_parts : (report whole : ReportValue) (rows : List (ℕ × Tail)) (front : List ℕ) → report ≡ whole → rows ≡ report.rows
-    → front ≡ opening_text report.pieces.after.format report.brief → report_text whole ≡ front ++ (rows_text report.pieces rows ++ closing_text report.pieces.after.format)
+    → front ≡ changes_opening report.pieces.after.format report.brief → report_text whole ≡ front ++ (rows_text report.pieces rows ++ closing_text report.pieces.after.format)
 text_parts report whole rows front is e opens =
     let rest : List (ℕ × Tail) → List ℕ = λ rs. rows_text report.pieces rs ++ closing_text report.pieces.after.format in
     ap report_text (sym is) ∙ ap (λ t. t ++ rest report.rows) (sym opens) ∙ ap (λ rs. front ++ rest rs) (sym e)

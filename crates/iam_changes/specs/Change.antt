@@ -2,17 +2,16 @@
 -- they say something else. LOGIC 13.7.
 use Rattle.std.specs.Prelude.{◌≡◌, ◌≢◌, ◌⊎◌, ℕ, List, Option, Some, None, Bool, true, false}
 use Rattle.std.specs.List.{AllZip}
-use Rattle.iam_decision.specs.declared.verdict.Decision.{Decision}
-use Rattle.iam_decision.specs.declared.verdict.Decision.TheVariants.{Allowed, ExplicitDeny, ImplicitDeny}
 use Rattle.iam_decision.specs.declared.verdict.Verdict.{Verdict}
 use Rattle.iam_layers.specs.Cell.{IsVerdictOf}
 use Rattle.iam_world.specs.World.{WorldValue}
+use Rattle.iam_row.specs.Changes.{is_allowed}
 use Rattle.iam_row.specs.Report.{CellTexts, IsCellTexts}
+use Rattle.iam_row.specs.declared.changes.Change.{Change}
+use Rattle.iam_row.specs.declared.changes.Change.TheVariants.{Gained, Lost, Differs}
 use Rattle.iam_selection.specs.Selection.{SelectionValue, Selects}
 use Rattle.iam_changes.specs.Lists.{somes}
 use Rattle.iam_changes.specs.Requests.{AreRequests, Has}
-use Rattle.iam_changes.specs.declared.change.Change.{Change}
-use Rattle.iam_changes.specs.declared.change.Change.TheVariants.{Gained, Lost, Differs}
 
 -- what the world says of it: the verdict of the written logic, or nothing where the world does not have it
 abbrev pub Says : WorldValue → CellTexts → Option Verdict → Type 0
@@ -20,16 +19,6 @@ Says world texts None = ¬ Has world texts
 Says world texts (Some verdict) = (cell : ℕ) × IsCellTexts world cell texts × IsVerdictOf world cell verdict
 
 -- ---- one request
-
--- it is allowed, by what is said of it; where nothing is said it is not
-abbrev pub allows : Decision → Bool
-allows Allowed = true
-allows ExplicitDeny = false
-allows ImplicitDeny = false
-
-abbrev pub is_allowed : Option Verdict → Bool
-is_allowed None = false
-is_allowed (Some verdict) = allows verdict.decision
 
 -- both worlds have it, and say something else: another decision, other statements or other lacks
 abbrev pub Differ : Option Verdict → Option Verdict → Type 0

@@ -8,13 +8,13 @@ use Rattle.iam_decision.specs.declared.verdict.Decision.TheVariants.{Allowed}
 use Rattle.iam_layers.specs.Cell.{IsDecisionOf}
 use Rattle.iam_world.specs.World.{WorldValue}
 use Rattle.iam_row.specs.Report.{CellTexts, IsCellTexts}
+use Rattle.iam_row.specs.declared.changes.Change.{Change}
+use Rattle.iam_row.specs.declared.changes.Change.TheVariants.{Gained, Lost, Differs}
 use Rattle.iam_row.specs.declared.quoted.Format.{Format}
 use Rattle.iam_selection.specs.Selection.{Selects}
 use Rattle.iam_changes.specs.Change.{AreChanges, AskedValue, ChangeValue, IsChange}
 use Rattle.iam_changes.specs.Report.{IsChangesReport}
 use Rattle.iam_changes.specs.Twice.{IsApart}
-use Rattle.iam_changes.specs.declared.change.Change.{Change}
-use Rattle.iam_changes.specs.declared.change.Change.TheVariants.{Gained, Lost, Differs}
 use Rattle.iam_changes.specs.declared.change.Kinds.{Kinds}
 
 -- there is one list of changes, and one report of it; nothing that is asked is a cut or a number of workers

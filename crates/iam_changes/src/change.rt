@@ -1,36 +1,12 @@
-// What a change is, by what is said of a request before and after.
+// Whether a request has changed, by what is said of it before and after, and which kinds of changes there are.
 ghost use Rattle.std.specs.Prelude.{◌≡◌, ◌↔◌, IfNone, IfSome, IsTrue, false, option_map};
-ghost use Rattle.iam_changes.specs.Change.{Changes, Differ, allows, is_allowed};
+ghost use Rattle.iam_row.specs.declared.changes.Change.{Change};
+ghost use Rattle.iam_changes.specs.Change.{Changes, Differ};
 ghost use Rattle.iam_changes.specs.Code.Kept.{joined_kinds, with_kind, no_kinds};
-ghost use Rattle.iam_changes.specs.Code.Pieces.{kind_by};
-ghost use Rattle.iam_changes.specs.Report.{change_word};
 
-use iam_layers::{Decision, Verdict};
+use iam_layers::Verdict;
+use iam_row::{Change, is_allowed};
 use iam_tiles::is_same;
-
-/// What has become of a request.
-#[derive(Clone, Copy, Debug, PartialEq, Eq)]
-pub enum Change {
-    /// It is allowed, and was not, or was not there.
-    Gained,
-    /// It was allowed, and is not, or is not there.
-    Lost,
-    /// It is as allowed as before, by another verdict.
-    Differs,
-}
-
-impl Change {
-    /// The word of the change.
-    pub fn word(self) -> &'static str
-        ensures { result.now ≡ change_word self }
-    {
-        match self {
-            Change::Gained => "gained",
-            Change::Lost => "lost",
-            Change::Differs => "differs",
-        }
-    }
-}
 
 /// Which kinds of changes there are.
 #[derive(Clone, Copy, Debug, PartialEq, Eq)]
@@ -81,24 +57,6 @@ impl Kinds {
     }
 }
 
-/// Whether a decision is that a request is allowed.
-fn allows(decision: Decision) -> bool
-    ensures { result ≡ allows decision }
-{
-    matches!(decision, Decision::Allowed)
-}
-
-/// Whether a request is allowed, by what is said of it.
-#[inline(always)]
-fn is_allowed(said: Option<&Verdict>) -> bool
-    ensures { result ≡ is_allowed (option_map (λ verdict. verdict.now) said.entry) }
-{
-    match said {
-        Some(verdict) => allows(verdict.decision),
-        None => false,
-    }
-}
-
 /// Whether something else is said before and after.
 fn differ(before: Option<&Verdict>, after: Option<&Verdict>) -> bool
     ensures { IsTrue result ↔ Differ (option_map (λ verdict. verdict.now) before.entry) (option_map (λ verdict. verdict.now) after.entry) }
@@ -120,16 +78,5 @@ pub fn change_of(all: bool, before: Option<&Verdict>, after: Option<&Verdict>) -
         (true, false) => Some(Change::Lost),
         _ if all && differ(before, after) => Some(Change::Differs),
         _ => None,
-    }
-}
-
-/// The change of what is said, where it is one.
-pub fn kind_of(before: Option<&Verdict>, after: Option<&Verdict>) -> Change
-    ensures { result ≡ kind_by (is_allowed (option_map (λ verdict. verdict.now) before.entry)) (is_allowed (option_map (λ verdict. verdict.now) after.entry)) }
-{
-    match (is_allowed(before), is_allowed(after)) {
-        (false, true) => Change::Gained,
-        (true, false) => Change::Lost,
-        _ => Change::Differs,
     }
 }

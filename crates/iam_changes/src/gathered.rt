@@ -3,11 +3,11 @@ ghost use Rattle.std.specs.Prelude.{◌≡◌, ◌+◌, ◌≤◌, ◌<◌, ◌^
 ghost use Rattle.iam_changes.specs.Code.Kept.{no_kinds, part_row, with_kind, GatheredValue, end_of, placed};
 ghost use Rattle.iam_changes.specs.Code.Pieces.{pair_tail};
 
-use crate::change::{Change, Kinds};
+use crate::change::Kinds;
 use crate::pair::Pair;
 use crate::part::Part;
 use crate::tail::tail_of;
-use iam_row::{Format, Tail};
+use iam_row::{Change, Format, Tail};
 use iam_text::OutOfMemory;
 use iam_tiles::{Form, Kept, Numbers, Tile};
 use std::alloc::Global;

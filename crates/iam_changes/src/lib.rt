@@ -22,12 +22,12 @@ mod tail;
 mod text;
 mod twice;
 
-pub use change::{Change, Kinds, change_of};
+pub use change::{Kinds, change_of};
 pub use finder::Finder;
 pub use gathered::Gathered;
 pub use iam_layers::{Decision, Verdict, World};
 pub use iam_report::OutputFault;
-pub use iam_row::{Format, Quoted, Tail};
+pub use iam_row::{Change, Format, Quoted, Tail};
 pub use iam_text::OutOfMemory;
 pub use iam_tiles::{Numbers, Tile};
 pub use laws::{

@@ -8,9 +8,8 @@ ghost use Rattle.iam_changes.specs.Code.Pieces.{lead_of, report_text, row_behind
 
 use crate::change::Kinds;
 use crate::part::Part;
-use crate::tail::opening;
 use iam_report::{OutputFault, put, put_all, write_end};
-use iam_row::{Format, Quoted, Tail, text_at};
+use iam_row::{Format, Quoted, Tail, changes_opening, text_at};
 use iam_selection::{comma_of, position_in};
 use std::io::Write;
 use std::marker::Model;
@@ -191,7 +190,7 @@ impl ChangesText {
     {
         let format = self.pieces.after.format;
         let parts = self.parts.as_slice();
-        put(writer, kept, opening(format, self.brief))?;
+        put(writer, kept, changes_opening(format, self.brief))?;
         put_parts(writer, kept, &self.pieces, parts)?;
         write_end(writer, kept, format)
     }

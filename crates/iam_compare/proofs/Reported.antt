@@ -4,7 +4,10 @@ use Rattle.std.specs.List.{AllByRecursion, AllZip, Any}
 use Rattle.std.proofs.lemmas.Bool.{cases_lt}
 use Rattle.iam_layers.specs.Laws.{OneTriple}
 use Rattle.iam_world.specs.World.{world_cells}
+use Rattle.iam_row.specs.Changes.{changes_text}
 use Rattle.iam_row.specs.Report.{CellTexts, IsCellTexts}
+use Rattle.iam_row.specs.declared.changes.Change.{Change}
+use Rattle.iam_row.specs.declared.changes.Change.TheVariants.{Gained, Lost, Differs}
 use Rattle.iam_row.specs.declared.quoted.Format.{Format}
 use Rattle.iam_row.specs.declared.quoted.Quoted.{Quoted}
 use Rattle.iam_row.specs.declared.tail.Tail.{Tail}
@@ -15,13 +18,11 @@ use Rattle.iam_changes.specs.Requests.{AreRequests, IsCount}
 use Rattle.iam_changes.specs.Change.{AreChanges, AskedValue, ChangeValue, IsRow}
 use Rattle.iam_changes.specs.Code.Kept.{kinds_in, no_kinds, with_kind}
 use Rattle.iam_changes.specs.Code.Pieces.{ArePiecesOf, PartValue, ReportValue, lead_of, report_text, rows_in}
-use Rattle.iam_changes.specs.Report.{HasKinds, IsChangesReport, changes_text}
-use Rattle.iam_changes.specs.declared.change.Change.{Change}
-use Rattle.iam_changes.specs.declared.change.Change.TheVariants.{Gained, Lost, Differs}
+use Rattle.iam_changes.specs.Report.{HasKinds, IsChangesReport, row_of}
 use Rattle.iam_changes.specs.declared.change.Kinds.{Kinds}
 use Rattle.iam_changes.specs.declared.text.Pieces.{Pieces}
 use Rattle.iam_changes.proofs.Cells.{inside}
-use Rattle.iam_changes.proofs.Listed.{IsBehind, IsLed, IsWritten, change_in, listed, row_of}
+use Rattle.iam_changes.proofs.Listed.{IsBehind, IsLed, IsWritten, cell_row, change_in, listed}
 use Rattle.iam_changes.proofs.Pieced.{row_after, row_before}
 use Rattle.iam_compare.specs.Code.Walk.{AreParts, IsRowAt, kinds_with, numbered, reached}
 use Rattle.iam_compare.proofs.Reaches.{reach_first, reach_past}
@@ -197,12 +198,12 @@ reported triples asked requests format brief lengths parts before after counted 
     let rows = numbered start entries in
     let pieces : List (ℕ × Tail) → Pieces = λ shown. record { before = before; after = after; cells = world_cells requests.after; lead = lead_of shown } in
     let value : List (ℕ × Tail) → ReportValue = λ shown. record { pieces = pieces shown; brief = brief; rows = shown; kinds = kinds_in parts } in
-    let shown = map (row_of format brief) rows in
+    let shown = map (cell_row format brief) rows in
     let all : 0 + sum lengths ≡ requests.count = omega (arith, whole) in
     let written = numbered_each Is (IsWritten (pieces shown) format brief) (row_written asked requests (pieces shown) format brief of_before of_after before_is after_is refl) start entries made.are.each in
     let text = listed format brief (pieces shown) (kinds_in parts) rows after_is refl written (numbered_led start entries) in (
       somes entries,
       are_changes triples asked requests (0 + sum lengths) entries counted all made.count made.are.each,
-      ap (λ rs. report_text (value rs)) made.rows_are ∙ text ∙ ap (changes_text format brief) (changes_in start entries),
+      ap (λ rs. report_text (value rs)) made.rows_are ∙ text ∙ ap (λ (cs : List ChangeValue). changes_text format brief (map row_of cs)) (changes_in start entries),
       subst (HasKinds (somes entries)) (sym made.kinds_are) (has_kinds (somes entries)),
     )

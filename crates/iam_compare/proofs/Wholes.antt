@@ -8,6 +8,8 @@ use Rattle.std.proofs.lemmas.List.Sums.{sum_by-cons}
 use Rattle.iam_layers.specs.Laws.{OneTriple}
 use Rattle.iam_world.specs.World.{WorldValue, world_cells}
 use Rattle.iam_row.specs.Report.{CellTexts, IsCellTexts}
+use Rattle.iam_row.specs.declared.changes.Change.{Change}
+use Rattle.iam_row.specs.declared.changes.Change.TheVariants.{Gained, Lost, Differs}
 use Rattle.iam_row.specs.declared.quoted.Format.{Format}
 use Rattle.iam_matrix.specs.Matrix.{AreEntriesFrom}
 use Rattle.iam_matrix.specs.Code.Tiles.{AreEntries, Chain}
@@ -20,8 +22,6 @@ use Rattle.iam_changes.specs.Change.{AreChanges, AskedValue, ChangeValue, IsRow}
 use Rattle.iam_changes.specs.Code.Kept.{joined_kinds, kinds_in, no_kinds, with_kind}
 use Rattle.iam_changes.specs.Code.Pieces.{PartValue, rows_in}
 use Rattle.iam_compare.specs.Code.Walk.{IsLeftRow, IsPartOf, IsRowAt, kinds_with, numbered, reached, tail_row}
-use Rattle.iam_changes.specs.declared.change.Change.{Change}
-use Rattle.iam_changes.specs.declared.change.Change.TheVariants.{Gained, Lost, Differs}
 use Rattle.iam_changes.specs.declared.change.Kinds.{Kinds}
 use Rattle.iam_changes.proofs.Cells.{inside, of_number}
 use Rattle.iam_changes.proofs.Written.{joined_both, joined_none}

@@ -1,4 +1,6 @@
 mod Cells
+pub mod ChangedLines
+mod ChangedReport
 mod Fields
 mod OneText
 pub mod Plain

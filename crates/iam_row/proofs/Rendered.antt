@@ -44,7 +44,7 @@ unfolding fields_text is_blank
 line_of_five a b c d e = simp (append_assoc, append-nil)
 
 -- the pieces of a line
-line_parts : (n p a r b : List ℕ) → n ++ ((codes "," ++ (p ++ codes ",")) ++ ((a ++ codes ",") ++ (r ++ b)))
+pub line_parts : (n p a r b : List ℕ) → n ++ ((codes "," ++ (p ++ codes ",")) ++ ((a ++ codes ",") ++ (r ++ b)))
     ≡ n ++ (codes "," ++ (p ++ (codes "," ++ (a ++ (codes "," ++ (r ++ b))))))
 line_parts n p a r b = simp append_assoc
 

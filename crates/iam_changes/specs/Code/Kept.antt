@@ -2,12 +2,12 @@
 use Rattle.std.specs.Prelude.{ℕ, zero, suc, ◌+◌, List, [], ◌∷◌, Option, None, Bool, true, false, get_or, option_map, ◌||◌}
 use Rattle.iam_decision.specs.declared.verdict.Verdict.{Verdict}
 use Rattle.iam_row.specs.Piece.{bare}
+use Rattle.iam_row.specs.declared.changes.Change.{Change}
+use Rattle.iam_row.specs.declared.changes.Change.TheVariants.{Gained, Lost, Differs}
 use Rattle.iam_row.specs.declared.quoted.Format.{Format}
 use Rattle.iam_row.specs.declared.tail.Tail.{Tail}
 use Rattle.iam_tiles.specs.Code.Numbered.{no_tail}
 use Rattle.iam_changes.specs.Code.Pieces.{PartValue, pair_tail}
-use Rattle.iam_changes.specs.declared.change.Change.{Change}
-use Rattle.iam_changes.specs.declared.change.Change.TheVariants.{Gained, Lost, Differs}
 use Rattle.iam_changes.specs.declared.change.Kinds.{Kinds}
 use Rattle.iam_changes.specs.declared.pair.Pair.{Pair}
 

@@ -4,6 +4,7 @@ use Rattle.iam_decision.specs.declared.verdict.Verdict.{Verdict}
 use Rattle.iam_classes.specs.Engine.{EngineValue}
 use Rattle.iam_world.specs.World.{WorldValue, world_cells}
 use Rattle.iam_row.specs.Report.{CellTexts, IsCellTexts}
+use Rattle.iam_row.specs.declared.changes.Change.{Change}
 use Rattle.iam_row.specs.declared.quoted.Format.{Format}
 use Rattle.iam_row.specs.declared.tail.Tail.{Tail}
 use Rattle.iam_matrix.specs.Matrix.{AreEntriesFrom}
@@ -14,7 +15,6 @@ use Rattle.iam_changes.specs.Code.Found.{RequestsValue, reach}
 use Rattle.iam_changes.specs.Change.{AskedValue, ChangeValue, Changes, IsRow}
 use Rattle.iam_changes.specs.Code.Kept.{GatheredValue, no_kinds, pair_of, part_row, with_kind}
 use Rattle.iam_changes.specs.Code.Pieces.{PartValue}
-use Rattle.iam_changes.specs.declared.change.Change.{Change}
 use Rattle.iam_changes.specs.declared.change.Kinds.{Kinds}
 use Rattle.iam_changes.specs.declared.pair.Pair.{Pair}
 use Rattle.iam_compare.specs.declared.walk.Workers.{Workers}
