@@ -1,3 +1,4 @@
+pub mod BeforeLemmas
 pub mod Cutting
 pub mod Faults
 pub mod Kept

@@ -1,3 +1,4 @@
+pub mod Before
 pub mod Code
 pub mod Fault
 pub mod File

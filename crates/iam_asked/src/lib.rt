@@ -5,10 +5,11 @@
 //! they give themselves (`own.rt`). `fault.rt` says why a line is no request.
 //!
 //! `read_texts` (`texts.rt`) reads what lines say of texts that a world does not name, and `text_fault.rt` says why a line says nothing
-//! of them.
+//! of them; `lines_before` (`before.rt`) says the same of another state of the same accounts.
 #![tactic(auto)]
 
 mod asked;
+mod before;
 mod entry;
 mod fault;
 mod finder;
@@ -23,12 +24,13 @@ mod text_fault;
 mod texts;
 
 pub use asked::Asked;
+pub use before::lines_before;
 pub use fault::{AskFault, FaultyLine, LineFault};
 pub use iam_context::{ContextFault, Part};
 pub use iam_layers::World;
 pub use iam_text::OutOfMemory;
 pub use laws::{no_fault_of_request, no_fault_of_text_line, one_asked, one_text_line};
-pub use places::{Place, resource_places};
+pub use places::{Place, principal_places, resource_places};
 pub use read::read_requests;
 pub use reading::Reading;
 pub use requests::Requests;

@@ -15,7 +15,7 @@ pub mod NamesLemmas
 pub mod OneLemmas
 pub mod OneRowsLemmas
 pub mod OwnLemmas
-mod ReportLemmas
+pub mod ReportLemmas
 pub mod RowLemmas
 mod SharingLemmas
 mod SideLemmas

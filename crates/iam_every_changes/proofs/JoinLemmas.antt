@@ -108,8 +108,3 @@ pub at_image : {X Y : Type 0} (f : X → Y) (xs : List X) (n : ℕ) (y : Y) → 
 at_image f [] n y at = absurd (let wrong : ⊥ = cc in wrong)
 at_image f (x ∷ xs) zero y at = (x, refl, (let same : f x ≡ y = cc in same))
 at_image f (x ∷ xs) (suc n) y at = at_image f xs n y at
-
-pub image_at : {X Y : Type 0} (f : X → Y) (xs : List X) (n : ℕ) (x : X) → slice_get xs n ≡ Some x → slice_get (map f xs) n ≡ Some (f x)
-image_at f [] n x at = absurd (let wrong : ⊥ = cc in wrong)
-image_at f (y ∷ xs) zero x at = (let same : y ≡ x = cc in ap (λ z. Some (f z)) same)
-image_at f (y ∷ xs) (suc n) x at = image_at f xs n x at

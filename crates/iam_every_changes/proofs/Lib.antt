@@ -3,7 +3,10 @@ mod CodeLemmas
 mod JoinLemmas
 mod LineLemmas
 mod OneLemmas
+mod OneReportLemmas
 mod OptionLemmas
+mod PrincipalLemmas
+mod ReportLemmas
 mod RightLemmas
 mod TargetLemmas
 mod TellLemmas

@@ -26,7 +26,8 @@ use Rattle.iam_every_changes.specs.Changes.{Answers, AreStateGroups, ChangedValu
 use Rattle.iam_every_changes.specs.Code.Given.{AreUtf8}
 use Rattle.iam_every_changes.specs.Made.{AreOfLine, AreOfText, AreOfTexts, IsAsked, unshown_row}
 use Rattle.iam_every_changes.specs.States.{BothValue, IsNamedIn, StateValue, joint}
-use Rattle.iam_every_changes.proofs.JoinLemmas.{alone_in, at_image, image_at, joined_in}
+use Rattle.iam_asked.proofs.BeforeLemmas.{image_at}
+use Rattle.iam_every_changes.proofs.JoinLemmas.{alone_in, at_image, joined_in}
 
 -- ---- lines of the same patterns
 pattern_at : (lines : List LineValue) (k : ℕ) (line : LineValue) → slice_get lines k ≡ Some line → slice_get (patterns_of lines) k ≡ Some line.pattern

@@ -1,5 +1,5 @@
 -- There is one list of what is looked at, and of what is told.
-use Rattle.std.proofs.Common.{◌≡◌, ◌∷◌, [], ◌++◌, ◌∙◌, ◌⊎◌, inl, inr, ℕ, Bool, Contains, List, MatchOption, None, Option, Some, ap, chars, filter, length, map, refl, subst, sym}
+use Rattle.std.proofs.Common.{◌≡◌, ◌∷◌, [], ◌++◌, ◌∙◌, ◌⊎◌, inl, inr, ℕ, List, MatchOption, None, Option, Some, ap, chars, filter, length, map, subst, sym}
 use Rattle.std.specs.List.{AllZip, range_with_len, slice_get}
 use Rattle.iam_glob.specs.declared.sign.Sign.{Sign}
 use Rattle.iam_kinds.specs.Kinds.{folded_question}
@@ -9,9 +9,8 @@ use Rattle.iam_kinds.specs.States.{PassesLimit}
 use Rattle.iam_decision.specs.Applicable.{ApplicableValue}
 use Rattle.iam_decision.specs.declared.verdict.Verdict.{Verdict}
 use Rattle.iam_layers.specs.Laws.{OneRequest, OneVerdictAt}
-use Rattle.iam_layers.specs.Unnamed.{IsUnnamedVerdict}
 use Rattle.iam_layers.specs.declared.unnamed.Unnamed.{Unnamed}
-use Rattle.iam_every.specs.Every.{AreSaid, EveryValue, LineValue, line_question}
+use Rattle.iam_every.specs.Every.{EveryValue, LineValue, line_question}
 use Rattle.iam_every.specs.Made.{AreShown}
 use Rattle.iam_every.specs.Names.{action_question}
 use Rattle.iam_every.specs.OwnActions.{AreOwnActionGroups, AreOwnPolicies, OneListOfActionGroups}
@@ -22,7 +21,7 @@ use Rattle.iam_every.proofs.NamesLemmas.{one_some}
 use Rattle.iam_every.proofs.OneLemmas.{one_policies, one_said_list}
 use Rattle.iam_every.proofs.OneRowsLemmas.{one_verdict, spelled_alike}
 use Rattle.iam_every_changes.specs.Changes.{ActionsPassIn, Answers, AreBothActionGroups, AreBothGroups, AreStateGroups, AreStatePolicies, ChangedValue, TextsPassIn, is_told}
-use Rattle.iam_every_changes.specs.Made.{AreAsked, AreEveryChanges, AreJoined, AreMade, AreOfAction, AreOfLine, AreOfTarget, AreOfText, AreOfTexts, AreOwnTexts, AreShownActions, AreTargets, IsAsked, IsTarget, OneListOfChanges, TargetValue, has_rows, own_texts, unshown_row}
+use Rattle.iam_every_changes.specs.Made.{AreAsked, AreJoined, AreMade, AreOfAction, AreOfLine, AreOfTarget, AreOfText, AreOfTexts, AreShownActions, AreTargets, IsAsked, IsTarget, OneListOfChanges, TargetValue, has_rows, own_texts, unshown_row}
 use Rattle.iam_every_changes.specs.States.{AreBoth, BothValue, StateValue, joint}
 use Rattle.iam_every_changes.specs.declared.looked.Verdicts.{Verdicts}
 use Rattle.iam_every_changes.proofs.WholeLemmas.{one_says}

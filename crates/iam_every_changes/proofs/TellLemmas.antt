@@ -8,10 +8,11 @@ use Rattle.iam_layers.specs.Laws.{OneDecisionAt}
 use Rattle.iam_layers.specs.Unnamed.{IsUnnamedDecision, world_and}
 use Rattle.iam_layers.specs.declared.unnamed.Unnamed.{Unnamed}
 use Rattle.iam_world.specs.World.{ResourceValue, WorldValue}
+use Rattle.iam_row.specs.Changes.{allows, is_allowed}
 use Rattle.iam_every.specs.Every.{EveryValue, Says, Tells}
 use Rattle.iam_every.proofs.NamesLemmas.{one_said}
 use Rattle.iam_every.proofs.RowLemmas.{decided_by}
-use Rattle.iam_every_changes.specs.Changes.{Allows, Answers, AreAlikeIn, ChangedValue, HasSameAccess, TellsBoth, TellsIn, allows, are_unlike, is_allowed, is_change, row_in}
+use Rattle.iam_every_changes.specs.Changes.{Allows, Answers, AreAlikeIn, ChangedValue, HasSameAccess, TellsBoth, TellsIn, are_unlike, is_change, row_in}
 use Rattle.iam_every_changes.specs.States.{BothValue, StateValue}
 
 -- ---- truth values

@@ -6,11 +6,11 @@ use Rattle.iam_glob.specs.declared.sign.Sign.{Sign}
 use Rattle.iam_kinds.specs.Kinds.{folded_question}
 use Rattle.iam_kinds.specs.States.{PassesLimit}
 use Rattle.iam_decision.specs.Applicable.{ApplicableValue}
-use Rattle.iam_decision.specs.declared.verdict.Decision.{Decision}
-use Rattle.iam_decision.specs.declared.verdict.Decision.TheVariants.{Allowed, ExplicitDeny, ImplicitDeny}
+use Rattle.iam_decision.specs.declared.verdict.Decision.TheVariants.{Allowed}
 use Rattle.iam_decision.specs.declared.verdict.Verdict.{Verdict}
 use Rattle.iam_layers.specs.Unnamed.{IsUnnamedDecision, IsUnnamedVerdict}
 use Rattle.iam_layers.specs.declared.unnamed.Unnamed.{Unnamed}
+use Rattle.iam_row.specs.Changes.{is_allowed}
 use Rattle.iam_every.specs.Every.{AreDecidedAlike, AreSaid, IsResourceText, IsUnshown, LineValue, RowValue, Says, Tells, line_question}
 use Rattle.iam_every.specs.Names.{action_question}
 use Rattle.iam_every.specs.OwnActions.{AreOwnActionGroups, AreOwnPolicies}
@@ -31,16 +31,6 @@ Answers state unnamed action text answer =
 abbrev pub Allows : StateValue → Unnamed → List ℕ → List ℕ → Type 0
 Allows state unnamed action text =
     MatchOption state.principal ⊥ (λ p. IsUnnamedDecision state.every.world p unnamed action text Allowed)
-
-abbrev pub allows : Decision → Bool
-allows Allowed = true
-allows ExplicitDeny = false
-allows ImplicitDeny = false
-
--- a verdict is there, and it allows
-abbrev pub is_allowed : Option Verdict → Bool
-is_allowed None = false
-is_allowed (Some verdict) = allows verdict.decision
 
 abbrev pub are_unlike : Bool → Bool → Bool
 are_unlike true other = not other

@@ -1,3 +1,5 @@
 pub mod Given
 pub mod Looked
+pub mod Principals
 pub mod Scenes
+pub mod Told

@@ -1,6 +1,7 @@
-// That there is one list of rows, and what follows where no row tells a request.
+// That there is one list of rows, and one report, and what follows where no row tells a request.
 ghost use Rattle.iam_every_changes.specs.Laws.{SameAccessWithoutARow};
 ghost use Rattle.iam_every_changes.specs.Made.{OneListOfChanges};
+ghost use Rattle.iam_every_changes.specs.Report.{NoReportTooLong, OneEveryChangesReport};
 
 use iam_every::one_list_of_groups;
 use iam_kinds::{one_list_of_kinds, one_list_of_kinds_fold};
@@ -25,3 +26,13 @@ pub fn one_list_of_changes()
 pub fn same_access_without_a_row()
     ensures { SameAccessWithoutARow }
 {}
+
+/// Two worlds have one report on principals whose access is compared in them, and none where it would be too long.
+///
+/// AWS IAM User Guide, "Policy evaluation logic".
+pub fn one_every_changes_report()
+    ensures one { OneEveryChangesReport }
+    ensures long { NoReportTooLong }
+{
+    one_list_of_changes()
+}

@@ -1,10 +1,11 @@
 // What is looked at in two states, and what is told of it.
 ghost use Rattle.std.specs.Prelude.{◌≡◌, ◌∷◌, [], IsTrue, List, OnOk, false};
-ghost use Rattle.iam_every_changes.specs.Changes.{ChangedValue, is_allowed, is_change, is_told_by};
+ghost use Rattle.iam_every_changes.specs.Changes.{ChangedValue, is_change, is_told_by};
 ghost use Rattle.iam_every_changes.specs.Code.Looked.{Gains};
 
-use iam_decision::{Decision, Verdict};
+use iam_decision::Verdict;
 use iam_match::OutOfMemory;
+use iam_row::is_allowed;
 use std::alloc::Global;
 
 /// The verdicts on a request before and after; none where a world does not have the principal.
@@ -65,21 +66,11 @@ impl Looked {
     }
 }
 
-/// Whether the verdict is there and allows.
-fn is_allowed(verdict: &Option<Verdict>) -> bool
-    ensures { result ≡ is_allowed verdict.now }
-{
-    match verdict {
-        Some(verdict) => matches!(verdict.decision, Decision::Allowed),
-        None => false,
-    }
-}
-
 /// Whether one of the states alone allows the request.
 fn is_change(verdicts: &Verdicts) -> bool
     ensures { result ≡ is_change verdicts.now }
 {
-    is_allowed(&verdicts.before) != is_allowed(&verdicts.after)
+    is_allowed(verdicts.before.as_ref()) != is_allowed(verdicts.after.as_ref())
 }
 
 /// Whether this is told.

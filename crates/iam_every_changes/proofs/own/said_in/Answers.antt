@@ -5,7 +5,8 @@ use Rattle.iam_asked.specs.Code.Found.{IsPlaceOf}
 use Rattle.iam_asked.specs.Texts.{resource_texts}
 use Rattle.iam_every.specs.Every.{IsNamed, LineValue}
 use Rattle.iam_every.proofs.LineLemmas.{line_there}
-use Rattle.iam_every_changes.proofs.JoinLemmas.{at_image, image_at}
+use Rattle.iam_asked.proofs.BeforeLemmas.{image_at}
+use Rattle.iam_every_changes.proofs.JoinLemmas.{at_image}
 use Rattle.iam_every_changes.proofs.own.said_in.Goals as goal
 
 pub returns-in-Some-clause-some : goal.returns-in-Some-clause-some
