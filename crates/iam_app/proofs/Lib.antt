@@ -1,6 +1,7 @@
 mod Asking
 mod Compared
 mod Comparing
+mod ComparingLemmas
 mod Flushed
 mod NamingLemmas
 pub mod OneOutput

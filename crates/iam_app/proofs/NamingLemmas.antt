@@ -122,7 +122,7 @@ next_passed P n chosen more before not same =
 -- ---- the report
 
 -- there is no report of what is asked by these lines
-pub no_report : (command : EveryCommand) (world : WorldValue) (lines : List TextLineValue) (every : EveryValue) → IsAskedOf command world lines every
+pub no_report : (command : EveryCommand) (world : WorldValue) (lines : List TextLineValue) (every : EveryValue) → IsAskedOf command.action world lines every
     → (fault : NamesFault) → IsNoReportOf command every fault → IsNoReport command world lines fault
 no_report command world lines every asked (n.Run f.Read) is = absurd is
 no_report command world lines every asked (n.Run (f.World fault)) is = absurd is

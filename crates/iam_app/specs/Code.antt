@@ -1,5 +1,6 @@
 pub mod Asking
 pub mod Cells
+pub mod Comparing
 pub mod Naming
 pub mod Pieces
 pub mod Sides

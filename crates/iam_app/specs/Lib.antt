@@ -4,6 +4,8 @@ pub mod ChangesFault
 pub mod ChangesLaws
 pub mod Code
 pub mod Command
+pub mod EveryChanges
+pub mod EveryChangesFault
 pub mod FaultLine
 pub mod Laws
 pub mod Names

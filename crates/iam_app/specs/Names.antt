@@ -1,5 +1,6 @@
 -- What a run about all names writes, and why it ends without its report. LOGIC 13.9.
-use Rattle.std.specs.Prelude.{◌≡◌, ◌≢◌, ◌∷◌, [], ℕ, Bool, List, Option, ⊤, chars, codes, length, option_map, string_bytes, unwrap_or}
+use Rattle.std.specs.Prelude.{◌≡◌, ◌≢◌, ◌∷◌, [], ℕ, List, Option, String, ⊤, chars, codes, length, option_map, string_bytes, unwrap_or}
+use Rattle.std.specs.Global.{Global}
 use Rattle.std.specs.List.{AllZip, range_with_len}
 use Rattle.iam_glob.specs.Glob.{Matches}
 use Rattle.iam_glob.specs.declared.sign.Sign.{Sign}
@@ -29,7 +30,6 @@ use Rattle.iam_app.specs.Output.{format_of}
 use Rattle.iam_app.specs.Selected.{Means, patterns_in}
 use Rattle.iam_app.specs.Streams.{AllRemained, ConsumesAtMost, MoreRemained}
 use Rattle.iam_app.specs.declared.every.Told.{Told}
-use Rattle.iam_app.specs.declared.fault.RunFault.{RunFault}
 use Rattle.iam_app.specs.declared.fault.RunFault.TheVariants as f
 use Rattle.iam_app.specs.declared.names_fault.NamesFault.{NamesFault}
 use Rattle.iam_app.specs.declared.names_fault.NamesFault.TheVariants as n
@@ -78,12 +78,12 @@ pub record IsLineOf (value : TextLineValue) (line : LineValue) : Type 0 where
   pub pattern : line.pattern ≡ pattern_of value.pattern
   pub said : IsUnnamedOf value.said line.unnamed
 
--- what the command asks of this world by these lines
-pub record IsAskedOf (command : EveryCommand) (world : WorldValue) (values : List TextLineValue) (every : EveryValue) : Type 0 where
+-- what is asked of this world by these lines, and by the pattern of actions that the command has, if it has one
+pub record IsAskedOf (action : Option (String Global)) (world : WorldValue) (values : List TextLineValue) (every : EveryValue) : Type 0 where
   pub world_is : every.world ≡ world
   pub lines : AllZip IsLineOf values every.lines
-  pub actions : every.actions ≡ option_map (λ text. pattern_of (string_bytes text)) command.action
-  pub written : every.written ≡ unwrap_or (option_map string_bytes command.action) (codes "*")
+  pub actions : every.actions ≡ option_map (λ text. pattern_of (string_bytes text)) action
+  pub written : every.written ≡ unwrap_or (option_map string_bytes action) (codes "*")
 
 -- the principal is meant
 abbrev pub IsPrincipalMeant : List (List Sign) → WorldValue → ℕ → Type 0
@@ -130,7 +130,7 @@ HasLines command input file P =
 -- P holds of what is asked by them
 abbrev pub HasNames : EveryCommand → Option (List ℕ) → Option (List ℕ) → (EveryValue → Type 0) → Type 0
 HasNames command input file P =
-    HasLines command input file (λ world values. (every : EveryValue) × IsAskedOf command world values every × P every)
+    HasLines command input file (λ world values. (every : EveryValue) × IsAskedOf command.action world values every × P every)
 
 -- P holds of the report
 abbrev pub HasNamesOutput : EveryCommand → Option (List ℕ) → Option (List ℕ) → (List ℕ → Type 0) → Told → Type 0

@@ -27,7 +27,7 @@ use std::mem;
 use std::thread::Threads;
 
 /// Reads one of two worlds, whose requests have to be told apart.
-fn read_side<R: Read>(alloc: Global, reader: &mut R, side: Side) -> Result<World, ChangesFault>
+pub fn read_side<R: Read>(alloc: Global, reader: &mut R, side: Side) -> Result<World, ChangesFault>
     ensures most { ConsumesAtMost (R.remaining reader.old) (R.remaining reader.new) 8388609 }
     ensures ok { IfOk result (λ world. HasSide (R.remaining reader.old) world) }
     ensures fault { IfErr result (IsNoSide side (R.remaining reader.old)) }
@@ -47,7 +47,7 @@ fn read_side<R: Read>(alloc: Global, reader: &mut R, side: Side) -> Result<World
 }
 
 /// The same fault, told of the world before: one that is no world ends as `Before`.
-fn of_before(fault: ChangesFault) -> ChangesFault
+pub fn of_before(fault: ChangesFault) -> ChangesFault
     ensures { result ≡ of_before fault }
 {
     match fault {

@@ -34,7 +34,7 @@ use std::mem;
 use std::thread::Threads;
 
 /// The exit status of a run in which a line could not be shown.
-const NOT_SHOWN: u8 = 5;
+pub const NOT_SHOWN: u8 = 5;
 
 /// What is told beside a report on all names.
 #[derive(Clone, Copy, Debug, PartialEq, Eq)]
@@ -98,7 +98,7 @@ fn lines_in<S: Read>(
 }
 
 /// The patterns of lines.
-fn patterns_of(alloc: Global, lines: &[TextLine]) -> Result<Vec<Glob>, OutOfMemory>
+pub fn patterns_of(alloc: Global, lines: &[TextLine]) -> Result<Vec<Glob>, OutOfMemory>
     ensures { IfOk result (λ patterns. patterns.items ≡ patterns_of lines.now) }
 {
     let mut patterns = Vec::with_capacity(alloc, lines.len())?;
@@ -131,7 +131,7 @@ fn lent_line<'a>(line: &'a TextLine, pattern: &'a Glob) -> Line<'a>
 }
 
 /// Lines with their patterns, lent.
-fn lent_lines<'a>(
+pub fn lent_lines<'a>(
     alloc: Global,
     lines: &'a [TextLine],
     patterns: &'a [Glob],
@@ -147,7 +147,7 @@ fn lent_lines<'a>(
 }
 
 /// Whether the principal's text matches one of the patterns, where there are any.
-fn is_meant(patterns: &[Glob], text: &str) -> bool
+pub fn is_meant(patterns: &[Glob], text: &str) -> bool
     ensures { IsTrue result ↔ IsMeant (λ pattern. Matches pattern (chars text.now)) patterns.now }
 {
     patterns.is_empty() || patterns.iter().any(|pattern| pattern.matches(text))
@@ -168,7 +168,7 @@ fn principals_of(alloc: Global, world: &World, patterns: &[Glob]) -> Result<Vec<
 }
 
 /// The pattern of the actions that are asked about, and how it is written, if there is one.
-fn action_pattern<'a>(
+pub fn action_pattern<'a>(
     alloc: Global,
     action: &'a Option<String>,
 ) -> Result<Option<(Glob, &'a str)>, OutOfMemory>
@@ -185,7 +185,7 @@ fn action_pattern<'a>(
 }
 
 /// The actions that are asked about: those that match this pattern, which is written so; or those of the world.
-fn which_of<'a>(action: &'a Option<(Glob, &'a str)>) -> Which<'a>
+pub fn which_of<'a>(action: &'a Option<(Glob, &'a str)>) -> Which<'a>
     ensures pattern { pattern_in result ≡ option_map (λ it. it.0) action.entry.now }
     ensures text { written_in result ≡ unwrap_or (option_map (λ it. it.1.now) action.entry.now) (codes "*") }
 {

@@ -7,6 +7,8 @@ mod changes;
 mod changes_fault;
 mod command;
 mod every;
+mod every_changes;
+mod every_changes_fault;
 mod fault;
 mod input;
 mod laws;
@@ -21,14 +23,17 @@ pub use changes::{Comparison, changes_status, run_changes};
 pub use changes_fault::{ChangesFault, Side, changes_fault_line};
 pub use command::{changes_command_status, command_status, run_changes_command, run_command};
 pub use every::{Told, every_status, run_every};
+pub use every_changes::{every_changes_status, run_every_changes};
+pub use every_changes_fault::{EveryChangesFault, every_changes_fault_line};
 pub use fault::{RunFault, fault_line, status};
 pub use iam_asked::{FaultyLine, FaultyText, LineFault, TextFault};
 pub use iam_changes::{Axis, Kinds, Twice};
+pub use iam_every_changes::ChangesTold;
 pub use iam_layers::WorldFault;
 pub use iam_matrix::{CutFault, MatrixFault};
 pub use iam_options::{
-    AskCommand, Asked, ChangesCommand, ChangesOptions, Command, EveryCommand, FailOn, Options,
-    RunOptions, Task, Texts, Usage, WorldCommand, command_of, options_of,
+    AskCommand, Asked, ChangesCommand, ChangesOptions, Command, EveryChangesCommand, EveryCommand,
+    FailOn, Options, RunOptions, Task, Texts, Usage, WorldCommand, command_of, options_of,
 };
 pub use iam_selection::Selection;
 pub use iam_text::OutOfMemory;

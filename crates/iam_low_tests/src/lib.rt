@@ -1,4 +1,4 @@
-//! Tests of lower crates: calls of theirs that the program does not make; the lanes, work and crews of workers.
+//! Tests of lower crates: calls of theirs that the program does not make; words of a command line; the lanes, work and crews of workers.
 #![tactic(auto)]
 
 #[cfg(test)]
@@ -9,5 +9,7 @@ mod crew;
 mod lanes;
 #[cfg(test)]
 mod rules;
+#[cfg(test)]
+mod words;
 #[cfg(test)]
 mod work;

@@ -4,8 +4,8 @@ ghost use Rattle.iam_options.specs.Words.{HasRun, IsFileAt, IsFlag, NamesNeither
 ghost use Rattle.iam_options.specs.declared.options.Usage.TheVariants as u;
 
 use crate::arguments::{brief, format, run};
-use crate::command::{allow_empty, file, file_at};
-use crate::options::{RunOptions, Usage, run_options, usage_of};
+use crate::command::{allow_empty, file, file_at, refused};
+use crate::options::{RunOptions, Usage, run_options};
 use clap::builder::ValueParser;
 use clap::error::ErrorKind;
 use clap::{Arg, ArgMatches, Command as Parser};
@@ -47,7 +47,8 @@ pub fn ask_in(alloc: Global, command: &ArgMatches<'_>) -> Result<AskCommand, Usa
     let world = file_at(alloc, command, "WORLD")?;
     let requests = file_at(alloc, command, "requests")?;
     if world.is_none() && requests.is_none() {
-        return Err(refused(alloc, BOTH)?);
+        let kind = ErrorKind::ArgumentConflict;
+        return Err(refused(alloc, ask(alloc)?, "iamsim ask", kind, BOTH)?);
     }
     Ok(AskCommand {
         world,
@@ -55,13 +56,6 @@ pub fn ask_in(alloc: Global, command: &ArgMatches<'_>) -> Result<AskCommand, Usa
         options: run_options(command),
         allow_empty: command.get_flag("allow-empty"),
     })
-}
-
-/// The command is refused with this message.
-fn refused(alloc: Global, message: &str) -> Result<Usage, AllocError> {
-    let mut parser = ask(alloc)?.bin_name("iamsim ask")?;
-    let error = parser.error(ErrorKind::ArgumentConflict, message)?;
-    Ok(usage_of(alloc, &error))
 }
 
 /// The parser of the command.

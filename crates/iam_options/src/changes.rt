@@ -6,8 +6,8 @@ ghost use Rattle.iam_options.specs.declared.changes.FailOn.{FailOn};
 ghost use Rattle.iam_options.specs.declared.options.Usage.TheVariants as u;
 
 use crate::arguments::{brief, format, run};
-use crate::command::{Asked, asked_in, file, file_at, with_patterns};
-use crate::options::{Usage, run_options, usage_of};
+use crate::command::{Asked, asked_in, file, file_at, refused, texts_file, with_patterns};
+use crate::options::{Usage, run_options};
 use clap::error::ErrorKind;
 use clap::{Arg, ArgAction, ArgMatches, Command as Parser};
 use std::alloc::{AllocError, Global};
@@ -19,7 +19,19 @@ const INPUT: &str =
     "Requests are the same where the texts of principal, action and resource are. A world is read from
 its file, or from standard input for -, which AFTER is where it is not named.
 
-In a PATTERN * and ? are wild; given several times, one of them has to match.";
+With --every requests on all names are compared. A line of --texts says what holds of all texts that
+its pattern matches and the worlds do not name: all that each world says of one of AFTER's resources,
+by its number, or that they are of an account:
+{\"pattern\": \"arn:aws:s3:::homes/*\", \"like\": 3}
+{\"pattern\": \"arn:aws:s3:::logs/*\", \"account\": \"111122223333\"}
+The lines are read from FILE, or from standard input for -. Texts, and with --action actions, of which
+the policies tell no two apart have one row. A line that cannot be looked at whole has a row notShown.
+
+In a PATTERN * and ? are wild; given several times, one of them has to match. With --every there may
+be one --action, and no --resource.";
+
+/// What the command is called by.
+pub const NAME: &str = "iamsim changes";
 
 const BOTH: &str = "BEFORE and AFTER cannot both come from standard input";
 
@@ -85,7 +97,8 @@ pub fn changes_in(alloc: Global, command: &ArgMatches<'_>) -> Result<ChangesComm
     let before = file_at(alloc, command, "BEFORE")?;
     let after = file_at(alloc, command, "AFTER")?;
     if before.is_none() && after.is_none() {
-        return Err(refused(alloc, BOTH)?);
+        let kind = ErrorKind::ArgumentConflict;
+        return Err(refused(alloc, changes(alloc)?, NAME, kind, BOTH)?);
     }
     Ok(ChangesCommand {
         before,
@@ -95,13 +108,6 @@ pub fn changes_in(alloc: Global, command: &ArgMatches<'_>) -> Result<ChangesComm
         fail_on: fail_on_of(command),
         allow_empty: command.get_flag("allow-empty"),
     })
-}
-
-/// The command is refused with this message.
-fn refused(alloc: Global, message: &str) -> Result<Usage, AllocError> {
-    let mut parser = changes(alloc)?.bin_name("iamsim changes")?;
-    let error = parser.error(ErrorKind::ArgumentConflict, message)?;
-    Ok(usage_of(alloc, &error))
 }
 
 fn options_at(command: &ArgMatches<'_>) -> ChangesOptions
@@ -118,7 +124,8 @@ fn options_at(command: &ArgMatches<'_>) -> ChangesOptions
     }
 }
 
-fn fail_on_of(command: &ArgMatches<'_>) -> Option<FailOn>
+/// The rows that end a run with a status of its own, where they are said.
+pub fn fail_on_of(command: &ArgMatches<'_>) -> Option<FailOn>
     ensures none { first_value (found_of command.now) (codes "fail-on") ≡ None → result ≡ None }
     ensures said { (said : FailOn) → first_value (found_of command.now) (codes "fail-on") ≡ Some (fail_on_word said) → result ≡ Some said }
 {
@@ -142,7 +149,9 @@ pub fn changes<'a>(alloc: Global) -> Result<Parser<'a>, AllocError> {
         .arg(format(alloc))?
         .arg(brief(alloc))?
         .arg(all(alloc))?
-        .arg(fail_on(alloc))?;
+        .arg(fail_on(alloc))?
+        .arg(every(alloc)?)?
+        .arg(texts_file(alloc).requires_arg("every")?)?;
     with_patterns(alloc, parser)
 }
 
@@ -159,4 +168,15 @@ fn fail_on<'a>(alloc: Global) -> Arg<'a> {
         .value_name("CHANGE")
         .value_parser(CHANGES.as_slice())
         .help("End with status 3 where such a request was reported")
+}
+
+fn every<'a>(alloc: Global) -> Result<Arg<'a>, AllocError> {
+    Arg::new(alloc, "every")
+        .long("every")
+        .action(ArgAction::SetTrue)
+        .help("Compare requests on all names of which --texts speaks, and report one of each kind")
+        .requires_arg("texts")?
+        .conflicts_with("resource")?
+        .conflicts_with("all")?
+        .conflicts_with("tile")
 }

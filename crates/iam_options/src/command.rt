@@ -1,13 +1,17 @@
 // The whole command line: the options, the file of the world, and what is asked for.
-ghost use Rattle.std.specs.Prelude.{◌≡◌, ◌↔◌, IsTrue, IfOk, codes, length, map, string_bytes};
+ghost use Rattle.std.specs.Prelude.{◌≡◌, ◌↔◌, IsTrue, IfOk, codes, length, map, option_map, string_bytes};
+ghost use Rattle.clap.specs.Matches.{first_value, found_of};
+ghost use Rattle.iam_options.specs.EveryChanges.{asks_every};
 ghost use Rattle.iam_options.specs.Words.{HasAsked, IsFileAt, IsFlag, texts_at};
 
 use crate::arguments::{check, decide, first, matrix, named, with};
 use crate::ask::{AskCommand, ask, ask_in};
 use crate::changes::{ChangesCommand, changes, changes_in};
 use crate::every::{EveryCommand, every, every_in};
+use crate::every_changes::{EveryChangesCommand, every_changes_in};
 use crate::options::{Options, Usage, options_in, usage_of};
 use clap::builder::ValueParser;
+use clap::error::ErrorKind;
 use clap::{Arg, ArgAction, ArgMatches, Command as Parser};
 use std::alloc::{AllocError, Global};
 
@@ -35,6 +39,8 @@ pub enum Command {
     World(WorldCommand),
     /// The changes between two worlds.
     Changes(ChangesCommand),
+    /// The changes between two worlds, for all names.
+    EveryChanges(EveryChangesCommand),
     /// The requests of a file.
     Ask(AskCommand),
     /// All names.
@@ -95,7 +101,7 @@ fn command_or_usage(
     matches: &ArgMatches<'_>,
 ) -> Result<Command, Usage> {
     match (matches.subcommand(), options_in(matches)) {
-        (Some(("changes", command)), _) => Ok(Command::Changes(changes_in(alloc, command)?)),
+        (Some(("changes", command)), _) => changes_of(alloc, command),
         (Some(("ask", command)), _) => Ok(Command::Ask(ask_in(alloc, command)?)),
         (Some(("every", command)), _) => Ok(Command::Every(every_in(alloc, command)?)),
         (Some((_, command)), Some(options)) => {
@@ -103,6 +109,29 @@ fn command_or_usage(
         }
         _ => Err(Usage::Refused(parser.render_usage()?)),
     }
+}
+
+/// A command about two worlds that was read: of their requests, or for all names.
+fn changes_of(alloc: Global, command: &ArgMatches<'_>) -> Result<Command, Usage>
+    ensures { IfOk result (λ read. IsFlag command.now (codes "every") (asks_every read)) }
+{
+    if command.get_flag("every") {
+        return Ok(Command::EveryChanges(every_changes_in(alloc, command)?));
+    }
+    Ok(Command::Changes(changes_in(alloc, command)?))
+}
+
+/// The command with this parser is refused with this message; `name` is what it is called by.
+pub fn refused<'a>(
+    alloc: Global,
+    parser: Parser<'a>,
+    name: &'a str,
+    kind: ErrorKind,
+    message: &str,
+) -> Result<Usage, AllocError> {
+    let mut parser = parser.bin_name(name)?;
+    let error = parser.error(kind, message)?;
+    Ok(usage_of(alloc, &error))
 }
 
 /// A command about one world that was read, with all that stands behind it.
@@ -149,6 +178,20 @@ pub fn asked_in(alloc: Global, command: &ArgMatches<'_>) -> Result<Asked, AllocE
         resources: texts_at(alloc, command, "resource")?,
         decisions: texts_at(alloc, command, "decision")?,
     })
+}
+
+/// The text that stands under this name.
+pub fn text_at(
+    alloc: Global,
+    command: &ArgMatches<'_>,
+    name: &str,
+) -> Result<Option<String>, AllocError>
+    ensures { IfOk result (λ text. option_map string_bytes text ≡ first_value (found_of command.now) name.now) }
+{
+    match command.get_str(name) {
+        Some(text) => Ok(Some(String::from_str(alloc, text)?)),
+        None => Ok(None),
+    }
 }
 
 /// The texts that stand under this name, in their order.
@@ -259,4 +302,13 @@ pub fn decision<'a>(alloc: Global) -> Arg<'a> {
         .value_parser(DECISIONS.as_slice())
         .action(ArgAction::Append)
         .help("Only rows with this decision")
+}
+
+/// The file with lines on texts.
+pub fn texts_file<'a>(alloc: Global) -> Arg<'a> {
+    Arg::new(alloc, "texts")
+        .long("texts")
+        .value_name("FILE")
+        .value_parser(ValueParser::NonEmptyString)
+        .help("The file with the lines that say what holds of which texts")
 }

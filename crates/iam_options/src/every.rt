@@ -7,8 +7,10 @@ ghost use Rattle.iam_options.specs.declared.every.Texts.TheVariants as t;
 ghost use Rattle.iam_options.specs.declared.options.Usage.TheVariants as u;
 
 use crate::arguments::{brief, format, working};
-use crate::command::{allow_empty, decision, file, file_at, pattern, texts_at};
-use crate::options::{RunOptions, Usage, number_at, run_options, usage_of};
+use crate::command::{
+    allow_empty, decision, file, file_at, pattern, refused, text_at, texts_at, texts_file,
+};
+use crate::options::{RunOptions, Usage, number_at, run_options};
 use clap::builder::ValueParser;
 use clap::error::ErrorKind;
 use clap::{Arg, ArgMatches, Command as Parser, value_parser};
@@ -27,6 +29,9 @@ from standard input for -, which WORLD is where it is not named.
 
 Texts, and with --action actions, of which the policies tell no two apart have one row.
 In a PATTERN * and ? are wild; given several times, one of them has to match.";
+
+/// What the command is called by.
+const NAME: &str = "iamsim every";
 
 const BOTH: &str = "WORLD and --texts cannot both come from standard input";
 
@@ -77,10 +82,12 @@ pub fn every_in(alloc: Global, command: &ArgMatches<'_>) -> Result<EveryCommand,
 {
     let world = file_at(alloc, command, "WORLD")?;
     let Some(texts) = texts_in(alloc, command)? else {
-        return Err(refused(alloc, ErrorKind::MissingRequiredArgument, NO_TEXTS)?);
+        let kind = ErrorKind::MissingRequiredArgument;
+        return Err(refused(alloc, every(alloc)?, NAME, kind, NO_TEXTS)?);
     };
     if world.is_none() && is_standard(&texts) {
-        return Err(refused(alloc, ErrorKind::ArgumentConflict, BOTH)?);
+        let kind = ErrorKind::ArgumentConflict;
+        return Err(refused(alloc, every(alloc)?, NAME, kind, BOTH)?);
     }
     Ok(EveryCommand {
         world,
@@ -123,27 +130,6 @@ fn texts_in(alloc: Global, command: &ArgMatches<'_>) -> Result<Option<Texts>, Al
     }
 }
 
-/// The text that stands under this name.
-fn text_at(
-    alloc: Global,
-    command: &ArgMatches<'_>,
-    name: &str,
-) -> Result<Option<String>, AllocError>
-    ensures { IfOk result (λ text. option_map string_bytes text ≡ first_value (found_of command.now) name.now) }
-{
-    match command.get_str(name) {
-        Some(text) => Ok(Some(String::from_str(alloc, text)?)),
-        None => Ok(None),
-    }
-}
-
-/// The command is refused with this message.
-fn refused(alloc: Global, kind: ErrorKind, message: &str) -> Result<Usage, AllocError> {
-    let mut parser = every(alloc)?.bin_name("iamsim every")?;
-    let error = parser.error(kind, message)?;
-    Ok(usage_of(alloc, &error))
-}
-
 /// The parser of the command.
 pub fn every<'a>(alloc: Global) -> Result<Parser<'a>, AllocError> {
     working(alloc, "every", ABOUT)?
@@ -153,7 +139,7 @@ pub fn every<'a>(alloc: Global) -> Result<Parser<'a>, AllocError> {
             "WORLD",
             "The file with the world [default: standard input]",
         ))?
-        .arg(lines(alloc)?)?
+        .arg(texts_file(alloc).conflicts_with("resource")?)?
         .arg(resource(alloc))?
         .arg(like(alloc)?)?
         .arg(account(alloc)?)?
@@ -166,15 +152,6 @@ pub fn every<'a>(alloc: Global) -> Result<Parser<'a>, AllocError> {
             alloc,
             "End with status 0, not 4, where nothing is asked about",
         ))
-}
-
-fn lines<'a>(alloc: Global) -> Result<Arg<'a>, AllocError> {
-    Arg::new(alloc, "texts")
-        .long("texts")
-        .value_name("FILE")
-        .value_parser(ValueParser::NonEmptyString)
-        .help("The file with the lines that say what holds of which texts")
-        .conflicts_with("resource")
 }
 
 fn resource<'a>(alloc: Global) -> Arg<'a> {

@@ -6,10 +6,12 @@ mod ask;
 mod changes;
 mod command;
 mod every;
+mod every_changes;
 mod options;
 
 pub use ask::AskCommand;
 pub use changes::{ChangesCommand, ChangesOptions, FailOn};
 pub use command::{Asked, Command, WorldCommand, command_of};
 pub use every::{EveryCommand, Texts};
+pub use every_changes::EveryChangesCommand;
 pub use options::{Options, RunOptions, Task, Usage, options_of};

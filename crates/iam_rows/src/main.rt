@@ -19,7 +19,7 @@ use std::thread::Threads;
 const WORLDS: &str = "worlds.json";
 
 /// The files of rows, by theme.
-const ROWS: [&str; 14] = [
+const ROWS: [&str; 15] = [
     "ask.json",
     "changes.json",
     "commands.json",
@@ -28,6 +28,7 @@ const ROWS: [&str; 14] = [
     "decisions.json",
     "documents.json",
     "every.json",
+    "every_changes.json",
     "layers.json",
     "limits.json",
     "matrix.json",

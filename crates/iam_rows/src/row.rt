@@ -6,10 +6,10 @@
 use crate::input::{input_of, number_at, text_at};
 use crate::problem::Problem;
 use iam_app::{
-    AskCommand, ChangesCommand, Command, EveryCommand, Usage, WorldCommand, ask_status,
-    changes_command_status, changes_fault_line, command_of, command_status, every_status,
-    fault_line, names_fault_line, requests_fault_line, run_ask, run_changes_command, run_command,
-    run_every,
+    AskCommand, ChangesCommand, Command, EveryChangesCommand, EveryCommand, Usage, WorldCommand,
+    ask_status, changes_command_status, changes_fault_line, command_of, command_status,
+    every_changes_fault_line, every_changes_status, every_status, fault_line, names_fault_line,
+    requests_fault_line, run_ask, run_changes_command, run_command, run_every, run_every_changes,
 };
 use serde_json::Value;
 use std::alloc::Global;
@@ -155,6 +155,7 @@ fn answer_to<R: AllocGlobal + Threads + Sync>(
     match command_of(rt.alloc(), words) {
         Ok(Command::World(command)) => world_answer(rt, &command, inputs.world.as_slice()),
         Ok(Command::Changes(command)) => changes_answer(rt, &command, inputs),
+        Ok(Command::EveryChanges(command)) => every_changes_answer(rt, &command, inputs, lines),
         Ok(Command::Ask(command)) => ask_answer(rt, &command, inputs.world.as_slice(), lines),
         Ok(Command::Every(command)) => every_answer(rt, &command, inputs.world.as_slice(), lines),
         Err(usage) => usage_answer(rt.alloc(), usage),
@@ -199,6 +200,38 @@ fn changes_answer<R: AllocGlobal + Threads + Sync>(
     };
     Ok(Answer {
         status: u64::from(changes_command_status(&outcome, command.fail_on, command.allow_empty)),
+        output,
+        fault,
+    })
+}
+
+/// What comes of a command about two worlds and all names.
+fn every_changes_answer<R: AllocGlobal + Threads + Sync>(
+    rt: &R,
+    command: &EveryChangesCommand,
+    inputs: &Inputs,
+    lines: &[u8],
+) -> Result<Answer, Problem> {
+    let alloc = rt.alloc();
+    let mut before = inputs.before.as_slice();
+    let mut after = inputs.world.as_slice();
+    let mut file = lines;
+    let mut output = Vec::new(alloc);
+    let outcome = run_every_changes(
+        rt,
+        alloc,
+        command,
+        &mut before,
+        &mut after,
+        &mut file,
+        &mut output,
+    );
+    let fault = match &outcome {
+        Ok(_) => String::new(alloc),
+        Err(fault) => every_changes_fault_line(alloc, fault)?,
+    };
+    Ok(Answer {
+        status: u64::from(every_changes_status(&outcome, command.fail_on, command.allow_empty)),
         output,
         fault,
     })

@@ -1,8 +1,9 @@
 // Readers and writers that fail, at each of their calls, for all commands.
 use iam_app::{
-    AskCommand, Command, EveryCommand, ask_status, changes_command_status, changes_fault_line,
-    command_of, command_status, every_status, fault_line, names_fault_line, requests_fault_line,
-    run_ask, run_changes_command, run_command, run_every,
+    AskCommand, Command, EveryChangesCommand, EveryCommand, ask_status, changes_command_status,
+    changes_fault_line, command_of, command_status, every_changes_fault_line, every_changes_status,
+    every_status, fault_line, names_fault_line, requests_fault_line, run_ask, run_changes_command,
+    run_command, run_every, run_every_changes,
 };
 use std::io;
 use std::io::{ErrorKind, Read, Write};
@@ -17,6 +18,11 @@ const EMPTY: &str = r#"{"moment":0,"accounts":[],"principals":[],"actions":[],"r
 const WORLD: &str = r#"{"moment":0,"accounts":[{"id":"111122223333"}],
     "principals":[{"user":"arn:aws:iam::111122223333:user/ann","identity":[
     {"Version":"2012-10-17","Statement":{"Effect":"Allow","Action":"s3:Get*","Resource":"arn:aws:s3:::b/*"}}]}],
+    "actions":["S3:getobject"],"resources":[{"arn":"arn:aws:s3:::b/k","account":"111122223333"}]}"#;
+
+/// The same without a policy.
+const BARE: &str = r#"{"moment":0,"accounts":[{"id":"111122223333"}],
+    "principals":[{"user":"arn:aws:iam::111122223333:user/ann"}],
     "actions":["S3:getobject"],"resources":[{"arn":"arn:aws:s3:::b/k","account":"111122223333"}]}"#;
 
 /// The report of its one cell.
@@ -56,8 +62,16 @@ const LINES: &str = r#"{"pattern":"arn:aws:s3:::b/k","like":0}
 
 const EVERY: &str = "every world.json --texts - --workers 1 --brief";
 
+/// What is gained for all names from the world without a policy to the one with it, and how it is asked for.
+const GAINED_NAMES: &str = "change,principal,action,resource,before,after
+gained,arn:aws:iam::111122223333:user/ann,S3:getobject,arn:aws:s3:::b/k,implicitDeny,allowed
+";
+
+const EVERY_CHANGES: &str =
+    "changes before.json after.json --every --texts - --workers 1 --brief --fail-on lost";
+
 /// Each command, in each form of its report, and what it writes.
-const RUNS: [(&str, &str); 11] = [
+const RUNS: [(&str, &str); 12] = [
     (
         "check",
         "ok principals 1 actions 1 resources 1 cells 1 statements 1\n",
@@ -72,6 +86,7 @@ const RUNS: [(&str, &str); 11] = [
     (CHANGES, GAINED),
     (ASK, BRIEF),
     (EVERY, BRIEF),
+    (EVERY_CHANGES, GAINED_NAMES),
 ];
 
 /// The command of these words.
@@ -85,6 +100,7 @@ fn beside(command: &Command) -> &'static str {
     match command {
         Command::Ask(_) => REQUESTS,
         Command::Every(_) => LINES,
+        Command::EveryChanges(_) => BARE,
         Command::World(_) | Command::Changes(_) => EMPTY,
     }
 }
@@ -148,11 +164,12 @@ impl Write for Narrow {
 }
 
 /// The status of a run, and the line of its fault; of a run that is done there is none.
-fn end_of<R: Read, S: Read, W: Write>(
+fn end_of<R: Read, S: Read, L: Read, W: Write>(
     rt: &(impl AllocGlobal + Threads + Sync),
     command: &Command,
     before: &mut R,
     after: &mut S,
+    lines: &mut L,
     writer: &mut W,
 ) -> Result<(u8, String), Fail> {
     let alloc = rt.alloc();
@@ -178,6 +195,9 @@ fn end_of<R: Read, S: Read, W: Write>(
         }
         Command::Ask(asked) => end_of_requests(rt, asked, after, before, writer),
         Command::Every(asked) => end_of_lines(rt, asked, after, before, writer),
+        Command::EveryChanges(asked) => {
+            end_of_names_changes(rt, asked, before, after, lines, writer)
+        }
     }
 }
 
@@ -213,12 +233,31 @@ fn end_of_lines<R: Read, S: Read, W: Write>(
     Ok((every_status(&outcome, asked.allow_empty), line))
 }
 
+/// The same of a run of two worlds for all names.
+fn end_of_names_changes<R: Read, S: Read, L: Read, W: Write>(
+    rt: &(impl AllocGlobal + Threads + Sync),
+    asked: &EveryChangesCommand,
+    before: &mut R,
+    after: &mut S,
+    lines: &mut L,
+    writer: &mut W,
+) -> Result<(u8, String), Fail> {
+    let outcome = run_every_changes(rt, rt.alloc(), asked, before, after, lines, writer);
+    let line = match &outcome {
+        Ok(_) => String::new(rt.alloc()),
+        Err(fault) => every_changes_fault_line(rt.alloc(), fault)?,
+    };
+    let status = every_changes_status(&outcome, asked.fail_on, asked.allow_empty);
+    Ok((status, line))
+}
+
 /// A run whose readers fail after so many reads writes the report, and ends by this line.
 fn reads(
     rt: &(impl Abort + AllocGlobal + Threads + Sync),
     command: &Command,
     of_before: usize,
     of_after: usize,
+    of_lines: usize,
     report: &str,
     line: &str,
 ) -> Result<(), Fail> {
@@ -230,8 +269,19 @@ fn reads(
         rest: WORLD.as_bytes(),
         reads: of_after,
     };
+    let mut lines = Dripping {
+        rest: LINES.as_bytes(),
+        reads: of_lines,
+    };
     let mut writer = Vec::new(rt.alloc());
-    let (status, found) = end_of(rt, command, &mut before, &mut after, &mut writer)?;
+    let (status, found) = end_of(
+        rt,
+        command,
+        &mut before,
+        &mut after,
+        &mut lines,
+        &mut writer,
+    )?;
     assert_eq!(rt; writer.as_slice(), report.as_bytes());
     assert_eq!(rt; found.as_str(), line);
     assert_eq!(rt; status, u8::from(!line.is_empty()));
@@ -241,19 +291,41 @@ fn reads(
 #[test]
 fn readers_that_fail_at_each_read(rt: HostRuntime) -> Result<(), Fail> {
     let of_after = WORLD.len() + 1;
+    let of_lines = LINES.len() + 1;
     for (words, report) in RUNS {
         let command = asked_by(&rt, words)?;
         let of_before = beside(&command).len().saturating_add(1);
         for count in 0..of_after {
-            reads(&rt, &command, of_before, count, "", "fault 1 Read")?;
+            reads(
+                &rt,
+                &command,
+                of_before,
+                count,
+                of_lines,
+                "",
+                "fault 1 Read",
+            )?;
         }
-        reads(&rt, &command, of_before, of_after, report, "")?;
+        reads(&rt, &command, of_before, of_after, of_lines, report, "")?;
     }
-    for words in [CHANGES, ASK, EVERY] {
+    for words in [CHANGES, ASK, EVERY, EVERY_CHANGES] {
         let command = asked_by(&rt, words)?;
         for count in 0..beside(&command).len().saturating_add(1) {
-            reads(&rt, &command, count, of_after, "", "fault 1 Read")?;
+            reads(&rt, &command, count, of_after, of_lines, "", "fault 1 Read")?;
         }
+    }
+    let command = asked_by(&rt, EVERY_CHANGES)?;
+    let of_before = BARE.len() + 1;
+    for count in 0..of_lines {
+        reads(
+            &rt,
+            &command,
+            of_before,
+            of_after,
+            count,
+            "",
+            "fault 1 Read",
+        )?;
     }
     Ok(())
 }
@@ -270,13 +342,21 @@ fn fills(
 ) -> Result<(), Fail> {
     let mut before = beside(command).as_bytes();
     let mut after = WORLD.as_bytes();
+    let mut lines = LINES.as_bytes();
     let mut writer = Narrow {
         taken: Vec::new(rt.alloc()),
         room,
         full,
         flushes,
     };
-    let (status, found) = end_of(rt, command, &mut before, &mut after, &mut writer)?;
+    let (status, found) = end_of(
+        rt,
+        command,
+        &mut before,
+        &mut after,
+        &mut lines,
+        &mut writer,
+    )?;
     let report = report.as_bytes();
     assert_eq!(rt; writer.taken.as_slice(), &report[..room.min(report.len())]);
     assert_eq!(rt; found.as_str(), line);

@@ -4,10 +4,11 @@
 mod source;
 
 use iam_app::{
-    AskCommand, ChangesCommand, Command, EveryCommand, OutOfMemory, Texts, Usage, WorldCommand,
-    ask_status, changes_command_status, changes_fault_line, command_of, command_status,
-    every_status, fault_line, names_fault_line, requests_fault_line, run_ask, run_changes_command,
-    run_command, run_every,
+    AskCommand, ChangesCommand, Command, EveryChangesCommand, EveryCommand, OutOfMemory, Texts,
+    Usage, WorldCommand, ask_status, changes_command_status, changes_fault_line, command_of,
+    command_status, every_changes_fault_line, every_changes_status, every_status, fault_line,
+    names_fault_line, requests_fault_line, run_ask, run_changes_command, run_command, run_every,
+    run_every_changes,
 };
 use source::{Input, NotRead, Source, line_of_file};
 use std::alloc::Global;
@@ -52,6 +53,22 @@ fn main(rt: HostRuntime) -> ExitCode {
             let mut file = Input::of(&rt, lines_of(&command.texts, &none), rt.stdin());
             let mut stdout = rt.stdout();
             let status = every(&rt, alloc, &command, &mut input, &mut file, &mut stdout);
+            ExitCode::from(status)
+        }
+        Ok(Command::EveryChanges(command)) => {
+            let mut before = Input::of(&rt, &command.before, rt.stdin());
+            let mut after = Input::of(&rt, &command.after, rt.stdin());
+            let mut file = Input::of(&rt, &command.texts, rt.stdin());
+            let mut stdout = rt.stdout();
+            let status = every_changes(
+                &rt,
+                alloc,
+                &command,
+                &mut before,
+                &mut after,
+                &mut file,
+                &mut stdout,
+            );
             ExitCode::from(status)
         }
         Err(usage) => ExitCode::from(tell_usage(&rt, &usage)),
@@ -152,6 +169,25 @@ fn every<T: Threads + Sync + Files + Eprint, R: Read + Drop, W: Write>(
         tell_fault(rt, alloc, names_fault_line(alloc, fault), not_read);
     }
     every_status(&outcome, command.allow_empty)
+}
+
+/// Answers where access differs between two worlds, for all names; the exit status.
+fn every_changes<T: Threads + Sync + Files + Eprint, R: Read + Drop, W: Write>(
+    rt: &T,
+    alloc: Global,
+    command: &EveryChangesCommand,
+    before: &mut Input<'_, R, T>,
+    after: &mut Input<'_, R, T>,
+    file: &mut Input<'_, R, T>,
+    stdout: &mut W,
+) -> u8 {
+    let outcome = run_every_changes(rt, alloc, command, before, after, file, stdout);
+    if let Err(fault) = &outcome {
+        // Where one of them can't be read, those behind it were not.
+        let not_read = before.not_read().or(after.not_read()).or(file.not_read());
+        tell_fault(rt, alloc, every_changes_fault_line(alloc, fault), not_read);
+    }
+    every_changes_status(&outcome, command.fail_on, command.allow_empty)
 }
 
 /// Prints what a command line without options is answered, and gives the exit status.

@@ -15,7 +15,6 @@ use Rattle.iam_options.specs.declared.every.EveryCommand.{EveryCommand}
 use Rattle.iam_options.specs.declared.every.Texts.{Texts}
 use Rattle.iam_app.specs.Names.{AreSaid, IsAskedOf, IsFaultyLine, IsLineOf, IsLongFile, IsLongReport, IsNamesReport, IsNoCrew}
 use Rattle.iam_app.specs.declared.every.Told.{Told}
-use Rattle.iam_app.specs.declared.fault.RunFault.{RunFault}
 use Rattle.iam_app.specs.declared.fault.RunFault.TheVariants as f
 use Rattle.iam_app.specs.declared.names_fault.NamesFault.{NamesFault}
 use Rattle.iam_app.specs.declared.names_fault.NamesFault.TheVariants as n
@@ -53,7 +52,7 @@ AreKnown world lines = All (λ line. IsKnown world line.said) lines
 -- ---- the report
 -- P holds of what the command asks of the world by these lines
 abbrev pub OfAsked : EveryCommand → WorldValue → List TextLineValue → (EveryValue → Type 0) → Type 0
-OfAsked command world lines P = (every : EveryValue) × IsAskedOf command world lines every × P every
+OfAsked command world lines P = (every : EveryValue) × IsAskedOf command.action world lines every × P every
 
 -- what is told beside it
 abbrev pub told_of : EveryAnswer → Told

@@ -22,7 +22,7 @@ returns-clause-ok g c =
     let every : EveryValue = every_of (record { world = c.args.world; lines = c.as_slice-2.result; actions = c.which_of.result }) in
     let lines = subst (λ (lent : List Line). AllZip IsLineOf (map text_line_of c.args.lines.now) (map line_of lent)) (sym c.as_slice-2.ensures.value)
     (all_lines c.args.lines.now c.in_ok-lent.lent.items c.in_ok-lent.ensures) in
-    let asked : IsAskedOf c.args.command.now c.args.world.now (map text_line_of c.args.lines.now) every = record {
+    let asked : IsAskedOf c.args.command.now.action c.args.world.now (map text_line_of c.args.lines.now) every = record {
       world_is = refl;
       lines = lines;
       actions = c.which_of.ensures.pattern ∙ c.in_ok-action.ensures.pattern;
@@ -35,7 +35,7 @@ returns-clause-fault g c =
     let every : EveryValue = every_of (record { world = c.args.world; lines = c.as_slice-2.result; actions = c.which_of.result }) in
     let lines = subst (λ (lent : List Line). AllZip IsLineOf (map text_line_of c.args.lines.now) (map line_of lent)) (sym c.as_slice-2.ensures.value)
     (all_lines c.args.lines.now c.in_ok-lent.lent.items c.in_ok-lent.ensures) in
-    let asked : IsAskedOf c.args.command.now c.args.world.now (map text_line_of c.args.lines.now) every = record {
+    let asked : IsAskedOf c.args.command.now.action c.args.world.now (map text_line_of c.args.lines.now) every = record {
       world_is = refl;
       lines = lines;
       actions = c.which_of.ensures.pattern ∙ c.in_ok-action.ensures.pattern;
