@@ -48,13 +48,14 @@ bench:
 	@$(MAKE) -s build
 	bench/run
 
-# Many workers on many tiles, again and again, random worlds that the ordinary program answers too, and random names in them; not part of
-# the gate.
+# Many workers on many tiles, again and again, random worlds that the ordinary program answers too, and random names in them and in worlds
+# that were changed; not part of the gate.
 stress: build
 	tools/stress
 	IAMSIM=$(CURDIR)/iamsim MUTATIONS=2000 python3 tools/tests/run.py test_hostile test_replay_hostile
 	bench/differential
 	bench/names
+	bench/changed-names
 
 # The further edits that the prover has to refuse, of all crates or of CRATE=name; not part of the gate.
 attacks:

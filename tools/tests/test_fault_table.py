@@ -8,7 +8,7 @@ from harness import TOOLS, same
 
 TOP = os.path.dirname(TOOLS)
 # For each table the enum that has its faults, and the section of LOGIC.md that states them. A run of two worlds has two more, one of
-# requests another, and one about all names two more, the last of which has two forms.
+# requests another, and one about all names two more, the last of which has two forms, and of two worlds a third one.
 TABLES = {
     "Of the run": ("iam_app/src/fault.rt", "RunFault", "14"),
     "Of the matrix": ("iam_matrix/src/fault.rt", "MatrixFault", "11.7"),
@@ -48,6 +48,8 @@ def test_the_code_has_the_faults_of_the_table():
     also, *last = variants("iam_app/src/requests_fault.rt", "RequestsFault")
     names, *kinds, long = variants("iam_app/src/names_fault.rt", "NamesFault")
     same([run, also, names, long], ["Run", "Run", "Run", "LongTexts"])
+    both = variants("iam_app/src/every_changes_fault.rt", "EveryChangesFault")
+    same(both, ["Changes", *kinds, "BeforeTexts", long])
     for name, (path, enum, _) in TABLES.items():
         same(variants(path, enum) + (further + last + kinds if enum == "RunFault" else []), table(name), enum)
 
