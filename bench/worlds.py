@@ -445,6 +445,71 @@ def plain_resources(count):
     ]
 
 
+DOMAINS = "sales finance hr marketing logistics support product risk".split()
+LOGS = "CloudTrail/*/*.json CloudTrail-Digest/*/*.json Config/*/*.json vpcflowlogs/*/*.log elasticloadbalancing/*/*.log"
+
+
+def protected():
+    """What the policy of an organisation denies: to change logs, to touch what is classified, to replace what was released."""
+    classified = ["*/pii", "*/confidential", "*/*_restricted", "quarantine"]
+    unclear = {"StringNotEquals": {"aws:PrincipalTag/clearance": "high"}}
+    logs = [f"arn:aws:s3:::*-logs-*/AWSLogs/*/{it}.gz" for it in LOGS.split()]
+    lake = [f"arn:aws:s3:::*-lake-*/{it}/*" for it in classified]
+    kinds = ["jar", "whl", "zip"]
+    return document(
+        allow("*", "*"),
+        deny(["s3:Put*", "s3:Delete*"], [*logs, "arn:aws:s3:::aws-controltower-*-logs-*/*"]),
+        deny(["s3:Get*", "s3:Put*", "s3:Delete*"], lake, Condition=unclear),
+        deny(["s3:Put*", "s3:Delete*"], [f"arn:aws:s3:::*-artifacts-*/*/releases/*/*.{it}" for it in kinds]),
+    )
+
+
+def domain(name):
+    """The managed policy of those who work with the data of a domain."""
+    read, there = ["s3:GetObject", "s3:GetObjectVersion"], "arn:aws:s3:::*-lake-*"
+    return document(
+        allow([*read, "s3:ListBucket"], [f"{there}/curated/{name}/*", f"{there}/consumption/{name}/*", there]),
+        allow("s3:PutObject", [f"{there}/raw/{name}/*", f"{there}/curated/{name}/*"]),
+        deny(read, [f"{there}/{name}/*/_delta_log/*.crc", f"{there}/*/{name}/*/_temporary/*"]),
+    )
+
+
+def lake_object(dice, n):
+    stage, day, print_ = dice.choice(STAGES[:2]), 1 + n % 28, f"{dice.getrandbits(64):016x}"
+    kind, of = dice.random(), dice.choice(DOMAINS)
+    if kind < 0.8:
+        table = dice.choice("orders customers events pii invoices positions_restricted clicks".split())
+        part = f"year=2026/month={1 + n % 12:02}/day={day:02}/part-{n:05}-{print_}.c000.snappy.parquet"
+        return f"arn:aws:s3:::acme-lake-{stage}/{dice.choice(['raw', 'curated', 'consumption'])}/{of}/{table}/{part}"
+    if kind < 0.9:
+        log = dice.choice(["CloudTrail", "Config", "vpcflowlogs"])
+        file = f"{HOME}/{log}/eu-central-1/2026/11/{day:02}/{HOME}_{n:06}_{print_}.json.gz"
+        return f"arn:aws:s3:::acme-logs-{stage}/AWSLogs/{file}"
+    store = dice.choice(["releases", "snapshots", "cache"])
+    return f"arn:aws:s3:::acme-artifacts-{stage}/{of}/{store}/{n % 90}.{n % 7}/app-{n}-{print_[:8]}.jar"
+
+
+def lake():
+    """A data lake, an archive of logs and a store of artefacts: patterns of several `*` on long names of objects."""
+    dice = random.Random(11)
+    policies = {it: domain(it) for it in DOMAINS}
+    logs, store = "arn:aws:s3:::*-logs-*/AWSLogs/*", "arn:aws:s3:::*-artifacts-*/*"
+    audit = document(allow("s3:GetObject*", [f"{logs}/{it}/*" for it in ("CloudTrail", "Config", "vpcflowlogs")]))
+    build = document(
+        allow(["s3:GetObject", "s3:PutObject"], [f"{store}/snapshots/*", f"{store}/cache/*"]),
+        allow("s3:GetObject", f"{store}/releases/*"),
+    )
+    people = []
+    for n in range(120):
+        identity = [policies[it] for it in dice.sample(DOMAINS, dice.randint(1, 3))]
+        identity += [audit] * (n % 6 == 0) + [build] * (n % 5 == 0)
+        tags = {"aws:PrincipalTag/clearance": "high" if n % 9 == 0 else "low"}
+        people.append(session(f"lake/job-{n}", identity, context=tags))
+    things = [{"arn": lake_object(dice, n), "account": HOME} for n in range(5000)]
+    named = ["s3:GetObject", "s3:PutObject", "s3:ListBucket", "s3:GetObjectVersion", "s3:DeleteObject"]
+    return world(people, named, things, [{"id": HOME, "org": [[document(allow("*", "*"))], [protected()]]}])
+
+
 def lists(count, of, statement):
     """Statements with lists of so many members."""
     return world(
@@ -491,6 +556,11 @@ WORLDS = {
         "the same kind, 300 principals, 10 actions, 5,000 resources",
         READING,
         lambda: managed([*EIGHT, "s3:PutObject", "kms:Decrypt"], plain_resources(5000), shared=3, most=300),
+    ),
+    "lake": (
+        "a data lake, an archive of logs, a store of artefacts: 120 sessions, 5 actions, 5,000 objects of long names",
+        READING,
+        lake,
     ),
     "resources": (
         "120,000 resources",

@@ -1,12 +1,14 @@
 """Who may come to a request by assuming roles, one after the other."""
 
-from typing import Dict, List, NamedTuple, Set
+from typing import Dict, List, NamedTuple, Sequence, Set
 
 from .arns import principal_arn, principal_text
 from .asking import ask
+from .documents import World
 from .faults import tell
 from .hanging import is_too_much, turns
 from .reports import Answers
+from .roles import with_sessions
 from .sources import ASSUME, Source
 from .strangers import strangers, with_strangers
 
@@ -41,9 +43,9 @@ def opened(answers: Answers) -> Dict[int, str]:
     return {cell: it.words() for cell, it in first.items() if it}
 
 
-def steps_of(source: Source) -> Steps:
-    """Who may assume which role."""
-    [world] = source.worlds([ASSUME])
+def steps_of(source: Source, speaking: Sequence[World] = ()) -> Steps:
+    """Who may assume which role, also by sessions that policies of further worlds name."""
+    [world] = with_sessions(source.worlds([ASSUME]), speaking)
     sessions: Dict[str, List[str]] = {}
     for it in world["principals"]:
         if "role" in it:

@@ -19,6 +19,7 @@ from .questions import ARN, Scope, account_for, with_account
 from .program import Refused
 from .references import References
 from .reports import Answer, Answers, axes_of, keys_of
+from .roles import with_linked, with_sessions
 from .sources import ASSUME, Source
 from .splitting import parts
 from .strangers import strangers, with_strangers
@@ -399,15 +400,17 @@ def changes_of(
     scopes = [Scope(it, account=account) for it in (before, after)]
     chosen, found = actions_of(before, after, patterns), []
     made_up = {it: origin for it, origin in chosen.items() if origin}
-    actions = list(chosen)
+    # Whatever is chosen, all policies on resources tell apart who is outside.
+    actions, every = list(chosen), [it.world([ASSUME]) for it in (before, after)]
     for worlds in zip(before.worlds(actions), after.worlds(actions)):
         pair, stand = with_witnesses(scopes, worlds, resource)
-        some = strangers(after, pair)
+        pair = [with_linked(source, world, [*pair, *every]) for source, world in zip((before, after), pair)]
+        pair, some = with_sessions(pair, every), strangers(after, pair, speaking=every)
         one, other = (with_strangers(source, world, some) for source, world in zip((before, after), pair))
         keyed = with_keys(one, other)
         pairs = [(one, other), *((first, second) for _, first, second in keyed)]
-        every = compared_all(pairs, ["", *(words for words, _, _ in keyed)], is_page)
-        first, *others = (as_services_have(after.references, it._replace(stand={**made_up, **stand})) for it in every)
+        answers = compared_all(pairs, ["", *(words for words, _, _ in keyed)], is_page)
+        first, *others = (as_services_have(after.references, it._replace(stand={**made_up, **stand})) for it in answers)
         lost, gained = set(first.lost), set(first.gained)
         found.append(first)
         for more in others:

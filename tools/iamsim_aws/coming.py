@@ -6,6 +6,7 @@ from .chains import Steps, Way, chains, steps_of
 from .faults import TOLD
 from .never import Break, Finding, findings, never
 from .questions import Scope
+from .roles import with_named
 from .ruling import Outcome, Rule
 from .sources import ASSUME
 from .strangers import is_excepted, is_meant, shown, strangers
@@ -29,7 +30,7 @@ def with_chains(scope: Scope, outcomes: List[Outcome], as_given: bool, depth: in
 
 def people_of(scope: Scope) -> List[Dict[str, Any]]:
     """Whom steps begin with: the principals, and who is outside and may assume a role."""
-    world = scope.source.world([ASSUME])
+    world = with_named(scope.source, scope.source.world([ASSUME]))
     return [*world["principals"], *strangers(scope.source, [world])]
 
 

@@ -3,17 +3,16 @@
 import re
 from typing import Any, Dict, Iterable, Iterator, List, Set
 
-from .arns import account_of
+from .arns import account_of, principal_arn
 from .documents import World, conditions_of, each, statements_of
 from .exports import ACCOUNT
 from .faults import tell
 from .kinds import speaks_of
+from .parties import EVERYBODY, named_by
 from .patterns import is_pattern
+from .roles import LINKED, linked
 from .sources import Source
-from .strangers import EVERYBODY, accounts_of, named_by, stand_in
-
-# What a line says of whom nobody stands for.
-NOT_ASKED = "nobody is asked"
+from .strangers import NOT_ASKED, stand_in
 
 
 def tell_actions(source: Source, patterns: Iterable[str]) -> None:
@@ -28,27 +27,29 @@ def tell_lacked(actions: List[str]) -> None:
         tell(f"the service reference lacks these actions, which are asked for all the same: {', '.join(actions)}")
 
 
-def tell_strangers(source: Source, worlds: Iterable[World], has_services: bool = False) -> None:
+def tell_strangers(source: Source, worlds: List[World], has_services: bool = False, asks_linked: bool = True) -> None:
     """Tells those to whom policies grant and for whom nobody is asked, each once."""
-    for line in unasked(source, worlds, has_services):
+    for line in unasked(source, worlds, has_services, asks_linked):
         tell(line)
 
 
-def unasked(source: Source, worlds: Iterable[World], has_services: bool = False) -> Dict[str, Set[str]]:
+def unasked(
+    source: Source, worlds: List[World], has_services: bool = False, asks_linked: bool = True
+) -> Dict[str, Set[str]]:
     """Those to whom policies of the worlds' resources grant and for whom nobody is asked: a line each, with the resources'
     ARNs; services where they are wanted, since most roles trust one."""
-    known = accounts_of(source)
+    known, asked = source.accounts(), {principal_arn(it) for it in linked(source, worlds) if asks_linked}
     in_organization = source.estate is not None and source.estate.organization.is_there
     found: Dict[str, Set[str]] = {}
     for world in worlds:
         for it in world["resources"]:
             for statement in statements_of(it["policy"].document) if "policy" in it else ():
-                lines = [(text, why_nobody(text, known)) for text in named_by(statement)]
+                lines = [(text, why_nobody(text, known, asked)) for text in named_by(statement)]
                 lines += [(text, f"for whom {NOT_ASKED}") for text in others(statement, world, has_services)]
                 told = [f"{it['policy'].name} names {text}, {why}" for text, why in lines if why]
                 is_spoken_of = speaks_of(statement, tuple(world["actions"]))
                 if in_organization and is_spoken_of and named_by(statement) and asks_for_members(statement):
-                    what = f"grants to members of an organisation: of those without an export {NOT_ASKED}"
+                    what = f"grants to members of an organisation: of those that its file lacks {NOT_ASKED}"
                     told.append(f"{it['policy'].name} {what}")
                 for line in told:
                     found.setdefault(line, set()).add(it["arn"])
@@ -64,16 +65,16 @@ def others(statement: Any, world: World, has_services: bool) -> Iterator[str]:
         yield from (f"{kind} {it}" for it in each(given.get(kind)) if isinstance(it, str))
 
 
-def why_nobody(text: str, known: Set[str]) -> str:
+def why_nobody(text: str, known: Set[str], asked: Set[str]) -> str:
     """Why nobody is asked for whom a policy names, or nothing."""
     if re.fullmatch(r"A[A-Z]{3}[A-Z0-9]{12,}", text):
         return "the id of who is deleted: it means nobody"
     if not text.startswith("arn:") and text != EVERYBODY and not ACCOUNT.fullmatch(text):
         return "which is no ARN and no account: it means nobody"
-    if ":role/aws-service-role/" in text:
-        return f"a service-linked role, for whom {NOT_ASKED}"
     is_stranger = account_of(text) not in ("", *known)
-    return f"for whom {NOT_ASKED}" if is_stranger and not stand_in(text, "aws", "", "session") else ""
+    if LINKED in text and not is_stranger and text not in asked:
+        return f"a service-linked role, for whom {NOT_ASKED}"
+    return f"for whom {NOT_ASKED}" if is_stranger and not stand_in(text, "aws", "session") else ""
 
 
 def asks_for_members(statement: Any) -> bool:

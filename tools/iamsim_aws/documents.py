@@ -44,6 +44,8 @@ def levels(kind: str, path: str, value: Any, change: Change) -> Any:
 
 # What the requests on an access point of S3 are in its bucket: a resource within a resource, which no world of iamsim has.
 THROUGH = "through"
+# The id of an organisation of which a principal is known not to be, which no world of iamsim has either.
+FOREIGN = "foreign"
 
 
 def within(_kind: str, path: str, value: Any, change: Change) -> Any:
@@ -96,9 +98,10 @@ def dressed(world: World, names: Dict[str, str]) -> World:
 def bare(world: World) -> World:
     """The JSON of a world."""
     made = mapped(world, lambda _, path, policy: policy.document)
-    for it in made["resources"] if isinstance(made.get("resources"), list) else ():
-        if isinstance(it, dict):
-            it.pop(THROUGH, None)
+    for axis, name in (("resources", THROUGH), ("principals", FOREIGN)):
+        for it in made[axis] if isinstance(made.get(axis), list) else ():
+            if isinstance(it, dict):
+                it.pop(name, None)
     return made
 
 

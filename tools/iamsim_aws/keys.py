@@ -3,7 +3,7 @@
 from typing import Any, Dict, Iterator, List, Set, Tuple
 
 from .arns import account_of, principal_arn
-from .documents import World, conditions_of, each, places, statements_of
+from .documents import FOREIGN, World, conditions_of, each, places, statements_of
 from .patterns import variables_of
 
 # Those that follow from the request.
@@ -18,6 +18,7 @@ DERIVED = [
 ]
 # The account of who calls KMS.
 CALLER = "kms:CallerAccount"
+OF_ORGANIZATION = ("aws:principalorgid", "aws:principalorgpaths")
 
 
 def plain_operator(operator: str) -> str:
@@ -85,15 +86,24 @@ def lacks(world: World, given: Givers, path: str, key: str) -> bool:
     return by != "" and (int(n) not in numbers if axis == by else len(numbers) < len(world[by]))
 
 
+def may_have(holder: Any, key: str, value: Any) -> bool:
+    """Whether a principal may have a value of a key: not that of an organisation of which it is known not to be."""
+    of = {str(it).split("/")[0] for it in each(value)} if key.lower() in OF_ORGANIZATION else set()
+    return not isinstance(holder, dict) or holder.get(FOREIGN) not in of
+
+
 def with_key(world: World, key: str, value: Any) -> World:
-    """The world with a value of a key for each request that lacks it."""
-    given = givers(world).get(key.lower())
-    if given is None:
+    """The world with a value of a key for each request that lacks it and may have it."""
+    is_free = all(may_have(it, key, value) for it in world["principals"])
+    by, numbers = givers(world).get(key.lower(), ("context" if is_free else "principals", set()))
+    if by == "context":
         return {**world, "context": {**context_of(world), key: value}}
-    by, numbers = given
     if by == "":
         return world
-    some = [it if n in numbers else {**it, "context": {**context_of(it), key: value}} for n, it in enumerate(world[by])]
+    some = [
+        {**it, "context": {**context_of(it), key: value}} if n not in numbers and may_have(it, key, value) else it
+        for n, it in enumerate(world[by])
+    ]
     return {**world, by: some}
 
 

@@ -153,7 +153,6 @@ def principals_of(estate: Estate, patterns: List[str]) -> List[Dict[str, Any]]:
     made = []
     for account in estate.accounts:
         what = f"account {account.account}"
-        keys = estate.organization.keys(account.account, "Principal")
         users = [it for it in account.users if is_chosen(patterns, names_of_principal({"user": text(it, "Arn", what)}))]
         roles = [
             it
@@ -163,10 +162,17 @@ def principals_of(estate: Estate, patterns: List[str]) -> List[Dict[str, Any]]:
         ]
         found = [user_of(account, it) for it in users] + [role_of(account, it, estate.session) for it in roles]
         found += named_sessions(estate, account, patterns)
-        made += [keep_context({**it, "context": {**it["context"], **keys}}, estate.context) for it in found]
+        made += [in_organization(estate, account.account, it) for it in found]
     refuse_doubles([principal_arn(it) for it in made if not it.get("sessionPolicies")])
     refuse_doubles([principal_text(it) for it in made if "role" in it])
     return made
+
+
+def in_organization(estate: Estate, account: str, principal: Dict[str, Any]) -> Dict[str, Any]:
+    """A principal of an account with what follows from the organisation's file, or from all requests."""
+    keys, foreign = estate.organization.keys(account, "Principal"), estate.organization.foreign(account)
+    made = {**principal, **foreign, "context": {**principal.get("context", {}), **keys}}
+    return keep_context(made, estate.context)
 
 
 def named_sessions(estate: Estate, account: Account, patterns: List[str]) -> List[Dict[str, Any]]:

@@ -7,7 +7,7 @@ from . import kinds
 from .arns import principal_text
 from .asking import ask_all
 from .chains import Way
-from .covering import NOT_ASKED, unasked
+from .covering import unasked
 from .documents import World
 from .documents import cells_of as count_of
 from .every import WORLDS
@@ -35,7 +35,8 @@ from .patterns import is_pattern, matcher, opened, overlap, pattern_of, plain
 from .questions import Asked, Question, Scope, actions, asked_in, lacked, principals, worlds
 from .references import is_mixed
 from .reports import Answers
-from .strangers import strangers, with_strangers
+from .roles import with_named
+from .strangers import NOT_ASKED, strangers, with_strangers
 from .telling import causes
 
 
@@ -121,9 +122,10 @@ def asked_of(scope: Scope, world: World, question: Question) -> Asked:
     asked = asked_in(scope._replace(kinds=False, outside=False), world, question)
     further = owners_lines(scope.source.estate, world["resources"], patterns_of(question.resource), "")
     meant = asked.world["resources"] + [it.of for it in further]
-    some = strangers(scope.source, [{**asked.world, "resources": meant}], question.principal)
+    spoken = with_named(scope.source, {**world, "resources": meant})
+    some = strangers(scope.source, [spoken], question.principal)
     resources = world["resources"] if is_pattern(question.resource) else asked.world["resources"]
-    own = {**asked.world, "resources": resources}
+    own = {**asked.world, "principals": principals(spoken["principals"], question), "resources": resources}
     return asked._replace(world=with_strangers(scope.source, own, principals(some, question)))
 
 

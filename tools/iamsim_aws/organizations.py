@@ -1,12 +1,13 @@
 """The organisation's policies, as iamsim-aws organization collects them."""
 
 import copy
-from typing import Any, Dict, List, Optional
+from typing import Any, Dict, List, Optional, Set
 
 from . import files
-from .documents import Policy
-from .exports import policy
+from .documents import FOREIGN, Policy
+from .exports import ACCOUNT, policy
 from .faults import Fault
+from .files import compact
 from .naming import organization_policy
 
 SERVICE, CONTROL = "SERVICE_CONTROL_POLICY", "RESOURCE_CONTROL_POLICY"
@@ -51,6 +52,15 @@ class Organization:
 
     def is_member(self, account: str) -> bool:
         return self.is_there and (self.is_managing(account) or account in self.parents)
+
+    def members(self, known: Set[str]) -> List[str]:
+        """Accounts besides those that are known, one of all that stand at one place and have the same policies."""
+        found: Dict[Any, str] = {}
+        for it in [self.given.get("management"), *self.parents]:
+            if isinstance(it, str) and ACCOUNT.fullmatch(it) and it not in known:
+                attached = compact(self.targets.get(it))
+                found.setdefault((self.is_managing(it), *self.way(it)[:-1], attached), it)
+        return list(found.values())
 
     def way(self, target: str) -> List[str]:
         """The ids from the root down to an account or unit."""
@@ -117,6 +127,11 @@ class Organization:
             return {}
         path = "/".join([str(name), *self.way(account)[:-1]]) + "/"
         return {f"aws:{before}OrgID": name, f"aws:{before}OrgPaths": [path]}
+
+    def foreign(self, account: str) -> Dict[str, str]:
+        """What a principal of an account has that is outside: the id of an organisation that is not its own."""
+        is_outside = self.is_there and not self.is_member(account)
+        return {FOREIGN: str(self.given["id"])} if is_outside and "id" in self.given else {}
 
 
 def read_organization(path: Optional[str]) -> Organization:

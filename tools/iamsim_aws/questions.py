@@ -11,6 +11,7 @@ from .kinds import Origin, Origins
 from .making import bound
 from .naming import resource_policy
 from .patterns import any_matches, is_pattern, matcher, near, plain
+from .roles import with_named
 from .sources import ASSUME, Source
 from .strangers import is_excepted, is_meant, strangers, with_strangers
 
@@ -123,7 +124,8 @@ def asked_in(scope: Scope, world: World, question: Question) -> Asked:
     found += [it.resource for it in witnesses]
     estate = scope.source.estate
     resources = [bound(estate, dressed(scope, it)) if estate else dressed(scope, it) for it in found]
-    narrow = {**world, "principals": principals(world["principals"], question), "resources": resources}
+    narrow = with_named(scope.source, {**world, "resources": resources})
+    narrow["principals"] = principals(narrow["principals"], question)
     narrow["accounts"] = with_account(scope, world, resources)
     some = strangers(scope.source, [narrow], question.principal) if scope.outside else []
     narrow = with_strangers(scope.source, narrow, principals(some, question))

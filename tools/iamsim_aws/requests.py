@@ -11,7 +11,7 @@ from .asking import explained, whole
 from .documents import World, cells_of
 from .faults import Fault
 from .files import compact, encoded
-from .keys import givers
+from .keys import givers, may_have
 from .program import Refused, each_of, world_bytes
 from .reports import HEAD, TAIL, Answer, Answers, words
 from .splitting import parts
@@ -112,16 +112,16 @@ def jobs_of(world: World, given: List[Context], first: int) -> Iterator[Job]:
 
 def lines_of(world: World, context: Context) -> Iterator[str]:
     """A line for each request of a world, with a key where it lacks it."""
-    [key] = context
+    [(key, value)] = context.items()
     by, numbers = givers(world).get(key.lower(), ("", None))
     tails = ["}", f',"context":{compact(context)}}}']
     for p, principal in enumerate(world["principals"]):
-        who = compact(principal_text(principal))
+        who, is_possible = compact(principal_text(principal)), may_have(principal, key, value)
         for action in world["actions"]:
             head = f'{{"principal":{who},"action":{compact(action)},"resource":'
             for r, it in enumerate(world["resources"]):
                 is_lacking = numbers is None or by != "" and (p if by == "principals" else r) not in numbers
-                yield f"{head}{compact(it['arn'])}{tails[is_lacking]}"
+                yield f"{head}{compact(it['arn'])}{tails[is_lacking and is_possible]}"
 
 
 def decisions(world: World, given: List[Context]) -> Iterator[Answers]:

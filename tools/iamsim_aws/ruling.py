@@ -16,6 +16,7 @@ from .patterns import is_pattern, near
 from .points import is_half_known
 from .questions import Asked, Question, Scope, missing, worlds
 from .reports import Answers
+from .roles import with_named
 from .slips import is_unnamed, unnamed
 from .sources import ASSUME
 from .strangers import is_excepted, strangers
@@ -103,11 +104,12 @@ def question_of(words: List[str], where: str) -> Question:
 
 def exceptions(scope: Scope, rule: Rule) -> Dict[str, List[str]]:
     """The principals that each exception of a rule means. A name alone has to mean one, so that none is excepted unseen."""
-    world, found = scope.source.world([ASSUME]), {}
+    world, found = with_named(scope.source, scope.source.world([ASSUME])), {}
     people = world["principals"] + (strangers(scope.source, [world]) if rule.question.exceptions else [])
     for it in rule.question.exceptions:
-        found[it] = [principal_text(one) for one in people if is_excepted(one, [it])]
-        if len(found[it]) > 1 and ":" not in it and not is_pattern(it):
+        some = [one for one in people if is_excepted(one, [it])]
+        found[it] = [principal_text(one) for one in some]
+        if len(set(map(principal_arn, some))) > 1 and ":" not in it and not is_pattern(it):
             raise Fault(f"{rule.name}: several principals are called {it}, name one by its ARN: {', '.join(found[it])}")
     return found
 

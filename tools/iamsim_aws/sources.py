@@ -4,12 +4,12 @@ import argparse
 import glob
 import os
 import time
-from typing import Any, Callable, Dict, List, Optional, Tuple
+from typing import Any, Callable, Dict, List, Optional, Set, Tuple
 
 from . import files
-from .arns import resource_part, service_of
+from .arns import account_of, principal_arn, resource_part, service_of
 from .documents import World, dressed
-from .exports import read_exports
+from .exports import ACCOUNT, read_exports
 from .faults import Fault, tell
 from .making import Estate, has_service, outside, read_resources, refuse_doubles, warnings, world_of
 from .organizations import read_organization
@@ -59,6 +59,17 @@ def add_source(parser: argparse.ArgumentParser) -> None:
     parser.add_argument("--actions", metavar="FILE", help="actions, one a line; '#' begins a comment")
     add_options(parser)
     add_sessions(parser)
+
+
+def add_outside(parser: argparse.ArgumentParser) -> None:
+    what = "also asks for anyone of an account without an export, whether policies name it or not"
+    parser.add_argument("--outside", action="append", default=[], type=account, metavar="ACCOUNT", help=what)
+
+
+def account(text: str) -> str:
+    if not ACCOUNT.fullmatch(text):
+        raise argparse.ArgumentTypeError("it takes an account, twelve digits")
+    return text
 
 
 def moment(text: str) -> int:
@@ -172,8 +183,11 @@ class Source:
         self.actions = actions
         self.references = references
         self.change: Callable[[World], World] = lambda world: world
-        # What a plan leaves out, in lines; and the same with what only the apply tells taken to allow nothing and to deny all.
+        # Accounts outside that are asked for, whether policies name them or not.
+        self.outside: List[str] = []
+        # What a plan leaves out, and whom nobody stands for, in lines.
         self.left: List[str] = []
+        # The same with what only the apply tells taken to allow nothing and to deny all.
         self.narrow: Optional[Source] = None
         self.made: Dict[Tuple[bool, bool], World] = {}
         # Whether roles have trust policies, so that iam: actions want a world of their own.
@@ -182,8 +196,14 @@ class Source:
     def like(self, estate: Optional[Estate], change: Callable[[World], World]) -> "Source":
         """A source of the same form, of another estate or of changed worlds."""
         made = Source(estate, self.given, self.actions, self.references)
-        made.change = change
+        made.change, made.outside = change, self.outside
         return made
+
+    def accounts(self) -> Set[str]:
+        """The accounts whose principals are asked for."""
+        if self.estate is not None:
+            return {it.account for it in self.estate.accounts}
+        return {account_of(principal_arn(it)) for it in (self.given or {}).get("principals", [])}
 
     @property
     def moment(self) -> Any:
@@ -219,6 +239,15 @@ class Source:
 
 
 def source_of(options: argparse.Namespace) -> Source:
+    source = plain_source(options)
+    source.outside = getattr(options, "outside", [])
+    for it in source.outside:
+        if it in source.accounts():
+            raise Fault(f"--outside {it}: this account is not outside, its principals are there")
+    return source
+
+
+def plain_source(options: argparse.Namespace) -> Source:
     references = References(options.services)
     actions = read_actions(options.actions)
     refuse_unknown(references, actions)

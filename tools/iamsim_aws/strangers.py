@@ -1,27 +1,37 @@
-"""Stand-ins for those to whom policies of resources grant and of whose accounts there is no export.
+"""Stand-ins for whom policies of resources let in and of whose accounts there is no export.
 
 A stand-in may do by its own policy all that the resource's account lets it, so the resource's policy alone decides. For an
 account, and for everybody ('*'), it is a user whose name no user can have; who is named by an ARN stands for itself.
 """
 
-import re
-from typing import Any, Dict, Iterable, Iterator, List, Optional, Set, Tuple
+from typing import Any, Dict, Iterator, List, Optional, Sequence, Set
 
-from .arns import account_of, names_of_principal, principal_arn, principal_text
-from .documents import Policy, World, conditions_of, each, statements_of
+from .arns import account_of, names_of_principal, principal_arn, principal_text, session_arn
+from .documents import Policy, World, statements_of
 from .exports import ACCOUNT
-from .keys import CALLER, plain_operator, with_callers
-from .kinds import filled
-from .making import keep_context
-from .patterns import any_matches, common, of_policy, plain
+from .faults import tell
+from .keys import OF_ORGANIZATION, with_callers
+from .making import in_organization
+from .organizations import Organization
+from .parties import (
+    ANYONE,
+    EVERYBODY,
+    PARTY,
+    Said,
+    accounts_in,
+    by_field,
+    kinds_of,
+    lists_in,
+    nobody_of,
+    said_in,
+)
+from .patterns import any_matches, is_pattern, matcher, plain
 from .sources import Source
 
-EVERYBODY = "*"
-ANYONE, ANYBODY = "(anyone)", "(anybody)"
+ANYBODY = "(anybody)"
 ASSUMED = "what its own account may allow (assumed)"
-SEGMENT = r"[!-)+-.0->@-~]+"
-PARTY = re.compile(rf"arn:([A-Za-z0-9-]+):(?:iam|sts)::([0-9]{{12}}):(root|user|role|assumed-role)((?:/{SEGMENT})*)")
-EQUAL = ("StringEquals", "StringEqualsIgnoreCase", "StringLike", "ArnEquals", "ArnLike")
+# What a line says of whom nobody stands for.
+NOT_ASKED = "nobody is asked"
 
 Principal = Dict[str, Any]
 
@@ -58,18 +68,17 @@ def is_excepted(principal: Principal, patterns: List[str]) -> bool:
     return all(any_matches(patterns, names) for names in forms(principal))
 
 
-def stand_in(text: str, partition: str, nobody: str, session: str) -> Optional[Principal]:
-    """The stand-in for whom a policy names: '*', an account, or the ARN of one, of a user, role or session."""
+def stand_in(text: str, partition: str, session: str) -> Optional[Principal]:
+    """The stand-in for whom a policy names: an account, or the ARN of one, of a user, role or session."""
     found = PARTY.fullmatch(text)
-    if text == EVERYBODY or ACCOUNT.fullmatch(text):
-        account, name = (nobody, ANYBODY) if text == EVERYBODY else (text, ANYONE)
-        return {"user": f"arn:{partition}:iam::{account}:user/{name}"}
+    if ACCOUNT.fullmatch(text):
+        return {"user": f"arn:{partition}:iam::{text}:user/{ANYONE}"}
     if not found:
         return None
     partition, account, kind, rest = found.groups()
     parts = rest.split("/")[1:]
     if kind == "root" and not parts:
-        return stand_in(account, partition, nobody, session)
+        return stand_in(account, partition, session)
     if kind == "assumed-role":
         role = f"arn:{partition}:iam::{account}:role/{parts[0]}" if len(parts) == 2 else ""
         return {"role": role, "session": parts[1]} if role else None
@@ -77,86 +86,92 @@ def stand_in(text: str, partition: str, nobody: str, session: str) -> Optional[P
     return own.get(kind) if parts else None
 
 
-def named_by(statement: Any) -> List[str]:
-    """The texts by which a statement of a resource's policy grants."""
-    if not isinstance(statement, dict) or statement.get("Effect") != "Allow":
-        return []
-    given = statement.get("Principal")
-    return [it for it in each(given.get("AWS") if isinstance(given, dict) else given) if isinstance(it, str)]
-
-
-def party_of(pattern: str, nobody: str) -> str:
-    """Whom a pattern of ARNs of principals means; where it leaves the account open, one of an account that occurs nowhere."""
-    first = filled(pattern, nobody) or ""
-    if first == EVERYBODY or PARTY.fullmatch(first):
-        return first
-    return next(filter(None, (common(pattern, f"arn:aws:iam::{nobody}:{it}/*") for it in ("role", "user"))), first)
-
-
-def conditioned(statement: Any, nobody: str) -> Iterator[str]:
-    """Those whom the conditions of a statement choose out of everybody, or of an account."""
-    for operator, key, value in conditions_of(statement):
-        is_arn, is_account = key.lower() == "aws:principalarn", key.lower() in ("aws:principalaccount", CALLER.lower())
-        for text in each(value) if plain_operator(operator) in EQUAL and (is_arn or is_account) else ():
-            if isinstance(text, str) and "${" not in text:
-                yield party_of(of_policy(text), nobody) if is_arn else text
-
-
-def named(statement: Any, nobody: str) -> Iterator[str]:
-    """Those to whom a statement of a resource's policy grants."""
-    texts = named_by(statement)
-    yield from texts
-    if texts:
-        yield from conditioned(statement, nobody)
-
-
-def accounts_of(source: Source) -> Set[str]:
-    """The accounts whose principals are asked for."""
-    if source.estate is not None:
-        return {it.account for it in source.estate.accounts}
-    return {account_of(principal_arn(it)) for it in (source.given or {}).get("principals", [])}
-
-
-def grants(worlds: Iterable[World]) -> Iterator[Tuple[Any, str]]:
-    """The statements of the resources' policies, each with its resource's partition."""
-    for world in worlds:
-        for it in world["resources"]:
-            partition = re.match(r"arn:([A-Za-z0-9-]+):", it["arn"])
-            for statement in statements_of(it["policy"].document) if "policy" in it else ():
-                yield statement, partition[1] if partition else "aws"
-
-
-def nobody_in(worlds: List[World], known: Set[str]) -> str:
-    """An account that occurs nowhere."""
-    used = known | {it["id"] for world in worlds for it in world["accounts"]}
-    used |= {account_of(text) or text for statement, _ in grants(worlds) for text in named_by(statement)}
-    return next(it for it in map("{:012d}".format, range(len(used) + 1)) if it not in used)
-
-
-def strangers(source: Source, worlds: List[World], asked: str = "") -> List[Principal]:
-    """The stand-ins for those whom policies of the worlds' resources name, and for whom a question does."""
-    known, estate = accounts_of(source), source.estate
-    nobody, session = nobody_in(worlds, known), estate.session if estate else "session"
-    name = plain(asked)
-    texts = {(name if PARTY.fullmatch(name) else account_of(name), "aws"): None}
-    for statement, partition in grants(worlds):
-        texts.update(((text, partition), None) for text in named(statement, nobody))
+def strangers(source: Source, worlds: List[World], asked: str = "", speaking: Sequence[World] = ()) -> List[Principal]:
+    """The stand-ins for whom policies of the worlds' resources let in, of each kind that policies on these tell apart, and on
+    those of further worlds; and for whom a question names, or `--outside`."""
+    known, said, name = source.accounts(), said_in([*worlds, *speaking]), plain(asked)
+    grants = said_in(worlds).grants
+    session = source.estate.session if source.estate else "session"
+    of_question = name if PARTY.fullmatch(name) else account_of(name)
+    some = [stand_in(it, "aws", session) for it in (*source.outside, of_question)]
+    more = [session_of(it, said) for it in said.sessions()]
+    more += [stand_in(it, "aws", session) for it in told_apart(source, worlds, said)]
     found: Dict[str, Principal] = {}
-    for text, partition in texts:
-        one = stand_in(text, partition, nobody, session)
-        account = account_of(principal_arn(one)) if one else ""
-        if one and account not in known:
-            keys = estate.organization.keys(account, "Principal") if estate else {}
-            found.setdefault(principal_text(one), assumed({**one, "context": keys}, account, source))
+    for one in [it for it in some if it] + [it for it in more if it and is_let_in(it, grants)]:
+        account = account_of(principal_arn(one))
+        if account not in known:
+            found.setdefault(principal_text(one), assumed(one, account, source))
     return list(found.values())
+
+
+def session_of(text: str, said: Said) -> Optional[Principal]:
+    """The stand-in for a session that policies name, of the role with its path where they name that too."""
+    one = stand_in(text, "aws", "")
+    roles = (plain(it) for it in said.patterns if ":role/" in it and not is_pattern(it))
+    own = next((it for it in roles if one and session_arn(it, one["session"]) == text), None)
+    return {**one, "role": own} if one and own else one
+
+
+def told_apart(source: Source, worlds: List[World], said: Said) -> Iterator[str]:
+    """The ARNs of users and roles of each kind, of the accounts that are spoken of and of one that nothing names; of accounts
+    that the same lists name one alone has the kinds of which no list says the account."""
+    known, organization, named = source.accounts(), organization_of(source), by_field(said.patterns)
+    free, seen = named.pop(""), set()  # type: List[str], Set[object]
+    owners = dict.fromkeys(it["account"] for world in worlds for it in world["resources"])
+    accounts = [it for it in dict.fromkeys([*accounts_in(said.patterns), *owners]) if it not in known]
+    ids = {it["id"] for world in worlds for it in world["accounts"]}
+    nobody = nobody_of(said.patterns, {*known, *accounts, *ids, *source.outside, *organization.parents})
+    members = organization.members(known) if not said.keys.isdisjoint(OF_ORGANIZATION) else []
+    for account in dict.fromkeys([nobody, *accounts, *members]):
+        own = [it for field, of in named.items() if matcher(field)(account) for it in of]
+        is_alone = account in owners or organization.is_member(account)
+        kind: object = account if is_alone else frozenset(one for it in own for one in said.patterns[it])
+        is_wide = kind not in seen or any(is_pattern(it) and not it.endswith(f":{account}:*") for it in own)
+        seen.add(kind)
+        name = ANYBODY if account == nobody else ANYONE
+        some = [*dict.fromkeys([*own, *(free if is_wide else []), *limits_of(organization, account)])]
+        for partition in said.partitions:
+            found, is_all = kinds_of(account, partition, some, name)
+            if not is_all:
+                left_out(source)
+            yield from found
+            anyone = f"arn:{partition}:iam::{account}:user/{name}"
+            yield from [anyone] if account == nobody or account in members else []
+
+
+def organization_of(source: Source) -> Organization:
+    return source.estate.organization if source.estate else Organization()
+
+
+def limits_of(organization: Organization, account: str) -> List[str]:
+    """The patterns of ARNs that the policies of its organisation have which bind an account."""
+    levels = organization.account(account).get("org", [])
+    statements = (one for level in levels for it in level for one in statements_of(it.document))
+    return [pattern for it in statements for of in lists_in(it, "*") for pattern in of if pattern]
+
+
+def left_out(source: Source) -> None:
+    """Says that not all kinds are asked for, which leaves each rule open."""
+    line = f"policies tell too many kinds of principals outside apart: for some of them {NOT_ASKED}"
+    if line not in source.left:
+        source.left.append(line)
+        tell(line)
+
+
+def is_let_in(principal: Principal, grants: Set[str]) -> bool:
+    """Whether some policy of a resource grants to a principal, or to more than it."""
+    arn = principal_arn(principal)
+    account, partition = account_of(arn), arn.split(":")[1]
+    names = {EVERYBODY, account, f"arn:{partition}:iam::{account}:root", arn, principal_text(principal)}
+    return not names.isdisjoint(grants)
 
 
 def assumed(principal: Principal, account: str, source: Source) -> Principal:
     """The principal with the policy that is assumed; in its own account, of which nothing is known, that allows nothing."""
     elsewhere = {"StringNotEquals": {"aws:ResourceAccount": account}}
     statement = {"Effect": "Allow", "Action": "*", "Resource": "*", "Condition": elsewhere}
-    policies = [Policy(ASSUMED, {"Version": "2012-10-17", "Statement": statement})]
-    return {**keep_context(principal, source.estate.context if source.estate else None), "identity": policies}
+    made = {**principal, "identity": [Policy(ASSUMED, {"Version": "2012-10-17", "Statement": statement})]}
+    return in_organization(source.estate, account, made) if source.estate else made
 
 
 def with_strangers(source: Source, world: World, some: List[Principal]) -> World:

@@ -24,7 +24,7 @@ def statements_in(value):
 
 
 def test_worlds_to_measure_are_accepted():
-    for name in ("company", "many-rules", "wildcards", "tags", "assume"):
+    for name in ("company", "many-rules", "wildcards", "tags", "assume", "lake"):
         world = json.loads(made(name))
         p, a, r = (len(world[it]) for it in ("principals", "actions", "resources"))
         wanted = f"ok principals {p} actions {a} resources {r} cells {p * a * r} statements {statements_in(world)}\n"

@@ -229,7 +229,7 @@ never * s3:GetObject {LEDGER}/public/x except pia *:role/app *:role/breakglass *
 always *:role/app s3:PutObject {LEDGER}/reports/q1
 never * sts:AssumeRole {BREAK} except tom
 """
-    # The ledger lets members of the organisation read, of whom those without an export are not asked.
+    # The ledger lets members of the organisation read, of whom those that its file lacks are not asked.
     out, _ = aws("rules", file(kept), *GIVEN, status=5)
     assert out.endswith("5 rules: 3 kept, 0 broken, 0 empty, 2 open\n"), out
     same([line.split(":")[2] for line in out.splitlines() if line.startswith("open: ")], ["2", "3"])

@@ -69,7 +69,7 @@ def test_what_is_told_is_in_both_reports():
     """What is told of a rule stands with it, the rest beside all; and what was not asked fails there, with its reason."""
     folder, names = room(), "arn:aws:sts::999988887777:federated-user/x"
     deleted, short = "AIDAEXAMPLEEXAMPLE00", "alice"
-    linked = "arn:aws:iam::111122223333:role/aws-service-role/support.amazonaws.com/AWSServiceRoleForSupport"
+    linked = "arn:aws:iam::111122223333:role/aws-service-role/support.amazonaws.com/AWSServiceRoleForMany"
     grant = document(
         *(
             {"Effect": "Allow", "Principal": {"AWS": it}, "Action": "s3:*"}

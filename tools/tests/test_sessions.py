@@ -2,7 +2,8 @@
 
 import json
 
-from harness import aws, data, document, file, same, statement
+from harness import aws, data, document, file, load, same, small_world, statement
+from test_strangers import BUCKET, bucket, deny, grant
 
 EXPORT = data("account.json")
 ACCOUNT = "arn:aws:iam::111122223333:"
@@ -85,3 +86,139 @@ def test_faults_of_sessions():
         assert why in said, f"{why}: {said}"
     _, said = aws("who-can", *OBJECT, "--world", EXPORT, *sessions(session), status=1)
     assert "--sessions and --organization join exports" in said, said
+
+
+ROLES = ("deploy", "audit", "partner", "worker", "people", "chain")
+WORKER = "AROAWORKER00000000000"
+KMS = "arn:aws:kms:eu-west-1:111122223333:"
+
+
+def puts(*who, **more):
+    return grant(*who, action="s3:PutObject", **more)
+
+
+def of_roles(*statements):
+    """{session but the role's own: whether it may write} by a bucket's policy."""
+    out, _ = aws("who-can", "s3:PutObject", BUCKET, EXPORT, "--resources", bucket(*statements), "--format", "json")
+    rows = {it["principal"]: it["decision"] == "allowed" for it in json.loads(out) if "assumed-role" in it["principal"]}
+    own = {f"{SESSION}{it}/session" for it in ROLES}
+    assert own <= set(rows) and not any(rows[it] for it in own), rows
+    return {who: it for who, it in rows.items() if who not in own}
+
+
+def test_each_session_that_a_policy_names():
+    """None of the roles may write by policies of its own, and a session that is named may."""
+    alice, userid = f"{SESSION}worker/alice@corp.com", "aws:userid"
+    where = lambda operator, of: puts("*", Condition={operator: {userid: of}})
+    cases = [
+        (puts(alice), {alice: True}),
+        # No session of a role that is not there, and none that a policy does not name.
+        (puts(f"{SESSION}nobody/alice", "arn:aws:sts::444455556666:assumed-role/worker/alice"), {}),
+        (puts(f"{ACCOUNT}user/alice"), {}),
+        (where("StringEquals", f"{WORKER}:bob"), {f"{SESSION}worker/bob": True}),
+        (where("StringEquals", "AROANOBODY00000000000:bob"), {}),
+        (where("StringLike", "*:bob"), {f"{SESSION}{it}/bob": True for it in ROLES}),
+    ]
+    for one, wanted in cases:
+        found = {who: it for who, it in of_roles(one).items() if "444455556666" not in who}
+        same(found, wanted, one)
+    # Whom a deny excepts.
+    role = puts(f"{ACCOUNT}role/worker")
+    for name, wanted in ((WORKER, {f"{SESSION}worker/bob": True}), ("AROANOBODY00000000000", {})):
+        same(of_roles(role, {**deny("StringNotEquals", userid, f"{name}:bob"), "Action": "s3:PutObject"}), wanted)
+
+
+def test_sessions_that_the_policies_of_roles_name():
+    """A role's own policy allows one session of it, which has the role's tags too."""
+    for asked, wanted in (("AROAX:ci", ["ci"]), ("AROAY:ci", [])):
+        own = document(statement(Condition={"StringEquals": {"aws:userid": asked, "aws:PrincipalTag/team": "red"}}))
+        context = {"aws:userid": "AROAX:s", "aws:PrincipalTag/team": "red"}
+        made = small_world()
+        made["principals"].append({"role": f"{ACCOUNT}role/r", "session": "s", "identity": [own], "context": context})
+        out, _ = aws("who-can", "s3:GetObject", "arn:aws:s3:::b/k", "--world", file(made), "--format", "csv")
+        same([it.split(",")[0] for it in out.splitlines() if ",allowed," in it], [f"{SESSION}r/{it}" for it in wanted])
+
+
+def test_rules_and_drafts_ask_for_sessions_that_are_named():
+    given, alice = bucket(puts(f"{SESSION}worker/alice")), f"{SESSION}worker/alice"
+    for rule, status in (
+        (f"never *:role/worker s3:PutObject {BUCKET}", 3),
+        (f"never * s3:PutObject {BUCKET}* except bob", 3),
+        (f"never * s3:PutObject {BUCKET}* except bob worker", 0),
+        (f"never * s3:PutObject {BUCKET} except bob {alice}", 0),
+        (f"always {alice} s3:PutObject {BUCKET}", 0),
+        (f"always {alice} s3:GetObject {BUCKET}", 3),
+    ):
+        out, said = aws("rules", file(f"{rule}\n"), EXPORT, "--resources", given, status=status)
+        is_told = f"  {alice} may s3:PutObject {BUCKET}:" in out
+        same((is_told, said), (status == 3 and rule.startswith("never"), ""), out)
+    # A draft that names a session gives it what its role may not, and nothing else is gained.
+    reads, writes = (document(grant(f"{SESSION}deploy/ci", action=f"s3:{it}Object")) for it in ("Get", "Put"))
+    for draft, gained in ((writes, [f"+ {SESSION}deploy/ci s3:PutObject {BUCKET}"]), (reads, [])):
+        out, _ = aws("changes", EXPORT, "--resources", bucket(), "--put", f"releases={file(draft)}")
+        same([it for it in out.splitlines() if it[0] in "+-"], gained)
+
+
+def test_who_comes_to_a_session_that_is_named():
+    """ann may assume the role, and so may come to the session of it that the bucket lets in."""
+    role = f"{ACCOUNT}role/reader"
+    trust = document({"Effect": "Allow", "Principal": {"AWS": f"{ACCOUNT}user/ann"}, "Action": "sts:AssumeRole"})
+    sealed = {"arn": role, "account": "111122223333", "sealed": True, "policy": trust}
+    for name, wanted in (("reader", [f"  {ACCOUNT}user/ann -> {SESSION}reader/alice"]), ("other", [])):
+        policy = document(grant(f"{SESSION}{name}/alice"))
+        made = small_world(resources=[{"arn": BUCKET, "account": "111122223333", "policy": policy}, sealed])
+        made["principals"].append({"role": role, "session": "s", "identity": []})
+        out, _ = aws("who-can", "s3:GetObject", BUCKET, "--world", file(made), "--chains")
+        same([it for it in out.splitlines() if " -> " in it], wanted)
+        rule = file(f"never *:user/ann s3:GetObject {BUCKET}\n")
+        aws("rules", rule, "--world", file(made), "--chains", status=3 if wanted else 0)
+
+
+def test_service_linked_roles_that_a_policy_names():
+    """The key's policy alone grants; what other policies name is no such role of the export."""
+    linked, key = f"{ACCOUNT}role/aws-service-role/support.amazonaws.com/AWSServiceRoleForSupport", f"{KMS}key/7c1d"
+    session = f"{SESSION}AWSServiceRoleForSupport/session"
+    decrypts = lambda *who, **more: grant(*who, action="kms:Decrypt", **more)
+    sealed = lambda *who: {"arn": key, "account": "111122223333", "sealed": True, "policy": document(decrypts(*who))}
+    alice, like = f"{ACCOUNT}user/alice", f"{ACCOUNT}role/aws-service-role/support*"
+    chosen = decrypts("*", Condition={"ArnLike": {"aws:PrincipalArn": like}})
+    for policy, wanted in (
+        (decrypts(alice, linked), [alice, session]),
+        (chosen, [session]),
+        (decrypts(alice, f"{ACCOUNT}role/worker"), [alice, f"{SESSION}worker/session"]),
+    ):
+        given = file([{**sealed(), "policy": document(policy)}])
+        out, said = aws("who-can", "kms:Decrypt", key, EXPORT, "--resources", given, "--format", "json")
+        same([it["principal"] for it in json.loads(out) if it["decision"] == "allowed"], wanted)
+        same(said, "")
+    for rule, who, status in (
+        (f"never * kms:Decrypt {key} except alice", [alice, linked], 3),
+        ("never * kms:* *key/* except alice", [alice, linked], 3),
+        (f"never * kms:Decrypt {key} except alice *AWSServiceRoleForSupport", [alice, linked], 0),
+        ("never * kms:* *key/* except alice", [alice], 0),
+    ):
+        out, _ = aws("rules", file(f"{rule}\n"), EXPORT, "--resources", file([sealed(*who)]), status=status)
+        same(f"  {session} may kms:Decrypt {key}: " in out, status == 3, out)
+    for who, gained in ((linked, [f"+ {session} kms:Decrypt {key}"]), (f"{linked}s", [])):
+        draft = ["--put", f"{key}={file(document(decrypts(alice, who)))}"]
+        out, _ = aws("changes", EXPORT, "--resources", file([sealed(alice)]), *draft)
+        same([it for it in out.splitlines() if it[0] in "+-"], gained)
+
+
+def test_service_linked_roles_are_not_asked_within_an_organisation():
+    """Its policies do not bind them: they are told, a rule is open, and so where the export does not hold what one may."""
+    linked = f"{ACCOUNT}role/aws-service-role/support.amazonaws.com/AWSServiceRoleForSupport"
+    lacking = load(EXPORT)
+    role = next(it for it in lacking["RoleDetailList"] if it["Arn"] == linked)
+    role["AttachedManagedPolicies"] = [{"PolicyName": "x", "PolicyArn": "arn:aws:iam::aws:policy/x"}]
+    organization = ["--organization", data("organization.json")]
+    rule = file(f"never * s3:PutObject {BUCKET} except bob\n")
+    for who, words, export, status in (
+        (linked, [], EXPORT, 3),
+        (linked, organization, EXPORT, 5),
+        (linked, [], file(lacking), 5),
+        (f"{ACCOUNT}user/bob", organization, EXPORT, 0),
+    ):
+        _, said = aws("rules", rule, export, "--resources", bucket(puts(who)), *words, status=status)
+        line = f"{BUCKET} policy names {linked}, a service-linked role, for whom nobody is asked"
+        same(line in said, status == 5, said)

@@ -6,6 +6,7 @@ import io
 import json
 
 from harness import aws, data, document, file, load, same, small_world, statement
+from test_terraform import change, plan
 
 ACCOUNT = "arn:aws:iam::111122223333:"
 EXPORT, PARTNER = data("account.json"), data("partner.json")
@@ -79,6 +80,114 @@ def test_who_is_chosen_by_a_condition():
     for one, wanted in cases:
         same(outside("s3:GetObject", bucket(one)), wanted, one)
 
+
+OTHER, OWN = "777788889999", "111122223333"
+OF_OTHER, OF_PATTERN = (f"anyone outside: account {it}" for it in (OTHER, "777700000000"))
+
+
+def deny(operator, key, *values, **more):
+    return grant("*", effect="Deny", Condition={operator: {key: list(values)}}, **more)
+
+
+def role_of(account, name):
+    """A session of a role of an account, as answers name it."""
+    return f"outside: arn:aws:sts::{account}:assumed-role/{name}/s1"
+
+
+def but(*who):
+    """A deny of all but those."""
+    return {"Effect": "Deny", "NotPrincipal": {"AWS": list(who)}, "Action": "s3:GetObject", "Resource": "*"}
+
+
+def controlled(*statements):
+    """The bucket, open to everybody, with a resource control policy besides that which allows all."""
+    every = {"Effect": "Allow", "Principal": "*", "Action": "*", "Resource": "*"}
+    control = [[document(every, *({**it, "Principal": "*"} for it in statements))]]
+    return file([{"arn": BUCKET, "account": OWN, "policy": document(grant("*")), "control": control}])
+
+
+def test_whom_a_deny_excepts():
+    """Everybody is let in but by a deny, and whom that excepts is asked; the twins except nobody outside."""
+    account, arn = "aws:PrincipalAccount", "aws:PrincipalArn"
+    user, role = f"arn:aws:iam::{OTHER}:user/u", f"arn:aws:iam::{OTHER}:role/team/r"
+    cases = [
+        (deny("StringNotEquals", account, OTHER, OWN), {ANY: False, OF_OTHER: True}),
+        (deny("StringNotEquals", account, OWN), {ANY: False}),
+        (deny("StringNotEqualsIfExists", account, OTHER), {ANY: False, OF_OTHER: True}),
+        (deny("StringNotEqualsIfExists", account, OWN), {ANY: False}),
+        # Of the accounts of a pattern one is asked.
+        (deny("ForAllValues:StringNotLike", account, "7777*"), {ANY: False, OF_PATTERN: True}),
+        (deny("ForAllValues:StringNotLike", account, OWN), {ANY: False}),
+        (deny("ArnNotLike", arn, f"arn:aws:iam::{OTHER}:role/read-*"), {ANY: False, role_of(OTHER, "read-x"): True}),
+        (deny("ArnNotLike", arn, f"arn:aws:iam::{OWN}:role/read-*"), {ANY: False}),
+        # With `NotPrincipal` who asks is named, and his account too; of a session its role and it.
+        (but(OTHER, user), {ANY: False, OF_OTHER: False, f"outside: {user}": True}),
+        (but(OTHER), {ANY: False, OF_OTHER: False}),
+        (
+            but(OTHER, role, f"arn:aws:sts::{OTHER}:assumed-role/r/s"),
+            {ANY: False, OF_OTHER: False, role_of(OTHER, "r"): False, role_of(OTHER, "r")[:-1]: True},
+        ),
+    ]
+    for one, wanted in cases:
+        same(outside("s3:GetObject", bucket(grant("*"), one)), wanted, one)
+    # A resource control policy speaks so too, and lets nobody in by itself.
+    for one, wanted in cases[:2]:
+        same(outside("s3:GetObject", controlled(one)), wanted, one)
+    alone = load(controlled(cases[0][0]))
+    alone[0].pop("policy")
+    same(outside("s3:GetObject", file(alone)), {})
+
+
+def test_who_meets_several_conditions():
+    """Each kind is asked that policies tell apart together, by a name that meets no pattern by chance."""
+    arn, every = "aws:PrincipalArn", grant("*")
+    of_other = deny("StringNotEquals", "aws:PrincipalAccount", OTHER, OWN)
+    auditors, nobody = deny("ArnNotLike", arn, "arn:aws:iam::*:role/auditor"), "000000000000"
+    of_role = {"ArnLike": {arn: f"arn:aws:iam::{OTHER}:role/app-*"}}
+    cases = [
+        # The auditors of one account.
+        (
+            (every, of_other, auditors),
+            {ANY: False, OF_OTHER: False, role_of(nobody, "auditor"): False, role_of(OTHER, "auditor"): True},
+        ),
+        (
+            (every, deny("StringNotEquals", "aws:PrincipalAccount", OWN), auditors),
+            {ANY: False, role_of(nobody, "auditor"): False},
+        ),
+        # Whom two patterns mean.
+        (
+            (grant("*", Condition=of_role), deny("ArnNotLike", arn, "arn:aws:iam::*:role/*.prod")),
+            {
+                ANY: False,
+                **{role_of(nobody, "x.prod"): False, role_of(OTHER, "app-x"): False},
+                **{role_of(OTHER, "x.prod"): False, role_of(OTHER, "app-x.prod"): True},
+            },
+        ),
+        # The first sign that no name has is no x here.
+        (
+            (grant("*", Condition=of_role), deny("ArnLike", arn, "arn:aws:iam::*:role/app-x*")),
+            {
+                ANY: False,
+                **{role_of(nobody, "app-xb"): False, role_of(OTHER, "app-xb"): False, role_of(OTHER, "app-b"): True},
+            },
+        ),
+        # A name may have the digits of an account, and be of any.
+        (
+            (every, deny("ArnNotLike", arn, f"arn:aws:iam::*:role/of-{OTHER}")),
+            {ANY: False, role_of(nobody, f"of-{OTHER}"): True, role_of(OTHER, f"of-{OTHER}"): True},
+        ),
+        # No user is let in, and so a role is asked.
+        ((every, deny("ArnLike", arn, "arn:aws:iam::*:user/*")), {ANY: False, role_of(nobody, "x"): True}),
+        ((every, deny("ArnLike", arn, "arn:aws:iam::*:*")), {ANY: False}),
+        # Of the accounts to which nobody grants none is asked.
+        ((grant(OTHER), deny("StringNotEquals", "aws:PrincipalAccount", OTHER, "999988887777")), {OF_OTHER: True}),
+    ]
+    for some, wanted in cases:
+        same(outside("s3:GetObject", bucket(*some)), wanted, some)
+    # The account of the bucket itself, where it is outside.
+    of_own = (every, deny("StringNotEquals", "aws:PrincipalAccount", "${aws:ResourceAccount}"))
+    same(outside("s3:GetObject", bucket(*of_own)), {ANY: False})
+    same(outside("s3:GetObject", bucket(*of_own, account="999988887777")), {ANY: False, OUT: True})
 
 def test_whose_account_calls_a_key():
     """kms:CallerAccount is the account of each principal, also of who is outside."""
@@ -215,6 +324,25 @@ def test_a_never_names_what_lets_them_in_with_a_key():
     )
 
 
+def test_a_rule_is_open_where_too_many_kinds_are_told_apart():
+    """Nobody outside is let in; nine patterns that meet each other tell 512 kinds of roles apart."""
+    account = {"StringEquals": {"aws:PrincipalAccount": OWN}}
+    for letters, status in (("ab", 0), ("abcdefghi", 5)):
+        patterns = (f"arn:aws:iam::*:role/*{it}*" for it in letters)
+        given = bucket(grant("*", Condition=account), deny("ArnLike", "aws:PrincipalArn", *patterns))
+        _, said = rules(f"never * s3:GetObject {BUCKET} except *:{OWN}:*\n", given, status)
+        same("for some of them nobody is asked" in said, status == 5, said)
+
+
+def test_a_never_is_broken_by_whom_a_deny_excepts():
+    account = "aws:PrincipalAccount"
+    for who, status in ((OTHER, 3), (OWN, 0)):
+        given = bucket(grant("*"), deny("StringNotEquals", account, OWN, who))
+        for pattern in (BUCKET, f"{BUCKET}*"):
+            out, _ = rules(f"never * s3:GetObject {pattern} except *:{OWN}:*\n", given, status)
+            same(f"  {OF_OTHER} may s3:GetObject {BUCKET}" in out, status == 3, out)
+
+
 def test_exceptions_mean_all_of_an_account():
     rule, given = f"never * s3:GetObject {BUCKET} except alice bob deploy", bucket(grant("999988887777"))
     for pattern, status in (
@@ -271,23 +399,121 @@ def test_changes_show_what_they_gain():
     same(changed(trust("arn:aws:iam::111122223333:user/alice")), [])
 
 
+def test_changes_ask_the_same_whatever_is_chosen():
+    """The draft excepts one more account from a deny, in the twin its own again. Besides the eight of the export are asked: any
+    account, 999988887777 of the other bucket, 444455556666 whom a role trusts, and the one that is excepted."""
+    policy = lambda *who: document(grant("*"), deny("StringNotEquals", "aws:PrincipalAccount", OWN, *who))
+    archive = {"arn": "arn:aws:s3:::archive", "account": OWN, "policy": document(grant("999988887777"))}
+    resources = file([{"arn": BUCKET, "account": OWN, "policy": policy()}, archive])
+    action, chosen = ["--action", "s3:Get*"], ["--resource", BUCKET]
+    choices = [["--action", "s3:GetObject"], ["--resource", f"{BUCKET}*", *action], chosen]
+    for who, gained, asked in ((OTHER, [f"+ {OF_OTHER} s3:GetObject {BUCKET}"], 12), (OWN, [], 11)):
+        before, after = ({"bucket": "releases", "policy": json.dumps(it)} for it in (policy(), policy(who)))
+        terraform = plan(change("aws_s3_bucket_policy.b", before, after))
+        for words, count in zip([[], *choices], (4, 4, 2, 1)):
+            out = aws("changes", EXPORT, "--resources", resources, "--terraform", terraform, *words)[0].splitlines()
+            same([it for it in out if it[0] in "+-"], gained, str((who, words)))
+            same(out[0].split(", of ")[1], f"{asked * count} requests", str((who, words)))
+
+
+def test_accounts_that_are_named_are_asked():
+    """By `--outside`, whether a policy names them or not: of the accounts of a pattern each may be named."""
+    given, third = bucket(grant("*"), deny("StringNotLike", "aws:PrincipalAccount", "7777*", OWN)), "888877776666"
+    of_third = f"anyone outside: account {third}"
+    wanted = {OF_OTHER: True, of_third: False, OF_PATTERN: True, ANY: False}
+    same(outside("s3:GetObject", given, "--outside", OTHER, "--outside", third), wanted)
+    same(outside("s3:GetObject", bucket(), "--outside", OTHER), {OF_OTHER: False})
+    for who, status in ((OTHER, 3), (third, 0)):
+        rules(f"never arn:aws:iam::{who}:* s3:GetObject {BUCKET}*\n", given, status, "--outside", who)
+    draft = ["--put", f"releases={file(load(given)[0]['policy'])}", "--action", "s3:GetObject", "--resource", BUCKET]
+    words = ["changes", EXPORT, "--resources", bucket(), *draft, "--outside", OTHER, "--outside", third]
+    same(
+        [it for it in aws(*words)[0].splitlines() if "anyone outside" in it],
+        [f"+ {it} s3:GetObject {BUCKET}" for it in (OF_OTHER, OF_PATTERN)],
+    )
+    for who, status, line in (("7777", 2, "twelve digits"), (OWN, 1, f"--outside {OWN}: this account is not outside")):
+        assert line in aws("who-can", "s3:GetObject", BUCKET, EXPORT, "--outside", who, status=status)[1]
+    aws("can", "alice", "s3:GetObject", BUCKET, EXPORT, "--outside", OTHER, status=2)
+
+
 def test_members_of_the_organisation():
     """A stand-in is bound by the policies of its account, where the organisation has it, and has its keys."""
     own = {"Principal": "*", "Condition": {"StringEquals": {"aws:PrincipalOrgID": "o-example0001"}}}
     organization = ["--organization", data("organization.json")]
     given = bucket({**grant(), **own}, grant("444455556666", action="s3:PutObject"))
-    # 444455556666 is a member, and whoever is of no account there is none.
-    same(outside("s3:GetObject", given, *organization), {"anyone outside: account 444455556666": True, ANY: False})
+    # 444455556666 is a member, as is 999900001111, which manages it, and whoever is of no account there is none.
+    members = [f"anyone outside: account {it}" for it in ("444455556666", "999900001111")]
+    same(outside("s3:GetObject", given, *organization), {**dict.fromkeys(members, True), ANY: False})
     _, said = aws("who-can", "s3:GetObject", BUCKET, EXPORT, "--resources", given, *organization)
-    line = f"iamsim-aws: {BUCKET} policy grants to members of an organisation: of those without an export nobody is asked\n"
+    line = f"iamsim-aws: {BUCKET} policy grants to members of an organisation: of those that its file lacks nobody is asked\n"
     same(said, line)
     # 444455556666 may not do this by its organisation's policies.
     bound = load(data("organization.json"))
     bound["targets"]["444455556666"] = [{"Id": "p-00000001", "Type": "SERVICE_CONTROL_POLICY"}]
     same(
         outside("s3:PutObject", given, "--organization", file(bound)),
-        {"anyone outside: account 444455556666": False, ANY: False},
+        {members[0]: False, members[1]: False, ANY: False},
     )
+    # Of those there whom they except somebody is asked.
+    member = "anyone outside: account 444455556666"
+    for name, wanted in (("444455556666", {role_of("444455556666", "admin"): True}), (OWN, {})):
+        but_admin = {"ArnNotLike": {"aws:PrincipalArn": f"arn:aws:iam::{name}:role/admin"}}
+        bound["policies"][1]["Content"] = json.dumps(document(statement(effect="Deny", Condition=but_admin)))
+        ids = ("p-FullAWSAccess", "p-00000001")
+        bound["targets"]["444455556666"] = [{"Id": it, "Type": "SERVICE_CONTROL_POLICY"} for it in ids]
+        found = outside("s3:GetObject", bucket(grant("444455556666")), "--organization", file(bound))
+        same(found, {member: False, **wanted})
+
+
+def test_members_whom_a_deny_excepts():
+    """Of the members without an export, whom a deny of all outside the organisation excepts, one is asked of each place there with
+    the same policies; the twin denies members too."""
+    organization = load(data("organization.json"))
+    for n, unit in enumerate(["ou-ab12-11111111", "ou-ab12-11111111", "r-ab12"]):
+        organization["parents"][f"55556666777{n}"] = [{"Id": unit, "Type": "ORGANIZATIONAL_UNIT"}]
+        organization["targets"][f"55556666777{n}"] = organization["targets"]["111122223333"]
+    # At the root stands 444455556666 with the same policies; 999900001111 manages.
+    members = [f"anyone outside: account {it}" for it in ("444455556666", "555566667770", "999900001111")]
+    every = deny("StringNotEqualsIfExists", "aws:PrincipalOrgID", "o-example0001")
+    exports = deny("StringNotEquals", "aws:PrincipalAccount", OWN)
+    rule = file(f"never * s3:GetObject {BUCKET} except *:{OWN}:*\n")
+    for some, is_open in (([every], True), ([every, exports], False)):
+        for given in (bucket(grant("*"), *some), controlled(*some)):
+            words = ["--organization", file(organization)]
+            same(outside("s3:GetObject", given, *words), {ANY: False, **dict.fromkeys(members, is_open)})
+            aws("rules", rule, EXPORT, "--resources", given, *words, status=3 if is_open else 0)
+
+
+def test_nobody_outside_is_of_the_organisation():
+    """999988887777 is no account of o-example0001 by its file, and may be of another organisation; without the file of any."""
+    file_of = ["--organization", data("organization.json")]
+    equal, like = ("StringEquals", "aws:PrincipalOrgID"), ("ForAnyValue:StringLike", "aws:PrincipalOrgPaths")
+    cases = [
+        (equal, "o-example0001", file_of, 0),
+        (equal, "o-example0001", [], 3),
+        (equal, "o-other", file_of, 3),
+        (like, "o-example0001/r-ab12/*", file_of, 0),
+        (like, "o-other/r-ab12/*", file_of, 3),
+    ]
+    rule = file(f"never *(anyone) s3:GetObject {BUCKET}*\n")
+    for (operator, key), of, words, status in cases:
+        given = bucket(grant("999988887777", Condition={operator: {key: of}}))
+        draft = file(load(given)[0]["policy"])
+        for question, resources, wanted in (
+            (["rules", rule], given, status),
+            (["who-can", "s3:GetObject", BUCKET], given, 0),
+            (["changes", "--put", f"releases={draft}", "--fail-on", "gained"], bucket(), status),
+        ):
+            out, _ = aws(*question, EXPORT, "--resources", resources, *words, status=wanted)
+            same(f"`{key}` is `o-" in out, status == 3, str((question, of, words, out)))
+    # The keys of a member are those of the file, also where nobody outside may have them.
+    equal_to = {"StringEquals": {"aws:PrincipalOrgID": "o-example0001"}}
+    both = bucket(grant("999988887777", "444455556666", Condition=equal_to))
+    same(outside("s3:GetObject", both, *file_of), {OUT: False, "anyone outside: account 444455556666": True})
+    # No world of iamsim says of whom that is so.
+    without = file({**load(data("organization.json")), "parents": {}})
+    made = json.loads(aws("world", PARTNER, "--organization", without)[0])
+    same({name for it in made["principals"] for name in it} - {"user", "role", "session", "identity", "context"}, set())
 
 
 def test_who_is_not_asked():

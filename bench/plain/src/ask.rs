@@ -5,7 +5,7 @@ use crate::keys::{Part, DERIVED};
 use crate::reading::{context_shape, object, MAX_BYTES};
 use crate::report::{self, Form};
 use crate::world::World;
-use std::collections::HashMap;
+use std::collections::{HashMap, HashSet};
 
 const MAX_REQUESTS: usize = 16_777_216;
 
@@ -113,7 +113,7 @@ fn size(members: &[Member], own: &Part) -> usize {
 
 fn requests(w: &mut World, bytes: &'static [u8]) -> Result<Vec<Request>, String> {
     let names = Names::of(w);
-    let (mut out, mut room) = (Vec::new(), MAX_KEYS);
+    let (mut out, mut room, mut given) = (Vec::new(), MAX_KEYS, HashSet::new());
     for line in bytes.split_inclusive(|&c| c == b'\n') {
         let line = line.strip_suffix(b"\n").unwrap_or(line);
         let fault = |why: String| format!("10 Request: line {}: {why}", out.len());
@@ -125,7 +125,9 @@ fn requests(w: &mut World, bytes: &'static [u8]) -> Result<Vec<Request>, String>
         let a = names.action(action).ok_or("5 NoAction".to_string()).map_err(fault)?;
         let r = only(&names.resources, resource, "6 NoResource", "7 SeveralResources").map_err(fault)?;
         let own = own_part(w, keys, p, r).map_err(fault)?;
-        room = room.checked_sub(size(keys, &own)).ok_or("10 ContextsTooLarge".to_string()).map_err(fault)?;
+        if given.insert(own.clone()) {
+            room = room.checked_sub(size(keys, &own)).ok_or("10 ContextsTooLarge".to_string()).map_err(fault)?;
+        }
         out.push(Request { p, a, r, own });
     }
     Ok(out)

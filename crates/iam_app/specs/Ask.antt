@@ -1,5 +1,5 @@
 -- What a run of the requests of a file writes, and why it ends without its report. LOGIC 13.8.
-use Rattle.std.specs.Prelude.{◌≡◌, ◌≢◌, ◌↔◌, ◌<◌, ℕ, Bool, IsTrue, List, Option, ⊤, length}
+use Rattle.std.specs.Prelude.{◌≡◌, ◌≢◌, ◌↔◌, ◌<◌, ◌≤◌, ℕ, Bool, IsTrue, List, Option, ⊤, length}
 use Rattle.iam_world.specs.Reads.{IsWorld}
 use Rattle.iam_world.specs.World.{WorldValue}
 use Rattle.iam_report.specs.Streams.{AppendsBeginning}
@@ -25,10 +25,11 @@ use Rattle.iam_app.specs.declared.requests_fault.RequestsFault.TheVariants as r
 abbrev pub HasWorld : Option (List ℕ) → WorldValue → Type 0
 HasWorld input world = (bytes : List ℕ) × AllRemained input bytes × IsWorld bytes world
 
--- the lines of the file are these requests, asked of this world
+-- the lines of the file are these requests, asked of this world, and not too many
 pub record HasRequests (file : Option (List ℕ)) (world : WorldValue) (requests : RequestsValue) : Type 0 where
   pub same : requests.world ≡ world
   pub lines : OfBytes file (λ bytes. AreRequests (lines_of bytes) requests)
+  pub few : length requests.asked ≤ 16777216
 
 -- this is the first faulty line, with its least fault
 abbrev pub HasFaultyLine : Option (List ℕ) → WorldValue → FaultyLine → Type 0

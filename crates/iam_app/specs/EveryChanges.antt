@@ -61,9 +61,11 @@ abbrev pub IsLongComparison : EveryChangesCommand → WorldValue → WorldValue 
 IsLongComparison command before after compared =
     (whos : List WhoValue) × AreWhosMeant (patterns_in command.principals.items) before after whos × IsTooLong compared whos
 
--- the number of workers is unlawful
-abbrev pub HasNoCrew : EveryChangesCommand → MatrixFault → Type 0
-HasNoCrew command fault = fault ≢ m.OutOfMemory → (fault ≡ m.Workers) × IsUnlawful command.options.workers
+-- the lines can be said of the world before, and the number of workers is unlawful
+abbrev pub HasNoCrew : EveryChangesCommand → WorldValue → WorldValue → List TextLineValue → MatrixFault → Type 0
+HasNoCrew command before after lines fault =
+    ((were : List TextLineValue) × AreLinesBefore before after lines were)
+    × (fault ≢ m.OutOfMemory → (fault ≡ m.Workers) × IsUnlawful command.options.workers)
 
 -- ---- a run
 -- the inputs are two worlds whose requests can be told apart, and P holds of them
@@ -90,7 +92,7 @@ abbrev pub EndsNamesChangesBy : EveryChangesCommand → Option (List ℕ) → Op
 EndsNamesChangesBy command first second file old new (e.Changes (c.Run f.Read)) = new ≡ old
 EndsNamesChangesBy command first second file old new (e.Changes (c.Run (f.World fault))) = (new ≡ old) × HasBefore first × IsNoWorld second fault
 EndsNamesChangesBy command first second file old new (e.Changes (c.Run (f.Matrix fault))) =
-    (new ≡ old) × HasSidesAndLines first second file (λ before after lines. HasNoCrew command fault)
+    (new ≡ old) × HasSidesAndLines first second file (λ before after lines. HasNoCrew command before after lines fault)
 EndsNamesChangesBy command first second file old new (e.Changes (c.Run f.Write)) =
     (told : ChangesTold) × HasNamesChanges command first second file (AppendsBeginning old new) told
 EndsNamesChangesBy command first second file old new (e.Changes (c.Run f.NoSuchCell)) = ⊥

@@ -1,5 +1,5 @@
 -- A file of requests, one a line. LOGIC 13.8.
-use Rattle.std.specs.Prelude.{◌≡◌, ℕ, List, [], ◌∷◌, Option, Some, None, ◌==◌, if◌then◌else◌, take, ⊤}
+use Rattle.std.specs.Prelude.{◌≡◌, ◌≤◌, ℕ, List, [], ◌∷◌, Option, Some, None, ◌==◌, if◌then◌else◌, take, ⊤}
 use Rattle.std.specs.List.{AllZip, slice_get}
 use Rattle.iam_world.specs.World.{WorldValue}
 use Rattle.iam_asked.specs.Fault.{IsLineFault}
@@ -22,12 +22,13 @@ lines_of (c ∷ cs) = if c == 10 then [] ∷ lines_of cs else begin_with c (line
 abbrev pub AreRequests : List (List ℕ) → RequestsValue → Type 0
 AreRequests lines requests = AllZip (IsRequest requests.world) lines requests.asked
 
--- the first line that has a fault, and its least one; the lines before it are requests
+-- the first line that has a fault, and its least one; the lines before it are requests, and none of them is one too many
 pub record IsFirstFaulty (world : WorldValue) (lines : List (List ℕ)) (faulty : FaultyLine) : Type 0 where
   pub line : List ℕ
   pub before : List AskedValue
   pub at : slice_get lines faulty.line ≡ Some line
   pub requests : AreRequests (take faulty.line lines) (record { world = world; asked = before })
+  pub few : faulty.line ≤ 16777216
   pub is : IsLineFault (record { world = world; asked = before }) line faulty.fault
 
 -- why the requests of these bytes are not read. Nothing is said of a reader that fails

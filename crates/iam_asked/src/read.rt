@@ -1,5 +1,5 @@
 // Reading a file of requests in blocks: a line may begin in one block and end in a later one.
-ghost use Rattle.std.specs.Prelude.{◌≡◌, ◌≢◌, ◌∷◌, ◌++◌, [], ℕ, List, IfErr, IfOk, MatchOption, OnErr, OnOk};
+ghost use Rattle.std.specs.Prelude.{◌≡◌, ◌≢◌, ◌≤◌, ◌∷◌, ◌++◌, [], ℕ, List, IfErr, IfOk, MatchOption, OnErr, OnOk, length};
 ghost use Rattle.iam_asked.specs.Code.Cut.{HasRead, IsFaultOf, IsUnbroken};
 ghost use Rattle.iam_asked.specs.File.{AreRequests, IsFileFault, OfBytes, lines_of};
 ghost use Rattle.iam_asked.specs.Request.{AskedValue, IsRequest, with_asked};
@@ -114,12 +114,16 @@ impl<'a> Lines<'a> {
         ensures ok { IfOk result (λ requests. (bytes : List ℕ) → HasRead bytes self.entry.rest.items self.entry.reading
             → AreRequests (lines_of bytes) requests) }
         ensures world { IfOk result (λ requests. requests.world ≡ self.entry.reading.world) }
+        ensures few { IfOk result (λ requests. length requests.asked ≤ 16777216) }
         ensures fault { IfErr result (λ fault. (bytes : List ℕ) → HasRead bytes self.entry.rest.items self.entry.reading
             → IsFileFault self.entry.reading.world bytes fault) }
     {
         let Lines { mut reading, rest } = self;
         add_last(alloc, &mut reading, rest.as_slice())?;
-        Ok(reading.into_requests())
+        let requests = reading.into_requests();
+        // There are at most 16,777,216.
+        let _count = requests.count();
+        Ok(requests)
     }
 }
 
@@ -131,6 +135,7 @@ pub fn read_requests<'a, R: Read>(
     reader: &mut R,
 ) -> Result<Requests<'a>, AskFault>
     ensures world { IfOk result (λ requests. requests.world ≡ world.entry.now) }
+    ensures few { IfOk result (λ requests. length requests.asked ≤ 16777216) }
     ensures ok { IfOk result (λ requests. OfBytes (R.remaining reader.old) (λ bytes. AreRequests (lines_of bytes) requests)) }
     ensures fault { IfErr result (λ fault. OfBytes (R.remaining reader.old) (λ bytes. IsFileFault world.entry.now bytes fault)) }
 {

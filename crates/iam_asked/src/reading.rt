@@ -1,5 +1,5 @@
 // Reading requests, a line at a time.
-ghost use Rattle.std.specs.Prelude.{◌≡◌, ◌≢◌, ◌<◌, ◌∷◌, ◌++◌, [], ℕ, List, IfErr, IfOk, OnErr, OnOk, length};
+ghost use Rattle.std.specs.Prelude.{◌≡◌, ◌≢◌, ◌<◌, ◌≤◌, ◌∷◌, ◌++◌, [], ℕ, List, IfErr, IfOk, OnErr, OnOk, length};
 ghost use Rattle.serde_json.specs.View.{view};
 ghost use Rattle.iam_asked.specs.Code.Reading.{IsFoundIn, IsFoundOf, IsOwnFault, IsUnfound};
 ghost use Rattle.iam_asked.specs.Fault.{IsLineFault};
@@ -78,9 +78,10 @@ impl<'a> Reading<'a> {
         self.add(alloc, asked, own)
     }
 
-    /// How many requests were read.
+    /// How many requests were read, at most 16,777,216.
     pub fn count(&self) -> u64
-        ensures { result ≡ length self.now.asked }
+        ensures value { result ≡ length self.now.asked }
+        ensures few { result ≤ 16777216 }
     {
         self.requests.count()
     }

@@ -11,7 +11,7 @@ use Rattle.iam_row.specs.Changes.{allows, changes_text, is_allowed}
 use Rattle.iam_row.specs.Report.{CellTexts}
 use Rattle.iam_row.specs.declared.changes.Change.{Change}
 use Rattle.iam_row.specs.declared.changes.Change.TheVariants.{Gained, Lost}
-use Rattle.iam_selection.specs.Selection.{Selects}
+use Rattle.iam_row.specs.Selects.{Selects}
 use Rattle.iam_changes.specs.RequestLaws.{OneRequests}
 use Rattle.iam_changes.specs.Lists.{somes}
 use Rattle.iam_changes.specs.Requests.{AreRequests, Has}

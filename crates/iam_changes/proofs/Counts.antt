@@ -7,8 +7,7 @@ use Rattle.std.proofs.lemmas.List.{length-append}
 use Rattle.iam_layers.specs.Cell.{IsCell, principal_text}
 use Rattle.iam_layers.specs.Laws.{SomeTriple}
 use Rattle.iam_world.specs.World.{WorldValue, world_cells}
-use Rattle.iam_row.specs.Report.{CellTexts, IsCellTexts}
-use Rattle.iam_matrix.specs.Matrix.{AreEntriesFrom}
+use Rattle.iam_row.specs.Report.{AreEntriesFrom, CellTexts, IsCellTexts}
 use Rattle.iam_changes.specs.Code.Found.{AreLinked, FinderValue, IsLeftCount}
 use Rattle.iam_changes.specs.Lists.{somes}
 use Rattle.iam_changes.specs.Requests.{IsUnlessHad}

@@ -13,7 +13,7 @@ use Rattle.iam_row.specs.Report.{csv_line, json_text}
 use Rattle.iam_row.specs.declared.quoted.Format.{Format}
 use Rattle.iam_row.specs.declared.quoted.Format.TheVariants.{Csv, Json}
 use Rattle.iam_row.specs.declared.tail.Tail.{Tail}
-use Rattle.iam_selection.specs.Code.Listing.{comma_of}
+use Rattle.iam_report.specs.Code.Place.{comma_of}
 use Rattle.iam_changes.specs.Change.{ChangeValue}
 use Rattle.iam_changes.specs.Code.Kept.{pair_of, part_row}
 use Rattle.iam_changes.specs.Code.Pieces.{lead_of, report_text, row_text, rows_text}

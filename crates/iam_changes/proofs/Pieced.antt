@@ -13,7 +13,7 @@ use Rattle.iam_row.specs.declared.quoted.Format.{Format}
 use Rattle.iam_row.specs.declared.quoted.Quoted.{Quoted}
 use Rattle.iam_row.specs.declared.tail.Tail.{Tail}
 use Rattle.iam_row.proofs.Rows.{one_texts, texts_there}
-use Rattle.iam_selection.specs.Code.Listing.{comma_of, position_in}
+use Rattle.iam_report.specs.Code.Place.{comma_of, position_in}
 use Rattle.iam_changes.specs.Change.{ChangeValue, Changes}
 use Rattle.iam_changes.specs.Code.Kept.{pair_of}
 use Rattle.iam_changes.specs.Code.Pieces.{ArePiecesOf, pair_tail, row_behind, row_text}

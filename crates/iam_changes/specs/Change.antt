@@ -9,7 +9,7 @@ use Rattle.iam_row.specs.Changes.{is_allowed}
 use Rattle.iam_row.specs.Report.{CellTexts, IsCellTexts}
 use Rattle.iam_row.specs.declared.changes.Change.{Change}
 use Rattle.iam_row.specs.declared.changes.Change.TheVariants.{Gained, Lost, Differs}
-use Rattle.iam_selection.specs.Selection.{SelectionValue, Selects}
+use Rattle.iam_row.specs.Selects.{SelectionValue, Selects}
 use Rattle.iam_changes.specs.Lists.{somes}
 use Rattle.iam_changes.specs.Requests.{AreRequests, Has}
 

@@ -11,7 +11,7 @@ use Rattle.iam_row.specs.Report.{CellTexts, IsCellTexts}
 use Rattle.iam_row.specs.declared.changes.Change.{Change}
 use Rattle.iam_row.specs.declared.changes.Change.TheVariants.{Gained, Lost, Differs}
 use Rattle.iam_row.specs.declared.quoted.Format.{Format}
-use Rattle.iam_selection.specs.Selection.{Selects}
+use Rattle.iam_row.specs.Selects.{Selects}
 use Rattle.iam_changes.specs.Change.{AreChanges, AskedValue, ChangeValue, IsChange}
 use Rattle.iam_changes.specs.Report.{IsChangesReport}
 use Rattle.iam_changes.specs.Twice.{IsApart}

@@ -1,8 +1,7 @@
 -- The requests of two worlds. A request is known by its texts: those of the principal, the action and the resource. LOGIC 13.7.
 use Rattle.std.specs.Prelude.{◌≡◌, ℕ, List, ◌++◌, Option, Some, None, length}
 use Rattle.iam_world.specs.World.{WorldValue, world_cells}
-use Rattle.iam_row.specs.Report.{CellTexts, IsCellTexts}
-use Rattle.iam_matrix.specs.Matrix.{AreEntriesFrom}
+use Rattle.iam_row.specs.Report.{AreEntriesFrom, CellTexts, IsCellTexts}
 use Rattle.iam_changes.specs.Lists.{somes}
 
 -- the world has the request with these texts

@@ -8,9 +8,8 @@ ghost use Rattle.iam_changes.specs.Code.Pieces.{lead_of, report_text, row_behind
 
 use crate::change::Kinds;
 use crate::part::Part;
-use iam_report::{OutputFault, put, put_all, write_end};
+use iam_report::{OutputFault, comma_of, position_in, put, put_all, write_end};
 use iam_row::{Format, Quoted, Tail, changes_opening, text_at};
-use iam_selection::{comma_of, position_in};
 use std::io::Write;
 use std::marker::Model;
 

@@ -5,8 +5,8 @@ use Rattle.iam_decision.specs.Living.{LivingValue, living_value}
 use Rattle.iam_decision.specs.declared.frame.Frame.{Frame}
 use Rattle.iam_decision.specs.declared.living.Living.{Living}
 use Rattle.iam_decision.specs.declared.living.Matched.{Matched}
-use Rattle.iam_batch.specs.Batch.{AreDecided}
-use Rattle.iam_batch.specs.declared.lanes.Decided.{Decided}
+use Rattle.iam_span.specs.Batch.{AreDecided}
+use Rattle.iam_span.specs.declared.lanes.Decided.{Decided}
 use Rattle.iam_world.specs.World.{WorldValue}
 use Rattle.iam_index.specs.Elements.{AreActRows}
 use Rattle.iam_index.proofs.ListLemmas.{get_more}

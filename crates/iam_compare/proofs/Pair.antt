@@ -1,6 +1,6 @@
 -- The engines of two worlds, in a list.
 use Rattle.std.proofs.Common.{◌≡◌, List, ap, ◌∙◌, slice_index_or, slice_set}
-use Rattle.iam_classes.specs.Engine.{EngineValue}
+use Rattle.iam_matrix.specs.Engine.{EngineValue}
 use Rattle.iam_compare.specs.Code.Walk.{AreEnginesOf}
 use Rattle.iam_compare.specs.declared.walk.Workers.{Workers}
 

@@ -5,7 +5,7 @@ use Rattle.std.proofs.lemmas.Grind.{flat_map-append}
 use Rattle.std.proofs.lemmas.List.{length-append, length-map, map-append}
 use Rattle.std.proofs.lemmas.Option.{slice_get_within}
 use Rattle.iam_decision.specs.declared.verdict.Verdict.{Verdict}
-use Rattle.iam_classes.specs.Engine.{EngineValue, IsNumberAt}
+use Rattle.iam_matrix.specs.Engine.{EngineValue, IsNumberAt}
 use Rattle.iam_layers.specs.Cell.{IsCell, IsVerdictAt}
 use Rattle.iam_world.specs.World.{WorldValue, world_cells}
 use Rattle.iam_row.specs.Report.{CellTexts, HasTexts, IsCellTexts}

@@ -7,13 +7,11 @@ ghost use Rattle.iam_changes.specs.Report.{IsChangesReport};
 
 use crate::walk::{Asked, Workers};
 use iam_changes::{ChangesText, Part, Requests, pieces_of};
-use iam_classes::Index;
 use iam_crew::{Gate, gather};
 use iam_layers::one_triple;
-use iam_matrix::{Cut, MatrixFault, is_unlawful, survey_of};
+use iam_matrix::{Cut, Index, MatrixFault, Survey, is_unlawful, survey_of};
 use iam_row::Format;
 use iam_selection::{Picker, Selection, index_of};
-use iam_survey::Survey;
 use iam_text::OutOfMemory;
 use std::alloc::Global;
 use std::thread::Threads;

@@ -7,13 +7,11 @@ ghost use Rattle.iam_row.specs.Report.{CellTexts, IsCellTexts};
 ghost use Rattle.iam_compare.specs.Code.Walk.{AddsSaid, AreEnginesOf, Gathers, IsCrew, IsLeftRow, IsPartOf, all_cells, asked_of, with_row, IsTileOf, reached};
 
 use iam_changes::{Change, Decisions, Gathered, Part, Requests, Verdicts, change_of};
-use iam_classes::ClassEngine;
 use iam_crew::{Bound, Crew};
 use iam_layers::{Decision, Verdict, one_triple};
-use iam_matrix::{Asks, Cut, past_row};
+use iam_matrix::{Asks, ClassEngine, Cut, Survey, past_row};
 use iam_row::{Format, Position};
 use iam_selection::Picker;
-use iam_survey::Survey;
 use iam_text::OutOfMemory;
 use std::alloc::Global;
 

@@ -3,5 +3,6 @@ pub mod Context
 pub mod ContextFault
 pub mod Keys
 pub mod Order
+pub mod Requester
 pub mod Resolve
 pub mod Wide

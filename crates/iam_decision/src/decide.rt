@@ -121,8 +121,10 @@ fn is_allowed(found: &[Matched], frame: Frame) -> bool
         && (grant_suffices(found, frame) || all_hold(found, frame))
 }
 
-/// The decision on what was found.
-fn decision_of(found: &[Matched], frame: Frame) -> Decision
+/// The decision that follows where these statements match a request that asks this beside them. It takes no memory.
+///
+/// AWS IAM User Guide, "Policy evaluation logic".
+pub fn decision_of(found: &[Matched], frame: Frame) -> Decision
     ensures { IsDecided (DeniesIn found.now) (AllowsIn found.now) (GrantsIn found.now) frame result }
 {
     if denies(found) {

@@ -14,7 +14,7 @@ mod shared;
 mod verdict;
 
 pub use applicable::Applicable;
-pub use decide::{early_decision, early_verdict};
+pub use decide::{decision_of, early_decision, early_verdict};
 pub use early::{
     Findings, candidates_suffice, deny_decides, is_open, suffices_one_by_one, tells_one_by_one,
 };

@@ -13,6 +13,7 @@ use crate::sign::{Sign, add_characters};
 use crate::signs::Signs;
 use crate::walk::{equals, matches};
 use std::alloc::Global;
+use std::hash::{FoldHasher, Hasher};
 use std::marker::Model;
 
 /// A pattern over texts: a list of signs.
@@ -142,14 +143,17 @@ impl Glob {
     /// A number that tells most lists of patterns apart, where the last of them is this one and those before it have this
     /// number. Nothing is claimed of it.
     pub fn print(&self, print: u64) -> u64 {
-        let mut print = print;
-        let signs = self.signs();
-        for i in 0..signs.len() {
-            print = (print ^ sign_number(signs.at(i)))
-                .wrapping_mul(0x9e37_79b9_7f4a_7c15)
-                .rotate_left(23);
+        match &self.kind {
+            Kind::Short(wild, text) => mix(print, text_number(text.as_slice(), *wild)),
+            Kind::Long(wild, text) => mix(print, text_number(text.as_slice(), *wild)),
+            Kind::Listed(signs) => {
+                let mut print = print;
+                for sign in signs.as_slice() {
+                    print = mix(print, sign_number(*sign));
+                }
+                print
+            }
         }
-        print
     }
 }
 
@@ -171,6 +175,18 @@ fn read_signs(alloc: Global, text: &str, wild: bool) -> Result<Vec<Sign>, OutOfM
     add_characters(&mut signs, text, wild)?;
     signs.shrink_to_fit();
     Ok(signs)
+}
+
+fn mix(print: u64, number: u64) -> u64 {
+    (print ^ number)
+        .wrapping_mul(0x9e37_79b9_7f4a_7c15)
+        .rotate_left(23)
+}
+
+fn text_number(text: &[u8], wild: bool) -> u64 {
+    let mut hasher = FoldHasher::default();
+    hasher.write(text);
+    hasher.finish() ^ wild as u64
 }
 
 fn sign_number(sign: Sign) -> u64 {

@@ -2,6 +2,6 @@ pub mod CellLemmas
 pub mod DerivedLemmas
 mod ManagementLemmas
 mod OneAnswer
-mod OwnLemmas
+pub mod OwnLemmas
 mod UnnamedLemmas
 pub mod VerdictLemmas

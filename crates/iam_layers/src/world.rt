@@ -114,6 +114,14 @@ impl World {
         self.parts.account(id).is_some()
     }
 
+    /// The moment, in seconds from 1970-01-01T00:00:00Z, at most 253,402,300,799: the end of the year 9999.
+    pub fn moment(&self) -> u64
+        ensures value { result ≡ self.now.moment }
+        ensures most { result ≤ 253402300799 }
+    {
+        self.parts.moment()
+    }
+
     /// How many cells the matrix has: one for each principal, action and resource; at most 16,777,216.
     pub fn cells(&self) -> u64
         ensures value { result ≡ world_cells self.now }
@@ -204,6 +212,27 @@ impl World {
             self.parts.moment(),
             self.stamp.as_str(),
         )
+    }
+
+    /// The keys that follow from principal p, resource r and this moment in place of the world's, in seconds from 1970-01-01T00:00:00Z
+    /// and at most 253,402,300,799; p and r are below the number of their kind.
+    ///
+    /// AWS IAM User Guide, "AWS global condition context keys".
+    pub fn derived_at(
+        &self,
+        alloc: Global,
+        p: u64,
+        r: u64,
+        moment: u64,
+    ) -> Result<Derived, OutOfMemory>
+        requires principal { p < length self.now.principals }
+        requires resource { r < length self.now.resources }
+        requires moment { moment ≤ 253402300799 }
+        ensures { IfOk result (λ derived. IsDerivedAt (record self.now { moment = moment }) p r derived.items) }
+    {
+        let stamp = stamp_of(alloc, moment)?;
+        let account = self.resource(r).account();
+        keys_with(alloc, self.requester(p), account, moment, stamp.as_str())
     }
 
     /// `true` only where the keys that follow from a principal, a resource and the moment are the same for these two resources,

@@ -4,8 +4,5 @@ pub mod FixedLemmas
 pub mod GivenLemmas
 pub mod GrantLemmas
 pub mod JoinLemmas
-pub mod PartsLemmas
-pub mod PathLemmas
-pub mod RequesterLemmas
 pub mod StatementLemmas
 pub mod WideLemmas

@@ -1,4 +1,2 @@
 pub mod Asked
 pub mod Compared
-pub mod Parts
-pub mod Session

@@ -9,7 +9,7 @@ use Rattle.iam_element.specs.declared.principals.PrincipalKind.TheVariants.{Aws}
 use Rattle.iam_element.specs.Reading.{PrincipalElement, PrincipalText}
 use Rattle.iam_match.specs.declared.principal.Grant.{Grant}
 use Rattle.iam_match.specs.declared.principal.Grant.TheVariants.{None, Account, Role, Direct}
-use Rattle.iam_match.specs.Requester.{RequesterValue, role_arn, root_arn, session_arn, user_arn}
+use Rattle.iam_context.specs.Requester.{RequesterValue, role_arn, root_arn, session_arn, user_arn}
 
 -- a name of a requester: its account, by the account's digits and the ARN of its root; or the user, the role or the
 -- session, by their ARNs

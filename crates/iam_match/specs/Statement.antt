@@ -11,7 +11,7 @@ use Rattle.iam_context.specs.Context.{ContextValue}
 use Rattle.iam_context.specs.Resolve.{resolved}
 use Rattle.iam_match.specs.Entry.{EntryHolds}
 use Rattle.iam_match.specs.Principal.{PrincipalMatches}
-use Rattle.iam_match.specs.Requester.{RequesterValue}
+use Rattle.iam_context.specs.Requester.{RequesterValue}
 
 -- who asks for which action on which resource, in which context
 pub record RequestValue : Type 0 where

@@ -1,4 +1,4 @@
-//! Requesters and requests, and which statements match them.
+//! Requests, and which statements match them.
 #![tactic(auto)]
 
 mod arn;
@@ -6,11 +6,8 @@ mod asked;
 mod compare;
 mod entry;
 mod fixed;
-mod laws;
-mod parts;
 mod principal;
 mod request;
-mod requester;
 mod resource;
 mod statement;
 mod wide;
@@ -18,12 +15,10 @@ mod wide;
 pub use entry::holds;
 pub use fixed::Fixed;
 pub use iam_condition::Entry;
-pub use iam_context::Context;
+pub use iam_context::{Context, Requester};
 pub use iam_policy::{Actions, Statement};
 pub use iam_text::OutOfMemory;
-pub use laws::one_requester;
 pub use principal::{Grant, grant_kind, principal_matches};
 pub use request::{Access, Request};
-pub use requester::Requester;
 pub use statement::{action_matches, rest_matches, rest_matches_with, statement_matches};
 pub use wide::Wide;

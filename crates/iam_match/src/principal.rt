@@ -2,10 +2,10 @@
 ghost use Rattle.std.specs.Prelude.{◌≡◌, ◌||◌, ◌↔◌, IsTrue, map};
 ghost use Rattle.std.specs.List.{concat, list_all};
 ghost use Rattle.std.specs.Str.{bytes_eq};
-ghost use Rattle.iam_match.specs.Requester.{root_arn};
+ghost use Rattle.iam_context.specs.Requester.{root_arn};
 ghost use Rattle.iam_match.specs.Principal.{PrincipalMatches, grant_of, grant_of_element, grant_of_text, greatest, is_listed, is_named, names, the_account, the_user};
 
-use crate::requester::Requester;
+use iam_context::Requester;
 use iam_policy::{PrincipalKind, PrincipalName, Principals, Statement};
 
 /// How a policy of a resource grants something to a requester, from the weakest on: not at all, to its account, to

@@ -1,6 +1,5 @@
 // A request, as statements see it.
-use crate::requester::Requester;
-use iam_context::Context;
+use iam_context::{Context, Requester};
 
 /// Who asks for which action on which resource, in which context.
 #[derive(Clone, Copy)]

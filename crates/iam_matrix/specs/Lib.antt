@@ -5,3 +5,4 @@ pub mod Laws
 pub mod Matrix
 pub mod Report
 pub mod Workers
+pub use Rattle.iam_classes.specs.Engine

@@ -1,15 +1,11 @@
 -- The matrix of a world: the verdict of each cell, in the order of the cells' numbers. It names no cut and no worker.
 -- LOGIC 11.6 and 11.8.
-use Rattle.std.specs.Prelude.{◌≡◌, ◌≢◌, ℕ, ◌+◌, ◌<◌, List, Option, Some, None, length}
-use Rattle.std.specs.List.{slice_get}
+use Rattle.std.specs.Prelude.{◌≡◌, ◌≢◌, ℕ, ◌<◌, List, Option, Some, None, length}
 use Rattle.iam_decision.specs.declared.verdict.Decision.{Decision}
 use Rattle.iam_decision.specs.declared.verdict.Decision.TheVariants.{Allowed}
 use Rattle.iam_layers.specs.Cell.{IsDecisionOf}
 use Rattle.iam_world.specs.World.{WorldValue, world_cells}
-
--- entries of cells that follow one another from this one, each as it has to be
-abbrev pub AreEntriesFrom : {X : Type 0} → (ℕ → X → Type 0) → ℕ → List X → Type 0
-AreEntriesFrom {X} Is from entries = (i : ℕ) (entry : X) → slice_get entries i ≡ Some entry → Is (from + i) entry
+pub use Rattle.iam_row.specs.Report.{AreEntriesFrom}
 
 -- one entry for each cell, in order: its verdict, or its decision alone
 pub record IsMatrix {X : Type 0} (Is : WorldValue → ℕ → X → Type 0) (world : WorldValue) (entries : List X) : Type 0 where

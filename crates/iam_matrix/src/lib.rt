@@ -22,6 +22,7 @@ pub use cells::{CAPACITY, matrix, matrix_brief};
 pub use cut::{Cells, Cut, CutFault};
 pub use each::{end_of, past_row};
 pub use fault::MatrixFault;
+pub use iam_classes::{ClassEngine, Index, Survey};
 pub use iam_crew::{Gate, Open};
 pub use iam_layers::{Decision, Verdict, World};
 pub use iam_report::{MatrixText, csv_brief, csv_text, json_brief, json_text};

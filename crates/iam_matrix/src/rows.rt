@@ -7,12 +7,11 @@ ghost use Rattle.iam_matrix.specs.Code.Tiles.{AreEntries, AreTailsOf, IsOf, IsTi
 use crate::cut::{Cells, Cut};
 use crate::each::{along, end_of, left_in_row};
 use crate::said::{Said, Verdicts};
-use iam_classes::ClassEngine;
+use iam_classes::{ClassEngine, Survey};
 use iam_crew::{Bound, Crew};
 use iam_layers::World;
 use iam_report::{Decisions, Tile};
 use iam_row::{Format, Position};
-use iam_survey::Survey;
 use iam_text::OutOfMemory;
 use std::alloc::Global;
 

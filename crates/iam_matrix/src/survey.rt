@@ -1,9 +1,8 @@
 // What the requests of a world's pairs share, found by all workers before its tiles.
 ghost use Rattle.std.specs.Prelude.{◌≡◌, ◌*◌, ◌≤◌, ⊤};
 
-use iam_classes::Index;
+use iam_classes::{Block, Index, Survey, Surveyor, wants_survey};
 use iam_crew::{Bound, Crew, Open, gather};
-use iam_survey::{Block, Survey, Surveyor, wants_survey};
 use iam_text::OutOfMemory;
 use std::alloc::Global;
 use std::thread::Threads;

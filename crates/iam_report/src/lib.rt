@@ -10,6 +10,7 @@ mod front;
 mod line;
 mod matrix;
 mod output;
+mod place;
 mod rows;
 mod text;
 
@@ -19,4 +20,5 @@ pub use iam_text::OutOfMemory;
 pub use iam_tiles::{Decisions, Kept, Tile};
 pub use matrix::{MatrixText, put_pieces, write_end};
 pub use output::{OutputFault, buffer, put, put_all, write_text};
+pub use place::{comma_of, position_in};
 pub use text::{csv_brief, csv_text, json_brief, json_text};

@@ -4,4 +4,5 @@ pub mod CsvRow
 pub mod Laws
 pub mod Piece
 pub mod Report
+pub mod Selects
 pub mod Words

@@ -30,6 +30,10 @@ pub record HasTexts (world : WorldValue) (p a r : ℕ) (texts : CellTexts) : Typ
 abbrev pub IsCellTexts : WorldValue → ℕ → CellTexts → Type 0
 IsCellTexts world cell texts = (p a r : ℕ) × IsCell world cell p a r × HasTexts world p a r texts
 
+-- entries of cells that follow one another from this one, each as it has to be
+abbrev pub AreEntriesFrom : {X : Type 0} → (ℕ → X → Type 0) → ℕ → List X → Type 0
+AreEntriesFrom {X} Is from entries = (i : ℕ) (entry : X) → slice_get entries i ≡ Some entry → Is (from + i) entry
+
 -- one row for each entry, whose cells follow one another from this one
 pub record AreRowsFrom {A B : Type 0} (world : WorldValue) (row : ℕ → CellTexts → A → B) (from : ℕ) (entries : List A) (rows : List B) : Type 0 where
   pub count : length rows ≡ length entries

@@ -1,10 +1,12 @@
 //! Tries the rows of `data/`: what `iamsim` has to answer to words and an input. Each is run over memory. Words of the command
-//! line name the files of rows to try; without words all are tried.
+//! line name the files of rows to try; without words all are tried. Its tests are of streams that fail.
 #![tactic(auto)]
 
 mod input;
 mod problem;
 mod row;
+#[cfg(test)]
+mod streams;
 
 use crate::problem::Problem;
 use crate::row::{Tally, try_rows};

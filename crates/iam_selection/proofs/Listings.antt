@@ -23,7 +23,8 @@ use Rattle.iam_row.proofs.Texts.{pieces_there}
 use Rattle.iam_report.specs.Code.Line.{row_behind, text_behind}
 use Rattle.iam_selection.specs.Report.{ArePicked, IsRowOf, IsSelectedReport}
 use Rattle.iam_selection.specs.Selection.{IsAsked, IsPassed, SelectionValue}
-use Rattle.iam_selection.specs.Code.Listing.{AreFound, IsTailed, RowValue, comma_of, lead_of, position_in, rows_text}
+use Rattle.iam_report.specs.Code.Place.{comma_of, position_in}
+use Rattle.iam_selection.specs.Code.Listing.{AreFound, IsTailed, RowValue, lead_of, rows_text}
 use Rattle.iam_selection.proofs.Founds.{cells_of}
 use Rattle.iam_selection.proofs.Picks.{IsBetween, picked_each, picked_rest}
 

@@ -1,24 +1,14 @@
 -- What is asked of a matrix: requests are selected by their texts, and their rows are asked for by their decisions. LOGIC 13.6.
-use Rattle.std.specs.Prelude.{◌≡◌, ◌⊎◌, ℕ, ◌<◌, ◌==◌, Bool, ◌&&◌, ◌||◌, if◌then◌else◌, List, [], ◌∷◌, Option, Some, None, Any, chars}
-use Rattle.iam_glob.specs.Glob.{Matches, MatchesFold, plain_sign, wild_sign}
+use Rattle.std.specs.Prelude.{◌≡◌, ◌⊎◌, ℕ, ◌<◌, ◌==◌, Bool, ◌&&◌, ◌||◌, if◌then◌else◌, List, [], ◌∷◌, Option, Some, None, chars}
+use Rattle.iam_glob.specs.Glob.{plain_sign, wild_sign}
 use Rattle.iam_glob.specs.declared.sign.Sign.{Sign}
 use Rattle.iam_decision.specs.declared.verdict.Decision.{Decision}
 use Rattle.iam_decision.specs.declared.verdict.Decision.TheVariants.{Allowed}
 use Rattle.iam_layers.specs.Cell.{IsDecisionOf}
 use Rattle.iam_world.specs.World.{WorldValue, world_cells}
 use Rattle.iam_row.specs.Report.{CellTexts, IsCellTexts}
+pub use Rattle.iam_row.specs.Selects.{IsMeant, SelectionValue, Selects}
 use Rattle.iam_matrix.specs.Matrix.{IsNotAllowed}
-
--- patterns of principals, of actions and of resources, and decisions
-pub record SelectionValue : Type 0 where
-  pub principals : List (List Sign)
-  pub actions : List (List Sign)
-  pub resources : List (List Sign)
-  pub decisions : List Decision
-
--- nothing is said, and all are meant; or one of those that are said is right
-abbrev pub IsMeant : {A : Type 0} → (A → Type 0) → List A → Type 0
-IsMeant Is said = (said ≡ []) ⊎ Any Is said
 
 -- the characters that a `\` gives: `*`, `?` and `\`
 abbrev pub is_escapable : ℕ → Bool
@@ -35,12 +25,6 @@ signs_of (c ∷ d ∷ rest) =
 -- the pattern that a text is: `*` and `?` are wild, but those that are given
 abbrev pub pattern_of : List ℕ → List Sign
 pattern_of text = signs_of (chars text)
-
--- a request with these texts is selected: each matches a pattern, an action without regard to case
-pub record Selects (selection : SelectionValue) (texts : CellTexts) : Type 0 where
-  pub principal : IsMeant (λ pattern. Matches pattern (chars texts.principal)) selection.principals
-  pub action : IsMeant (λ pattern. MatchesFold pattern (chars texts.action)) selection.actions
-  pub resource : IsMeant (λ pattern. Matches pattern (chars texts.resource)) selection.resources
 
 -- the request of the cell is selected
 abbrev pub IsSelected : SelectionValue → WorldValue → ℕ → Type 0

@@ -20,7 +20,7 @@ pub use laws::{
     each_stands_in_all, each_text_is_named, nothing_selects_all, one_selected_report,
     reads_as_policies,
 };
-pub use list::{ListText, comma_of, position_in};
+pub use list::ListText;
 pub use pattern::pattern_of;
 pub use picker::{Picker, selects_some};
 pub use report::{first_selected_report, index_of, selected_report};

@@ -4,11 +4,11 @@ ghost use Rattle.std.specs.Io.KnownBytes.{Appends};
 ghost use Rattle.std.specs.List.{flat_map};
 ghost use Rattle.iam_report.specs.Code.Buffer.{Passes};
 ghost use Rattle.iam_report.specs.Streams.{AppendsBeginning};
-ghost use Rattle.iam_selection.specs.Code.Listing.{comma_of, lead_of, list_text, position_in, rows_text, ListValue};
+ghost use Rattle.iam_selection.specs.Code.Listing.{lead_of, list_text, rows_text, ListValue};
 
 use crate::found::Found;
-use iam_report::{OutputFault, put, put_pieces, write_end};
-use iam_row::{Position, Quoted, opening};
+use iam_report::{OutputFault, comma_of, position_in, put, put_pieces, write_end};
+use iam_row::{Quoted, opening};
 use std::io::Write;
 use std::marker::Model;
 
@@ -40,28 +40,6 @@ fn lead_in(tiles: &[Found]) -> u64
         }
     }
     0
-}
-
-/// The position of a cell, by how many texts there are.
-pub fn position_in(quoted: &Quoted, cell: u64) -> Position
-    ensures { result ≡ position_in quoted.now cell }
-{
-    let actions = (quoted.actions.as_slice().len() as u64).max(1);
-    let resources = (quoted.resources.as_slice().len() as u64).max(1);
-    let row = cell / resources;
-    Position {
-        cell,
-        principal: row / actions,
-        action: row % actions,
-        resource: cell % resources,
-    }
-}
-
-/// The comma that stands before the object of a cell, unless it is the first.
-pub fn comma_of(lead: u64, cell: u64) -> &'static str
-    ensures { result.now ≡ comma_of lead cell }
-{
-    if cell == lead { "" } else { "," }
 }
 
 /// Puts the rows of a tile.

@@ -7,10 +7,9 @@ ghost use Rattle.iam_selection.specs.Code.Listing.{Adds, AreFound, IsPickerTile}
 use crate::found::Found;
 use crate::picker::Picker;
 use crate::selection::Selection;
-use iam_classes::{ClassEngine, Index};
 use iam_crew::{Bound, Crew};
 use iam_layers::{Verdict, one_decision_at};
-use iam_matrix::{Asks, Cells, Cut, end_of, past_row};
+use iam_matrix::{Asks, Cells, ClassEngine, Cut, Index, end_of, past_row};
 use iam_report::Kept;
 use iam_row::{Format, Position};
 use iam_text::OutOfMemory;

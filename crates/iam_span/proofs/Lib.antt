@@ -1,1 +1,5 @@
+mod FindLemmas
+mod GatherLemmas
+mod LaneLemmas
 mod SpanLemmas
+mod WordLemmas

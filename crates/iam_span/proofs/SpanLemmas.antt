@@ -11,8 +11,8 @@ use Rattle.iam_decision.specs.Living.{ActingAreFound, AreActing, FoundDecide, Li
 use Rattle.iam_decision.specs.declared.frame.Frame.{Frame}
 use Rattle.iam_decision.specs.declared.living.Matched.{Matched}
 use Rattle.iam_decision.specs.declared.verdict.Decision.{Decision}
-use Rattle.iam_batch.specs.Batch.{AreDecided, AreFoundIn, RowsFind}
-use Rattle.iam_batch.specs.declared.lanes.Decided.{Decided}
+use Rattle.iam_span.specs.Batch.{AreDecided, AreFoundIn, RowsFind}
+use Rattle.iam_span.specs.declared.lanes.Decided.{Decided}
 use Rattle.iam_layers.specs.Cell.{IsAction, IsDecisionAt}
 use Rattle.iam_world.specs.World.{WorldValue}
 use Rattle.iam_index.specs.Elements.{AreActRows}

@@ -1,1 +1,3 @@
+pub mod Batch
+pub mod Code
 pub mod Span

@@ -3,8 +3,8 @@ use Rattle.std.specs.Prelude.{◌≡◌, ◌*◌, ◌+◌, ◌-◌, ◌/◌, ◌
 use Rattle.std.specs.Borrow.{Bor}
 use Rattle.std.specs.List.{slice_get}
 use Rattle.iam_decision.specs.Living.{SharedValue}
-use Rattle.iam_batch.specs.Batch.{AreDecided}
-use Rattle.iam_batch.specs.declared.lanes.Decided.{Decided}
+use Rattle.iam_span.specs.Batch.{AreDecided}
+use Rattle.iam_span.specs.declared.lanes.Decided.{Decided}
 use Rattle.iam_layers.specs.Cell.{IsSharedAt}
 use Rattle.iam_world.specs.World.{WorldValue}
 use Rattle.iam_index.specs.Elements.{AreActRows}

@@ -3,7 +3,8 @@ ghost use Rattle.std.specs.Prelude.{◌≡◌, ◌↔◌, ◌+◌, [], ◌<◌, 
 ghost use Rattle.iam_world.specs.World.{WorldValue};
 ghost use Rattle.iam_span.specs.Span.{AreKnownFrom, IsDecidedAt, IsNext, IsSpan};
 
-use iam_batch::{Decided, rows_find};
+use crate::lanes::Decided;
+use crate::laws::rows_find;
 use iam_decision::{acting_are_found, found_decide};
 use iam_layers::Decision;
 use std::alloc::Global;

@@ -1,4 +1,4 @@
-//! Tests of what no command of the program shows: engines, candidates, cuts, matrices and gates; and streams that fail.
+//! Tests of what no command of the program shows: engines, candidates, cuts, matrices and gates.
 #![tactic(auto)]
 
 #[cfg(test)]
@@ -9,5 +9,3 @@ mod engine;
 mod gates;
 #[cfg(test)]
 mod matrix;
-#[cfg(test)]
-mod streams;

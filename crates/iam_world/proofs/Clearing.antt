@@ -1,7 +1,7 @@
 -- The faults of a view, stage by stage: where no fault has the next number, none has a lesser one than that behind it.
 use Rattle.std.proofs.Common.{ℕ, List, sym, subst, arith, IsTrue}
 use Rattle.std.specs.List.{AllByRecursion, AllZip}
-use Rattle.iam_match.specs.Requester.{RequesterValue}
+use Rattle.iam_context.specs.Requester.{RequesterValue}
 use Rattle.iam_world.specs.Code.ViewFault.{IsClearBelow, IsFirstViewFault}
 use Rattle.iam_world.specs.Code.Documents.{IsNotAccepted, IsRefusedAmong}
 use Rattle.iam_shape.specs.View.{ResourceViewValue, WorldViewValue}

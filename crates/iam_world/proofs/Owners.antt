@@ -3,7 +3,7 @@ use Rattle.std.proofs.Common.{◌≡◌, ℕ, List, [], ◌∷◌, map, Bool, tr
 use Rattle.std.specs.List.{AllByRecursion, AllZip, position_from}
 use Rattle.std.specs.Prelude.{IsTrue}
 use Rattle.iam_json.specs.Look.{is_one_of}
-use Rattle.iam_match.specs.Requester.{RequesterValue, IsRequesterOf}
+use Rattle.iam_context.specs.Requester.{RequesterValue, IsRequesterOf}
 use Rattle.iam_world.specs.Code.ViewFault.{FindsFirst}
 use Rattle.iam_shape.specs.Texts.{AreFirstPlaces, Places, has_text}
 use Rattle.iam_shape.specs.View.{PrincipalViewValue, ResourceViewValue, WorldViewValue}

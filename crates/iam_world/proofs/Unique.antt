@@ -7,7 +7,7 @@ use Rattle.iam_context.specs.ContextFault.{IsPartFault}
 use Rattle.iam_context.specs.declared.fault.ContextFault.{ContextFault}
 use Rattle.iam_context.specs.declared.fault.ContextFault.TheVariants.{KeyTwice, DerivedKeyGiven}
 use Rattle.iam_context.specs.declared.fault.ContextFault.TheVariants as context
-use Rattle.iam_match.specs.Requester.{RequesterValue, IsRequesterOf}
+use Rattle.iam_context.specs.Requester.{RequesterValue, IsRequesterOf}
 use Rattle.iam_policy.specs.Fault.{IsLeastFault}
 use Rattle.iam_policy.specs.Reading.{PolicyValue, Reads}
 use Rattle.iam_policy.specs.declared.fault.Fault.{Fault}

@@ -6,7 +6,7 @@ use Rattle.std.specs.Option.{option_to_list}
 use Rattle.std.specs.Str.{bytes_eq}
 use Rattle.iam_policy.specs.Reading.{PolicyValue}
 use Rattle.iam_context.specs.Context.{ContextValue}
-use Rattle.iam_match.specs.Requester.{RequesterValue}
+use Rattle.iam_context.specs.Requester.{RequesterValue}
 
 -- an account: its id, whether it manages its organisation, and the organisation policies by level from the root
 pub record AccountValue : Type 0 where

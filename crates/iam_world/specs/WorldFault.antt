@@ -16,7 +16,7 @@ use Rattle.iam_policy.specs.declared.fault.Kind.{Kind}
 use Rattle.iam_policy.specs.declared.fault.Kind.TheVariants as kind
 use Rattle.iam_policy.specs.Table.{refused_text}
 use Rattle.iam_policy.specs.declared.fault.Refused.{Refused}
-use Rattle.iam_match.specs.Requester.{RequesterValue, IsRequesterOf}
+use Rattle.iam_context.specs.Requester.{RequesterValue, IsRequesterOf}
 use Rattle.iam_shape.specs.declared.path.Name.{Name}
 use Rattle.iam_shape.specs.declared.path.Name.TheVariants.{Accounts, Principals, Actions, Resources, Org, Identity, Boundary, SessionPolicies, Control}
 use Rattle.iam_shape.specs.declared.path.Name.TheVariants as name

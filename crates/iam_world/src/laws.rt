@@ -5,7 +5,7 @@ ghost use Rattle.iam_world.specs.World.{WorldValue};
 ghost use Rattle.iam_world.specs.WorldFault.{IsFirstWorldFault};
 ghost use Rattle.iam_world.specs.declared.fault.WorldFault.{WorldFault};
 
-use iam_match::one_requester;
+use iam_context::one_requester;
 use iam_policy::{one_least_fault, one_policy};
 use iam_shape::one_view;
 

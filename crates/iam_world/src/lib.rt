@@ -15,8 +15,7 @@ mod parts;
 mod world;
 
 pub use fault::WorldFault;
-pub use iam_context::{ContextFault, Part};
-pub use iam_match::Requester;
+pub use iam_context::{ContextFault, Part, Requester};
 pub use iam_policy::{Policy, Refused};
 pub use iam_shape::Path;
 pub use iam_text::OutOfMemory;

@@ -11,7 +11,7 @@ ghost use Rattle.iam_world.specs.WorldFault.{IsNoRequester, IsOfUnknownAccount, 
 ghost use Rattle.iam_world.specs.declared.fault.WorldFault.TheVariants as w;
 
 use crate::fault::WorldFault;
-use iam_match::{Requester, one_requester};
+use iam_context::{Requester, one_requester};
 use iam_shape::{Accounts, Name, Path, PrincipalView, ResourceView, WorldView};
 use iam_text::{OutOfMemory, has_six_parts, is_label};
 use std::alloc::Global;

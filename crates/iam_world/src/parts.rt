@@ -5,8 +5,7 @@ ghost use Rattle.iam_shape.specs.Lent.{account_of, resource_of};
 ghost use Rattle.iam_world.specs.Code.Made.{made_account, made_principal, made_resource};
 ghost use Rattle.iam_world.specs.World.{AccountValue, PrincipalValue, ResourceValue};
 
-use iam_context::Part;
-use iam_match::Requester;
+use iam_context::{Part, Requester};
 use iam_policy::Policy;
 use iam_shape::{AccountView, ResourceView};
 use iam_text::{Items, OutOfMemory};

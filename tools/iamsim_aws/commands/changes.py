@@ -12,7 +12,7 @@ from ..joining import joined
 from ..paging import data, page, request_of
 from ..questions import Question, Scope
 from ..slips import slips
-from ..sources import ASSUME, Source, add_source
+from ..sources import ASSUME, Source, add_outside, add_source
 from .parsers import add, add_verbose
 
 
@@ -22,6 +22,7 @@ def add_all(commands: Any) -> None:
         commands, "changes", "tell which requests a draft allows no longer, and which it allows newly", example, run
     )
     add_source(parser)
+    add_outside(parser)
     drafts.add_options(parser)
     parser.add_argument("--before", nargs="+", metavar="FILE", help="exports, or a world")
     parser.add_argument("--after", nargs="+", metavar="FILE", help="exports, or a world")

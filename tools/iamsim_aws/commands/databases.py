@@ -17,6 +17,7 @@ OTHERS += [
     "policy",
     "sealed",
     "account",
+    "outside",
     "chains",
     "put",
     "attach",

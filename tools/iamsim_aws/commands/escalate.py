@@ -10,7 +10,7 @@ from ..escalation.search import Found, Search
 from ..covering import tell_strangers
 from ..faults import Fault
 from ..patterns import near
-from ..sources import add_options, add_sessions, inputs, source_of
+from ..sources import add_options, add_outside, add_sessions, inputs, source_of
 from .parsers import add
 
 WRITE = {"text": reporting.as_text, "json": reporting.as_json, "markdown": reporting.as_markdown}
@@ -22,6 +22,7 @@ def add_all(commands: Any) -> None:
     parser.add_argument("exports", nargs="+", metavar="EXPORT", help="of 'aws iam get-account-authorization-details'")
     add_options(parser)
     add_sessions(parser)
+    add_outside(parser)
     parser.set_defaults(world=None, names=None, actions=None)
     help_of_to = "who can come to be this one: a name, an ARN, or a pattern of these"
     parser.add_argument("--to", metavar="PRINCIPAL", help=help_of_to)
@@ -42,7 +43,7 @@ def run(options: argparse.Namespace) -> int:
     if options.svg:
         files.write_file(options.svg, drawing(found, reporting.summary(found, end), reporting.notes(found, end)))
     files.write(WRITE[options.format](found, end))
-    tell_strangers(source, [search.things.trusting])
+    tell_strangers(source, [search.things.trusting], asks_linked=False)
     return status(found)
 
 

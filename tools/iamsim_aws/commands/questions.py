@@ -14,7 +14,7 @@ from ..kinds import made_up, stand_words
 from ..points import is_half_known
 from ..questions import Asked, Question, Scope, account_words, lacked, missing, worlds
 from ..reports import Answers, csv_text
-from ..sources import add_source, source_of
+from ..sources import add_outside, add_source, source_of
 from ..strangers import is_stranger
 from ..telling import HEADER, as_fields, as_json, told
 from . import databases, everything
@@ -41,6 +41,7 @@ def add_all(commands: Any) -> None:
         commands, "who-can", "list the principals that may do this, and who lacks a key alone", example, who_can
     )
     add_question(parser)
+    add_outside(parser)
     add_chains(parser, "also who may come to it by assuming roles")
 
 
@@ -220,7 +221,8 @@ def chain_lines(scope: Scope, found: List[Found], depth: int) -> List[str]:
         for turn in of
         if turn.decision == "allowed"
     }
-    ways, keyed = chains.chains(chains.steps_of(scope.source), allowed, lacking, depth)
+    steps = chains.steps_of(scope.source, [it.asked.world for it in found])
+    ways, keyed = chains.chains(steps, allowed, lacking, depth)
     lines = [] if ways or keyed else ["nobody else may come to it by assuming roles"]
     if ways:
         lines = [f"{len(ways)} more may come to it by assuming at most {depth} roles one after the other:"]

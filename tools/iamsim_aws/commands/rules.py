@@ -14,7 +14,7 @@ from ..questions import Scope, account_words, lacked
 from ..never import Break
 from ..ruling import Outcome, check, read_rules
 from ..slips import slips
-from ..sources import add_source, inputs, source_of
+from ..sources import add_outside, add_source, inputs, source_of
 from ..telling import BY, LACKS, deciding
 from ..unknowns import ANY_RESOURCE
 from .parsers import add, add_chains, add_verbose, whole
@@ -27,6 +27,7 @@ def add_all(commands: Any) -> None:
     parser = add(commands, "rules", "check the rules that a team keeps", example, run)
     parser.add_argument("rules", metavar="RULES", help="a file of rules, one a line")
     add_source(parser)
+    add_outside(parser)
     drafts.add_options(parser)
     parser.add_argument("--allow-empty", action="store_true", help="let a rule pass that meets no request")
     help_of_open = "let a rule pass of which something could not be asked"

@@ -3,12 +3,12 @@
 from typing import Dict, Iterable, List, NamedTuple, Optional, Set, Tuple
 
 from .. import chains
-from ..covering import NOT_ASKED, unasked
+from ..covering import unasked
 from ..hanging import wanted
 from ..kinds import Origins
 from ..patterns import any_matches
 from ..sources import Source
-from ..strangers import shown, strangers
+from ..strangers import NOT_ASKED, shown, strangers
 from .administrators import administrators
 from .loosening import Loose
 from .nodes import Node, People
@@ -121,7 +121,7 @@ class Search:
     def let_in(self, arrived: List[Node]) -> List[str]:
         """Who is outside, is let into one of these, and is not asked for."""
         arns = {self.people.called(it) for it in arrived}
-        told = unasked(self.things.source, [self.things.trusting])
+        told = unasked(self.things.source, [self.things.trusting], asks_linked=False)
         return [line for line, roles in told.items() if NOT_ASKED in line and arns & roles]
 
     def ways(self, ends: List[Node]) -> Dict[Node, List[Step]]:

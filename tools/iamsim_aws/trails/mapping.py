@@ -6,10 +6,10 @@ import urllib.parse
 from typing import Any, Callable, Dict, FrozenSet, List, NamedTuple, Optional, Set, Tuple
 
 from ..arns import account_of
+from ..parties import SEGMENT
 from ..patterns import matcher
 from ..questions import ACTION, ARN
 from ..references import References
-from ..strangers import SEGMENT
 from . import tables
 from .finding import Found, found_in, recipient
 

@@ -9,9 +9,9 @@ from ..arns import principal_arn, session_arn
 from ..documents import each, places, statements_of
 from ..faults import line_of
 from ..files import compact
+from ..parties import named_by
 from ..reports import csv_text
 from ..reviews import LIMIT, code, fitting
-from ..strangers import named_by
 from .counting import SESSIONS, counted
 from .mapping import DOING, EVENT, EXPORT, THING, WHO
 from .replaying import HERE, LOGGED, NEW, OLD, Replay, Row

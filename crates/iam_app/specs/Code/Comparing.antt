@@ -36,7 +36,7 @@ IsNotCompared command compared fault = ⊥
 
 -- why there is no report of these lines
 abbrev pub HasNoComparison : EveryChangesCommand → WorldValue → WorldValue → List TextLineValue → EveryChangesFault → Type 0
-HasNoComparison command before after lines (e.Changes (c.Run (f.Matrix fault))) = HasNoCrew command fault
+HasNoComparison command before after lines (e.Changes (c.Run (f.Matrix fault))) = HasNoCrew command before after lines fault
 HasNoComparison command before after lines (e.Changes (c.Run f.OutOfMemory)) = ⊤
 HasNoComparison command before after lines e.Kinds = OfComparison command before after lines (IsLongComparison command before after)
 HasNoComparison command before after lines fault = ⊥

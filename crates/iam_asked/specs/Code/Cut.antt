@@ -1,5 +1,5 @@
 -- Lines that come in blocks.
-use Rattle.std.specs.Prelude.{◌≡◌, ℕ, List, ◌++◌, ◌==◌, false, length, ⊤}
+use Rattle.std.specs.Prelude.{◌≡◌, ◌≤◌, ℕ, List, ◌++◌, ◌==◌, false, length, ⊤}
 use Rattle.std.specs.List.{AllByRecursion}
 use Rattle.iam_asked.specs.Fault.{IsLineFault}
 use Rattle.iam_asked.specs.File.{AreRequests, lines_of}
@@ -18,8 +18,9 @@ pub record HasRead (bytes rest : List ℕ) (requests : RequestsValue) : Type 0 w
   pub unbroken : IsUnbroken rest
   pub requests_are : AreRequests lines requests
 
--- the fault of the line behind these requests, with its number
+-- the fault of the line behind these requests, which are not too many, with its number
 abbrev pub IsFaultOf : RequestsValue → List ℕ → AskFault → Type 0
 IsFaultOf before line Read = ⊥
-IsFaultOf before line (Line faulty) = (faulty.line ≡ length before.asked) × IsLineFault before line faulty.fault
+IsFaultOf before line (Line faulty) =
+    (faulty.line ≡ length before.asked) × (faulty.line ≤ 16777216) × IsLineFault before line faulty.fault
 IsFaultOf before line OutOfMemory = ⊤

@@ -10,7 +10,7 @@ use Rattle.iam_row.specs.declared.changes.Change.{Change}
 use Rattle.iam_row.specs.declared.quoted.Format.{Format}
 use Rattle.iam_row.specs.declared.quoted.Quoted.{Quoted}
 use Rattle.iam_row.specs.declared.tail.Tail.{Tail}
-use Rattle.iam_selection.specs.Code.Listing.{comma_of, position_in}
+use Rattle.iam_report.specs.Code.Place.{comma_of, position_in}
 use Rattle.iam_changes.specs.declared.change.Kinds.{Kinds}
 use Rattle.iam_changes.specs.declared.pair.Pair.{Pair}
 use Rattle.iam_changes.specs.declared.text.Pieces.{Pieces}

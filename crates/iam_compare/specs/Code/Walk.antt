@@ -1,7 +1,7 @@
 -- What the workers make of a tile, and of tiles that follow one another. The cells of BEFORE are counted behind those of AFTER.
 use Rattle.std.specs.Prelude.{◌≡◌, ◌⊎◌, ℕ, ◌+◌, ◌<◌, ◌≤◌, List, [], ◌∷◌, ◌++◌, Option, Some, None, Bool, length, map, sum}
 use Rattle.iam_decision.specs.declared.verdict.Verdict.{Verdict}
-use Rattle.iam_classes.specs.Engine.{EngineValue}
+use Rattle.iam_matrix.specs.Engine.{EngineValue}
 use Rattle.iam_world.specs.World.{WorldValue, world_cells}
 use Rattle.iam_row.specs.Report.{CellTexts, IsCellTexts}
 use Rattle.iam_row.specs.declared.changes.Change.{Change}

@@ -1,5 +1,5 @@
 -- Rows of some cells, put together from pieces: what the workers make of a tile, and the text of all.
-use Rattle.std.specs.Prelude.{◌≡◌, ◌⊎◌, ◌↔◌, ℕ, ◌/◌, ◌%◌, ◌==◌, List, [], ◌∷◌, ◌++◌, Some, Bool, IsTrue, MatchBool, chars, codes, if◌then◌else◌, length, map, max}
+use Rattle.std.specs.Prelude.{◌≡◌, ◌⊎◌, ◌↔◌, ℕ, List, [], ◌∷◌, ◌++◌, Some, Bool, IsTrue, MatchBool, chars, length, map}
 use Rattle.std.specs.List.{AllByRecursion, flat_map, slice_get}
 use Rattle.iam_glob.specs.Glob.{Matches, MatchesFold}
 use Rattle.iam_decision.specs.declared.verdict.Decision.{Decision}
@@ -7,11 +7,11 @@ use Rattle.iam_decision.specs.declared.verdict.Verdict.{Verdict}
 use Rattle.iam_layers.specs.Cell.{IsAction, IsDecisionOf, IsPrincipal, IsResource, IsVerdictOf, principal_text}
 use Rattle.iam_world.specs.World.{WorldValue}
 use Rattle.iam_row.specs.Piece.{bare, closing_text, opening_text, tail_of}
-use Rattle.iam_row.specs.declared.position.Position.{Position}
 use Rattle.iam_row.specs.declared.quoted.Format.{Format}
 use Rattle.iam_row.specs.declared.quoted.Quoted.{Quoted}
 use Rattle.iam_row.specs.declared.tail.Tail.{Tail}
 use Rattle.iam_report.specs.Code.Line.{row_behind}
+use Rattle.iam_report.specs.Code.Place.{comma_of, position_in}
 use Rattle.iam_tiles.specs.Code.Numbered.{no_tail}
 use Rattle.iam_matrix.specs.Code.Tiles.{IsTileOf}
 use Rattle.iam_selection.specs.Report.{AreAsked}
@@ -87,22 +87,10 @@ pub record ListValue : Type 0 where
   pub brief : Bool
   pub rows : List RowValue
 
--- the position of a cell, by how many pieces there are
-abbrev pub position_in : Quoted → ℕ → Position
-position_in quoted cell = record {
-  cell = cell;
-  principal = cell / max (length quoted.resources) 1 / max (length quoted.actions) 1;
-  action = cell / max (length quoted.resources) 1 % max (length quoted.actions) 1;
-  resource = cell % max (length quoted.resources) 1;
-}
-
 -- the cell of the first row, which has no comma before it
 abbrev pub lead_of : List RowValue → ℕ
 lead_of [] = 0
 lead_of (row ∷ rows) = row.cell
-
-abbrev pub comma_of : ℕ → ℕ → List ℕ
-comma_of lead cell = if cell == lead then [] else codes ","
 
 -- the text of a row, where the first is of this cell
 abbrev pub row_text : Quoted → ℕ → RowValue → List ℕ

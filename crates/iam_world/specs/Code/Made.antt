@@ -1,7 +1,7 @@
 -- How accounts, principals and resources are put together of what was read.
 use Rattle.std.specs.Prelude.{List, Option}
 use Rattle.iam_context.specs.Context.{ContextValue}
-use Rattle.iam_match.specs.Requester.{RequesterValue}
+use Rattle.iam_context.specs.Requester.{RequesterValue}
 use Rattle.iam_policy.specs.Reading.{PolicyValue}
 use Rattle.iam_shape.specs.View.{AccountViewValue, ResourceViewValue}
 use Rattle.iam_world.specs.World.{AccountValue, PrincipalValue, ResourceValue}

@@ -6,7 +6,8 @@ use Rattle.iam_report.specs.Streams.{AppendsBeginning}
 use Rattle.iam_report.proofs.Buffered.{texts_fail, texts_more}
 use Rattle.iam_row.specs.declared.position.Position.{Position}
 use Rattle.iam_row.specs.declared.tail.Tail.{Tail}
-use Rattle.iam_selection.specs.Code.Listing.{comma_of, no_row, position_in, row_text}
+use Rattle.iam_report.specs.Code.Place.{comma_of, position_in}
+use Rattle.iam_selection.specs.Code.Listing.{no_row, row_text}
 use Rattle.iam_selection.proofs.list.put_found.Goals as goal
 
 pub returns-in_err-put_pieces-clause-err : goal.returns-in_err-put_pieces-clause-err

@@ -1,7 +1,7 @@
 use Rattle.std.proofs.Common.{◌≡◌, ◌+◌, ◌-◌, ℕ, List, Global, Vec, length, sym, ap, subst, ◌∙◌, arith}
 use Rattle.std.specs.List.{AllZip}
 use Rattle.std.proofs.lemmas.List.{length-map}
-use Rattle.iam_classes.specs.Engine.{EngineValue}
+use Rattle.iam_matrix.specs.Engine.{EngineValue}
 use Rattle.iam_decision.specs.declared.verdict.Verdict.{Verdict}
 use Rattle.iam_layers.specs.Cell.{IsCell}
 use Rattle.iam_row.specs.Piece.{tail_of}

@@ -1,4 +1,0 @@
-mod WordLemmas
-mod GatherLemmas
-mod FindLemmas
-mod LaneLemmas

@@ -1,0 +1,12 @@
+mod AgreeLemmas
+mod BoundLemmas
+mod CertainLemmas
+mod ContextLemmas
+mod DecideLemmas
+mod FitLemmas
+mod FormLemmas
+mod GivenLemmas
+mod ListLemmas
+mod TriedLemmas
+mod TurnLemmas
+mod WhereLemmas

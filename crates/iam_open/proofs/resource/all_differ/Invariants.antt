@@ -1,0 +1,10 @@
+use Rattle.std.proofs.Common.{All, take}
+use Rattle.iam_match.specs.Code.Compared.{TextDiffers}
+use Rattle.iam_open.specs.Code.Certain.{Tells}
+use Rattle.iam_open.specs.Code.Known.{AgreeOn}
+use Rattle.iam_open.proofs.resource.all_differ.Given as goal
+
+-- of the texts so far
+abbrev pub invariant-loop-text : goal.invariant-loop-text
+invariant-loop-text l =
+    Tells l.certain (AgreeOn l.known l.context) (λ other. All (TextDiffers other l.resource) (take l.text-index l.texts))

@@ -1,0 +1,4 @@
+pub mod Bounds
+pub mod Certain
+pub mod Known
+pub mod Tried

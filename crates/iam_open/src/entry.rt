@@ -1,0 +1,48 @@
+// Whether conditions hold in contexts that agree on what is known.
+ghost use Rattle.std.specs.Prelude.{All, IfOk};
+ghost use Rattle.iam_match.specs.Entry.{EntryHolds};
+ghost use Rattle.iam_open.specs.Code.Certain.{Tells};
+ghost use Rattle.iam_open.specs.Code.Known.{AgreeOn};
+
+use crate::beyond::entry_beyond;
+use crate::certain::Certain;
+use crate::known::Known;
+use iam_condition::Entry;
+use iam_context::Context;
+use iam_match::{OutOfMemory, holds};
+use iam_unasked::unasked_keys;
+use std::alloc::Global;
+
+/// Whether every entry holds in the contexts that agree with this one on the keys that are known.
+///
+/// AWS IAM User Guide, "IAM JSON policy elements: Condition".
+pub fn conditions_certain<'c>(
+    alloc: Global,
+    entries: &'c [Entry],
+    context: &Context<'c>,
+    known: &Known<'_>,
+) -> Result<Certain, OutOfMemory>
+    ensures { IfOk result (λ certain. Tells certain (AgreeOn known.now context.now) (λ other. All (EntryHolds other) entries.now)) }
+{
+    let mut certain = Certain::Always;
+    for entry in entries {
+        certain = certain.and(entry_certain(alloc, entry, context, known)?);
+    }
+    Ok(certain)
+}
+
+/// Whether the entry does.
+fn entry_certain<'c>(
+    alloc: Global,
+    entry: &'c Entry,
+    context: &Context<'c>,
+    known: &Known<'_>,
+) -> Result<Certain, OutOfMemory>
+    ensures { IfOk result (λ certain. Tells certain (AgreeOn known.now context.now) (λ other. EntryHolds other entry.now)) }
+{
+    unasked_keys();
+    if entry_beyond(entry, context, known) {
+        return Ok(Certain::Open);
+    }
+    Ok(Certain::of(holds(alloc, entry, context)?))
+}

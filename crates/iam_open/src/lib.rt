@@ -1,0 +1,33 @@
+//! What no value of a key that nothing gives can turn.
+//!
+//! A key is open for a request where no part of its context gives it and it follows from nothing; so is the moment, from the world's on.
+//! In the contexts in question the open keys have whatever values they may have. [`turned_of`] says of a request that it is allowed in each
+//! of these contexts, or in none, or shows one of them in which it is, or tells that it is not known.
+//!
+//! How it goes: what a statement asks of known keys alone holds in all these contexts or in none (`entry.rt`, `resource.rt`,
+//! `statement.rt`). What is not known of an allow or a deny may be so or not: with all such allows and without such denies at least as
+//! much is allowed as in any of the contexts, and the other way round at most as much (`bounds.rt`, `sure.rt`). Where that settles
+//! nothing, values are tried (`trials.rt`, `seek.rt`), of which nothing is claimed: an example is one since the decision is made again in
+//! that very context (`decide.rt`, `example.rt`).
+#![tactic(auto)]
+
+mod answer;
+mod beyond;
+mod bounds;
+mod certain;
+mod decide;
+mod entry;
+mod example;
+mod known;
+mod resource;
+mod seek;
+mod statement;
+mod sure;
+mod trials;
+
+pub use answer::{Turned, turned_of};
+pub use certain::Certain;
+pub use decide::verdict_in;
+pub use example::Example;
+pub use iam_layers::{OutOfMemory, World};
+pub use sure::{certainly, certainly_where};

@@ -1,0 +1,62 @@
+// Whether a statement matches requests in contexts that agree on what is known.
+ghost use Rattle.std.specs.Prelude.{All, IfOk};
+ghost use Rattle.iam_match.specs.Entry.{EntryHolds};
+ghost use Rattle.iam_match.specs.Request.{access_of};
+ghost use Rattle.iam_match.specs.Statement.{ResourceMatches, StatementMatches};
+ghost use Rattle.iam_open.specs.Code.Certain.{Tells};
+ghost use Rattle.iam_open.specs.Code.Known.{AgreeOn, request_in};
+
+use crate::certain::Certain;
+use crate::entry::conditions_certain;
+use crate::known::Known;
+use crate::resource::resource_certain;
+use iam_match::{Access, OutOfMemory, Statement, action_matches, principal_matches};
+use std::alloc::Global;
+
+/// Whether the statement matches the request for this action by who asks for this, in the contexts that agree with its own on the keys
+/// that are known.
+///
+/// AWS IAM User Guide, "Policy evaluation logic".
+pub fn statement_certain<'c>(
+    alloc: Global,
+    statement: &'c Statement,
+    access: Access<'_, 'c>,
+    action: &str,
+    known: &Known<'_>,
+) -> Result<Certain, OutOfMemory>
+    ensures { IfOk result (λ certain. Tells certain (AgreeOn known.now access.entry.context.now)
+        (λ other. StatementMatches statement.now (request_in (access_of access.entry) action.now other))) }
+{
+    if !action_matches(statement.action(), action) {
+        return Ok(Certain::Never);
+    }
+    if !principal_matches(statement, access.requester) {
+        return Ok(Certain::Never);
+    }
+    rest_certain(alloc, statement, access, known)
+}
+
+/// Whether its resource element matches, and its conditions hold.
+fn rest_certain<'c>(
+    alloc: Global,
+    statement: &'c Statement,
+    access: Access<'_, 'c>,
+    known: &Known<'_>,
+) -> Result<Certain, OutOfMemory>
+    ensures { IfOk result (λ certain. Tells certain (AgreeOn known.now access.entry.context.now)
+        (λ other. ResourceMatches statement.now.resource access.entry.resource.now other
+        × All (EntryHolds other) statement.now.conditions)) }
+{
+    let resource = resource_certain(
+        alloc,
+        statement.resource(),
+        access.resource,
+        access.context,
+        known,
+    )?;
+    if resource == Certain::Never {
+        return Ok(Certain::Never);
+    }
+    let conditions = conditions_certain(alloc, statement.conditions(), access.context, known)?;
+    Ok(resource.and(conditions))
+}

@@ -1,0 +1,124 @@
+"""Roles that policies name: sessions besides the one that each role has, and roles that are linked to a service."""
+
+import contextlib
+import re
+from typing import Any, Dict, Iterator, List, NamedTuple, Sequence, Tuple
+
+from .arns import principal_text, session_arn
+from .documents import World, conditions_of, each, places, statements_of
+from .exports import is_service_linked, role_of
+from .faults import Fault
+from .keys import context_of, with_callers
+from .making import in_organization
+from .parties import PARTY, SEGMENT, filled, said_in, texts_in, unused
+from .patterns import is_pattern, matcher, opened, overlap
+from .sources import Source
+
+USERID, LINKED = "aws:userid", "/aws-service-role/"
+Principal = Dict[str, Any]
+
+
+class Spoken(NamedTuple):
+    """The ARNs of sessions that policies name, and the patterns of `aws:userid` for which they ask."""
+
+    arns: Dict[str, None]
+    ids: Dict[str, None]
+
+
+# What is spoken of by the policies of lists of principals, which the worlds of many questions share: each with its list.
+KNOWN: Dict[int, Tuple[List[Principal], Spoken]] = {}
+
+
+def spoken_in(world: World) -> Spoken:
+    """What the policies of a part of a world speak of."""
+    arns: List[str] = []
+    ids: List[str] = []
+    for statement in (one for it in places(world) for one in statements_of(it.policy.document)):
+        arns += [*texts_in(statement, "Principal"), *texts_in(statement, "NotPrincipal")]
+        for _, key, value in conditions_of(statement):
+            if key.lower() == USERID:
+                ids += (opened(str(it)) for it in each(value))
+            elif key.lower() == "aws:principalarn":
+                arns += map(str, each(value))
+    sessions = (it for it in arns if ":assumed-role/" in it and PARTY.fullmatch(it))
+    return Spoken(dict.fromkeys(sessions), dict.fromkeys(ids))
+
+
+def spoken_of(worlds: Sequence[World]) -> Spoken:
+    """What the policies of worlds speak of."""
+    found = Spoken({}, {})
+    for world in worlds:
+        people = world["principals"]
+        if id(people) not in KNOWN:
+            KNOWN[id(people)] = people, spoken_in({"principals": people})
+        for arns, ids in (KNOWN[id(people)][1], spoken_in({**world, "principals": []})):
+            found.arns.update(arns)
+            found.ids.update(ids)
+    return found
+
+
+def names_of(role: Principal, spoken: Spoken) -> Iterator[str]:
+    """The names of sessions of a role that are spoken of, by their ARN or by the role's id."""
+    head = session_arn(role["role"], "")
+    yield from (it[len(head) :] for it in spoken.arns if it.startswith(head))
+    given = next((value for key, value in context_of(role).items() if key.lower() == USERID), "")
+    own = f"{str(given).split(':')[0]}:"
+    for it in spoken.ids if given else ():
+        if not is_pattern(it):
+            yield from [it[len(own) :]] if it.startswith(own) else []
+        else:
+            some = (one for one in overlap(it, f"{own}*") if one != f"{own}*")
+            yield from (filled(one, unused(spoken.ids))[len(own) :] for one in some)
+
+
+def session_of(role: Principal, name: str) -> Principal:
+    """Another session of the role of a principal."""
+    context = {
+        key: f"{value.split(':')[0]}:{name}" if key.lower() == USERID and isinstance(value, str) else value
+        for key, value in context_of(role).items()
+    }
+    return {**role, "session": name, **({"context": context} if context else {})}
+
+
+def with_sessions(worlds: Sequence[World], speaking: Sequence[World] = ()) -> List[World]:
+    """The worlds with each session of their roles that policies of any of them name, or of further worlds."""
+    spoken = spoken_of([*worlds, *speaking])
+
+    def more(world: World) -> List[Principal]:
+        roles = {it["role"]: it for it in world["principals"] if "role" in it and not it.get("sessionPolicies")}
+        names = ((it, name) for it in roles.values() for name in names_of(it, spoken) if re.fullmatch(SEGMENT, name))
+        found = {principal_text(it): it for it in (session_of(*of) for of in names)}
+        known = {principal_text(it) for it in world["principals"]}
+        return [it for text, it in found.items() if text not in known]
+
+    if not spoken.arns and not spoken.ids:
+        return list(worlds)
+    return [{**world, "principals": [*world["principals"], *more(world)]} for world in worlds]
+
+
+def linked(source: Source, worlds: Sequence[World]) -> List[Principal]:
+    """The service-linked roles of exports that policies on the worlds' resources name. Policies of an organisation do not bind
+    them, so that nobody is asked where such are given."""
+    estate, found = source.estate, []
+    if estate is None or estate.organization.is_there or any("control" in it for it in estate.further):
+        return []
+    named = [matcher(it) for it in said_in(worlds).patterns if LINKED in it]
+    for account in estate.accounts if named else ():
+        for it in account.roles:
+            if is_service_linked(it) and any(one(str(it.get("Arn"))) for one in named):
+                # One whose policies the export does not hold is told as not asked.
+                with contextlib.suppress(Fault):
+                    found.append(in_organization(estate, account.account, role_of(account, it, estate.session)))
+    return found
+
+
+def with_linked(source: Source, world: World, speaking: Sequence[World] = ()) -> World:
+    """The world with the service-linked roles that policies on its resources name, or on those of further worlds."""
+    some, known = linked(source, [world, *speaking]), {principal_text(it) for it in world["principals"]}
+    new = [it for it in some if principal_text(it) not in known]
+    return with_callers({**world, "principals": [*world["principals"], *new]}) if new else world
+
+
+def with_named(source: Source, world: World) -> World:
+    """The world with all roles and sessions that its policies name."""
+    return with_sessions([with_linked(source, world)])[0]
