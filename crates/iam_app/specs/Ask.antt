@@ -8,7 +8,7 @@ use Rattle.iam_matrix.specs.Workers.{IsUnlawful}
 use Rattle.iam_matrix.specs.declared.cut.CutFault.{CutFault}
 use Rattle.iam_matrix.specs.declared.cut.CutFault.TheVariants as c
 use Rattle.iam_matrix.specs.declared.fault.MatrixFault.TheVariants as m
-use Rattle.iam_asked.specs.File.{AreRequests, IsFirstFaulty, OfBytes, lines_of}
+use Rattle.iam_asked.specs.File.{AreRead, IsFirstFaulty, OfBytes, lines_of}
 use Rattle.iam_asked.specs.Request.{RequestsValue}
 use Rattle.iam_asked.specs.declared.fault.FaultyLine.{FaultyLine}
 use Rattle.iam_ask.specs.Report.{IsAskReport}
@@ -25,10 +25,10 @@ use Rattle.iam_app.specs.declared.requests_fault.RequestsFault.TheVariants as r
 abbrev pub HasWorld : Option (List ℕ) → WorldValue → Type 0
 HasWorld input world = (bytes : List ℕ) × AllRemained input bytes × IsWorld bytes world
 
--- the lines of the file are these requests, asked of this world, and not too many
+-- no line of the file has a fault, and these are the requests, asked of this world, and not too many
 pub record HasRequests (file : Option (List ℕ)) (world : WorldValue) (requests : RequestsValue) : Type 0 where
   pub same : requests.world ≡ world
-  pub lines : OfBytes file (λ bytes. AreRequests (lines_of bytes) requests)
+  pub lines : OfBytes file (λ bytes. AreRead (lines_of bytes) requests)
   pub few : length requests.asked ≤ 16777216
 
 -- this is the first faulty line, with its least fault

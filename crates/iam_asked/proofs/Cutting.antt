@@ -11,6 +11,7 @@ use Rattle.iam_asked.specs.Fault.{IsLineFault}
 use Rattle.iam_asked.specs.File.{AreRequests, IsFileFault, IsFirstFaulty, OfBytes, begin_with, lines_of}
 use Rattle.iam_asked.specs.Request.{AskedValue, IsRequest, RequestsValue, with_asked}
 use Rattle.iam_asked.specs.Said.{IsShort}
+use Rattle.iam_asked.specs.Size.{AreSmall}
 use Rattle.iam_asked.specs.declared.fault.AskFault.{AskFault}
 use Rattle.iam_asked.specs.declared.fault.AskFault.TheVariants.{Read, Line, OutOfMemory}
 use Rattle.iam_asked.specs.declared.fault.FaultyLine.{FaultyLine}
@@ -91,17 +92,20 @@ at_seam (z ∷ xs) x ys zero e = absurd (omega (arith, e))
 at_seam (z ∷ xs) x ys (suc n) e = at_seam xs x ys n (omega (arith, e))
 
 first_faulty : (requests : RequestsValue) (lines : List (List ℕ)) (line : List ℕ) (others all : List (List ℕ)) (faulty : FaultyLine) → AreRequests lines requests
-    → faulty.line ≡ length requests.asked → faulty.line ≤ 16777216 → IsLineFault requests line faulty.fault → all ≡ lines ++ line ∷ others
+    → faulty.line ≡ length requests.asked → faulty.line ≤ 16777216 → AreSmall requests.asked → IsLineFault requests line faulty.fault → all ≡ lines ++ line ∷ others
     → IsFirstFaulty requests.world all faulty
-first_faulty requests lines line others all faulty are number few is same =
+first_faulty requests lines line others all faulty are number few small is same =
     let count : faulty.line ≡ length lines = number ∙ AllZip-long (IsRequest requests.world) lines requests.asked are in
     let before : take faulty.line all ≡ lines = ap (λ n. take n all) count ∙ ap (take (length lines)) same ∙ take-append_seam lines (line ∷ others) in
     record {
       line = line;
       before = requests.asked;
       at = ap (λ them. slice_get them faulty.line) same ∙ at_seam lines line others faulty.line count;
-      requests = subst (λ them. AreRequests them requests) (sym before) are;
-      few = few;
+      read = record {
+        requests_are = subst (λ them. AreRequests them requests) (sym before) are;
+        few = omega (arith, few, number);
+        small = small;
+      };
       is = is;
     }
 
@@ -109,7 +113,7 @@ pub fault_of_line : (bytes rest piece more : List ℕ) (requests : RequestsValue
     → IsFaultOf requests (rest ++ piece) fault → IsFileFault requests.world (bytes ++ (piece ++ 10 ∷ more)) fault
 fault_of_line bytes rest piece more requests Read has unbroken is = tt
 fault_of_line bytes rest piece more requests (Line faulty) has unbroken is =
-    first_faulty requests has.lines (rest ++ piece) (lines_of more) (lines_of (bytes ++ (piece ++ 10 ∷ more))) faulty has.requests_are is.0 is.1 is.2
+    first_faulty requests has.lines (rest ++ piece) (lines_of more) (lines_of (bytes ++ (piece ++ 10 ∷ more))) faulty has.requests_are is.0 is.1 is.2 is.3
     (cut_line bytes rest piece more has.lines has.cut has.unbroken unbroken)
 fault_of_line bytes rest piece more requests OutOfMemory has unbroken is = tt
 
@@ -123,16 +127,16 @@ pub fault_of_last : (bytes rest : List ℕ) (requests : RequestsValue) (fault : 
     → IsFileFault requests.world bytes fault
 fault_of_last bytes rest requests Read has some is = tt
 fault_of_last bytes rest requests (Line faulty) has some is =
-    first_faulty requests has.lines rest [] (lines_of bytes) faulty has.requests_are is.0 is.1 is.2 (last_cut bytes rest has.lines has.cut has.unbroken some)
+    first_faulty requests has.lines rest [] (lines_of bytes) faulty has.requests_are is.0 is.1 is.2 is.3 (last_cut bytes rest has.lines has.cut has.unbroken some)
 fault_of_last bytes rest requests OutOfMemory has some is = tt
 
 pub fault_of_long : (bytes rest more : List ℕ) (requests : RequestsValue) (faulty : FaultyLine) → HasRead bytes rest requests → ¬ IsShort rest
-    → faulty.line ≡ length requests.asked → faulty.line ≤ 16777216 → ((line : List ℕ) → ¬ IsShort line → IsLineFault requests line faulty.fault)
+    → faulty.line ≡ length requests.asked → faulty.line ≤ 16777216 → AreSmall requests.asked → ((line : List ℕ) → ¬ IsShort line → IsLineFault requests line faulty.fault)
     → IsFirstFaulty requests.world (lines_of (bytes ++ more)) faulty
-fault_of_long bytes rest more requests faulty has long number few is =
+fault_of_long bytes rest more requests faulty has long number few small is =
     let some : rest ≢ [] = λ none. long (let empty = ap length none in omega (arith, empty)) in
     let (line, others, e, longer) = goes_on rest more has.unbroken some in
-    first_faulty requests has.lines line others (lines_of (bytes ++ more)) faulty has.requests_are number few (is line (λ short. long (omega (arith, short, longer))))
+    first_faulty requests has.lines line others (lines_of (bytes ++ more)) faulty has.requests_are number few small (is line (λ short. long (omega (arith, short, longer))))
     (has.cut more ∙ ap (λ it. has.lines ++ it) e)
 
 -- ---- the end

@@ -1,8 +1,11 @@
 pub mod BeforeLemmas
 pub mod Cutting
 pub mod Faults
+pub mod Files
 pub mod Kept
+pub mod KeysLemmas
 pub mod Meanings
+pub mod OwnLemmas
 pub mod TextCutting
 pub mod TextLineFaults
 pub mod TextPlaces

@@ -14,7 +14,7 @@ use Rattle.iam_asked.specs.Code.Unread.{IsUnread}
 use Rattle.iam_asked.specs.Fault.{IsLineFault, LineHasFault, SaidHasFault, fault_rank, line_number_of}
 use Rattle.iam_asked.specs.Request.{AskedValue, IsMeant, IsRequest, IsWithin, RequestsValue, asked_with}
 use Rattle.iam_asked.specs.Said.{IsSaid, IsShort, SaidValue, Says}
-use Rattle.iam_asked.specs.Size.{asked_size}
+use Rattle.iam_asked.specs.Size.{AreLarge}
 use Rattle.iam_asked.specs.declared.asked.Asked.{Asked}
 use Rattle.iam_asked.specs.declared.fault.LineFault.{LineFault}
 use Rattle.iam_asked.specs.declared.fault.LineFault.TheVariants.{NotJson, BadShape, NoPrincipal, SeveralPrincipals, NoAction, NoResource, SeveralResources, Context, TooMany, ContextsTooLarge, OutOfMemory}
@@ -209,7 +209,7 @@ meant_has_none world said asked other meant has = by other has (least_numbered w
     by OutOfMemory has low = has
 
 pub too_large : (before : RequestsValue) (line : List ℕ) (said : SaidValue) (asked : AskedValue) → length before.asked < 16777216 → Says line said
-    → IsMeant before.world said asked → 67108864 < asked_size (before.asked ++ asked ∷ []) → IsLineFault before line ContextsTooLarge
+    → IsMeant before.world said asked → AreLarge (before.asked ++ asked ∷ []) → IsLineFault before line ContextsTooLarge
 too_large before line said asked few says meant large = record {
   holds = (asked, (said, says, meant), large);
   least =

@@ -1,5 +1,5 @@
 -- The faults of a line of a file of requests, as a set, and its least fault. LOGIC 13.8.
-use Rattle.std.specs.Prelude.{◌≢◌, ◌⊎◌, ◌<◌, ◌≤◌, ℕ, List, [], ◌∷◌, ◌++◌, codes, decimal, length}
+use Rattle.std.specs.Prelude.{◌≢◌, ◌⊎◌, ◌≤◌, ℕ, List, [], ◌∷◌, ◌++◌, codes, decimal, length}
 use Rattle.serde_json.specs.Data.{Data}
 use Rattle.iam_context.specs.ContextFault.{context_text}
 use Rattle.iam_layers.specs.Own.{IsFaultAt}
@@ -7,7 +7,7 @@ use Rattle.iam_world.specs.World.{WorldValue}
 use Rattle.iam_world.specs.WorldFault.{IsJson}
 use Rattle.iam_asked.specs.Request.{AskedValue, IsRequest, RequestsValue}
 use Rattle.iam_asked.specs.Said.{IsSaid, IsShort, SaidValue, Says}
-use Rattle.iam_asked.specs.Size.{asked_size}
+use Rattle.iam_asked.specs.Size.{AreLarge}
 use Rattle.iam_asked.specs.Texts.{IsNoAction, IsNowhere, IsOnlyAt, IsTwice, principal_texts, resource_texts}
 use Rattle.iam_asked.specs.declared.fault.LineFault.{LineFault}
 use Rattle.iam_asked.specs.declared.fault.LineFault.TheVariants.{NotJson, BadShape, NoPrincipal, SeveralPrincipals, NoAction, NoResource, SeveralResources, Context, TooMany, ContextsTooLarge, OutOfMemory}
@@ -78,14 +78,14 @@ SaidHasFault world said ContextsTooLarge = ⊥
 SaidHasFault world said OutOfMemory = ⊥
 
 -- the faults of a line behind those of these requests. One of over 8,388,608 bytes has no shape, whatever it is. The keys of all
--- requests may be too large, each counted as often as it is given
+-- requests up to it may be too large, those that several give counted once
 abbrev pub LineHasFault : RequestsValue → List ℕ → LineFault → Type 0
 LineHasFault before line NotJson = IsShort line × ((d : Data) → ¬ IsJson line d)
 LineHasFault before line BadShape =
     (¬ IsShort line) ⊎ ((d : Data) × IsJson line d × ((said : SaidValue) → ¬ IsSaid d said))
 LineHasFault before line TooMany = 16777216 ≤ length before.asked
 LineHasFault before line ContextsTooLarge =
-    (asked : AskedValue) × IsRequest before.world line asked × (67108864 < asked_size (before.asked ++ asked ∷ []))
+    (asked : AskedValue) × IsRequest before.world line asked × AreLarge (before.asked ++ asked ∷ [])
 LineHasFault before line OutOfMemory = ⊥
 LineHasFault before line fault = (said : SaidValue) × Says line said × SaidHasFault before.world said fault
 

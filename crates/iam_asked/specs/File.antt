@@ -1,9 +1,10 @@
 -- A file of requests, one a line. LOGIC 13.8.
-use Rattle.std.specs.Prelude.{◌≡◌, ◌≤◌, ℕ, List, [], ◌∷◌, Option, Some, None, ◌==◌, if◌then◌else◌, take, ⊤}
+use Rattle.std.specs.Prelude.{◌≡◌, ◌≤◌, ℕ, List, [], ◌∷◌, Option, Some, None, ◌==◌, if◌then◌else◌, length, take, ⊤}
 use Rattle.std.specs.List.{AllZip, slice_get}
 use Rattle.iam_world.specs.World.{WorldValue}
 use Rattle.iam_asked.specs.Fault.{IsLineFault}
 use Rattle.iam_asked.specs.Request.{AskedValue, IsRequest, RequestsValue}
+use Rattle.iam_asked.specs.Size.{AreSmall}
 use Rattle.iam_asked.specs.declared.fault.AskFault.{AskFault}
 use Rattle.iam_asked.specs.declared.fault.AskFault.TheVariants.{Read, Line, OutOfMemory}
 use Rattle.iam_asked.specs.declared.fault.FaultyLine.{FaultyLine}
@@ -22,13 +23,18 @@ lines_of (c ∷ cs) = if c == 10 then [] ∷ lines_of cs else begin_with c (line
 abbrev pub AreRequests : List (List ℕ) → RequestsValue → Type 0
 AreRequests lines requests = AllZip (IsRequest requests.world) lines requests.asked
 
--- the first line that has a fault, and its least one; the lines before it are requests, and none of them is one too many
+-- no line has a fault: each is a request, and these are they, not too many, and their keys not too large
+pub record AreRead (lines : List (List ℕ)) (requests : RequestsValue) : Type 0 where
+  pub requests_are : AreRequests lines requests
+  pub few : length requests.asked ≤ 16777216
+  pub small : AreSmall requests.asked
+
+-- the first line that has a fault, and its least one; no line before it has one
 pub record IsFirstFaulty (world : WorldValue) (lines : List (List ℕ)) (faulty : FaultyLine) : Type 0 where
   pub line : List ℕ
   pub before : List AskedValue
   pub at : slice_get lines faulty.line ≡ Some line
-  pub requests : AreRequests (take faulty.line lines) (record { world = world; asked = before })
-  pub few : faulty.line ≤ 16777216
+  pub read : AreRead (take faulty.line lines) (record { world = world; asked = before })
   pub is : IsLineFault (record { world = world; asked = before }) line faulty.fault
 
 -- why the requests of these bytes are not read. Nothing is said of a reader that fails

@@ -1,5 +1,6 @@
-// That a line is at most one request, or says one thing at most of texts, and has no fault then.
-ghost use Rattle.iam_asked.specs.Laws.{NoFaultOfRequest, NoFaultOfTextLine, OneAsked, OneTextLine};
+// That a line is at most one request, or says one thing at most of texts, and has no fault then; and that a file is read or has one first
+// faulty line.
+ghost use Rattle.iam_asked.specs.Laws.{NoFaultOfRead, NoFaultOfRequest, NoFaultOfTextLine, OneAsked, OneFirstFaulty, OneSize, OneTextLine};
 
 /// A line is at most one request.
 pub fn one_asked()
@@ -10,6 +11,25 @@ pub fn one_asked()
 pub fn no_fault_of_request()
     ensures { NoFaultOfRequest }
 {}
+
+/// The keys of requests have one size at most, so they are not both small and too large.
+pub fn one_size()
+    ensures { OneSize }
+{}
+
+/// Lines that are read have no first faulty one.
+pub fn no_fault_of_read()
+    ensures { NoFaultOfRead }
+{
+    one_asked();
+}
+
+/// There is one first faulty line at most, with one fault.
+pub fn one_first_faulty()
+    ensures { OneFirstFaulty }
+{
+    one_asked();
+}
 
 /// A line says one thing at most of texts.
 pub fn one_text_line()

@@ -29,7 +29,10 @@ pub use fault::{AskFault, FaultyLine, LineFault};
 pub use iam_context::{ContextFault, Part};
 pub use iam_layers::World;
 pub use iam_text::OutOfMemory;
-pub use laws::{no_fault_of_request, no_fault_of_text_line, one_asked, one_text_line};
+pub use laws::{
+    no_fault_of_read, no_fault_of_request, no_fault_of_text_line, one_asked, one_first_faulty,
+    one_size, one_text_line,
+};
 pub use places::{Place, principal_places, resource_places};
 pub use read::read_requests;
 pub use reading::Reading;

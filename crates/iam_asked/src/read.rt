@@ -1,7 +1,7 @@
 // Reading a file of requests in blocks: a line may begin in one block and end in a later one.
 ghost use Rattle.std.specs.Prelude.{◌≡◌, ◌≢◌, ◌≤◌, ◌∷◌, ◌++◌, [], ℕ, List, IfErr, IfOk, MatchOption, OnErr, OnOk, length};
 ghost use Rattle.iam_asked.specs.Code.Cut.{HasRead, IsFaultOf, IsUnbroken};
-ghost use Rattle.iam_asked.specs.File.{AreRequests, IsFileFault, OfBytes, lines_of};
+ghost use Rattle.iam_asked.specs.File.{AreRead, AreRequests, IsFileFault, OfBytes, lines_of};
 ghost use Rattle.iam_asked.specs.Request.{AskedValue, IsRequest, with_asked};
 
 use crate::fault::{AskFault, FaultyLine, LineFault};
@@ -112,7 +112,7 @@ impl<'a> Lines<'a> {
     /// Ends the last line.
     fn finish(self, alloc: Global) -> Result<Requests<'a>, AskFault>
         ensures ok { IfOk result (λ requests. (bytes : List ℕ) → HasRead bytes self.entry.rest.items self.entry.reading
-            → AreRequests (lines_of bytes) requests) }
+            → AreRead (lines_of bytes) requests) }
         ensures world { IfOk result (λ requests. requests.world ≡ self.entry.reading.world) }
         ensures few { IfOk result (λ requests. length requests.asked ≤ 16777216) }
         ensures fault { IfErr result (λ fault. (bytes : List ℕ) → HasRead bytes self.entry.rest.items self.entry.reading
@@ -121,7 +121,7 @@ impl<'a> Lines<'a> {
         let Lines { mut reading, rest } = self;
         add_last(alloc, &mut reading, rest.as_slice())?;
         let requests = reading.into_requests();
-        // There are at most 16,777,216.
+        // They are not too many, and their keys not too large.
         let _count = requests.count();
         Ok(requests)
     }
@@ -136,7 +136,7 @@ pub fn read_requests<'a, R: Read>(
 ) -> Result<Requests<'a>, AskFault>
     ensures world { IfOk result (λ requests. requests.world ≡ world.entry.now) }
     ensures few { IfOk result (λ requests. length requests.asked ≤ 16777216) }
-    ensures ok { IfOk result (λ requests. OfBytes (R.remaining reader.old) (λ bytes. AreRequests (lines_of bytes) requests)) }
+    ensures ok { IfOk result (λ requests. OfBytes (R.remaining reader.old) (λ bytes. AreRead (lines_of bytes) requests)) }
     ensures fault { IfErr result (λ fault. OfBytes (R.remaining reader.old) (λ bytes. IsFileFault world.entry.now bytes fault)) }
 {
     let mut lines = Lines {

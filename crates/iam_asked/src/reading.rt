@@ -5,13 +5,13 @@ ghost use Rattle.iam_asked.specs.Code.Reading.{IsFoundIn, IsFoundOf, IsOwnFault,
 ghost use Rattle.iam_asked.specs.Fault.{IsLineFault};
 ghost use Rattle.iam_asked.specs.Request.{AskedValue, IsRequest, IsWithin, RequestsValue, asked_with, with_asked};
 ghost use Rattle.iam_asked.specs.Said.{IsShort};
-ghost use Rattle.iam_asked.specs.Size.{asked_size};
+ghost use Rattle.iam_asked.specs.Size.{AreSmall};
 ghost use Rattle.iam_asked.specs.declared.fault.LineFault.TheVariants as l;
 
 use crate::asked::Asked;
 use crate::fault::LineFault;
 use crate::finder::Finder;
-use crate::own::hash_of;
+use crate::own::Own;
 use crate::requests::{MOST_REQUESTS, Requests};
 use crate::said::{parse, read_said};
 use iam_context::Part;
@@ -20,7 +20,6 @@ use iam_text::OutOfMemory;
 use iam_world_context::read_part;
 use serde_json::Value;
 use std::alloc::Global;
-use std::collections::HashMap;
 use std::marker::Model;
 
 /// Requests that are read from lines, with what is needed to read further ones. A contract sees the world and the requests.
@@ -28,8 +27,6 @@ use std::marker::Model;
 pub struct Reading<'a> {
     finder: Finder<'a>,
     requests: Requests<'a>,
-    // Where keys are kept, by a hash of them; a number that is wrong is only of no use.
-    places: HashMap<u64, usize>,
 }
 
 impl<'a> Model for Reading<'a> {
@@ -61,7 +58,6 @@ impl<'a> Reading<'a> {
         Ok(Reading {
             finder: Finder::of(alloc, world)?,
             requests: Requests::new(alloc, world),
-            places: HashMap::new(alloc),
         })
     }
 
@@ -78,10 +74,11 @@ impl<'a> Reading<'a> {
         self.add(alloc, asked, own)
     }
 
-    /// How many requests were read, at most 16,777,216.
+    /// How many requests were read, at most 16,777,216, whose keys are not too large.
     pub fn count(&self) -> u64
         ensures value { result ≡ length self.now.asked }
         ensures few { result ≤ 16777216 }
+        ensures small { AreSmall self.now.asked }
     {
         self.requests.count()
     }
@@ -123,27 +120,7 @@ impl<'a> Reading<'a> {
         }
         let world = self.finder.world();
         world.check_own(alloc, asked.principal, asked.resource, &own)?;
-        self.keep(asked, own)
-    }
-
-    /// Adds a request whose keys are clean.
-    fn keep(&mut self, asked: Asked, own: Part) -> Result<(), LineFault>
-        requires within { IsWithin self.old.world (asked_with asked own.items) }
-        requires some { 0 < length own.items }
-        requires few { length self.old.asked < 16777216 }
-        ensures ok { OnOk result (self.new ≡ with_asked self.old (asked_with asked own.items)) }
-        ensures fault { IfErr result (λ fault. fault ≢ l.OutOfMemory
-            → (fault ≡ l.ContextsTooLarge) × (67108864 < asked_size (self.old.asked ++ asked_with asked own.items ∷ []))) }
-        ensures same { OnErr result (self.new ≡ self.old) }
-    {
-        let hash = hash_of(&own);
-        if let Some(&number) = self.places.get(&hash) {
-            if self.requests.add_same(asked, &own, number)? {
-                return Ok(());
-            }
-        }
-        self.places.insert(hash, self.requests.contexts())?;
-        self.requests.add_new(asked, own)
+        self.requests.add_with(asked, Own::new(own))
     }
 
     /// The requests that were read.

@@ -1,18 +1,19 @@
 // The requests that are asked of a world, as they are kept.
-ghost use Rattle.std.specs.Prelude.{◌≡◌, ◌≢◌, ◌≤◌, ◌<◌, ◌∷◌, ◌++◌, [], ℕ, List, IfErr, IfOk, IsTrue, MatchOption, OnErr, OnOk, false, length, map, true};
+ghost use Rattle.std.specs.Prelude.{◌≡◌, ◌≢◌, ◌≤◌, ◌<◌, ◌∷◌, ◌++◌, [], IfErr, MatchOption, OnErr, OnOk, length};
 ghost use Rattle.iam_layers.specs.Own.{IsCleanAt};
-ghost use Rattle.iam_asked.specs.Code.Reading.{AreKept, contexts_of, requests_of};
+ghost use Rattle.iam_asked.specs.Code.Reading.{AreKept, requests_of};
 ghost use Rattle.iam_asked.specs.Request.{IsAsked, IsWithin, RequestsValue, asked_with, with_asked};
-ghost use Rattle.iam_asked.specs.Size.{asked_size};
+ghost use Rattle.iam_asked.specs.Size.{AreLarge, AreSmall};
 ghost use Rattle.iam_asked.specs.declared.fault.LineFault.TheVariants as l;
 
 use crate::asked::Asked;
 use crate::entry::Entry;
 use crate::fault::LineFault;
-use crate::own::{behind_own, is_same_own};
+use crate::own::{Own, behind_own};
 use iam_context::Part;
 use iam_layers::World;
 use iam_text::OutOfMemory;
+use indexmap::IndexSet;
 use std::alloc::Global;
 use std::marker::Model;
 
@@ -28,7 +29,7 @@ const MOST_SIZE: u64 = 67_108_864;
 pub struct Requests<'a> {
     world: &'a World,
     entries: Vec<Entry>,
-    contexts: Vec<Part>,
+    contexts: IndexSet<Own>,
     // How large the contexts are.
     size: u64,
 }
@@ -36,10 +37,10 @@ pub struct Requests<'a> {
 impl<'a> Model for Requests<'a> {
     ghost Value = { RequestsValue };
 
-    ghost view = { λ requests. requests_of requests.world.now requests.entries.items (contexts_of requests.contexts.items) };
+    ghost view = { λ requests. requests_of requests.world.now requests.entries.items requests.contexts.keys };
 
     ghost invariant = { λ requests.
-        AreKept requests.world.now requests.entries.items (contexts_of requests.contexts.items) requests.size };
+        AreKept requests.world.now requests.entries.items requests.contexts.keys requests.size };
 }
 
 /// An entry with these numbers, each below that of its kind.
@@ -67,7 +68,7 @@ impl<'a> Requests<'a> {
         Requests {
             world,
             entries: Vec::new(alloc),
-            contexts: Vec::new(alloc),
+            contexts: IndexSet::new(alloc),
             size: 0,
         }
     }
@@ -79,10 +80,11 @@ impl<'a> Requests<'a> {
         self.world
     }
 
-    /// How many there are, at most 16,777,216.
+    /// How many there are, at most 16,777,216, whose keys are not too large.
     pub fn count(&self) -> u64
         ensures value { result ≡ length self.now.asked }
         ensures few { result ≤ 16777216 }
+        ensures small { AreSmall self.now.asked }
     {
         self.entries.len() as u64
     }
@@ -113,7 +115,8 @@ impl<'a> Requests<'a> {
         if entry.context == 0 {
             return None;
         }
-        Some(&self.contexts[entry.context as usize - 1])
+        let own = self.contexts.get_index(entry.context as usize - 1)?;
+        Some(own.part())
     }
 
     /// Adds a request that gives no keys.
@@ -128,54 +131,30 @@ impl<'a> Requests<'a> {
         Ok(())
     }
 
-    /// Adds a request that gives these keys where they are the context with this number, from 0 on; whether they are.
-    pub(crate) fn add_same(
-        &mut self,
-        asked: Asked,
-        own: &Part,
-        number: usize,
-    ) -> Result<bool, OutOfMemory>
-        requires within { IsWithin self.old.world (asked_with asked own.now.items) }
+    /// Adds a request that gives these keys, one at least, which are kept once. `ContextsTooLarge` where those that are kept become too
+    /// large with them.
+    pub(crate) fn add_with(&mut self, asked: Asked, own: Own) -> Result<(), LineFault>
+        requires within { IsWithin self.old.world (asked_with asked own) }
+        requires some { 0 < length own }
         requires few { length self.old.asked < 16777216 }
-        ensures added { IfOk result (λ is. IsTrue is → self.new ≡ with_asked self.old (asked_with asked own.now.items)) }
-        ensures not { IfOk result (λ is. is ≡ false → self.new ≡ self.old) }
-        ensures same { OnErr result (self.new ≡ self.old) }
-    {
-        let Some(known) = self.contexts.get(number) else {
-            return Ok(false);
-        };
-        if !is_same_own(own.as_slice(), known.as_slice()) {
-            return Ok(false);
-        }
-        let entry = entry_of(self.world, asked, number as u32 + 1);
-        self.entries.push(entry)?;
-        Ok(true)
-    }
-
-    /// Adds a request that gives these keys, one at least, which join those that are kept. `ContextsTooLarge` where these become
-    /// too large with them.
-    pub(crate) fn add_new(&mut self, asked: Asked, own: Part) -> Result<(), LineFault>
-        requires within { IsWithin self.old.world (asked_with asked own.items) }
-        requires some { 0 < length own.items }
-        requires few { length self.old.asked < 16777216 }
-        ensures ok { OnOk result (self.new ≡ with_asked self.old (asked_with asked own.items)) }
+        ensures ok { OnOk result (self.new ≡ with_asked self.old (asked_with asked own)) }
         ensures fault { IfErr result (λ fault. fault ≢ l.OutOfMemory
-            → (fault ≡ l.ContextsTooLarge) × (67108864 < asked_size (self.old.asked ++ asked_with asked own.items ∷ []))) }
+            → (fault ≡ l.ContextsTooLarge) × AreLarge (self.old.asked ++ asked_with asked own ∷ [])) }
         ensures same { OnErr result (self.new ≡ self.old) }
     {
+        if let Some(number) = self.contexts.get_index_of(&own) {
+            let entry = entry_of(self.world, asked, number as u32 + 1);
+            self.entries.push(entry)?;
+            return Ok(());
+        }
         let Some(left) = behind_own(&own, MOST_SIZE - self.size) else {
             return Err(LineFault::ContextsTooLarge);
         };
         let entry = entry_of(self.world, asked, self.contexts.len() as u32 + 1);
         self.entries.reserve(1)?;
-        self.contexts.push(own)?;
+        self.contexts.insert(own)?;
         self.entries.push_reserved(entry);
         self.size = MOST_SIZE - left;
         Ok(())
-    }
-
-    /// How many contexts are kept: the number of the next one.
-    pub(crate) fn contexts(&self) -> usize {
-        self.contexts.len()
     }
 }

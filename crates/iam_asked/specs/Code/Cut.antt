@@ -4,6 +4,7 @@ use Rattle.std.specs.List.{AllByRecursion}
 use Rattle.iam_asked.specs.Fault.{IsLineFault}
 use Rattle.iam_asked.specs.File.{AreRequests, lines_of}
 use Rattle.iam_asked.specs.Request.{RequestsValue}
+use Rattle.iam_asked.specs.Size.{AreSmall}
 use Rattle.iam_asked.specs.declared.fault.AskFault.{AskFault}
 use Rattle.iam_asked.specs.declared.fault.AskFault.TheVariants.{Read, Line, OutOfMemory}
 
@@ -18,9 +19,9 @@ pub record HasRead (bytes rest : List ℕ) (requests : RequestsValue) : Type 0 w
   pub unbroken : IsUnbroken rest
   pub requests_are : AreRequests lines requests
 
--- the fault of the line behind these requests, which are not too many, with its number
+-- the fault of the line behind these requests, which are not too many and not too large, with its number
 abbrev pub IsFaultOf : RequestsValue → List ℕ → AskFault → Type 0
 IsFaultOf before line Read = ⊥
 IsFaultOf before line (Line faulty) =
-    (faulty.line ≡ length before.asked) × (faulty.line ≤ 16777216) × IsLineFault before line faulty.fault
+    (faulty.line ≡ length before.asked) × (faulty.line ≤ 16777216) × AreSmall before.asked × IsLineFault before line faulty.fault
 IsFaultOf before line OutOfMemory = ⊤

@@ -1,7 +1,6 @@
 -- Requests as they are kept, and what is known of a line on the way.
-use Rattle.std.specs.Prelude.{◌≡◌, ◌≢◌, ◌⊎◌, ℕ, zero, suc, ◌≤◌, ◌<◌, List, [], ◌∷◌, ◌++◌, All, Vec, length, map, unwrap_or}
+use Rattle.std.specs.Prelude.{◌≡◌, ◌≢◌, ◌⊎◌, ℕ, zero, suc, ◌≤◌, List, [], ◌∷◌, ◌++◌, All, length, map, unwrap_or}
 use Rattle.std.specs.List.{slice_get, sum_by}
-use Rattle.std.specs.declared.alloc.Global.{Global}
 use Rattle.serde_json.specs.Data.{Data}
 use Rattle.iam_context.specs.Context.{ContextValue}
 use Rattle.iam_context.specs.declared.fault.ContextFault.{ContextFault}
@@ -12,7 +11,7 @@ use Rattle.iam_world.specs.WorldFault.{IsJson}
 use Rattle.iam_asked.specs.Code.Found.{HasNumbers, IsSaidFault}
 use Rattle.iam_asked.specs.Request.{AskedValue, IsWithin, RequestsValue}
 use Rattle.iam_asked.specs.Said.{IsSaid, IsShort, SaidValue}
-use Rattle.iam_asked.specs.Size.{asked_size, own_size}
+use Rattle.iam_asked.specs.Size.{AreKeysOf, AreLarge, own_size}
 use Rattle.iam_asked.specs.declared.asked.Asked.{Asked}
 use Rattle.iam_asked.specs.declared.fault.LineFault.{LineFault}
 use Rattle.iam_asked.specs.declared.fault.LineFault.TheVariants.{BadShape, Context, ContextsTooLarge, OutOfMemory}
@@ -22,10 +21,6 @@ use Rattle.iam_asked.specs.declared.entry.Entry.{Entry}
 abbrev pub own_of : List ContextValue → ℕ → ContextValue
 own_of contexts zero = []
 own_of contexts (suc n) = unwrap_or (slice_get contexts n) []
-
--- the keys of parts
-abbrev pub contexts_of : List (Vec (List ℕ × List (List ℕ)) Global) → List ContextValue
-contexts_of parts = map (λ part. part.items) parts
 
 -- the request of an entry
 abbrev pub asked_of : List ContextValue → Entry → AskedValue
@@ -40,22 +35,21 @@ asked_of contexts entry = record {
 abbrev pub requests_of : WorldValue → List Entry → List ContextValue → RequestsValue
 requests_of world entries contexts = record { world = world; asked = map (asked_of contexts) entries }
 
--- the requests of entries, of which there are not too many, and of whose contexts, each kept once, no more are kept than may be
+-- the requests of entries, of which there are not too many, and their contexts, each kept once, no more than may be
 pub record AreKept (world : WorldValue) (entries : List Entry) (contexts : List ContextValue) (size : ℕ) : Type 0 where
   pub within : All (IsWithin world) (map (asked_of contexts) entries)
   pub contexts_are : All (λ entry. entry.context ≤ length contexts) entries
   pub few : length entries ≤ 16777216
   pub size_is : size ≡ sum_by own_size contexts
   pub most : size ≤ 67108864
-  pub given : size ≤ asked_size (map (asked_of contexts) entries)
-  pub some : All (λ own. own ≢ []) contexts
+  pub keys : AreKeysOf (map (asked_of contexts) entries) contexts
 
 -- the keys of a request have a fault, or are clean and too large with those before
 abbrev pub IsOwnFault : RequestsValue → AskedValue → LineFault → Type 0
 IsOwnFault before asked fault =
     ((found : ContextFault) × (fault ≡ Context found) × (asked.own ≢ [])
     × IsFaultAt before.world asked.principal asked.resource asked.own found)
-    ⊎ ((fault ≡ ContextsTooLarge) × IsWithin before.world asked × (67108864 < asked_size (before.asked ++ asked ∷ [])))
+    ⊎ ((fault ≡ ContextsTooLarge) × IsWithin before.world asked × AreLarge (before.asked ++ asked ∷ []))
 
 -- the fault of a line where its context has this one
 abbrev pub fault_of : ContextFault → LineFault

@@ -11,4 +11,4 @@ returns-clause-fault c = λ bytes more has unbroken.
     let items = ap length c.in_ok-extend_from_slice.ensures.items in
     let long : ¬ IsShort (rest ++ tail) = λ short. omega (arith, short, items, c.len.ensures, c.if-len-le-MOST_BYTES.false) in
     fault_of_long (bytes ++ tail) (rest ++ tail) more reading (record { line = c.count.result; fault = c.fault_of_long.result })
-    (read_tail bytes rest tail reading has unbroken) long c.count.ensures.value c.count.ensures.few c.fault_of_long.ensures
+    (read_tail bytes rest tail reading has unbroken) long c.count.ensures.value c.count.ensures.few c.count.ensures.small c.fault_of_long.ensures

@@ -1,14 +1,14 @@
 use Rattle.std.proofs.Common.{◌≡◌, ◌<◌, ap, length, map, refl, subst, arith}
-use Rattle.iam_asked.specs.Code.Reading.{asked_of, contexts_of}
+use Rattle.iam_asked.specs.Code.Reading.{asked_of}
 use Rattle.iam_asked.specs.Request.{IsAsked, IsWithin, RequestsValue, asked_with}
 use Rattle.iam_asked.proofs.Kept.{asked_at, within_at}
 use Rattle.iam_asked.proofs.requests.Requests.at.Goals as goal
 
 -- what is known of the entry
-within : (c : goal.After-struct_known-3-1) → IsWithin c.args.self.now.world (asked_of (contexts_of c.self.inside.contexts.items) c.index-entry.result.now)
+within : (c : goal.After-struct_known-3-1) → IsWithin c.args.self.now.world (asked_of (c.self.inside.contexts.keys) c.index-entry.result.now)
 within c =
     let own = c.self.inside in
-    let contexts = contexts_of own.contexts.items in
+    let contexts = own.contexts.keys in
     let entry = c.index-entry.result.now in
     let same = ap (λ (v : RequestsValue). length v.asked) c.self.view_is in
     let inside : c.args.n < length (map (asked_of contexts) own.entries.items) = omega (arith, c.requires, same) in
@@ -18,7 +18,7 @@ within c =
 pub returns-clause-is : goal.returns-clause-is
 returns-clause-is c =
     let own = c.self.inside in
-    let contexts = contexts_of own.contexts.items in
+    let contexts = own.contexts.keys in
     let entry = c.index-entry.result.now in
     let same = ap (λ (v : RequestsValue). length v.asked) c.self.view_is in
     let inside : c.args.n < length (map (asked_of contexts) own.entries.items) = omega (arith, c.requires, same) in
