@@ -56,6 +56,7 @@ stress: build
 	bench/differential
 	bench/names
 	bench/changed-names
+	bench/any-key
 
 # The further edits that the prover has to refuse, of all crates or of CRATE=name; not part of the gate.
 attacks:

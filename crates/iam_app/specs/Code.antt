@@ -4,3 +4,4 @@ pub mod Comparing
 pub mod Naming
 pub mod Pieces
 pub mod Sides
+pub mod Turning

@@ -1,3 +1,4 @@
+pub mod AnyKey
 pub mod Ask
 pub mod Changes
 pub mod ChangesFault

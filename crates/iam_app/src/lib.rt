@@ -1,6 +1,7 @@
 //! The program behind `iamsim`: its command line, its streams and what it says of a fault.
 #![tactic(auto)]
 
+mod any_key;
 mod ask;
 mod cells;
 mod changes;
@@ -18,6 +19,7 @@ mod program;
 mod requests_fault;
 mod selected;
 
+pub use any_key::run_any_key;
 pub use ask::{ask_status, run_ask};
 pub use changes::{Comparison, changes_status, run_changes};
 pub use changes_fault::{ChangesFault, Side, changes_fault_line};
@@ -32,8 +34,9 @@ pub use iam_every_changes::ChangesTold;
 pub use iam_layers::WorldFault;
 pub use iam_matrix::{CutFault, MatrixFault};
 pub use iam_options::{
-    AskCommand, Asked, ChangesCommand, ChangesOptions, Command, EveryChangesCommand, EveryCommand,
-    FailOn, Options, RunOptions, Task, Texts, Usage, WorldCommand, command_of, options_of,
+    AnyKeyCommand, AskCommand, Asked, ChangesCommand, ChangesOptions, Command, EveryChangesCommand,
+    EveryCommand, FailOn, Options, RunOptions, Task, Texts, Usage, WorldCommand, command_of,
+    options_of,
 };
 pub use iam_selection::Selection;
 pub use iam_text::OutOfMemory;

@@ -7,6 +7,8 @@ mod FitLemmas
 mod FormLemmas
 mod GivenLemmas
 mod ListLemmas
+mod PartLemmas
+mod RowLemmas
 mod TriedLemmas
 mod TurnLemmas
 mod WhereLemmas

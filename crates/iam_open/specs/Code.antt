@@ -1,4 +1,5 @@
 pub mod Bounds
 pub mod Certain
 pub mod Known
+pub mod Parts
 pub mod Tried

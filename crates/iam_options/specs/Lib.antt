@@ -1,3 +1,4 @@
+pub mod AnyKey
 pub mod Every
 pub mod EveryChanges
 pub mod Words

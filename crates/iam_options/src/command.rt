@@ -1,9 +1,11 @@
 // The whole command line: the options, the file of the world, and what is asked for.
 ghost use Rattle.std.specs.Prelude.{◌≡◌, ◌↔◌, IsTrue, IfOk, codes, length, map, option_map, string_bytes};
 ghost use Rattle.clap.specs.Matches.{first_value, found_of};
+ghost use Rattle.iam_options.specs.AnyKey.{asks_any_key};
 ghost use Rattle.iam_options.specs.EveryChanges.{asks_every};
 ghost use Rattle.iam_options.specs.Words.{HasAsked, IsFileAt, IsFlag, texts_at};
 
+use crate::any_key::{AnyKeyCommand, any_key, any_key_in};
 use crate::arguments::{check, decide, first, matrix, named, with};
 use crate::ask::{AskCommand, ask, ask_in};
 use crate::changes::{ChangesCommand, changes, changes_in};
@@ -37,6 +39,8 @@ static DECISIONS: [&str; 3] = ["allowed", "explicitDeny", "implicitDeny"];
 pub enum Command {
     /// A command about one world.
     World(WorldCommand),
+    /// All requests of one world, whatever values the keys have that nothing gives.
+    AnyKey(AnyKeyCommand),
     /// The changes between two worlds.
     Changes(ChangesCommand),
     /// The changes between two worlds, for all names.
@@ -104,11 +108,19 @@ fn command_or_usage(
         (Some(("changes", command)), _) => changes_of(alloc, command),
         (Some(("ask", command)), _) => Ok(Command::Ask(ask_in(alloc, command)?)),
         (Some(("every", command)), _) => Ok(Command::Every(every_in(alloc, command)?)),
-        (Some((_, command)), Some(options)) => {
-            Ok(Command::World(world_in(alloc, options, command)?))
-        }
+        (Some((_, command)), Some(options)) => about_world(alloc, options, command),
         _ => Err(Usage::Refused(parser.render_usage()?)),
     }
+}
+
+/// A command about one world that was read: of its requests as they are, or whatever values the keys have that nothing gives.
+fn about_world(alloc: Global, options: Options, command: &ArgMatches<'_>) -> Result<Command, Usage>
+    ensures { IfOk result (λ read. IsFlag command.now (codes "any-key") (asks_any_key read)) }
+{
+    if command.get_flag("any-key") {
+        return Ok(Command::AnyKey(any_key_in(alloc, command)?));
+    }
+    Ok(Command::World(world_in(alloc, options, command)?))
 }
 
 /// A command about two worlds that was read: of their requests, or for all names.
@@ -222,10 +234,8 @@ fn copied(alloc: Global, texts: &[&str]) -> Result<Vec<String>, AllocError>
 fn iamsim<'a>(alloc: Global) -> Result<Parser<'a>, AllocError> {
     let parser = with(named(alloc, ABOUT), of_world(alloc, Ok(check(alloc))));
     let parser = with(parser, of_world(alloc, decide(alloc)));
-    let parser = with(
-        parser,
-        selecting_rows(alloc, of_world(alloc, matrix(alloc))),
-    );
+    let matrix = selecting_rows(alloc, of_world(alloc, matrix(alloc)));
+    let parser = with(parser, matrix?.arg(any_key(alloc)?));
     let parser = with(parser, selecting(alloc, of_world(alloc, first(alloc))));
     let parser = with(parser, changes(alloc));
     with(with(parser, ask(alloc)), every(alloc))

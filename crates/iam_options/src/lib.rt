@@ -1,6 +1,7 @@
 //! The command line of `iamsim`, read by `clap`.
 #![tactic(auto)]
 
+mod any_key;
 mod arguments;
 mod ask;
 mod changes;
@@ -9,6 +10,7 @@ mod every;
 mod every_changes;
 mod options;
 
+pub use any_key::AnyKeyCommand;
 pub use ask::AskCommand;
 pub use changes::{ChangesCommand, ChangesOptions, FailOn};
 pub use command::{Asked, Command, WorldCommand, command_of};

@@ -21,7 +21,8 @@ use std::thread::Threads;
 const WORLDS: &str = "worlds.json";
 
 /// The files of rows, by theme.
-const ROWS: [&str; 15] = [
+const ROWS: [&str; 16] = [
+    "any_key.json",
     "ask.json",
     "changes.json",
     "commands.json",

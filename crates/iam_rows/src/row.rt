@@ -6,10 +6,11 @@
 use crate::input::{input_of, number_at, text_at};
 use crate::problem::Problem;
 use iam_app::{
-    AskCommand, ChangesCommand, Command, EveryChangesCommand, EveryCommand, Usage, WorldCommand,
-    ask_status, changes_command_status, changes_fault_line, command_of, command_status,
-    every_changes_fault_line, every_changes_status, every_status, fault_line, names_fault_line,
-    requests_fault_line, run_ask, run_changes_command, run_command, run_every, run_every_changes,
+    AnyKeyCommand, AskCommand, ChangesCommand, Command, EveryChangesCommand, EveryCommand, Usage,
+    WorldCommand, ask_status, changes_command_status, changes_fault_line, command_of,
+    command_status, every_changes_fault_line, every_changes_status, every_status, fault_line,
+    names_fault_line, requests_fault_line, run_any_key, run_ask, run_changes_command, run_command,
+    run_every, run_every_changes, status,
 };
 use serde_json::Value;
 use std::alloc::Global;
@@ -154,6 +155,7 @@ fn answer_to<R: AllocGlobal + Threads + Sync>(
 ) -> Result<Answer, Problem> {
     match command_of(rt.alloc(), words) {
         Ok(Command::World(command)) => world_answer(rt, &command, inputs.world.as_slice()),
+        Ok(Command::AnyKey(command)) => any_key_answer(rt, &command, inputs.world.as_slice()),
         Ok(Command::Changes(command)) => changes_answer(rt, &command, inputs),
         Ok(Command::EveryChanges(command)) => every_changes_answer(rt, &command, inputs, lines),
         Ok(Command::Ask(command)) => ask_answer(rt, &command, inputs.world.as_slice(), lines),
@@ -178,6 +180,27 @@ fn world_answer<R: AllocGlobal + Threads + Sync>(
     };
     Ok(Answer {
         status: u64::from(command_status(&outcome, command.allow_empty)),
+        output,
+        fault,
+    })
+}
+
+/// What comes of a command about one world, whatever values the keys have that nothing gives.
+fn any_key_answer<R: AllocGlobal + Threads + Sync>(
+    rt: &R,
+    command: &AnyKeyCommand,
+    input: &[u8],
+) -> Result<Answer, Problem> {
+    let alloc = rt.alloc();
+    let mut reader = input;
+    let mut output = Vec::new(alloc);
+    let outcome = run_any_key(rt, alloc, &command.options, &mut reader, &mut output);
+    let fault = match &outcome {
+        Ok(()) => String::new(alloc),
+        Err(fault) => fault_line(alloc, fault)?,
+    };
+    Ok(Answer {
+        status: u64::from(status(&outcome)),
         output,
         fault,
     })

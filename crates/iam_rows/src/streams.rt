@@ -1,9 +1,10 @@
 // Readers and writers that fail, at each of their calls, for all commands.
 use iam_app::{
-    AskCommand, Command, EveryChangesCommand, EveryCommand, ask_status, changes_command_status,
-    changes_fault_line, command_of, command_status, every_changes_fault_line, every_changes_status,
-    every_status, fault_line, names_fault_line, requests_fault_line, run_ask, run_changes_command,
-    run_command, run_every, run_every_changes,
+    AnyKeyCommand, AskCommand, Command, EveryChangesCommand, EveryCommand, ask_status,
+    changes_command_status, changes_fault_line, command_of, command_status,
+    every_changes_fault_line, every_changes_status, every_status, fault_line, names_fault_line,
+    requests_fault_line, run_any_key, run_ask, run_changes_command, run_command, run_every,
+    run_every_changes, status,
 };
 use std::io;
 use std::io::{ErrorKind, Read, Write};
@@ -42,6 +43,11 @@ const JSON_BRIEF: &str =
     r#"[{"action":"S3:getobject","cell":0,"decision":"allowed","principal":"arn:aws:iam::111122223333:user/ann","resource":"arn:aws:s3:::b/k"}]
 "#;
 
+/// What no key can turn.
+const ALWAYS: &str = "cell,principal,action,resource,decision
+0,arn:aws:iam::111122223333:user/ann,S3:getobject,arn:aws:s3:::b/k,always
+";
+
 /// What is gained from the empty world to this one, and how it is asked for.
 const GAINED: &str = "change,principal,action,resource,before,after
 gained,arn:aws:iam::111122223333:user/ann,S3:getobject,arn:aws:s3:::b/k,,allowed
@@ -71,7 +77,7 @@ const EVERY_CHANGES: &str =
     "changes before.json after.json --every --texts - --workers 1 --brief --fail-on lost";
 
 /// Each command, in each form of its report, and what it writes.
-const RUNS: [(&str, &str); 12] = [
+const RUNS: [(&str, &str); 13] = [
     (
         "check",
         "ok principals 1 actions 1 resources 1 cells 1 statements 1\n",
@@ -83,6 +89,7 @@ const RUNS: [(&str, &str); 12] = [
     ("matrix --workers 1 --format json", JSON),
     ("matrix --workers 1 --format json --brief", JSON_BRIEF),
     ("first --workers 1", BRIEF),
+    ("matrix --any-key --workers 1 --brief", ALWAYS),
     (CHANGES, GAINED),
     (ASK, BRIEF),
     (EVERY, BRIEF),
@@ -101,7 +108,7 @@ fn beside(command: &Command) -> &'static str {
         Command::Ask(_) => REQUESTS,
         Command::Every(_) => LINES,
         Command::EveryChanges(_) => BARE,
-        Command::World(_) | Command::Changes(_) => EMPTY,
+        Command::World(_) | Command::AnyKey(_) | Command::Changes(_) => EMPTY,
     }
 }
 
@@ -193,12 +200,28 @@ fn end_of<R: Read, S: Read, L: Read, W: Write>(
                 line,
             ))
         }
+        Command::AnyKey(asked) => end_of_any_key(rt, asked, after, writer),
         Command::Ask(asked) => end_of_requests(rt, asked, after, before, writer),
         Command::Every(asked) => end_of_lines(rt, asked, after, before, writer),
         Command::EveryChanges(asked) => {
             end_of_names_changes(rt, asked, before, after, lines, writer)
         }
     }
+}
+
+/// The same of a run whatever values the keys have.
+fn end_of_any_key<R: Read, W: Write>(
+    rt: &(impl AllocGlobal + Threads + Sync),
+    asked: &AnyKeyCommand,
+    world: &mut R,
+    writer: &mut W,
+) -> Result<(u8, String), Fail> {
+    let outcome = run_any_key(rt, rt.alloc(), &asked.options, world, writer);
+    let line = match &outcome {
+        Ok(()) => String::new(rt.alloc()),
+        Err(fault) => fault_line(rt.alloc(), fault)?,
+    };
+    Ok((status(&outcome), line))
 }
 
 /// The same of a run of requests.

@@ -4,11 +4,11 @@
 mod source;
 
 use iam_app::{
-    AskCommand, ChangesCommand, Command, EveryChangesCommand, EveryCommand, OutOfMemory, Texts,
-    Usage, WorldCommand, ask_status, changes_command_status, changes_fault_line, command_of,
-    command_status, every_changes_fault_line, every_changes_status, every_status, fault_line,
-    names_fault_line, requests_fault_line, run_ask, run_changes_command, run_command, run_every,
-    run_every_changes,
+    AnyKeyCommand, AskCommand, ChangesCommand, Command, EveryChangesCommand, EveryCommand,
+    OutOfMemory, Texts, Usage, WorldCommand, ask_status, changes_command_status,
+    changes_fault_line, command_of, command_status, every_changes_fault_line, every_changes_status,
+    every_status, fault_line, names_fault_line, requests_fault_line, run_any_key, run_ask,
+    run_changes_command, run_command, run_every, run_every_changes, status,
 };
 use source::{Input, NotRead, Source, line_of_file};
 use std::alloc::Global;
@@ -25,6 +25,11 @@ fn main(rt: HostRuntime) -> ExitCode {
     match asked(&rt, alloc) {
         Ok(Command::World(command)) => {
             let status = world(&rt, alloc, &command, &mut rt.stdin(), &mut rt.stdout());
+            ExitCode::from(status)
+        }
+        Ok(Command::AnyKey(command)) => {
+            let mut input = Input::of(&rt, &command.world, rt.stdin());
+            let status = any_key(&rt, alloc, &command, &mut input, &mut rt.stdout());
             ExitCode::from(status)
         }
         Ok(Command::Changes(command)) => {
@@ -107,6 +112,21 @@ fn world<'a, T: Threads + Sync + Files + Eprint, R: Read, W: Write>(
         tell_fault(rt, alloc, fault_line(alloc, fault), not_read);
     }
     command_status(&outcome, command.allow_empty)
+}
+
+/// Answers what any value of a key that nothing gives can turn; the exit status.
+fn any_key<T: Threads + Sync + Files + Eprint, R: Read + Drop, W: Write>(
+    rt: &T,
+    alloc: Global,
+    command: &AnyKeyCommand,
+    input: &mut Input<'_, R, T>,
+    stdout: &mut W,
+) -> u8 {
+    let outcome = run_any_key(rt, alloc, &command.options, input, stdout);
+    if let Err(fault) = &outcome {
+        tell_fault(rt, alloc, fault_line(alloc, fault), input.not_read());
+    }
+    status(&outcome)
 }
 
 /// Answers what has changed from one world to another; the exit status.

@@ -1,0 +1,107 @@
+-- Rows of what is said of requests whatever values the keys have that nothing gives, as CSV and as JSON. LOGIC 13.11.
+use Rattle.std.specs.Prelude.{◌+◌, ℕ, List, [], ◌∷◌, ◌++◌, Bool, true, false, codes, decimal}
+use Rattle.std.specs.List.{join_by}
+use Rattle.iam_context.specs.Context.{ContextValue}
+use Rattle.iam_decision.specs.declared.verdict.Verdict.{Verdict}
+use Rattle.iam_open.specs.declared.answer.Turned.{Turned}
+use Rattle.iam_open.specs.declared.answer.Turned.TheVariants.{Always, Never, Possible, Open}
+use Rattle.iam_row.specs.Piece.{closing_text, comma_before, quote_of}
+use Rattle.iam_row.specs.Report.{CellTexts}
+use Rattle.iam_row.specs.Words.{layer_word, marked, place_text}
+use Rattle.iam_row.specs.declared.quoted.Format.{Format}
+use Rattle.iam_row.specs.declared.quoted.Format.TheVariants.{Csv, Json}
+
+-- the texts of a request, what is said of it, and a verdict on it
+pub record TurnedRow : Type 0 where
+  pub texts : CellTexts
+  pub turned : Turned
+  pub verdict : Verdict
+
+abbrev pub turned_word : Turned → List ℕ
+turned_word Always = codes "always"
+turned_word Never = codes "never"
+turned_word (Possible example) = codes "possible"
+turned_word Open = codes "open"
+
+-- ---- examples
+
+-- a text as JSON
+abbrev pub json_of : List ℕ → List ℕ
+json_of text = quote_of Json text
+
+-- a key with the list of its values: `"k":["a"]`
+abbrev pub entry_text : List ℕ × List (List ℕ) → List ℕ
+entry_text entry = json_of entry.0 ++ (codes ":[" ++ (join_by json_of (codes ",") entry.1 ++ codes "]"))
+
+-- keys and a moment: `{"context":{"k":["a"]},"moment":1000}`
+abbrev pub example_text : ContextValue → ℕ → List ℕ
+example_text own moment =
+    codes "{\"context\":{" ++ (join_by entry_text (codes ",") own ++ (codes "},\"moment\":" ++ (decimal moment ++ codes "}")))
+
+-- the example, where there is one: in CSV a field, which is empty where there is none; in JSON an object, else `null`
+abbrev pub shown_text : Format → Turned → List ℕ
+shown_text Csv (Possible example) = quote_of Csv (example_text example.own.items example.moment)
+shown_text Csv turned = []
+shown_text Json (Possible example) = example_text example.own.items example.moment
+shown_text Json turned = codes "null"
+
+-- ---- rows
+
+-- the statements and the lacks of a verdict: joined by one space in a field of CSV, strings of a list in JSON
+abbrev pub statements_in : Format → Verdict → List ℕ
+statements_in Csv verdict = marked place_text (codes "") (codes " ") verdict.statements
+statements_in Json verdict = marked place_text (codes "\"") (codes ",") verdict.statements
+
+abbrev pub lacks_in : Format → Verdict → List ℕ
+lacks_in Csv verdict = marked layer_word (codes "") (codes " ") verdict.lacks
+lacks_in Json verdict = marked layer_word (codes "\"") (codes ",") verdict.lacks
+
+-- how the texts of a request stand in a row
+abbrev pub quoted_texts : Format → CellTexts → CellTexts
+quoted_texts format texts =
+    record { principal = quote_of format texts.principal; action = quote_of format texts.action; resource = quote_of format texts.resource }
+
+-- how a row of texts that stand so begins: in CSV up to the resource, in JSON up to the decision
+abbrev pub front_text : Format → ℕ → CellTexts → List ℕ → List ℕ
+front_text Csv cell texts word =
+    decimal cell ++ (codes "," ++ (texts.principal ++ (codes "," ++ (texts.action ++ (codes "," ++ (texts.resource ++ (codes "," ++ word)))))))
+front_text Json cell texts word =
+    comma_before cell ++ (codes "{\"action\":" ++ (texts.action ++ (codes ",\"cell\":" ++ (decimal cell ++ (codes ",\"decision\":\""
+    ++ (word ++ codes "\""))))))
+
+-- a row in brief, and one in full
+abbrev pub brief_text : Format → ℕ → CellTexts → List ℕ → List ℕ
+brief_text Csv cell texts word = front_text Csv cell texts word ++ codes "\n"
+brief_text Json cell texts word =
+    front_text Json cell texts word ++ (codes ",\"principal\":" ++ (texts.principal ++ (codes ",\"resource\":" ++ (texts.resource ++ codes "}"))))
+
+abbrev pub full_text : Format → ℕ → CellTexts → List ℕ → List ℕ → List ℕ → List ℕ → List ℕ
+full_text Csv cell texts word statements lacks example =
+    front_text Csv cell texts word ++ (codes "," ++ (statements ++ (codes "," ++ (lacks ++ (codes "," ++ (example ++ codes "\n"))))))
+full_text Json cell texts word statements lacks example =
+    front_text Json cell texts word ++ (codes ",\"example\":" ++ (example ++ (codes ",\"lacks\":[" ++ (lacks ++ (codes "],\"principal\":"
+    ++ (texts.principal ++ (codes ",\"resource\":" ++ (texts.resource ++ (codes ",\"statements\":[" ++ (statements ++ codes "]}"))))))))))
+
+-- the row of a cell, of texts that stand so
+abbrev pub joined_row : Format → Bool → ℕ → CellTexts → Turned → Verdict → List ℕ
+joined_row format true cell texts turned verdict = brief_text format cell texts (turned_word turned)
+joined_row format false cell texts turned verdict =
+    full_text format cell texts (turned_word turned) (statements_in format verdict) (lacks_in format verdict) (shown_text format turned)
+
+abbrev pub row_text : Format → Bool → ℕ → TurnedRow → List ℕ
+row_text format brief cell row = joined_row format brief cell (quoted_texts format row.texts) row.turned row.verdict
+
+-- what stands before all rows: the header's line, or a bracket
+abbrev pub opening_text : Format → Bool → List ℕ
+opening_text Csv true = codes "cell,principal,action,resource,decision\n"
+opening_text Csv false = codes "cell,principal,action,resource,decision,statements,lacks,example\n"
+opening_text Json brief = codes "["
+
+-- the rows of cells that follow one another from this one
+abbrev pub rows_text : Format → Bool → ℕ → List TurnedRow → List ℕ
+rows_text format brief cell [] = []
+rows_text format brief cell (row ∷ rows) = row_text format brief cell row ++ rows_text format brief (cell + 1) rows
+
+-- the report of rows, from cell 0 on
+abbrev pub report_text : Format → Bool → List TurnedRow → List ℕ
+report_text format brief rows = opening_text format brief ++ (rows_text format brief 0 rows ++ closing_text format)

@@ -1,0 +1,293 @@
+// The rows of requests: what is said of each, and an example.
+ghost use Rattle.std.specs.Prelude.{◌≡◌, ◌++◌, IfOk, OnOk, codes, false, string_bytes, true};
+ghost use Rattle.std.specs.List.{join_by};
+ghost use Rattle.iam_layers.specs.Cell.{IsCell};
+ghost use Rattle.iam_open.specs.Report.{IsRow};
+ghost use Rattle.iam_open.specs.Rows.{TurnedRow, brief_text, entry_text, example_text, front_text, full_text, joined_row, json_of, lacks_in, opening_text, row_text, shown_text, statements_in, turned_word};
+ghost use Rattle.iam_decision.specs.declared.verdict.Verdict.{Verdict};
+
+use crate::answer::{Turned, turned_of};
+use iam_context::{KeyName, Part, Values};
+use iam_layers::{OutOfMemory, Verdict, World};
+use iam_row::{Format, Layers, Places, Position, bare, comma_before, quote};
+use iam_text::Text;
+use std::alloc::Global;
+
+/// What stands before all rows: the line of the header, or `[`.
+pub fn opening(format: Format, brief: bool) -> &'static str
+    ensures { result.now ≡ opening_text format brief }
+{
+    match (format, brief) {
+        (Format::Csv, true) => "cell,principal,action,resource,decision\n",
+        (Format::Csv, false) =>
+            "cell,principal,action,resource,decision,statements,lacks,example\n",
+        (Format::Json, _) => "[",
+    }
+}
+
+fn word(turned: &Turned) -> &'static str
+    ensures { result.now ≡ turned_word turned.now }
+{
+    match turned {
+        Turned::Always => "always",
+        Turned::Never => "never",
+        Turned::Possible(_) => "possible",
+        Turned::Open => "open",
+    }
+}
+
+/// Puts a text as a string of JSON behind another.
+fn put_json(alloc: Global, text: &mut String, value: &str) -> Result<(), OutOfMemory>
+    ensures { OnOk result (string_bytes text.new ≡ string_bytes text.old ++ json_of value.now) }
+{
+    let quoted = quote(alloc, Format::Json, value)?;
+    text.push_str(quoted.as_str())?;
+    Ok(())
+}
+
+/// Puts values as strings of JSON behind a text, with commas between them.
+fn put_values(alloc: Global, text: &mut String, values: &[Text]) -> Result<(), OutOfMemory>
+    ensures { OnOk result (string_bytes text.new ≡ string_bytes text.old ++ join_by json_of (codes ",") values.now) }
+{
+    let Some((first, rest)) = values.split_first() else {
+        return Ok(());
+    };
+    put_json(alloc, text, first.as_str())?;
+    for value in rest {
+        text.push_str(",")?;
+        put_json(alloc, text, value.as_str())?;
+    }
+    Ok(())
+}
+
+/// Puts a key with its values behind a text.
+fn put_entry(alloc: Global, text: &mut String, entry: &(KeyName, Values)) -> Result<(), OutOfMemory>
+    ensures { OnOk result (string_bytes text.new ≡ string_bytes text.old ++ entry_text entry.now) }
+{
+    put_json(alloc, text, entry.0.as_str())?;
+    text.push_str(":[")?;
+    put_values(alloc, text, entry.1.as_slice())?;
+    text.push_str("]")?;
+    Ok(())
+}
+
+/// Keys with their values, with commas between them.
+fn entries(alloc: Global, own: &[(KeyName, Values)]) -> Result<String, OutOfMemory>
+    ensures { IfOk result (λ text. string_bytes text ≡ join_by entry_text (codes ",") own.now) }
+{
+    let mut text = String::new(alloc);
+    let Some((first, rest)) = own.split_first() else {
+        return Ok(text);
+    };
+    put_entry(alloc, &mut text, first)?;
+    for entry in rest {
+        text.push_str(",")?;
+        put_entry(alloc, &mut text, entry)?;
+    }
+    Ok(text)
+}
+
+/// Keys and a moment as JSON.
+fn example(alloc: Global, own: &Part, moment: u64) -> Result<String, OutOfMemory>
+    ensures { IfOk result (λ text. string_bytes text ≡ example_text own.now.items moment) }
+{
+    let entries = entries(alloc, own.as_slice())?;
+    format!(in alloc; "{{\"context\":{{{entries}}},\"moment\":{moment}}}")
+}
+
+/// The example as it stands in a row; where there is none, nothing in CSV, and `null` in JSON.
+fn shown(alloc: Global, format: Format, turned: &Turned) -> Result<String, OutOfMemory>
+    ensures { IfOk result (λ text. string_bytes text ≡ shown_text format turned.now) }
+{
+    match (format, turned) {
+        (Format::Csv, Turned::Possible(it)) => {
+            let text = example(alloc, &it.own, it.moment)?;
+            quote(alloc, Format::Csv, text.as_str())
+        }
+        (Format::Csv, _) => Ok(String::new(alloc)),
+        (Format::Json, Turned::Possible(it)) => example(alloc, &it.own, it.moment),
+        (Format::Json, _) => String::from_str(alloc, "null"),
+    }
+}
+
+/// How a row begins, of texts as they stand in it: in CSV up to the resource, in JSON up to the decision.
+fn front_text(
+    alloc: Global,
+    format: Format,
+    cell: u64,
+    principal: &str,
+    action: &str,
+    resource: &str,
+    word: &str,
+) -> Result<String, OutOfMemory>
+    ensures { IfOk result (λ text. string_bytes text
+        ≡ front_text format cell (record { principal = principal.now; action = action.now; resource = resource.now }) word.now) }
+{
+    let comma = comma_before(cell);
+    match format {
+        Format::Csv => format!(in alloc; "{cell},{principal},{action},{resource},{word}"),
+        Format::Json => {
+            format!(in alloc;
+                "{comma}{{\"action\":{action},\"cell\":{cell},\"decision\":\"{word}\""
+            )
+        }
+    }
+}
+
+/// A row in brief, of texts as they stand in it.
+fn brief_text(
+    alloc: Global,
+    format: Format,
+    cell: u64,
+    principal: &str,
+    action: &str,
+    resource: &str,
+    word: &str,
+) -> Result<String, OutOfMemory>
+    ensures { IfOk result (λ text. string_bytes text
+        ≡ brief_text format cell (record { principal = principal.now; action = action.now; resource = resource.now }) word.now) }
+{
+    let front = front_text(alloc, format, cell, principal, action, resource, word)?;
+    match format {
+        Format::Csv => format!(in alloc; "{front}\n"),
+        Format::Json => {
+            format!(in alloc; "{front},\"principal\":{principal},\"resource\":{resource}}}")
+        }
+    }
+}
+
+/// A row in full, of texts as they stand in it.
+fn full_text(
+    alloc: Global,
+    format: Format,
+    cell: u64,
+    principal: &str,
+    action: &str,
+    resource: &str,
+    word: &str,
+    statements: &str,
+    lacks: &str,
+    example: &str,
+) -> Result<String, OutOfMemory>
+    ensures { IfOk result (λ text. string_bytes text
+        ≡ full_text format cell (record { principal = principal.now; action = action.now; resource = resource.now }) word.now statements.now lacks.now example.now) }
+{
+    let front = front_text(alloc, format, cell, principal, action, resource, word)?;
+    match format {
+        Format::Csv => format!(in alloc; "{front},{statements},{lacks},{example}\n"),
+        Format::Json => {
+            format!(in alloc;
+                "{front},\"example\":{example},\"lacks\":[{lacks}],\"principal\":{principal},\"resource\":{resource},\"statements\":[{statements}]}}"
+            )
+        }
+    }
+}
+
+/// The statements of a verdict as they stand in a row.
+fn statements(alloc: Global, format: Format, verdict: &Verdict) -> Result<String, OutOfMemory>
+    ensures { IfOk result (λ text. string_bytes text ≡ statements_in format verdict.now) }
+{
+    let (mark, between) = match format {
+        Format::Csv => ("", " "),
+        Format::Json => ("\"", ","),
+    };
+    let statements = Places::of(verdict.statements.as_slice(), mark, between);
+    format!(in alloc; "{statements}")
+}
+
+/// The lacks of a verdict as they stand in a row.
+fn lacks(alloc: Global, format: Format, verdict: &Verdict) -> Result<String, OutOfMemory>
+    ensures { IfOk result (λ text. string_bytes text ≡ lacks_in format verdict.now) }
+{
+    let (mark, between) = match format {
+        Format::Csv => ("", " "),
+        Format::Json => ("\"", ","),
+    };
+    let lacks = Layers::of(verdict.lacks.as_slice(), mark, between);
+    format!(in alloc; "{lacks}")
+}
+
+/// A row in full, of texts as they stand in it.
+fn full_row(
+    alloc: Global,
+    format: Format,
+    cell: u64,
+    principal: &str,
+    action: &str,
+    resource: &str,
+    turned: &Turned,
+    verdict: &Verdict,
+) -> Result<String, OutOfMemory>
+    ensures { IfOk result (λ text. string_bytes text
+        ≡ joined_row format false cell (record { principal = principal.now; action = action.now; resource = resource.now }) turned.now verdict.now) }
+{
+    let shown = shown(alloc, format, turned)?;
+    let statements = statements(alloc, format, verdict)?;
+    let lacks = lacks(alloc, format, verdict)?;
+    full_text(
+        alloc,
+        format,
+        cell,
+        principal,
+        action,
+        resource,
+        word(turned),
+        statements.as_str(),
+        lacks.as_str(),
+        shown.as_str(),
+    )
+}
+
+/// The row of a cell.
+pub fn row(
+    alloc: Global,
+    world: &World,
+    format: Format,
+    brief: bool,
+    at: Position,
+) -> Result<String, OutOfMemory>
+    requires { IsCell world.now at.cell at.principal at.action at.resource }
+    ensures { IfOk result (λ text. (row : TurnedRow) × IsRow brief world.now at.cell row × (string_bytes text ≡ row_text format brief at.cell row)) }
+{
+    let (p, a, r) = (at.principal, at.action, at.resource);
+    let principal = quote(alloc, format, world.principal_text(p))?;
+    let action = quote(alloc, format, world.action_text(a))?;
+    let resource = quote(alloc, format, world.resource_text(r))?;
+    let turned = turned_of(alloc, world, p, a, r)?;
+    if brief {
+        return brief_text(
+            alloc,
+            format,
+            at.cell,
+            principal.as_str(),
+            action.as_str(),
+            resource.as_str(),
+            word(&turned),
+        );
+    }
+    match &turned {
+        Turned::Possible(it) => full_row(
+            alloc,
+            format,
+            at.cell,
+            principal.as_str(),
+            action.as_str(),
+            resource.as_str(),
+            &turned,
+            &it.verdict,
+        ),
+        _ => {
+            let verdict = world.decide_plain(alloc, p, a, r)?;
+            full_row(
+                alloc,
+                format,
+                at.cell,
+                principal.as_str(),
+                action.as_str(),
+                resource.as_str(),
+                &turned,
+                &verdict,
+            )
+        }
+    }
+}
