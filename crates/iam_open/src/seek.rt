@@ -43,7 +43,7 @@ pub fn example(
     let derived = world.derived(alloc, p, r)?;
     let context = world.context(alloc, p, r, &derived)?;
     let statements = statements_at(alloc, world, p, r)?;
-    let known = known_of(world, p, r, &none, None);
+    let known = known_of(world, p, r, &none, Some(world.moment()));
     let resource = world.resource_text(r);
     let trials = trials_of(alloc, statements.as_slice(), resource, &context, &known)?;
     let moments = moments_of(alloc, world.moment(), statements.as_slice())?;

@@ -14,6 +14,9 @@ const KEYS: usize = 6;
 
 const VALUES: usize = 24;
 
+/// Addresses of documents (RFC 5737, RFC 3849) and of a private network (RFC 1918); no other one is tried, whatever range is asked for.
+const ADDRESSES: [&str; 3] = ["10.0.0.1", "192.0.2.1", "2001:db8::1"];
+
 /// A key that nothing gives, with the texts that are tried for it beside having none.
 #[derive(Drop)]
 pub struct Trial<'a> {
@@ -73,11 +76,10 @@ fn add_entry<'a>(
     if known.has(entry.key()) {
         return Ok(());
     }
-    add_text(alloc, trials, entry.key(), "x")?;
     for value in entry.values() {
         add_value(alloc, trials, entry.key(), value, context)?;
     }
-    Ok(())
+    add_text(alloc, trials, entry.key(), "x")
 }
 
 /// Adds the variables of a text that are not known, with texts that they are likely to have to be.
@@ -147,7 +149,13 @@ fn add_value<'a>(
             add_text(alloc, trials, key, "true")?;
             add_text(alloc, trials, key, "false")
         }
-        Operand::Bytes(_) | Operand::Range(_) => Ok(()),
+        Operand::Range(_) => {
+            for address in ADDRESSES {
+                add_text(alloc, trials, key, address)?;
+            }
+            Ok(())
+        }
+        Operand::Bytes(_) => Ok(()),
     }
 }
 

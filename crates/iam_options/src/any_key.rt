@@ -8,8 +8,7 @@ use clap::{Arg, ArgAction, ArgMatches};
 use std::alloc::{AllocError, Global};
 
 const HELP: &str =
-    "Say of each request whether it is allowed whatever values the keys have that nothing gives: always,
-never, possible (with an example), or open";
+    "Tell whether keys that nothing gives can turn requests: always, never, possible or open";
 
 /// What a command line asks for of all requests of a world, whatever values the keys have that nothing gives.
 #[derive(Debug, Drop)]
