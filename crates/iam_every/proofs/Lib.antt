@@ -4,6 +4,7 @@ pub mod AtLemmas
 mod ElementLemmas
 pub mod FirstLemmas
 mod GroupLemmas
+mod KnownLemmas
 pub mod LineLemmas
 pub mod ListLemmas
 pub mod MadeLemmas
@@ -15,9 +16,10 @@ pub mod NamesLemmas
 pub mod OneLemmas
 pub mod OneRowsLemmas
 pub mod OwnLemmas
+mod PickedLemmas
 pub mod ReportLemmas
 pub mod RowLemmas
-mod SharingLemmas
+mod SceneLemmas
 mod SideLemmas
 pub mod TellingLemmas
 mod TextLemmas

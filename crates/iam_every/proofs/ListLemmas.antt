@@ -1,9 +1,8 @@
 -- Members of lists.
-use Rattle.std.proofs.Common.{◌≡◌, ◌⊎◌, inl, inr, ◌<◌, ◌+◌, ℕ, zero, suc, List, [], ◌∷◌, ◌++◌, ◌∙◌, append_assoc, arith, ap, get_or, length, map, subst, refl, sym, take}
+use Rattle.std.proofs.Common.{◌≡◌, ◌⊎◌, inl, inr, ◌<◌, ◌+◌, ℕ, zero, suc, Err, IfOk, List, Ok, Result, [], ◌∷◌, ◌++◌, ◌∙◌, append_assoc, arith, ap, get_or, length, map, subst, refl, sym, take}
 use Rattle.std.proofs.lemmas.List.{append-nil, map-append, take_more}
 use Rattle.std.proofs.lemmas.List.Elements.{Contains-append_cases, Contains-append_left, Contains-append_right}
 use Rattle.std.specs.List.{Any, Contains, flat_map}
-use Rattle.iam_every.specs.Code.Sharing.{AreFrom}
 
 pub here : {X : Type 0} (x : X) (xs : List X) → Contains (x ∷ xs) x
 here x xs = (0, omega arith, refl)
@@ -78,14 +77,7 @@ map_more f v zs i z below is =
     ap (λ x. map f (map v (take i zs)) ++ f (v x) ∷ []) is ∙ sym (map-append f (map v (take i zs)) (v (get_or zs i z) ∷ []))
     ∙ ap (map f) (sym (map-append v (take i zs) (get_or zs i z ∷ []))) ∙ ap (λ l. map f (map v l)) (sym (take_more zs i z below))
 
--- ---- members with their numbers
-pub from_more : {X : Type 0} (P : ℕ → X → Type 0) (n : ℕ) (xs : List X) (x : X) → AreFrom n P xs → P (n + length xs) x → AreFrom n P (xs ++ x ∷ [])
-from_more P n [] x are holds = (subst (λ (i : ℕ). P i x) (let same : n + 0 ≡ n = omega arith in same) holds, tt)
-from_more P n (y ∷ ys) x (first, rest) holds =
-    (first, from_more P (n + 1) ys x rest (subst (λ (i : ℕ). P i x) (let same : n + suc (length ys) ≡ n + 1 + length ys = omega arith in same) holds))
-
-pub from_at : {X : Type 0} (P : ℕ → X → Type 0) (n : ℕ) (xs : List X) (k : ℕ) (d : X) → AreFrom n P xs → k < length xs → P (n + k) (get_or xs k d)
-from_at P n [] k d are below = absurd (let wrong : ⊥ = omega (arith, below) in wrong)
-from_at P n (x ∷ xs) zero d (first, rest) below = subst (λ (i : ℕ). P i x) (let same : n ≡ n + 0 = omega arith in same) first
-from_at P n (x ∷ xs) (suc k) d (first, rest) below =
-    subst (λ (i : ℕ). P i (get_or xs k d)) (let same : n + 1 + k ≡ n + suc k = omega arith in same) (from_at P (n + 1) xs k d rest (omega (arith, below)))
+-- what an answer has, if there is one
+pub if_ok_all : {T E : Type 0} (r : Result T E) (P : T → Type 0) → ((x : T) → r ≡ Ok x → P x) → IfOk r P
+if_ok_all (Ok x) P h = h x refl
+if_ok_all (Err y) P h = tt

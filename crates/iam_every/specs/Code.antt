@@ -1,5 +1,6 @@
 pub mod Meant
+pub mod Picked
 pub mod Rows
-pub mod Sharing
 pub mod Sides
 pub mod Texts
+pub mod Told

@@ -71,7 +71,7 @@ fn concerns<'c>(
 }
 
 /// Whether every entry holds.
-fn conditions_hold<'c>(
+pub fn conditions_hold<'c>(
     alloc: Global,
     entries: &'c [Entry],
     context: &Context<'c>,

@@ -1,8 +1,10 @@
 // The groups of patterns by which the statements that concern a request read the text of a resource.
-ghost use Rattle.std.specs.Prelude.{◌≡◌, ◌↔◌, ◌++◌, Contains, IfOk, IfSome, IsTrue, None, OnOk, false, map, true};
+ghost use Rattle.std.specs.Prelude.{◌≡◌, ◌↔◌, ◌++◌, ℕ, Contains, IfOk, IfSome, IsTrue, List, None, OnOk, false, map, true};
 ghost use Rattle.iam_match.specs.Request.{access_of};
 ghost use Rattle.iam_decision.specs.declared.place.Place.{Place};
-ghost use Rattle.iam_decision.specs.Applicable.{IsNumbered, value_of};
+ghost use Rattle.iam_decision.specs.Applicable.{ApplicableValue, IsNumbered, value_of};
+ghost use Rattle.iam_decision.specs.Matched.{Selects, placed};
+ghost use Rattle.iam_every.specs.Alike.{Concerns};
 ghost use Rattle.iam_decision.specs.Code.Scan.{placed_value};
 ghost use Rattle.iam_every.specs.Groups.{AreGroups, groups_of, side_of, signs_of};
 ghost use Rattle.iam_every.specs.OwnGroups.{AreNegatedGroups, AreOwnGroups, AreSideGroups, HasElement, IsSideGroup, patterns_in};
@@ -43,8 +45,21 @@ pub fn text_groups<'a: 'c, 'c>(
         AreGroups (value_of applicable.now) (access_of access.entry) action.now (groups_of groups.items)) }
 {
     let statements = concerned(alloc, applicable, access, action)?;
-    let mut groups = side_groups(alloc, statements.as_slice(), access)?;
-    let mut negated = negated_groups(alloc, statements.as_slice(), access.context)?;
+    groups_among(alloc, statements.as_slice(), access)
+}
+
+/// The groups where these are the statements that concern the requests.
+pub fn groups_among<'a: 'c, 'c>(
+    alloc: Global,
+    statements: &[Standing<'a>],
+    access: Access<'_, 'c>,
+) -> Result<Vec<Vec<Pattern<'c>>>, OutOfMemory>
+    ensures { IfOk result (λ groups. (a : ApplicableValue) (action : List ℕ)
+        → Selects (Concerns (access_of access.entry) action) (placed a) (map placed_value statements.now)
+        → AreOwnGroups a (access_of access.entry) action (groups_of groups.items)) }
+{
+    let mut groups = side_groups(alloc, statements, access)?;
+    let mut negated = negated_groups(alloc, statements, access.context)?;
     groups.append(&mut negated)?;
     Ok(groups)
 }

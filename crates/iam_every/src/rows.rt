@@ -1,17 +1,17 @@
 // The rows that answer for a principal what is asked of all names.
-ghost use Rattle.std.specs.Prelude.{◌≡◌, ◌<◌, IfOk, length, map, slice_index, string_bytes};
-ghost use Rattle.std.specs.List.{AllZip, range_with_len};
-ghost use Rattle.iam_every.specs.Code.Rows.{AreMatched, AreRowsOn, AreWalksOf, IsGiven, IsLinedBelow, IsNamedBelow, IsRowOfResource};
-ghost use Rattle.iam_every.specs.Code.Sharing.{AreNamed, AreStar, IsRowFor};
+ghost use Rattle.std.specs.Prelude.{◌≡◌, ◌<◌, ℕ, IfOk, List, Some, length, map, string_bytes};
+ghost use Rattle.std.specs.List.{range_with_len, slice_get};
+ghost use Rattle.iam_every.specs.Code.Rows.{AreMatched, AreRowsOn, AreWalksOf, IsGiven, IsLinedBelow, IsNamedBelow, IsStar};
+ghost use Rattle.iam_every.specs.Code.Told.{AreLined, AreNamed, AreStar};
 ghost use Rattle.iam_every.specs.Every.{AreActions, AreRowsFor, AreThere, every_of, line_of, row_of, written_in};
-ghost use Rattle.iam_every.specs.Made.{AreAsked, AreJoined, AreOfAction, AreOfLine, AreOfResource, unshown_row};
+ghost use Rattle.iam_every.specs.Made.{AreAsked, AreJoined, AreOfAction, AreOfLine, AreOfResource, AreOfStar, unshown_row};
 ghost use Rattle.iam_every.specs.Rows.{AreRows};
 
 use crate::asked::{Asked, Line, Which};
-use crate::given::{Given, line_patterns, names_of};
-use crate::lines::{line_rows, unshown_row};
+use crate::given::{Given, first_line, is_among, line_patterns, names_of};
+use crate::lines::unshown_row;
 use crate::meant::meant_actions;
-use crate::sharing::{Sharing, named_sharings, resource_sharing, shared_row, star_sharings};
+use crate::told::{About, Told, add_rows, told_of};
 use iam_decision::Verdict;
 use iam_glob::Glob;
 use iam_kinds::Walks;
@@ -65,7 +65,7 @@ pub fn rows_of(
     given_rows(alloc, walks, given, actions.as_slice())
 }
 
-/// The rows for each of the actions, where it is worked out once what the requests share.
+/// The rows for each of the actions, where it is worked out once what is told for actions that the same statements match.
 fn given_rows(
     alloc: Global,
     walks: &mut Walks,
@@ -79,14 +79,15 @@ fn given_rows(
     ensures walks { AreWalksOf given.entry.asked.world.now walks.new }
     ensures rows { IfOk result (λ rows. AreRows (every_of given.entry.asked) given.entry.p (map row_of rows.items)) }
 {
-    let named = named_sharings(alloc, given)?;
-    let star = star_sharings(alloc, given)?;
+    let named = told_of_named(alloc, walks, given, actions)?;
+    let star = told_of_star(alloc, walks, given, actions)?;
+    let lined = told_of_lines(alloc, walks, given, actions)?;
     rows_for_all(
         alloc,
-        walks,
         given,
         named.as_slice(),
-        star.as_slice(),
+        &star,
+        lined.as_slice(),
         actions,
     )
 }
@@ -112,129 +113,177 @@ fn unshown_lines(alloc: Global, lines: &[Line<'_>], actions: &str) -> Result<Vec
     Ok(rows)
 }
 
-/// The rows for each of the actions.
-fn rows_for_all<'a>(
+/// What is told of each resource of the world that a line matches.
+fn told_of_named(
     alloc: Global,
     walks: &mut Walks,
-    given: Given<'a>,
-    named: &[Sharing<'a>],
-    star: &[Sharing<'a>],
+    given: Given<'_>,
+    actions: &[String],
+) -> Result<Vec<Told>, OutOfMemory>
+    requires given { IsGiven given }
+    requires walks { AreWalksOf given.asked.world.now walks.old }
+    ensures walks { AreWalksOf given.entry.asked.world.now walks.new }
+    ensures told { IfOk result (λ named. AreNamed given.entry (map string_bytes actions.now) named.items) }
+{
+    let mut named = Vec::with_capacity(alloc, given.matched.len())?;
+    for i in 0..given.matched.len() {
+        let about = About::Resource(given.matched[i]);
+        named.push(told_of(alloc, walks, given, about, actions)?)?;
+    }
+    Ok(named)
+}
+
+/// What is told of `*`, if a line speaks of it and no resource of the world has it.
+fn told_of_star(
+    alloc: Global,
+    walks: &mut Walks,
+    given: Given<'_>,
+    actions: &[String],
+) -> Result<Option<Told>, OutOfMemory>
+    requires given { IsGiven given }
+    requires walks { AreWalksOf given.asked.world.now walks.old }
+    ensures walks { AreWalksOf given.entry.asked.world.now walks.new }
+    ensures told { IfOk result (AreStar (every_of given.entry.asked) given.entry.p (map string_bytes actions.now)) }
+{
+    if is_among(given.names, "*") {
+        return Ok(None);
+    }
+    match first_line(given.asked.lines, "*") {
+        Some(k) => Ok(Some(told_of(alloc, walks, given, About::Star(k), actions)?)),
+        None => Ok(None),
+    }
+}
+
+/// What is told of the texts of each line.
+fn told_of_lines(
+    alloc: Global,
+    walks: &mut Walks,
+    given: Given<'_>,
+    actions: &[String],
+) -> Result<Vec<Told>, OutOfMemory>
+    requires given { IsGiven given }
+    requires walks { AreWalksOf given.asked.world.now walks.old }
+    ensures walks { AreWalksOf given.entry.asked.world.now walks.new }
+    ensures told { IfOk result (λ lined. AreLined (every_of given.entry.asked) given.entry.p (map string_bytes actions.now) lined.items) }
+{
+    let mut lined = Vec::with_capacity(alloc, given.asked.lines.len())?;
+    for k in 0..given.asked.lines.len() {
+        lined.push(told_of(alloc, walks, given, About::Line(k), actions)?)?;
+    }
+    Ok(lined)
+}
+
+/// The rows for each of the actions.
+fn rows_for_all(
+    alloc: Global,
+    given: Given<'_>,
+    named: &[Told],
+    star: &Option<Told>,
+    lined: &[Told],
     actions: &[String],
 ) -> Result<Vec<Row>, OutOfMemory>
     requires given { IsGiven given }
-    requires named { AreNamed given named.now }
-    requires star { AreStar (every_of given.asked) given.p star.now }
+    requires named { AreNamed given (map string_bytes actions.now) named.now }
+    requires star { AreStar (every_of given.asked) given.p (map string_bytes actions.now) star.now }
+    requires lined { AreLined (every_of given.asked) given.p (map string_bytes actions.now) lined.now }
     requires actions { AreActions (every_of given.asked) given.p (map string_bytes actions.now) }
     requires asked { AreAsked (every_of given.asked) given.p (map string_bytes actions.now) }
-    requires walks { AreWalksOf given.asked.world.now walks.old }
-    ensures walks { AreWalksOf given.entry.asked.world.now walks.new }
-    ensures rows { IfOk result (λ rows. AreRows (every_of given.entry.asked) given.entry.p (map row_of rows.items)) }
+    ensures { IfOk result (λ rows. AreRows (every_of given.entry.asked) given.entry.p (map row_of rows.items)) }
 {
     let mut rows = Vec::new(alloc);
-    for action in actions {
-        let mut further = rows_for(alloc, walks, given, named, star, action.as_str())?;
+    for (i, action) in actions.iter().enumerate() {
+        let mut further = rows_for(alloc, given, named, star, lined, i, action.as_str())?;
         rows.append(&mut further)?;
     }
     Ok(rows)
 }
 
-/// The rows for the action: those of the resources of the world, of `*` and of each line.
-fn rows_for<'a>(
+/// The rows for action i: those of the resources of the world, of `*` and of each line.
+fn rows_for(
     alloc: Global,
-    walks: &mut Walks,
-    given: Given<'a>,
-    named: &[Sharing<'a>],
-    star: &[Sharing<'a>],
+    given: Given<'_>,
+    named: &[Told],
+    star: &Option<Told>,
+    lined: &[Told],
+    i: usize,
     action: &str,
 ) -> Result<Vec<Row>, OutOfMemory>
     requires given { IsGiven given }
-    requires named { AreNamed given named.now }
-    requires star { AreStar (every_of given.asked) given.p star.now }
-    requires walks { AreWalksOf given.asked.world.now walks.old }
-    ensures walks { AreWalksOf given.entry.asked.world.now walks.new }
+    requires told { (actions : List (List ℕ)) × (slice_get actions i ≡ Some action.now) × AreNamed given actions named.now
+        × AreStar (every_of given.asked) given.p actions star.now × AreLined (every_of given.asked) given.p actions lined.now }
     ensures rows { IfOk result (λ rows. AreRowsFor (every_of given.entry.asked) given.entry.p action.now (map row_of rows.items)) }
     ensures made { IfOk result (λ rows. AreOfAction (every_of given.entry.asked) given.entry.p action.now (map row_of rows.items)) }
 {
-    let mut rows = named_rows(alloc, given, named, action)?;
-    let mut starred = star_rows(alloc, star, action)?;
+    let mut rows = named_rows(alloc, given, named, i, action)?;
+    let mut starred = star_rows(alloc, given, star, i, action)?;
     rows.append(&mut starred)?;
-    let mut lined = rows_of_lines(alloc, walks, given, action)?;
-    rows.append(&mut lined)?;
+    let mut further = rows_of_lines(alloc, given, lined, i, action)?;
+    rows.append(&mut further)?;
     Ok(rows)
 }
 
-/// A row for each resource of the world that a line speaks of; what requests for the first of them share is known.
-fn named_rows<'a>(
+/// A row for each resource of the world that a line speaks of.
+fn named_rows(
     alloc: Global,
-    given: Given<'a>,
-    kept: &[Sharing<'a>],
+    given: Given<'_>,
+    named: &[Told],
+    i: usize,
     action: &str,
 ) -> Result<Vec<Row>, OutOfMemory>
     requires given { IsGiven given }
-    requires kept { AreNamed given kept.now }
+    requires told { (actions : List (List ℕ)) × (slice_get actions i ≡ Some action.now) × AreNamed given actions named.now }
     ensures rows { IfOk result (λ rows. AreRowsOn (every_of given.entry.asked) given.entry.p action.now
         (IsNamedBelow (every_of given.entry.asked) (length given.entry.asked.world.now.resources)) (map row_of rows.items)) }
     ensures made { IfOk result (λ rows. AreJoined (AreOfResource (every_of given.entry.asked) given.entry.p action.now)
         (range_with_len 0 (length given.entry.asked.world.now.resources)) (map row_of rows.items)) }
 {
-    let mut rows = Vec::with_capacity(alloc, given.matched.len())?;
-    for i in 0..given.matched.len() {
-        rows.push(named_row(alloc, given, kept, i, action)?)?;
+    let mut rows = Vec::with_capacity(alloc, named.len())?;
+    for told in named {
+        add_rows(alloc, &mut rows, told, i, action)?;
     }
     Ok(rows)
-}
-
-/// The row of the resource with this place among those that a line speaks of.
-fn named_row<'a>(
-    alloc: Global,
-    given: Given<'a>,
-    kept: &[Sharing<'a>],
-    i: usize,
-    action: &str,
-) -> Result<Row, OutOfMemory>
-    requires given { IsGiven given }
-    requires kept { AreNamed given kept.now }
-    requires inside { i < length given.matched.now }
-    ensures { IfOk result (λ row. IsRowOfResource (every_of given.entry.asked) given.entry.p action.now
-        (slice_index given.entry.matched.now i) (row_of row)) }
-{
-    if i < kept.len() {
-        return shared_row(alloc, &kept[i], action);
-    }
-    let sharing = resource_sharing(alloc, given, given.matched[i])?;
-    shared_row(alloc, &sharing, action)
 }
 
 /// A row for `*`, if there is one.
-fn star_rows(alloc: Global, star: &[Sharing<'_>], action: &str) -> Result<Vec<Row>, OutOfMemory>
-    ensures { IfOk result (λ rows. AllZip (IsRowFor action.now) star.now (map row_of rows.items)) }
+fn star_rows(
+    alloc: Global,
+    given: Given<'_>,
+    star: &Option<Told>,
+    i: usize,
+    action: &str,
+) -> Result<Vec<Row>, OutOfMemory>
+    requires told { (actions : List (List ℕ)) × (slice_get actions i ≡ Some action.now) × AreStar (every_of given.asked) given.p actions star.now }
+    ensures rows { IfOk result (λ rows. AreRowsOn (every_of given.entry.asked) given.entry.p action.now (IsStar (every_of given.entry.asked))
+        (map row_of rows.items)) }
+    ensures made { IfOk result (λ rows. AreOfStar (every_of given.entry.asked) given.entry.p action.now (map row_of rows.items)) }
 {
-    let mut rows = Vec::with_capacity(alloc, star.len())?;
-    for sharing in star {
-        rows.push(shared_row(alloc, sharing, action)?)?;
+    let mut rows = Vec::new(alloc);
+    match star {
+        Some(told) => {
+            add_rows(alloc, &mut rows, told, i, action)?;
+            Ok(rows)
+        }
+        None => Ok(rows),
     }
-    Ok(rows)
 }
 
 /// The rows of each line.
 fn rows_of_lines(
     alloc: Global,
-    walks: &mut Walks,
     given: Given<'_>,
+    lined: &[Told],
+    i: usize,
     action: &str,
 ) -> Result<Vec<Row>, OutOfMemory>
-    requires given { IsGiven given }
-    requires walks { AreWalksOf given.asked.world.now walks.old }
-    ensures walks { AreWalksOf given.entry.asked.world.now walks.new }
+    requires told { (actions : List (List ℕ)) × (slice_get actions i ≡ Some action.now) × AreLined (every_of given.asked) given.p actions lined.now }
     ensures rows { IfOk result (λ rows. AreRowsOn (every_of given.entry.asked) given.entry.p action.now
         (IsLinedBelow (every_of given.entry.asked) (length given.entry.asked.lines.now)) (map row_of rows.items)) }
     ensures made { IfOk result (λ rows. AreJoined (AreOfLine (every_of given.entry.asked) given.entry.p action.now)
         (range_with_len 0 (length given.entry.asked.lines.now)) (map row_of rows.items)) }
 {
     let mut rows = Vec::new(alloc);
-    for k in 0..given.asked.lines.len() {
-        let mut further = line_rows(alloc, walks, given, k, action)?;
-        rows.append(&mut further)?;
+    for told in lined {
+        add_rows(alloc, &mut rows, told, i, action)?;
     }
     Ok(rows)
 }

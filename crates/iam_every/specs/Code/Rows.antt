@@ -1,12 +1,10 @@
 -- Rows for some of the texts that lines match, as they are collected.
-use Rattle.std.specs.Prelude.{◌≡◌, ◌<◌, ◌∷◌, [], ℕ, List, Contains, Some, codes, length, map}
-use Rattle.std.specs.List.{All, range_with_len, slice_get}
+use Rattle.std.specs.Prelude.{◌≡◌, ◌<◌, ◌∷◌, [], ℕ, List, Contains, codes, length, map}
+use Rattle.std.specs.List.{All, range_with_len}
 use Rattle.std.specs.Str.{IsUtf8, chars}
 use Rattle.iam_glob.specs.Glob.{Matches}
 use Rattle.iam_glob.specs.Signs.{signs_in}
 use Rattle.iam_glob.specs.declared.sign.Sign.{Sign}
-use Rattle.iam_context.specs.Context.{ContextValue}
-use Rattle.iam_decision.specs.Applicable.{ApplicableValue, IsNumbered}
 use Rattle.iam_decision.specs.Matched.{Selects}
 use Rattle.iam_kinds.specs.Answers.{IsAnswer}
 use Rattle.iam_kinds.specs.Kept.{AreFound, names_of}
@@ -14,7 +12,6 @@ use Rattle.iam_kinds.specs.declared.kinds.Kinds.{Kinds}
 use Rattle.iam_kinds.specs.declared.walks.Walks.{Walks}
 use Rattle.iam_world.specs.World.{WorldValue}
 use Rattle.iam_layers.specs.Cell.{IsResource}
-use Rattle.iam_layers.specs.Unnamed.{AreUnnamedKeys, AreUnnamedPolicies, IsThere, IsUnnamedContext}
 use Rattle.iam_layers.specs.declared.unnamed.Unnamed.{Unnamed}
 use Rattle.iam_layers.specs.declared.unnamed.Unnamed.TheVariants.{Like}
 use Rattle.iam_every.specs.Every.{AreThere, EveryValue, IsFirst, IsMatched, IsMeantAction, IsNamed, IsResourceText, IsRight, IsToldBy, LineValue, RowValue, Says, arn_signs, every_of, line_question, patterns_of}
@@ -51,17 +48,6 @@ pub record IsGiven (given : Given) : Type 0 where
   pub matched : AreMatched given.asked.world.now (every_of given.asked).lines given.matched.now
   pub names : AreNames given.asked.world.now (map (λ name. name.now) given.names.now)
   pub patterns : map signs_in given.patterns.now ≡ patterns_of (every_of given.asked).lines
-
--- what requests of principal p share for resources of which line k speaks: the policies that apply, and the context
-pub record IsSceneOf (given : Given) (k : ℕ) (applicable : ApplicableValue) (context : ContextValue) : Type 0 where
-  pub line : LineValue
-  pub at : slice_get (every_of given.asked).lines k ≡ Some line
-  pub there : IsThere given.asked.world.now line.unnamed
-  pub policies : AreUnnamedPolicies given.asked.world.now given.p line.unnamed applicable
-  pub numbered : IsNumbered applicable
-  pub derived : ContextValue
-  pub keys : AreUnnamedKeys given.asked.world.now given.p line.unnamed derived
-  pub within : IsUnnamedContext given.asked.world.now given.p line.unnamed derived context
 
 -- ---- rows
 -- some row tells the resource of this text, of which this is said

@@ -1,44 +1,37 @@
-use Rattle.std.proofs.Common.{◌≡◌, ◌∷◌, [], List, Some, arith, get_or, length, map, sym, ap, subst, take, ◌∙◌}
+use Rattle.std.proofs.Common.{◌≡◌, ◌∷◌, [], ℕ, List, Some, arith, get_or, length, map, sym, ap, subst, take, ◌∙◌}
 use Rattle.std.proofs.lemmas.List.{length-map, length-take-le, take-map}
-use Rattle.std.proofs.lemmas.Option.{slice_get_within}
 use Rattle.std.proofs.lemmas.Result.{IfOk-weaker}
 use Rattle.std.specs.List.{slice_get}
-use Rattle.iam_context.specs.Context.{ContextValue}
 use Rattle.iam_glob.specs.Signs.{signs_in}
 use Rattle.iam_glob.specs.declared.sign.Sign.{Sign}
 use Rattle.iam_kinds.specs.Answers.{IsAnswer}
 use Rattle.iam_kinds.specs.Kinds.{Question}
 use Rattle.iam_kinds.specs.declared.kinds.Kinds.{Kinds}
 use Rattle.iam_match.specs.Request.{access_of}
-use Rattle.iam_decision.specs.Applicable.{value_of}
-use Rattle.iam_layers.specs.Unnamed.{AreUnnamedKeys, AreUnnamedPolicies, IsUnnamedAccess, IsUnnamedContext}
+use Rattle.iam_decision.specs.Applicable.{ApplicableValue}
+use Rattle.iam_decision.specs.Code.Scan.{placed_value}
+use Rattle.iam_decision.specs.Matched.{Selects, placed}
+use Rattle.iam_layers.specs.Unnamed.{IsUnnamedAccess}
+use Rattle.iam_every.specs.Alike.{Concerns}
 use Rattle.iam_every.specs.Code.Rows.{AreLineKinds}
 use Rattle.iam_every.specs.Every.{LineValue, arn_signs, every_of, line_of, line_question, patterns_of}
 use Rattle.iam_every.specs.Groups.{groups_of}
 use Rattle.iam_every.specs.Names.{text_question}
 use Rattle.iam_every.proofs.AtLemmas.{groups_at}
 use Rattle.iam_every.proofs.LineLemmas.{line_there}
+use Rattle.iam_every.proofs.OwnLemmas.{own_groups}
 use Rattle.iam_every.proofs.lines.line_kinds.Goals as goal
-
-pub unnamed_access-access-requires-clause-context : goal.unnamed_access-access-requires-clause-context
-unnamed_access-access-requires-clause-context c =
-    let given = c.args.given in
-    let world = given.asked.world.now in
-    let scene = c.requires.scene in
-    let same = line_there given.asked.lines.now c.args.k c.index-given-k.result scene.line scene.at in
-    subst (λ (x : LineValue). (derived : ContextValue) × AreUnnamedKeys world given.p x.unnamed derived
-    × IsUnnamedContext world given.p x.unnamed derived c.args.context.now) (sym same) (scene.derived, scene.keys, scene.within)
 
 pub slice_bounds-text_kinds-end : goal.slice_bounds-text_kinds-end
 slice_bounds-text_kinds-end c =
     let given = c.args.given in
-    let scene = c.requires.scene in
     let lines = map line_of given.asked.lines.now in
-    let inside = slice_get_within lines c.args.k scene.line scene.at in
     let long : length given.patterns.now ≡ length lines =
     sym (length-map given.patterns.now signs_in) ∙ ap (λ (l : List (List Sign)). length l) c.requires.given.patterns
     ∙ length-map lines (λ (x : LineValue). x.pattern) in
-    sym (length-take-le c.args.k given.patterns.now (omega (arith, inside, long)))
+    let all = length-map given.asked.lines.now line_of in
+    let inside = c.requires.line in
+    sym (length-take-le c.args.k given.patterns.now (omega (arith, inside, long, all)))
 
 pub returns-clause-kinds : goal.returns-clause-kinds
 returns-clause-kinds c =
@@ -47,18 +40,10 @@ returns-clause-kinds c =
     let world = every.world in
     let p = given.p in
     let k = c.args.k in
-    let action = c.args.action.now in
-    let scene = c.requires.scene in
     let found = get_or given.asked.lines.now k c.index-given-k.result in
-    let a = value_of c.args.applicable.now in
-    let access = access_of c.unnamed_access-access.result in
-    let own = found.text.now in
+    let access = access_of c.args.access in
     let groups = groups_of c.in_ok-groups.groups.items in
     let arns = map (λ resource. resource.arn) world.resources in
-    let policies : AreUnnamedPolicies world p found.unnamed a =
-    subst (λ (x : LineValue). AreUnnamedPolicies world p x.unnamed a)
-    (sym (line_there given.asked.lines.now k c.index-given-k.result scene.line scene.at)) scene.policies in
-    let asks : IsUnnamedAccess world p found.unnamed action own a access = c.unnamed_access-access.ensures action a policies in
     let ask = λ (gs : List (List (List Sign))) (pattern arn : List Sign) (before : List (List Sign)).
     text_question gs pattern (arn ∷ []) before arns in
     let before : map signs_in (take k given.patterns.now) ≡ patterns_of (take k every.lines) =
@@ -71,15 +56,17 @@ returns-clause-kinds c =
     ∙ ap (λ (x : List Sign). ask groups x (signs_in given.arn) (map signs_in (take k given.patterns.now))) (c.signs.ensures ∙ ap (λ (x : LineValue). x.pattern) same)
     ∙ ap (λ (x : List Sign). ask groups line.pattern x (map signs_in (take k given.patterns.now))) c.requires.given.arn
     ∙ ap (λ (x : List (List Sign)). ask groups line.pattern arn_signs x) before in
-    IfOk-weaker c.text_kinds.result _ (λ kinds. (line : LineValue) → slice_get every.lines k ≡ Some line → AreLineKinds every p action k line kinds)
-    (λ (kinds : Kinds) answers line at.
+    IfOk-weaker c.text_kinds.result _
+    (λ kinds. (line : LineValue) (a : ApplicableValue) (action : List ℕ) → slice_get every.lines k ≡ Some line
+    → IsUnnamedAccess world p line.unnamed action access.resource a access
+    → Selects (Concerns access action) (placed a) (map placed_value c.args.concerned.now) → AreLineKinds every p action k line kinds)
+    (λ (kinds : Kinds) answers line a action at asks concerned.
     let same = line_there given.asked.lines.now k c.index-given-k.result line at in
-    let its : IsUnnamedAccess world p line.unnamed action own a access =
-    subst (λ (x : LineValue). IsUnnamedAccess world p x.unnamed action own a access) same asks in
+    let own = c.in_ok-groups.ensures a action concerned in
     record {
       groups = groups;
-      own = record { text = own; applicable = a; access = access; asks = its; are = c.in_ok-groups.ensures.own };
-      are = groups_at c.one_request.ensures world p line.unnamed action own a access groups its c.in_ok-groups.ensures.groups;
+      own = record { text = access.resource; applicable = a; access = access; asks = asks; are = own };
+      are = groups_at c.one_request.ensures world p line.unnamed action access.resource a access groups asks (own_groups a access action groups own);
       answer = subst (λ (q : Question). IsAnswer q kinds) (question line same) (answers arns (sym c.requires.walks.names));
     })
     c.text_kinds.ensures.answer

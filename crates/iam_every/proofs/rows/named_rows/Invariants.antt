@@ -4,8 +4,9 @@ use Rattle.iam_every.specs.Every.{every_of, row_of}
 use Rattle.iam_every.specs.Made.{AreJoined}
 use Rattle.iam_every.proofs.rows.named_rows.Given as goal
 
-abbrev pub invariant-loop-i : goal.invariant-loop-i
-invariant-loop-i l = record {
-  rows : AreRowsOn (every_of l.given.asked) l.given.p l.action (IsNamedAmong (every_of l.given.asked) (take l.i l.given.matched.now)) (map row_of l.rows.items);
-  made : AreJoined (AreOfMatched (every_of l.given.asked) l.given.p l.action) (take l.i l.given.matched.now) (map row_of l.rows.items);
+abbrev pub invariant-loop-told : goal.invariant-loop-told
+invariant-loop-told l = record {
+  rows : AreRowsOn (every_of l.given.asked) l.given.p l.action (IsNamedAmong (every_of l.given.asked) (take l.told-index l.given.matched.now))
+      (map row_of l.rows.items);
+  made : AreJoined (AreOfMatched (every_of l.given.asked) l.given.p l.action) (take l.told-index l.given.matched.now) (map row_of l.rows.items);
 }

@@ -1,13 +1,12 @@
 use Rattle.std.proofs.Common.{map}
 use Rattle.std.specs.List.{range_with_len}
-use Rattle.iam_every.specs.Code.Rows.{AreRowsOn, AreWalksOf, IsLinedBelow}
+use Rattle.iam_every.specs.Code.Rows.{AreRowsOn, IsLinedBelow}
 use Rattle.iam_every.specs.Every.{every_of, row_of}
 use Rattle.iam_every.specs.Made.{AreJoined, AreOfLine}
 use Rattle.iam_every.proofs.rows.rows_of_lines.Given as goal
 
-abbrev pub invariant-loop-k : goal.invariant-loop-k
-invariant-loop-k l = record {
-  walks : AreWalksOf l.given.asked.world.now l.walks;
-  rows : AreRowsOn (every_of l.given.asked) l.given.p l.action (IsLinedBelow (every_of l.given.asked) l.k) (map row_of l.rows.items);
-  made : AreJoined (AreOfLine (every_of l.given.asked) l.given.p l.action) (range_with_len 0 l.k) (map row_of l.rows.items);
+abbrev pub invariant-loop-told : goal.invariant-loop-told
+invariant-loop-told l = record {
+  rows : AreRowsOn (every_of l.given.asked) l.given.p l.action (IsLinedBelow (every_of l.given.asked) l.told-index) (map row_of l.rows.items);
+  made : AreJoined (AreOfLine (every_of l.given.asked) l.given.p l.action) (range_with_len 0 l.told-index) (map row_of l.rows.items);
 }
