@@ -126,3 +126,16 @@ is_named_row format brief cell named row text p a r tail is principal action res
     let m = quote_of format row.action in
     is ∙ ap (λ x. whole x a r tail) principal ∙ ap (λ y. whole n y r tail) action ∙ ap (λ z. whole n m z tail) resource
     ∙ ap (λ (t : Tail). whole n m (quote_of format row.resource) t) last ∙ is_row format brief cell (texts_of (record { principal = named; row = row })) row.verdict
+
+-- ---- a row of CSV is added part by part
+pub parts_added : (t0 t1 t2 t3 t4 t5 t6 t7 t8 count principal action resource back : List ℕ) → t1 ≡ t0 ++ count → t2 ≡ t1 ++ codes "," → t3 ≡ t2 ++ principal
+    → t4 ≡ t3 ++ codes "," → t5 ≡ t4 ++ action → t6 ≡ t5 ++ codes "," → t7 ≡ t6 ++ resource → t8 ≡ t7 ++ back
+    → t8 ≡ t0 ++ (count ++ (codes "," ++ (principal ++ (codes "," ++ (action ++ (codes "," ++ (resource ++ back)))))))
+parts_added t0 t1 t2 t3 t4 t5 t6 t7 t8 count principal action resource back e1 e2 e3 e4 e5 e6 e7 e8 =
+    let further : (old new more rest : List ℕ) → new ≡ old ++ more → new ++ rest ≡ old ++ (more ++ rest) =
+    λ old new more rest e. ap (λ t. t ++ rest) e ∙ append_assoc old more rest in
+    let behind = codes "," ++ (resource ++ back) in
+    e8 ∙ further t6 t7 resource back e7 ∙ further t5 t6 (codes ",") (resource ++ back) e6 ∙ further t4 t5 action behind e5
+    ∙ further t3 t4 (codes ",") (action ++ behind) e4 ∙ further t2 t3 principal (codes "," ++ (action ++ behind)) e3
+    ∙ further t1 t2 (codes ",") (principal ++ (codes "," ++ (action ++ behind))) e2
+    ∙ further t0 t1 count (codes "," ++ (principal ++ (codes "," ++ (action ++ behind)))) e1
