@@ -1,3 +1,4 @@
+mod ActingLemmas
 mod ActionLemmas
 mod AlikeLemmas
 pub mod AtLemmas

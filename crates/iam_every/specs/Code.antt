@@ -1,3 +1,4 @@
+pub mod Acting
 pub mod Meant
 pub mod Picked
 pub mod Rows

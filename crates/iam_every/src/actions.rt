@@ -185,7 +185,7 @@ pub fn are_same(ones: Signs<'_>, others: Signs<'_>) -> bool
 }
 
 /// A number that tells most elements apart.
-fn print_of(element: &Actions) -> u64
+pub fn print_of(element: &Actions) -> u64
     ensures { result ≡ print_of 0 element.now.patterns }
 {
     let mut print: u64 = 0;

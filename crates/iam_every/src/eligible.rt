@@ -6,13 +6,12 @@ ghost use Rattle.iam_decision.specs.Applicable.{IsNumbered, value_of};
 ghost use Rattle.iam_decision.specs.Code.Scan.{placed_value};
 ghost use Rattle.iam_decision.specs.Living.{Lives, item_of};
 ghost use Rattle.iam_decision.specs.Matched.{Selects, placed};
-ghost use Rattle.iam_every.specs.Code.Picked.{ActsOn, IsEligible, TellEach, both, picked};
+ghost use Rattle.iam_every.specs.Code.Picked.{IsEligible, TellEach, both, picked};
 
 use crate::concerned::{conditions_hold, statements};
 use iam_decision::{Applicable, Matched, Standing};
 use iam_match::{
-    Access, OutOfMemory, Requester, Statement, action_matches, grant_kind, principal_matches,
-    rest_matches,
+    Access, OutOfMemory, Requester, Statement, grant_kind, principal_matches, rest_matches,
 };
 use std::alloc::Global;
 
@@ -51,21 +50,6 @@ fn is_eligible<'c>(
     conditions_hold(alloc, statement.conditions(), access.context)
 }
 
-/// Of each of the statements whether its action element matches the action.
-pub fn acts(
-    alloc: Global,
-    statements: &[Standing<'_>],
-    action: &str,
-) -> Result<Vec<bool>, OutOfMemory>
-    ensures { IfOk result (λ acts. TellEach (ActsOn action.now) (map placed_value statements.now) acts.items) }
-{
-    let mut acts = Vec::with_capacity(alloc, statements.len())?;
-    for &standing in statements {
-        acts.push(action_matches(standing.statement.action(), action))?;
-    }
-    Ok(acts)
-}
-
 /// Of each of the statements whether it matches requests for this access once its action element does.
 pub fn lives<'a: 'c, 'c>(
     alloc: Global,
@@ -82,7 +66,7 @@ pub fn lives<'a: 'c, 'c>(
 }
 
 /// Bit i; where there is none it is not set.
-fn bit_at(bits: &[bool], i: usize) -> bool
+pub fn bit_at(bits: &[bool], i: usize) -> bool
     ensures { result ≡ get_or bits.now i false }
 {
     match bits.get(i) {

@@ -2,6 +2,7 @@
 //! for all of them by one of each kind, and the report of such rows.
 #![tactic(auto)]
 
+mod acting;
 mod actions;
 mod asked;
 mod concerned;

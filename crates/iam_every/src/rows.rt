@@ -1,12 +1,14 @@
 // The rows that answer for a principal what is asked of all names.
-ghost use Rattle.std.specs.Prelude.{◌≡◌, ◌<◌, ℕ, IfOk, List, Some, length, map, string_bytes};
+ghost use Rattle.std.specs.Prelude.{◌≡◌, ◌<◌, ℕ, All, IfOk, List, OnOk, Some, length, map, string_bytes};
 ghost use Rattle.std.specs.List.{range_with_len, slice_get};
+ghost use Rattle.iam_every.specs.Code.Acting.{IsActing};
 ghost use Rattle.iam_every.specs.Code.Rows.{AreMatched, AreRowsOn, AreWalksOf, IsGiven, IsLinedBelow, IsNamedBelow, IsStar};
 ghost use Rattle.iam_every.specs.Code.Told.{AreLined, AreNamed, AreStar};
 ghost use Rattle.iam_every.specs.Every.{AreActions, AreRowsFor, AreThere, every_of, line_of, row_of, written_in};
 ghost use Rattle.iam_every.specs.Made.{AreAsked, AreJoined, AreOfAction, AreOfLine, AreOfResource, AreOfStar, unshown_row};
 ghost use Rattle.iam_every.specs.Rows.{AreRows};
 
+use crate::acting::Acting;
 use crate::asked::{Asked, Line, Which};
 use crate::given::{Given, first_line, is_among, line_patterns, names_of};
 use crate::lines::unshown_row;
@@ -79,9 +81,10 @@ fn given_rows(
     ensures walks { AreWalksOf given.entry.asked.world.now walks.new }
     ensures rows { IfOk result (λ rows. AreRows (every_of given.entry.asked) given.entry.p (map row_of rows.items)) }
 {
-    let named = told_of_named(alloc, walks, given, actions)?;
-    let star = told_of_star(alloc, walks, given, actions)?;
-    let lined = told_of_lines(alloc, walks, given, actions)?;
+    let mut acting = Acting::new(alloc);
+    let named = told_of_named(alloc, walks, &mut acting, given, actions)?;
+    let star = told_of_star(alloc, walks, &mut acting, given, actions)?;
+    let lined = told_of_lines(alloc, walks, &mut acting, given, actions)?;
     rows_for_all(
         alloc,
         given,
@@ -114,61 +117,70 @@ fn unshown_lines(alloc: Global, lines: &[Line<'_>], actions: &str) -> Result<Vec
 }
 
 /// What is told of each resource of the world that a line matches.
-fn told_of_named(
+fn told_of_named<'a>(
     alloc: Global,
     walks: &mut Walks,
-    given: Given<'_>,
+    acting: &mut Acting<'a>,
+    given: Given<'a>,
     actions: &[String],
 ) -> Result<Vec<Told>, OutOfMemory>
     requires given { IsGiven given }
     requires walks { AreWalksOf given.asked.world.now walks.old }
+    requires acting { All (IsActing (map string_bytes actions.now)) acting.old.known.items }
     ensures walks { AreWalksOf given.entry.asked.world.now walks.new }
+    ensures acting { OnOk result (All (IsActing (map string_bytes actions.now)) acting.new.known.items) }
     ensures told { IfOk result (λ named. AreNamed given.entry (map string_bytes actions.now) named.items) }
 {
     let mut named = Vec::with_capacity(alloc, given.matched.len())?;
     for i in 0..given.matched.len() {
         let about = About::Resource(given.matched[i]);
-        named.push(told_of(alloc, walks, given, about, actions)?)?;
+        named.push(told_of(alloc, walks, acting, given, about, actions)?)?;
     }
     Ok(named)
 }
 
 /// What is told of `*`, if a line speaks of it and no resource of the world has it.
-fn told_of_star(
+fn told_of_star<'a>(
     alloc: Global,
     walks: &mut Walks,
-    given: Given<'_>,
+    acting: &mut Acting<'a>,
+    given: Given<'a>,
     actions: &[String],
 ) -> Result<Option<Told>, OutOfMemory>
     requires given { IsGiven given }
     requires walks { AreWalksOf given.asked.world.now walks.old }
+    requires acting { All (IsActing (map string_bytes actions.now)) acting.old.known.items }
     ensures walks { AreWalksOf given.entry.asked.world.now walks.new }
+    ensures acting { OnOk result (All (IsActing (map string_bytes actions.now)) acting.new.known.items) }
     ensures told { IfOk result (AreStar (every_of given.entry.asked) given.entry.p (map string_bytes actions.now)) }
 {
     if is_among(given.names, "*") {
         return Ok(None);
     }
     match first_line(given.asked.lines, "*") {
-        Some(k) => Ok(Some(told_of(alloc, walks, given, About::Star(k), actions)?)),
+        Some(k) => Ok(Some(told_of(alloc, walks, acting, given, About::Star(k), actions)?)),
         None => Ok(None),
     }
 }
 
 /// What is told of the texts of each line.
-fn told_of_lines(
+fn told_of_lines<'a>(
     alloc: Global,
     walks: &mut Walks,
-    given: Given<'_>,
+    acting: &mut Acting<'a>,
+    given: Given<'a>,
     actions: &[String],
 ) -> Result<Vec<Told>, OutOfMemory>
     requires given { IsGiven given }
     requires walks { AreWalksOf given.asked.world.now walks.old }
+    requires acting { All (IsActing (map string_bytes actions.now)) acting.old.known.items }
     ensures walks { AreWalksOf given.entry.asked.world.now walks.new }
+    ensures acting { OnOk result (All (IsActing (map string_bytes actions.now)) acting.new.known.items) }
     ensures told { IfOk result (λ lined. AreLined (every_of given.entry.asked) given.entry.p (map string_bytes actions.now) lined.items) }
 {
     let mut lined = Vec::with_capacity(alloc, given.asked.lines.len())?;
     for k in 0..given.asked.lines.len() {
-        lined.push(told_of(alloc, walks, given, About::Line(k), actions)?)?;
+        lined.push(told_of(alloc, walks, acting, given, About::Line(k), actions)?)?;
     }
     Ok(lined)
 }

@@ -1,6 +1,7 @@
 // What is told for each action, worked out once for actions that the same statements match.
 ghost use Rattle.std.specs.Prelude.{◌≡◌, ◌∷◌, [], ◌++◌, ◌<◌, ℕ, All, IfOk, IfSome, IsTrue, List, OnOk, Some, codes, length, map, string_bytes};
 ghost use Rattle.std.specs.List.{slice_get};
+ghost use Rattle.iam_every.specs.Code.Acting.{IsActing};
 ghost use Rattle.iam_every.specs.Code.Picked.{ActsOn, TellEach};
 ghost use Rattle.iam_every.specs.Code.Rows.{AreRowsOn, AreWalksOf, IsGiven, IsLined};
 ghost use Rattle.iam_every.specs.Code.Told.{AreRowsAbout, IsAbout, IsKnown, IsLived, IsNumberFor, IsSaidFor, IsSaidOf, IsScene, IsSceneOf, IsTold, eligible_in, row_as};
@@ -11,7 +12,8 @@ ghost use Rattle.iam_world.specs.World.{WorldValue};
 ghost use Rattle.iam_layers.specs.Unnamed.{IsThere};
 ghost use Rattle.iam_layers.specs.declared.unnamed.Unnamed.{Unnamed};
 
-use crate::eligible::{acts, eligible, picked};
+use crate::acting::{Acting, acts_at};
+use crate::eligible::{eligible, picked};
 use crate::given::{Given, is_first_line};
 use crate::lines::line_kinds;
 use crate::rows::Row;
@@ -266,7 +268,7 @@ fn said_about<'a: 'c, 'c>(
     }
 }
 
-/// The number of what is told for the action, which is found unless it is known.
+/// The number of what is told for actions that just these of the statements match, which is found unless it is known.
 fn number_for<'a: 'c, 'c>(
     alloc: Global,
     walks: &mut Walks,
@@ -274,7 +276,7 @@ fn number_for<'a: 'c, 'c>(
     about: About,
     memo: &mut Memo,
     scene: Scene<'_, '_, 'a, 'c>,
-    action: &str,
+    acts: Vec<bool>,
 ) -> Result<usize, OutOfMemory>
     requires given { IsGiven given }
     requires about { IsAbout (every_of given.asked) about }
@@ -286,9 +288,9 @@ fn number_for<'a: 'c, 'c>(
     ensures known { OnOk result (All (IsKnown (every_of given.entry.asked) given.entry.p about scene.entry) memo.new.known.items) }
     ensures lived { OnOk result (All (IsLived scene.entry) memo.new.lived.items) }
     ensures same { OnOk result ((n : ℕ) (one : Known) → slice_get memo.old.known.items n ≡ Some one → slice_get memo.new.known.items n ≡ Some one) }
-    ensures number { IfOk result (IsNumberFor (every_of given.entry.asked) given.entry.p about memo.new.known.items action.now) }
+    ensures number { IfOk result (λ n. (action : List ℕ) → TellEach (ActsOn action) (eligible_in scene.entry) acts.items
+        → IsNumberFor (every_of given.entry.asked) given.entry.p about memo.new.known.items action n) }
 {
-    let acts = acts(alloc, scene.eligible, action)?;
     if let Some(n) = number_of(memo.known.as_slice(), acts.as_slice()) {
         return Ok(n);
     }
@@ -310,6 +312,7 @@ fn number_for<'a: 'c, 'c>(
 fn told_in<'a: 'c, 'c>(
     alloc: Global,
     walks: &mut Walks,
+    acting: &mut Acting<'a>,
     given: Given<'_>,
     about: About,
     scene: Scene<'_, '_, 'a, 'c>,
@@ -318,26 +321,21 @@ fn told_in<'a: 'c, 'c>(
     requires given { IsGiven given }
     requires about { IsAbout (every_of given.asked) about }
     requires walks { AreWalksOf given.asked.world.now walks.old }
+    requires acting { All (IsActing (map string_bytes actions.now)) acting.old.known.items }
     requires scene { IsSceneOf (every_of given.asked) given.p about scene }
     ensures walks { AreWalksOf given.entry.asked.world.now walks.new }
+    ensures acting { OnOk result (All (IsActing (map string_bytes actions.now)) acting.new.known.items) }
     ensures told { IfOk result (IsTold (every_of given.entry.asked) given.entry.p about (map string_bytes actions.now)) }
 {
+    let elements = acting.numbers_of(alloc, scene.eligible, actions)?;
     let mut memo = Memo {
         known: Vec::new(alloc),
         lived: Vec::new(alloc),
     };
     let mut numbers = Vec::with_capacity(alloc, actions.len())?;
-    for action in actions {
-        let number = number_for(
-            alloc,
-            walks,
-            given,
-            about,
-            &mut memo,
-            scene,
-            action.as_str(),
-        )?;
-        numbers.push(number)?;
+    for i in 0..actions.len() {
+        let acts = acts_at(alloc, acting.known.as_slice(), elements.as_slice(), i)?;
+        numbers.push(number_for(alloc, walks, given, about, &mut memo, scene, acts)?)?;
     }
     Ok(Told {
         known: memo.known,
@@ -346,10 +344,11 @@ fn told_in<'a: 'c, 'c>(
 }
 
 /// What is told for each of the actions, of texts of which this is said; this is one of them.
-fn told_with(
+fn told_with<'a>(
     alloc: Global,
     walks: &mut Walks,
-    given: Given<'_>,
+    acting: &mut Acting<'a>,
+    given: Given<'a>,
     about: About,
     unnamed: Unnamed<'_>,
     text: &str,
@@ -360,7 +359,9 @@ fn told_with(
     requires unnamed { IsSaidOf (every_of given.asked) about unnamed }
     requires there { IsThere given.asked.world.now unnamed }
     requires walks { AreWalksOf given.asked.world.now walks.old }
+    requires acting { All (IsActing (map string_bytes actions.now)) acting.old.known.items }
     ensures walks { AreWalksOf given.entry.asked.world.now walks.new }
+    ensures acting { OnOk result (All (IsActing (map string_bytes actions.now)) acting.new.known.items) }
     ensures told { IfOk result (IsTold (every_of given.entry.asked) given.entry.p about (map string_bytes actions.now)) }
 {
     let world = given.asked.world;
@@ -374,25 +375,28 @@ fn told_with(
         frame: frame_of(&applicable),
         eligible: eligible.as_slice(),
     };
-    told_in(alloc, walks, given, about, scene, actions)
+    told_in(alloc, walks, acting, given, about, scene, actions)
 }
 
 /// What is told for each of the actions.
-pub fn told_of(
+pub fn told_of<'a>(
     alloc: Global,
     walks: &mut Walks,
-    given: Given<'_>,
+    acting: &mut Acting<'a>,
+    given: Given<'a>,
     about: About,
     actions: &[String],
 ) -> Result<Told, OutOfMemory>
     requires given { IsGiven given }
     requires about { IsAbout (every_of given.asked) about }
     requires walks { AreWalksOf given.asked.world.now walks.old }
+    requires acting { All (IsActing (map string_bytes actions.now)) acting.old.known.items }
     ensures walks { AreWalksOf given.entry.asked.world.now walks.new }
+    ensures acting { OnOk result (All (IsActing (map string_bytes actions.now)) acting.new.known.items) }
     ensures told { IfOk result (IsTold (every_of given.entry.asked) given.entry.p about (map string_bytes actions.now)) }
 {
     let unnamed = unnamed_of(given, about);
-    told_with(alloc, walks, given, about, unnamed, "*", actions)
+    told_with(alloc, walks, acting, given, about, unnamed, "*", actions)
 }
 
 /// What is said of the texts that are asked about.

@@ -17,6 +17,7 @@ loop-k-preserved c =
     let R : ℕ → Told → Type 0 = λ n told. IsTold (every_of given.asked) given.p (Line n) actions told in
     record {
       walks = c.told_of.ensures.walks;
+      acting = c.in_ok-told_of.ensures.acting;
       lined = subst (λ (l : List ℕ). AllZip R l c.push.new.self.items) (sym (next_range k))
           (subst (AllZip R (range_with_len 0 k ++ (k ∷ []))) (sym c.in_ok-push.ensures.items)
           (both_more R (range_with_len 0 k) c.loop-k.lined.items k c.in_ok-told_of.field-0 c.loop-k.invariant.lined c.in_ok-told_of.ensures.told));

@@ -32,6 +32,7 @@ loop-i-preserved c =
     let R : ℕ → Told → Type 0 = λ s told. IsTold (every_of given.asked) given.p (Resource s) actions told in
     record {
       walks = c.told_of.ensures.walks;
+      acting = c.in_ok-told_of.ensures.acting;
       named = subst (λ (l : List ℕ). AllZip R l c.push.new.self.items) (sym (taken_more matched i r below is))
           (subst (AllZip R (take i matched ++ (r ∷ []))) (sym c.in_ok-push.ensures.items)
           (both_more R (take i matched) c.loop-i.named.items r c.in_ok-told_of.field-0 c.loop-i.invariant.named c.in_ok-told_of.ensures.told));
