@@ -40,7 +40,7 @@ named principal row = record { principal = principal; row = row_of row }
 -- one more row of a principal
 pub row_more : (format : Format) (brief : Bool) (first : ℕ) (principal : List ℕ) (rows : List Row) (i : ℕ) (row : Row) (cell : ℕ) (before next after : List ℕ)
     → i < length rows → row ≡ get_or rows i row → cell ≡ first + i → before ≡ rows_text format brief first (named_rows principal (take i rows))
-    → next ≡ row_text format brief cell (texts_of (named principal row)) row.verdict → after ≡ before ++ next
+    → next ≡ row_text format brief cell (texts_of (named principal row)) (row_of row).verdict → after ≡ before ++ next
     → after ≡ rows_text format brief first (named_rows principal (take (i + 1) rows))
 row_more format brief first principal rows i row cell before next after inside is number so_far one more =
     let name : Row → NamedRow = named principal in

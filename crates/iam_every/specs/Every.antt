@@ -1,6 +1,7 @@
 -- What is asked of all names, and the rows that answer it for a principal: AWS IAM User Guide, "Policy evaluation logic".
 -- LOGIC 11.2 and 11.6.
 use Rattle.std.specs.Prelude.{◌≡◌, ◌⊎◌, ◌<◌, ◌∷◌, ◌++◌, ℕ, false, List, [], All, Any, Contains, MatchOption, Option, Some, None, codes, length, map, string_bytes, take}
+use Rattle.std.specs.Arc.{arc_value}
 use Rattle.std.specs.List.{range_with_len, slice_get}
 use Rattle.std.specs.Str.{IsUtf8, chars}
 use Rattle.iam_glob.specs.Glob.{Matches, MatchesFold, wild_sign}
@@ -117,7 +118,7 @@ pub record RowValue : Type 0 where
   pub verdict : Option Verdict
 
 abbrev pub row_of : Row → RowValue
-row_of row = record { action = string_bytes row.action; resource = string_bytes row.resource; verdict = row.verdict }
+row_of row = record { action = string_bytes (arc_value row.action_text); resource = string_bytes (arc_value row.said).resource; verdict = (arc_value row.said).verdict }
 
 -- the kinds of texts that line k speaks of, on requests of principal p for the action, pass a limit
 pub record TextsPass (every : EveryValue) (p : ℕ) (action : List ℕ) (k : ℕ) (line : LineValue) : Type 0 where

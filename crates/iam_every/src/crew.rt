@@ -22,7 +22,7 @@ use std::thread::Threads;
 const TILES: usize = 4096;
 
 /// A principal, and those of its rows that are asked for.
-#[derive(Debug, Drop)]
+#[derive(Drop)]
 pub struct Chosen {
     pub principal: u64,
     pub rows: Items<Row>,
@@ -83,7 +83,7 @@ impl<'a> Crew for Principals<'a> {
 fn is_wanted(row: &Row, decisions: &[Decision]) -> bool
     ensures { IsTrue result ↔ IsWanted decisions.now (row_of row.now) }
 {
-    match &row.verdict {
+    match row.verdict() {
         Some(verdict) => decisions.is_empty() || decisions.contains(&verdict.decision),
         None => true,
     }
@@ -99,9 +99,9 @@ fn wanted(mut rows: Vec<Row>, decisions: &[Decision]) -> Vec<Row>
 
 /// Whether one of the rows is not shown.
 fn has_unshown(rows: &[Row]) -> bool
-    ensures { result ≡ list_any (λ row. is_none row.verdict) rows.now }
+    ensures { result ≡ list_any (λ row. is_none (row_of row).verdict) rows.now }
 {
-    rows.iter().any(|row| row.verdict.is_none())
+    rows.iter().any(|row| row.verdict().is_none())
 }
 
 /// The rows of principal p that are asked for.

@@ -36,7 +36,7 @@ pub use laws::{
 pub use meant::{all_said, meant_actions, policies_of};
 pub use pattern::Pattern;
 pub use report::{EveryAnswer, EveryFault, every_report};
-pub use rows::{Row, rows_of};
+pub use rows::{Row, Said, rows_of};
 pub use text::EveryText;
 pub use texts::text_kinds;
 pub use verdict::verdict_on;

@@ -1,5 +1,5 @@
-// The rows of a line.
-ghost use Rattle.std.specs.Prelude.{◌≡◌, ◌<◌, ℕ, IfOk, List, None, Some, length, map};
+// The kinds of texts of a line.
+ghost use Rattle.std.specs.Prelude.{◌≡◌, ◌<◌, ℕ, IfOk, List, Some, length, map};
 ghost use Rattle.std.specs.List.{slice_get};
 ghost use Rattle.iam_match.specs.Request.{access_of};
 ghost use Rattle.iam_decision.specs.Applicable.{ApplicableValue};
@@ -8,11 +8,10 @@ ghost use Rattle.iam_decision.specs.Matched.{Selects, placed};
 ghost use Rattle.iam_layers.specs.Unnamed.{IsUnnamedAccess};
 ghost use Rattle.iam_every.specs.Alike.{Concerns};
 ghost use Rattle.iam_every.specs.Code.Rows.{AreLineKinds, AreWalksOf, IsGiven};
-ghost use Rattle.iam_every.specs.Every.{LineValue, every_of, row_of};
+ghost use Rattle.iam_every.specs.Every.{LineValue, every_of};
 
 use crate::given::Given;
 use crate::groups::groups_among;
-use crate::rows::Row;
 use crate::texts::text_kinds;
 use iam_decision::Standing;
 use iam_kinds::{Kinds, Walks};
@@ -50,15 +49,4 @@ pub fn line_kinds<'a: 'c, 'c>(
         given.arn,
         &given.patterns[..k],
     )
-}
-
-/// A row that says that the line that is written so cannot be shown for this action.
-pub fn unshown_row(alloc: Global, action: &str, text: &str) -> Result<Row, OutOfMemory>
-    ensures { IfOk result (λ row. row_of row ≡ record { action = action.now; resource = text.now; verdict = None }) }
-{
-    Ok(Row {
-        action: String::from_str(alloc, action)?,
-        resource: String::from_str(alloc, text)?,
-        verdict: None,
-    })
 }

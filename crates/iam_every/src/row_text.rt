@@ -99,11 +99,11 @@ fn row_text(
     row: &Row,
 ) -> Result<String, OutOfMemory>
     ensures { IfOk result (λ text. (named : List ℕ) → principal.now ≡ quote_of format named
-        → string_bytes text ≡ row_text format brief cell (texts_of (record { principal = named; row = row_of row.now })) row.now.verdict) }
+        → string_bytes text ≡ row_text format brief cell (texts_of (record { principal = named; row = row_of row.now })) (row_of row.now).verdict) }
 {
-    let action = quote(alloc, format, row.action.as_str())?;
-    let resource = quote(alloc, format, row.resource.as_str())?;
-    let tail = tail_of(alloc, format, brief, &row.verdict)?;
+    let action = quote(alloc, format, row.action())?;
+    let resource = quote(alloc, format, row.resource())?;
+    let tail = tail_of(alloc, format, brief, row.verdict())?;
     joined(
         alloc,
         format,
@@ -182,17 +182,17 @@ fn add_csv_row(
     row: &Row,
 ) -> Result<(), OutOfMemory>
     ensures { OnOk result ((named : List ℕ) → principal.now ≡ quote_of Csv named → string_bytes text.new
-        ≡ string_bytes text.old ++ row_text Csv brief cell (texts_of (record { principal = named; row = row_of row.now })) row.now.verdict) }
+        ≡ string_bytes text.old ++ row_text Csv brief cell (texts_of (record { principal = named; row = row_of row.now })) (row_of row.now).verdict) }
 {
     let mut number = Buffer::new();
     text.push_str(number.format(cell))?;
     text.push_str(",")?;
     text.push_str(principal)?;
     text.push_str(",")?;
-    add_field(alloc, text, row.action.as_str())?;
+    add_field(alloc, text, row.action())?;
     text.push_str(",")?;
-    add_field(alloc, text, row.resource.as_str())?;
-    add_back(alloc, text, brief, &row.verdict)
+    add_field(alloc, text, row.resource())?;
+    add_back(alloc, text, brief, row.verdict())
 }
 
 /// Adds the row of this number, of a principal whose text stands so in rows.
@@ -206,7 +206,7 @@ fn add_row(
     row: &Row,
 ) -> Result<(), OutOfMemory>
     ensures { OnOk result ((named : List ℕ) → principal.now ≡ quote_of format named → string_bytes text.new
-        ≡ string_bytes text.old ++ row_text format brief cell (texts_of (record { principal = named; row = row_of row.now })) row.now.verdict) }
+        ≡ string_bytes text.old ++ row_text format brief cell (texts_of (record { principal = named; row = row_of row.now })) (row_of row.now).verdict) }
 {
     match format {
         Format::Csv => add_csv_row(alloc, text, brief, cell, principal, row),

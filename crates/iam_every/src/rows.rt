@@ -1,5 +1,6 @@
 // The rows that answer for a principal what is asked of all names.
-ghost use Rattle.std.specs.Prelude.{◌≡◌, ◌<◌, ℕ, All, IfOk, List, OnOk, Some, length, map, string_bytes};
+ghost use Rattle.std.specs.Prelude.{◌≡◌, ◌<◌, ℕ, All, IfOk, List, None, OnOk, Some, length, map, string_bytes};
+ghost use Rattle.std.specs.Arc.{arc_value};
 ghost use Rattle.std.specs.List.{range_with_len, slice_get};
 ghost use Rattle.iam_every.specs.Code.Acting.{IsActing};
 ghost use Rattle.iam_every.specs.Code.Rows.{AreMatched, AreRowsOn, AreWalksOf, IsGiven, IsLinedBelow, IsNamedBelow, IsStar};
@@ -11,7 +12,6 @@ ghost use Rattle.iam_every.specs.Rows.{AreRows};
 use crate::acting::Acting;
 use crate::asked::{Asked, Line, Which};
 use crate::given::{Given, first_line, is_among, line_patterns, names_of};
-use crate::lines::unshown_row;
 use crate::meant::meant_actions;
 use crate::told::{About, Told, add_rows, told_of};
 use iam_decision::Verdict;
@@ -19,11 +19,41 @@ use iam_glob::Glob;
 use iam_kinds::Walks;
 use iam_match::OutOfMemory;
 use std::alloc::Global;
+use std::sync::Arc;
 
 /// A request and its verdict; or a line of which not all could be shown, by its pattern as it is written.
-#[derive(Debug, Drop)]
+#[derive(Drop)]
 pub struct Row {
-    pub action: String,
+    pub action_text: Arc<String>,
+    pub said: Arc<Said>,
+}
+
+impl Row {
+    ghost use Rattle.std.specs.Prelude.{◌≡◌};
+    ghost use Rattle.iam_every.specs.Every.{row_of};
+
+    pub fn action(&self) -> &str
+        ensures { result.now ≡ (row_of self.now).action }
+    {
+        self.action_text.as_str()
+    }
+
+    pub fn resource(&self) -> &str
+        ensures { result.now ≡ (row_of self.now).resource }
+    {
+        self.said.resource.as_str()
+    }
+
+    pub fn verdict(&self) -> &Option<Verdict>
+        ensures { result.now ≡ (row_of self.now).verdict }
+    {
+        &self.said.verdict
+    }
+}
+
+/// A row but for its action.
+#[derive(Drop)]
+pub struct Said {
     pub resource: String,
     /// `None` where more kinds would have to be looked at than there may be.
     pub verdict: Option<Verdict>,
@@ -116,6 +146,37 @@ fn unshown_lines(alloc: Global, lines: &[Line<'_>], actions: &str) -> Result<Vec
     Ok(rows)
 }
 
+/// A row that says that the line that is written so cannot be shown for this action.
+fn unshown_row(alloc: Global, action: &str, text: &str) -> Result<Row, OutOfMemory>
+    ensures { IfOk result (λ row. row_of row ≡ record { action = action.now; resource = text.now; verdict = None }) }
+{
+    Ok(Row {
+        action_text: shared_text(alloc, action)?,
+        said: unshown(alloc, text)?,
+    })
+}
+
+/// The text, to be shared.
+fn shared_text(alloc: Global, text: &str) -> Result<Arc<String>, OutOfMemory>
+    ensures { IfOk result (λ shared. string_bytes (arc_value shared) ≡ text.now) }
+{
+    let shared = Arc::new(alloc, String::from_str(alloc, text)?)?;
+    Ok(shared)
+}
+
+/// What is told of a line that is written so where it cannot be shown.
+pub fn unshown(alloc: Global, text: &str) -> Result<Arc<Said>, OutOfMemory>
+    ensures resource { IfOk result (λ said. string_bytes (arc_value said).resource ≡ text.now) }
+    ensures verdict { IfOk result (λ said. (arc_value said).verdict ≡ None) }
+{
+    let said = Said {
+        resource: String::from_str(alloc, text)?,
+        verdict: None,
+    };
+    let shared = Arc::new(alloc, said)?;
+    Ok(shared)
+}
+
 /// What is told of each resource of the world that a line matches.
 fn told_of_named<'a>(
     alloc: Global,
@@ -204,7 +265,8 @@ fn rows_for_all(
 {
     let mut rows = Vec::new(alloc);
     for (i, action) in actions.iter().enumerate() {
-        let mut further = rows_for(alloc, given, named, star, lined, i, action.as_str())?;
+        let shared = shared_text(alloc, action.as_str())?;
+        let mut further = rows_for(alloc, given, named, star, lined, i, &shared)?;
         rows.append(&mut further)?;
     }
     Ok(rows)
@@ -218,13 +280,13 @@ fn rows_for(
     star: &Option<Told>,
     lined: &[Told],
     i: usize,
-    action: &str,
+    action: &Arc<String>,
 ) -> Result<Vec<Row>, OutOfMemory>
     requires given { IsGiven given }
-    requires told { (actions : List (List ℕ)) × (slice_get actions i ≡ Some action.now) × AreNamed given actions named.now
+    requires told { (actions : List (List ℕ)) × (slice_get actions i ≡ Some (string_bytes (arc_value action.now))) × AreNamed given actions named.now
         × AreStar (every_of given.asked) given.p actions star.now × AreLined (every_of given.asked) given.p actions lined.now }
-    ensures rows { IfOk result (λ rows. AreRowsFor (every_of given.entry.asked) given.entry.p action.now (map row_of rows.items)) }
-    ensures made { IfOk result (λ rows. AreOfAction (every_of given.entry.asked) given.entry.p action.now (map row_of rows.items)) }
+    ensures rows { IfOk result (λ rows. AreRowsFor (every_of given.entry.asked) given.entry.p (string_bytes (arc_value action.now)) (map row_of rows.items)) }
+    ensures made { IfOk result (λ rows. AreOfAction (every_of given.entry.asked) given.entry.p (string_bytes (arc_value action.now)) (map row_of rows.items)) }
 {
     let mut rows = named_rows(alloc, given, named, i, action)?;
     let mut starred = star_rows(alloc, given, star, i, action)?;
@@ -240,18 +302,18 @@ fn named_rows(
     given: Given<'_>,
     named: &[Told],
     i: usize,
-    action: &str,
+    action: &Arc<String>,
 ) -> Result<Vec<Row>, OutOfMemory>
     requires given { IsGiven given }
-    requires told { (actions : List (List ℕ)) × (slice_get actions i ≡ Some action.now) × AreNamed given actions named.now }
-    ensures rows { IfOk result (λ rows. AreRowsOn (every_of given.entry.asked) given.entry.p action.now
+    requires told { (actions : List (List ℕ)) × (slice_get actions i ≡ Some (string_bytes (arc_value action.now))) × AreNamed given actions named.now }
+    ensures rows { IfOk result (λ rows. AreRowsOn (every_of given.entry.asked) given.entry.p (string_bytes (arc_value action.now))
         (IsNamedBelow (every_of given.entry.asked) (length given.entry.asked.world.now.resources)) (map row_of rows.items)) }
-    ensures made { IfOk result (λ rows. AreJoined (AreOfResource (every_of given.entry.asked) given.entry.p action.now)
+    ensures made { IfOk result (λ rows. AreJoined (AreOfResource (every_of given.entry.asked) given.entry.p (string_bytes (arc_value action.now)))
         (range_with_len 0 (length given.entry.asked.world.now.resources)) (map row_of rows.items)) }
 {
     let mut rows = Vec::with_capacity(alloc, named.len())?;
     for told in named {
-        add_rows(alloc, &mut rows, told, i, action)?;
+        add_rows(&mut rows, told, i, action)?;
     }
     Ok(rows)
 }
@@ -262,17 +324,17 @@ fn star_rows(
     given: Given<'_>,
     star: &Option<Told>,
     i: usize,
-    action: &str,
+    action: &Arc<String>,
 ) -> Result<Vec<Row>, OutOfMemory>
-    requires told { (actions : List (List ℕ)) × (slice_get actions i ≡ Some action.now) × AreStar (every_of given.asked) given.p actions star.now }
-    ensures rows { IfOk result (λ rows. AreRowsOn (every_of given.entry.asked) given.entry.p action.now (IsStar (every_of given.entry.asked))
+    requires told { (actions : List (List ℕ)) × (slice_get actions i ≡ Some (string_bytes (arc_value action.now))) × AreStar (every_of given.asked) given.p actions star.now }
+    ensures rows { IfOk result (λ rows. AreRowsOn (every_of given.entry.asked) given.entry.p (string_bytes (arc_value action.now)) (IsStar (every_of given.entry.asked))
         (map row_of rows.items)) }
-    ensures made { IfOk result (λ rows. AreOfStar (every_of given.entry.asked) given.entry.p action.now (map row_of rows.items)) }
+    ensures made { IfOk result (λ rows. AreOfStar (every_of given.entry.asked) given.entry.p (string_bytes (arc_value action.now)) (map row_of rows.items)) }
 {
     let mut rows = Vec::new(alloc);
     match star {
         Some(told) => {
-            add_rows(alloc, &mut rows, told, i, action)?;
+            add_rows(&mut rows, told, i, action)?;
             Ok(rows)
         }
         None => Ok(rows),
@@ -285,17 +347,17 @@ fn rows_of_lines(
     given: Given<'_>,
     lined: &[Told],
     i: usize,
-    action: &str,
+    action: &Arc<String>,
 ) -> Result<Vec<Row>, OutOfMemory>
-    requires told { (actions : List (List ℕ)) × (slice_get actions i ≡ Some action.now) × AreLined (every_of given.asked) given.p actions lined.now }
-    ensures rows { IfOk result (λ rows. AreRowsOn (every_of given.entry.asked) given.entry.p action.now
+    requires told { (actions : List (List ℕ)) × (slice_get actions i ≡ Some (string_bytes (arc_value action.now))) × AreLined (every_of given.asked) given.p actions lined.now }
+    ensures rows { IfOk result (λ rows. AreRowsOn (every_of given.entry.asked) given.entry.p (string_bytes (arc_value action.now))
         (IsLinedBelow (every_of given.entry.asked) (length given.entry.asked.lines.now)) (map row_of rows.items)) }
-    ensures made { IfOk result (λ rows. AreJoined (AreOfLine (every_of given.entry.asked) given.entry.p action.now)
+    ensures made { IfOk result (λ rows. AreJoined (AreOfLine (every_of given.entry.asked) given.entry.p (string_bytes (arc_value action.now)))
         (range_with_len 0 (length given.entry.asked.lines.now)) (map row_of rows.items)) }
 {
     let mut rows = Vec::new(alloc);
     for told in lined {
-        add_rows(alloc, &mut rows, told, i, action)?;
+        add_rows(&mut rows, told, i, action)?;
     }
     Ok(rows)
 }

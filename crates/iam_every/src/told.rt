@@ -1,5 +1,6 @@
 // What is told for each action, worked out once for actions that the same statements match.
 ghost use Rattle.std.specs.Prelude.{◌≡◌, ◌∷◌, [], ◌++◌, ◌<◌, ℕ, All, IfOk, IfSome, IsTrue, List, OnOk, Some, codes, length, map, string_bytes};
+ghost use Rattle.std.specs.Arc.{arc_value};
 ghost use Rattle.std.specs.List.{slice_get};
 ghost use Rattle.iam_every.specs.Code.Acting.{IsActing};
 ghost use Rattle.iam_every.specs.Code.Picked.{ActsOn, TellEach};
@@ -16,27 +17,20 @@ use crate::acting::{Acting, acts_at};
 use crate::eligible::{eligible, picked};
 use crate::given::{Given, is_first_line};
 use crate::lines::line_kinds;
-use crate::rows::Row;
+use crate::rows::{Row, Said, unshown};
 use crate::scene::{Scene, frame_of, lives_on, verdict_by};
 use iam_decision::Verdict;
 use iam_kinds::{Kinds, Walks};
 use iam_layers::Unnamed;
 use iam_match::OutOfMemory;
 use std::alloc::Global;
-
-/// A row but for its action.
-#[derive(Debug, Drop)]
-pub struct Said {
-    pub resource: String,
-    /// `None` where more kinds would have to be looked at than there may be.
-    pub verdict: Option<Verdict>,
-}
+use std::sync::Arc;
 
 /// What is told for the actions that just these of the statements match.
 #[derive(Drop)]
 pub struct Known {
     pub acts: Vec<bool>,
-    pub said: Vec<Said>,
+    pub said: Vec<Arc<Said>>,
 }
 
 /// Which of the statements live on the resource of a text.
@@ -147,7 +141,7 @@ fn said_on<'a: 'c, 'c>(
     scene: Scene<'_, '_, 'a, 'c>,
     acts: &[bool],
     text: &str,
-) -> Result<Said, OutOfMemory>
+) -> Result<Arc<Said>, OutOfMemory>
     requires { All (IsLived scene) lived.old.items }
     ensures lived { OnOk result (All (IsLived scene.entry) lived.new.items) }
     ensures said { IfOk result (λ said. (world : WorldValue) (p : ℕ) (unnamed : Unnamed) (action : List ℕ)
@@ -156,10 +150,12 @@ fn said_on<'a: 'c, 'c>(
 {
     let n = lived_on(alloc, lived, scene, text)?;
     let verdict = verdict_by(alloc, scene, acts, lived[n].lives.as_slice())?;
-    Ok(Said {
+    let said = Said {
         resource: String::from_str(alloc, text)?,
         verdict: Some(verdict),
-    })
+    };
+    let shared = Arc::new(alloc, said)?;
+    Ok(shared)
 }
 
 /// What is told of the texts of which line k is the first to speak, in order.
@@ -171,7 +167,7 @@ fn said_of_texts<'a: 'c, 'c>(
     scene: Scene<'_, '_, 'a, 'c>,
     acts: &[bool],
     texts: &[String],
-) -> Result<Vec<Said>, OutOfMemory>
+) -> Result<Vec<Arc<Said>>, OutOfMemory>
     requires lived { All (IsLived scene) lived.old.items }
     ensures lived { OnOk result (All (IsLived scene.entry) lived.new.items) }
     ensures said { IfOk result (λ said. (action : List ℕ) (line : LineValue) → slice_get (every_of given.entry.asked).lines k ≡ Some line
@@ -191,7 +187,7 @@ fn said_of_texts<'a: 'c, 'c>(
 }
 
 /// This alone.
-fn alone(alloc: Global, said: Said) -> Result<Vec<Said>, OutOfMemory>
+fn alone(alloc: Global, said: Arc<Said>) -> Result<Vec<Arc<Said>>, OutOfMemory>
     ensures { IfOk result (λ all. all.items ≡ said ∷ []) }
 {
     let mut all = Vec::with_capacity(alloc, 1)?;
@@ -208,7 +204,7 @@ fn said_of_line<'a: 'c, 'c>(
     lived: &mut Vec<Lived>,
     scene: Scene<'_, '_, 'a, 'c>,
     acts: &[bool],
-) -> Result<Vec<Said>, OutOfMemory>
+) -> Result<Vec<Arc<Said>>, OutOfMemory>
     requires given { IsGiven given }
     requires line { k < length given.asked.lines.now }
     requires walks { AreWalksOf given.asked.world.now walks.old }
@@ -225,10 +221,7 @@ fn said_of_line<'a: 'c, 'c>(
             said_of_texts(alloc, given, k, lived, scene, acts, texts.as_slice())
         }
         Kinds::NotShown => {
-            let unshown = Said {
-                resource: String::from_str(alloc, given.asked.lines[k].text)?,
-                verdict: None,
-            };
+            let unshown = unshown(alloc, given.asked.lines[k].text)?;
             alone(alloc, unshown)
         }
     }
@@ -243,7 +236,7 @@ fn said_about<'a: 'c, 'c>(
     lived: &mut Vec<Lived>,
     scene: Scene<'_, '_, 'a, 'c>,
     acts: &[bool],
-) -> Result<Vec<Said>, OutOfMemory>
+) -> Result<Vec<Arc<Said>>, OutOfMemory>
     requires given { IsGiven given }
     requires about { IsAbout (every_of given.asked) about }
     requires walks { AreWalksOf given.asked.world.now walks.old }
@@ -414,7 +407,7 @@ fn unnamed_of<'a>(given: Given<'a>, about: About) -> Unnamed<'a>
 }
 
 /// What is known under number i of these.
-fn said_at<'t>(known: &'t [Known], numbers: &[usize], i: usize) -> &'t [Said]
+fn said_at<'t>(known: &'t [Known], numbers: &[usize], i: usize) -> &'t [Arc<Said>]
     ensures { (n : ℕ) (one : Known) → slice_get numbers.now i ≡ Some n → slice_get known.entry.now n ≡ Some one → result.now ≡ one.said.items }
 {
     if i < numbers.len() {
@@ -428,39 +421,27 @@ fn said_at<'t>(known: &'t [Known], numbers: &[usize], i: usize) -> &'t [Said]
 
 /// Adds the rows for action i.
 pub fn add_rows(
-    alloc: Global,
     rows: &mut Vec<Row>,
     told: &Told,
     i: usize,
-    action: &str,
+    action: &Arc<String>,
 ) -> Result<(), OutOfMemory>
     ensures { OnOk result ((every : EveryValue) (p : ℕ) (about : About) (actions : List (List ℕ)) → IsTold every p about actions told.now
-        → slice_get actions i ≡ Some action.now
-        → (more : List RowValue) × AreRowsAbout every p about action.now more × (map row_of rows.new.items ≡ map row_of rows.old.items ++ more)) }
+        → slice_get actions i ≡ Some (string_bytes (arc_value action.now))
+        → (more : List RowValue) × AreRowsAbout every p about (string_bytes (arc_value action.now)) more × (map row_of rows.new.items ≡ map row_of rows.old.items ++ more)) }
 {
     for said in said_at(told.known.as_slice(), told.numbers.as_slice(), i) {
-        rows.push(row_for(alloc, said, action)?)?;
+        rows.push(row_for(said, action)?)?;
     }
     Ok(())
 }
 
 /// The row for the action.
-fn row_for(alloc: Global, said: &Said, action: &str) -> Result<Row, OutOfMemory>
-    ensures { IfOk result (λ row. row_of row ≡ row_as action.now said.now) }
+fn row_for(said: &Arc<Said>, action: &Arc<String>) -> Result<Row, OutOfMemory>
+    ensures { IfOk result (λ row. row_of row ≡ row_as (string_bytes (arc_value action.now)) said.now) }
 {
     Ok(Row {
-        action: String::from_str(alloc, action)?,
-        resource: String::from_str(alloc, said.resource.as_str())?,
-        verdict: copied(alloc, &said.verdict)?,
+        action_text: Arc::try_clone(action)?,
+        said: Arc::try_clone(said)?,
     })
-}
-
-/// The verdict again.
-fn copied(alloc: Global, verdict: &Option<Verdict>) -> Result<Option<Verdict>, OutOfMemory>
-    ensures { IfOk result (λ copy. copy ≡ verdict.now) }
-{
-    match verdict {
-        Some(verdict) => Ok(Some(verdict.copy(alloc)?)),
-        None => Ok(None),
-    }
 }

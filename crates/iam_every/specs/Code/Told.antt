@@ -1,5 +1,8 @@
 -- What is told for each action, worked out once for actions that the same statements match.
 use Rattle.std.specs.Prelude.{◌≡◌, ◌⊎◌, ◌<◌, ◌∷◌, [], ℕ, List, Option, Some, MatchOption, codes, length, map, string_bytes}
+use Rattle.std.specs.Arc.{arc_value}
+use Rattle.std.specs.Global.{Global}
+use Rattle.std.specs.declared.sync.Arc.{Arc}
 use Rattle.std.specs.List.{AllZip, Any, range_with_len, slice_get}
 use Rattle.std.specs.Str.{chars}
 use Rattle.iam_glob.specs.Glob.{Matches}
@@ -23,7 +26,7 @@ use Rattle.iam_every.specs.declared.told.About.{About}
 use Rattle.iam_every.specs.declared.told.About.TheVariants.{Line, Resource, Star}
 use Rattle.iam_every.specs.declared.told.Known.{Known}
 use Rattle.iam_every.specs.declared.told.Lived.{Lived}
-use Rattle.iam_every.specs.declared.told.Said.{Said}
+use Rattle.iam_every.specs.declared.rows.Said.{Said}
 use Rattle.iam_every.specs.declared.told.Told.{Told}
 
 -- who asks in which context, for the resource of this text
@@ -66,8 +69,8 @@ abbrev pub IsSceneOf : EveryValue → ℕ → About → Scene → Type 0
 IsSceneOf every p about scene = OfAbout every about (λ unnamed. IsScene every.world p unnamed scene)
 
 -- ---- what is told
-abbrev pub row_as : List ℕ → Said → RowValue
-row_as action said = record { action = action; resource = string_bytes said.resource; verdict = said.verdict }
+abbrev pub row_as : List ℕ → Arc Said Global → RowValue
+row_as action said = record { action = action; resource = string_bytes (arc_value said).resource; verdict = (arc_value said).verdict }
 
 -- the row of `*`, and it alone
 abbrev pub AreOfStarIn : EveryValue → ℕ → List ℕ → ℕ → List RowValue → Type 0
@@ -81,7 +84,7 @@ AreRowsAbout every p (Resource r) action rows = AreOfMatched every p action r ro
 AreRowsAbout every p (Star k) action rows = AreOfStarIn every p action k rows
 
 -- this is told for the action
-abbrev pub IsSaidFor : EveryValue → ℕ → About → List ℕ → List Said → Type 0
+abbrev pub IsSaidFor : EveryValue → ℕ → About → List ℕ → List (Arc Said Global) → Type 0
 IsSaidFor every p about action said = AreRowsAbout every p about action (map (row_as action) said)
 
 -- what is kept is told for each action that just these of the statements match

@@ -21,6 +21,6 @@ returns-clause-chosen c =
         λ less. some.1 (omega (arith, less, same)),
       );
       unshown =
-          c.has_unshown-unshown.ensures ∙ ap (list_any (λ (row : Row). is_none row.verdict)) c.as_slice.ensures.value
+          c.has_unshown-unshown.ensures ∙ ap (list_any (λ (row : Row). is_none (row_of row).verdict)) c.as_slice.ensures.value
           ∙ sym (list_any_map (λ (row : RowValue). is_none row.verdict) row_of items);
     }

@@ -23,8 +23,8 @@ returns c =
     (string_bytes c.add_field.new.row) sixth (string_bytes c.add_field-2.new.row) (string_bytes c.add_back.new.row)
     (decimal cell) principal (quote_of Csv row.action) (quote_of Csv row.resource) tail.back
     (c.in_ok-push_str.ensures.bytes ∙ ap (λ n. old ++ n) c.format.ensures.text) c.in_ok-push_str-2.ensures.bytes c.in_ok-push_str-3.ensures.bytes
-    c.in_ok-push_str-4.ensures.bytes (c.in_ok-add_field.ensures ∙ ap (λ t. fourth ++ quote_of Csv t) c.as_str.ensures.value)
-    c.in_ok-push_str-5.ensures.bytes (c.in_ok-add_field-2.ensures ∙ ap (λ t. sixth ++ quote_of Csv t) c.as_str-2.ensures.value) last
+    c.in_ok-push_str-4.ensures.bytes (c.in_ok-add_field.ensures ∙ ap (λ t. fourth ++ quote_of Csv t) c.action.ensures)
+    c.in_ok-push_str-5.ensures.bytes (c.in_ok-add_field-2.ensures ∙ ap (λ t. sixth ++ quote_of Csv t) c.resource.ensures) (last ∙ ap (λ v. string_bytes c.add_field-2.new.row ++ (tail_in Csv brief v).back) c.verdict.ensures)
     ∙ ap (λ t. old ++ t)
     (is_named_row Csv brief cell named row _ principal (quote_of Csv row.action) (quote_of Csv row.resource) tail refl is refl refl refl))
     c.add_back.ensures

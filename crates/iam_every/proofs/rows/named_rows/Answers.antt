@@ -1,7 +1,8 @@
-use Rattle.std.proofs.Common.{◌≡◌, ◌<◌, ◌∷◌, [], ◌++◌, ◌∙◌, ℕ, List, ap, arith, get_or, length, map, refl, subst, sym, take}
+use Rattle.std.proofs.Common.{◌≡◌, ◌<◌, ◌∷◌, [], ◌++◌, ◌∙◌, ℕ, List, ap, arith, get_or, length, map, string_bytes, refl, subst, sym, take}
 use Rattle.std.proofs.lemmas.List.{take_all}
 use Rattle.std.specs.List.{range_with_len, slice_get}
 use Rattle.iam_world.specs.World.{ResourceValue}
+use Rattle.std.specs.Arc.{arc_value}
 use Rattle.iam_every.specs.Code.Rows.{AreOfMatched, AreRowsOn, IsFirstOf, IsNamedAmong}
 use Rattle.iam_every.specs.Code.Told.{IsTold}
 use Rattle.iam_every.specs.Every.{RowValue, every_of, row_of}
@@ -21,7 +22,7 @@ loop-told-preserved c =
     let given = c.args.given in
     let every = every_of given.asked in
     let p = given.p in
-    let action = c.args.action.now in
+    let action = string_bytes (arc_value c.args.action.now) in
     let matched = given.matched.now in
     let named = c.args.named.now in
     let (actions, listed, all) = c.requires.told in
@@ -55,8 +56,8 @@ returns-clause-rows c =
     let (actions, listed, all) = c.requires.told in
     let rows = map row_of c.loop-told.rows.items in
     let long = zip_length (λ r told. IsTold every given.p (Resource r) actions told) given.matched.now c.args.named.now all in
-    named_all every given.p c.args.action.now given.matched.now rows c.requires.given.matched
-    (subst (λ (done : List ℕ). AreRowsOn every given.p c.args.action.now (IsNamedAmong every done) rows)
+    named_all every given.p (string_bytes (arc_value c.args.action.now)) given.matched.now rows c.requires.given.matched
+    (subst (λ (done : List ℕ). AreRowsOn every given.p (string_bytes (arc_value c.args.action.now)) (IsNamedAmong every done) rows)
     (take_all c.loop-told.told-index given.matched.now (omega (arith, c.loop-told-test.false, long))) c.loop-told.invariant.rows)
 
 pub returns-clause-made : goal.returns-clause-made
@@ -66,6 +67,6 @@ returns-clause-made c =
     let (actions, listed, all) = c.requires.told in
     let rows = map row_of c.loop-told.rows.items in
     let long = zip_length (λ r told. IsTold every given.p (Resource r) actions told) given.matched.now c.args.named.now all in
-    joined_matched every given.p c.args.action.now (range_with_len 0 (length every.world.resources)) given.matched.now rows c.requires.given.matched.selected
-    (subst (λ (done : List ℕ). AreJoined (AreOfMatched every given.p c.args.action.now) done rows)
+    joined_matched every given.p (string_bytes (arc_value c.args.action.now)) (range_with_len 0 (length every.world.resources)) given.matched.now rows c.requires.given.matched.selected
+    (subst (λ (done : List ℕ). AreJoined (AreOfMatched every given.p (string_bytes (arc_value c.args.action.now))) done rows)
     (take_all c.loop-told.told-index given.matched.now (omega (arith, c.loop-told-test.false, long))) c.loop-told.invariant.made)

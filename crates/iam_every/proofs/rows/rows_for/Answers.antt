@@ -1,6 +1,7 @@
-use Rattle.std.proofs.Common.{◌≡◌, ◌++◌, ℕ, length, map, sym, ap, subst, ◌∙◌}
+use Rattle.std.proofs.Common.{◌≡◌, ◌++◌, ℕ, length, map, string_bytes, sym, ap, subst, ◌∙◌}
 use Rattle.std.proofs.lemmas.List.{length-map, map-append}
 use Rattle.std.specs.List.{range_with_len}
+use Rattle.std.specs.Arc.{arc_value}
 use Rattle.iam_every.specs.Code.Rows.{AreRowsOn, IsLinedBelow}
 use Rattle.iam_every.specs.Every.{AreRowsFor, every_of, line_of, row_of}
 use Rattle.iam_every.specs.Made.{AreJoined, AreOfLine}
@@ -21,7 +22,7 @@ returns-clause-rows c =
     let given = c.args.given in
     let every = every_of given.asked in
     let p = given.p in
-    let action = c.args.action.now in
+    let action = string_bytes (arc_value c.args.action.now) in
     let named = map row_of c.in_ok-rows.rows.items in
     let star = map row_of c.in_ok-starred.starred.items in
     let lined = map row_of c.in_ok-further.further.items in
@@ -40,7 +41,7 @@ returns-clause-made c =
     let given = c.args.given in
     let every = every_of given.asked in
     let p = given.p in
-    let action = c.args.action.now in
+    let action = string_bytes (arc_value c.args.action.now) in
     let named = map row_of c.in_ok-rows.rows.items in
     let star = map row_of c.in_ok-starred.starred.items in
     let lined = map row_of c.in_ok-further.further.items in

@@ -1,6 +1,7 @@
 use Rattle.std.proofs.Common.{◌≡◌, inr, ◌+◌, ◌<◌, ◌∷◌, [], ◌++◌, List, ℕ, Some, String, arith, get_or, length, map, sym, ap, subst, take, ◌∙◌, string_bytes}
 use Rattle.std.proofs.lemmas.List.{get_or-map, length-map, map-append, map_more, take_all}
 use Rattle.std.proofs.lemmas.Option.{slice_get_read}
+use Rattle.std.specs.Arc.{arc_value}
 use Rattle.std.specs.Global.{Global}
 use Rattle.iam_every.specs.Every.{IsMeantAction, every_of, row_of}
 use Rattle.iam_every.specs.Made.{AreJoined, AreOfAction}
@@ -17,7 +18,7 @@ rows_for-requires-clause-told c =
     let x = c.index-actions-i.result in
     let is : string_bytes x ≡ get_or all i (string_bytes x) = at_map string_bytes actions i x c.loop-i-test.true c.index-actions-i.is in
     let at = slice_get_read all (length actions) i (string_bytes x) (sym (length-map actions (λ (x : String Global). string_bytes x))) c.loop-i-test.true is in
-    (all, at ∙ ap (λ (t : List ℕ). Some t) (sym c.as_str.ensures.value), c.requires.named, c.requires.star, c.requires.lined)
+    (all, at ∙ ap (λ (t : List ℕ). Some t) (sym (c.in_ok-shared.ensures ∙ c.as_str.ensures.value)), c.requires.named, c.requires.star, c.requires.lined)
 
 pub loop-i-preserved : goal.loop-i-preserved
 loop-i-preserved c =
@@ -26,11 +27,11 @@ loop-i-preserved c =
     let p = given.p in
     let actions = c.args.actions.now in
     let i = c.loop-i.i in
-    let action = c.as_str.result.now in
+    let action = string_bytes (arc_value c.in_ok-shared.shared) in
     let before = map string_bytes (take i actions) in
     let rows = map row_of c.loop-i.rows.items in
     let more = map row_of c.in_ok-further.further.items in
-    let is : action ≡ string_bytes (get_or actions i c.index-actions-i.result) = c.as_str.ensures.value ∙ ap (λ (x : String Global). string_bytes x) c.index-actions-i.is in
+    let is : action ≡ string_bytes (get_or actions i c.index-actions-i.result) = c.in_ok-shared.ensures ∙ c.as_str.ensures.value ∙ ap (λ (x : String Global). string_bytes x) c.index-actions-i.is in
     let within : i < length (map string_bytes actions) = omega (arith, c.loop-i-test.true, length-map actions (λ (x : String Global). string_bytes x)) in
     let meant : IsMeantAction every action =
     subst (IsMeantAction every) (get_or-map string_bytes actions i c.index-actions-i.result action c.loop-i-test.true ∙ sym is)

@@ -1,7 +1,8 @@
-use Rattle.std.proofs.Common.{◌≡◌, ◌<◌, ◌+◌, ◌∙◌, ℕ, arith, get_or, length, map, sym, subst}
+use Rattle.std.proofs.Common.{◌≡◌, ◌<◌, ◌+◌, ◌∙◌, ℕ, arith, get_or, length, map, string_bytes, sym, subst}
 use Rattle.std.proofs.lemmas.List.{length-map}
 use Rattle.std.proofs.lemmas.List.FromFn.{get_or-range_with_len, length-range_with_len}
 use Rattle.std.specs.List.{range_with_len}
+use Rattle.std.specs.Arc.{arc_value}
 use Rattle.iam_every.specs.Code.Rows.{AreRowsOn, IsLinedBelow}
 use Rattle.iam_every.specs.Code.Told.{IsTold}
 use Rattle.iam_every.specs.Every.{every_of, line_of, row_of}
@@ -18,7 +19,7 @@ loop-told-preserved c =
     let given = c.args.given in
     let every = every_of given.asked in
     let p = given.p in
-    let action = c.args.action.now in
+    let action = string_bytes (arc_value c.args.action.now) in
     let lined = c.args.lined.now in
     let (actions, listed, all) = c.requires.told in
     let R : ℕ → Told → Type 0 = λ n told. IsTold every p (Line n) actions told in
@@ -48,7 +49,7 @@ returns-clause-rows c =
     let long = zip_length (λ k told. IsTold every given.p (Line k) actions told) (range_with_len 0 n) c.args.lined.now all in
     let done : c.loop-told.told-index ≡ length given.asked.lines.now =
     omega (arith, c.loop-told-test.false, c.loop-told.auto.told-index-end, long, length-range_with_len 0 n, length-map given.asked.lines.now line_of) in
-    subst (λ (n : ℕ). AreRowsOn every given.p c.args.action.now (IsLinedBelow every n) (map row_of c.loop-told.rows.items)) done c.loop-told.invariant.rows
+    subst (λ (n : ℕ). AreRowsOn every given.p (string_bytes (arc_value c.args.action.now)) (IsLinedBelow every n) (map row_of c.loop-told.rows.items)) done c.loop-told.invariant.rows
 
 pub returns-clause-made : goal.returns-clause-made
 returns-clause-made c =
@@ -59,5 +60,5 @@ returns-clause-made c =
     let long = zip_length (λ k told. IsTold every given.p (Line k) actions told) (range_with_len 0 n) c.args.lined.now all in
     let done : c.loop-told.told-index ≡ length given.asked.lines.now =
     omega (arith, c.loop-told-test.false, c.loop-told.auto.told-index-end, long, length-range_with_len 0 n, length-map given.asked.lines.now line_of) in
-    let Made = AreOfLine every given.p c.args.action.now in
+    let Made = AreOfLine every given.p (string_bytes (arc_value c.args.action.now)) in
     subst (λ (n : ℕ). AreJoined Made (range_with_len 0 n) (map row_of c.loop-told.rows.items)) done c.loop-told.invariant.made

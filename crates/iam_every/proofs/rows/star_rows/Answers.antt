@@ -1,4 +1,5 @@
-use Rattle.std.proofs.Common.{◌++◌, ◌∙◌, inl, inr, List, MatchOption, Option, ap, map, refl, subst, sym}
+use Rattle.std.proofs.Common.{◌++◌, ◌∙◌, inl, inr, List, MatchOption, Option, ap, map, string_bytes, refl, subst, sym}
+use Rattle.std.specs.Arc.{arc_value}
 use Rattle.iam_every.specs.Code.Rows.{AreRowsOn, IsStar}
 use Rattle.iam_every.specs.Code.Told.{HasNoStar, IsToldOfStar}
 use Rattle.iam_every.specs.Every.{every_of, row_of}
@@ -14,7 +15,7 @@ pub returns-in_ok-add_rows-in-Some-clause-rows : goal.returns-in_ok-add_rows-in-
 returns-in_ok-add_rows-in-Some-clause-rows c =
     let every = every_of c.args.given.asked in
     let p = c.args.given.p in
-    let action = c.args.action.now in
+    let action = string_bytes (arc_value c.args.action.now) in
     let (actions, listed, star) = c.requires.told in
     let (k, (never, (line, first)), told) = subst (λ (o : Option Told). MatchOption o (HasNoStar every) (IsToldOfStar every p actions)) c.in-Some.is star in
     let (more, (row, of, alone), added) = c.in_ok-add_rows-in-Some.ensures every p (Star k) actions told listed in
@@ -26,7 +27,7 @@ pub returns-in_ok-add_rows-in-Some-clause-made : goal.returns-in_ok-add_rows-in-
 returns-in_ok-add_rows-in-Some-clause-made c =
     let every = every_of c.args.given.asked in
     let p = c.args.given.p in
-    let action = c.args.action.now in
+    let action = string_bytes (arc_value c.args.action.now) in
     let (actions, listed, star) = c.requires.told in
     let (k, (never, (line, first)), told) = subst (λ (o : Option Told). MatchOption o (HasNoStar every) (IsToldOfStar every p actions)) c.in-Some.is star in
     let (more, (row, of, alone), added) = c.in_ok-add_rows-in-Some.ensures every p (Star k) actions told listed in
@@ -37,7 +38,7 @@ pub returns-in-None-clause-rows : goal.returns-in-None-clause-rows
 returns-in-None-clause-rows c =
     let every = every_of c.args.given.asked in
     let p = c.args.given.p in
-    let action = c.args.action.now in
+    let action = string_bytes (arc_value c.args.action.now) in
     let (actions, listed, star) = c.requires.told in
     let none = subst (λ (o : Option Told). MatchOption o (HasNoStar every) (IsToldOfStar every p actions)) c.in-None.is star in
     subst (λ (l : List Row). AreRowsOn every p action (IsStar every) (map row_of l)) (sym c.new-rows.ensures.items)
@@ -47,7 +48,7 @@ pub returns-in-None-clause-made : goal.returns-in-None-clause-made
 returns-in-None-clause-made c =
     let every = every_of c.args.given.asked in
     let p = c.args.given.p in
-    let action = c.args.action.now in
+    let action = string_bytes (arc_value c.args.action.now) in
     let (actions, listed, star) = c.requires.told in
     let none = subst (λ (o : Option Told). MatchOption o (HasNoStar every) (IsToldOfStar every p actions)) c.in-None.is star in
     star_none every p action (map row_of c.new-rows.result.items) (ap (map row_of) c.new-rows.ensures.items) none

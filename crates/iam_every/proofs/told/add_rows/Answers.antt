@@ -1,10 +1,10 @@
-use Rattle.std.proofs.Common.{◌≡◌, ◌++◌, ◌∙◌, ℕ, List, Some, ap, arith, map, subst, sym}
+use Rattle.std.proofs.Common.{◌≡◌, ◌++◌, ◌∙◌, ℕ, List, Some, ap, arith, map, string_bytes, subst, sym}
 use Rattle.std.proofs.lemmas.List.{take_all}
 use Rattle.std.specs.List.{slice_get}
+use Rattle.std.specs.Arc.{arc_value}
 use Rattle.iam_every.specs.Code.Told.{IsNumberFor, row_as}
 use Rattle.iam_every.specs.Every.{row_of}
 use Rattle.iam_every.specs.declared.told.Known.{Known}
-use Rattle.iam_every.specs.declared.told.Said.{Said}
 use Rattle.iam_every.proofs.KnownLemmas.{zip_get}
 use Rattle.iam_every.proofs.told.add_rows.Goals as goal
 
@@ -12,7 +12,7 @@ pub returns : goal.returns
 returns c every p about actions told at =
     let known = c.args.told.now.known.items in
     let numbers = c.args.told.now.numbers.items in
-    let action = c.args.action.now in
+    let action = string_bytes (arc_value c.args.action.now) in
     let (n, at_n, (one, at_one, said)) = zip_get (IsNumberFor every p about known) actions numbers c.args.i action told at in
     let items : c.said_at-said-items.result.now ≡ one.said.items =
     c.said_at-said-items.ensures n one (subst (λ (l : List ℕ). slice_get l c.args.i ≡ Some n) (sym c.as_slice-2.ensures.value) at_n)
@@ -21,6 +21,6 @@ returns c every p about actions told at =
       map (row_as action) one.said.items,
       said,
       c.loop-said.invariant
-          ∙ ap (λ (l : List Said). before ++ map (row_as action) l)
+          ∙ ap (λ (l : List _). before ++ map (row_as action) l)
           (take_all c.loop-said.said-index c.said_at-said-items.result.now (omega (arith, c.loop-said-test.false)) ∙ items),
     )

@@ -1,11 +1,13 @@
-use Rattle.std.proofs.Common.{◌≡◌, ◌<◌, ◌∷◌, [], ◌∙◌, inl, inr, ℕ, All, List, None, String, ap, arith, chars, length, map, subst, sym, string_bytes}
+use Rattle.std.proofs.Common.{◌≡◌, ◌<◌, ◌∷◌, [], ◌∙◌, inl, inr, ℕ, All, List, None, Option, String, ap, arith, chars, length, map, subst, sym, string_bytes}
 use Rattle.std.proofs.lemmas.List.{length-map}
 use Rattle.std.proofs.lemmas.Result.{IfOk-weaker}
+use Rattle.std.specs.Arc.{arc_value}
 use Rattle.std.specs.Global.{Global}
 use Rattle.std.specs.Str.{IsUtf8}
 use Rattle.iam_kinds.specs.Shown.{AreKinds}
 use Rattle.iam_kinds.specs.declared.kinds.Kinds.TheVariants.{NotShown, Shown}
 use Rattle.iam_decision.specs.Code.Scan.{placed_value}
+use Rattle.iam_decision.specs.declared.verdict.Verdict.{Verdict}
 use Rattle.iam_every.specs.Code.Picked.{ActsOn, TellEach}
 use Rattle.iam_every.specs.Code.Rows.{AreLineKinds}
 use Rattle.iam_every.specs.Code.Told.{IsSaidFor, eligible_in, row_as}
@@ -62,8 +64,9 @@ returns-clause-said c =
     let (line, at) = get_some every.lines k below in
     let is = c.requires.scene line at in
     let chosen = ap (map placed_value) c.as_slice.ensures.value ∙ c.in_ok-concerned.ensures in
-    let text : string_bytes c.in_ok-from_str-in-NotShown.field-0 ≡ line.text =
-    c.in_ok-from_str-in-NotShown.ensures.ok
+    let unshown = arc_value c.in_ok-unshown-in-NotShown.unshown in
+    let text : string_bytes unshown.resource ≡ line.text =
+    c.in_ok-unshown-in-NotShown.ensures.resource
     ∙ ap (λ (x : LineValue). x.text) (line_there given.asked.lines.now k c.index-given-k.result line at) in
     IfOk-weaker c.alone.result _
     (λ said. (action : List ℕ) → TellEach (ActsOn action) (eligible_in scene) c.args.acts.now → IsSaidFor every p (Line k) action said.items)
@@ -73,7 +76,8 @@ returns-clause-said c =
     subst (AreLineKinds every p action k line) c.in-NotShown.is (c.in_ok-texts.ensures.kinds line is.applicable action at (is.asks action) concerned) in
     let rows = map (row_as action) said.items in
     let same : rows ≡ record { action = action; resource = line.text; verdict = None } ∷ [] =
-    ap (map (row_as action)) alone ∙ ap (λ (t : List ℕ). record { action = action; resource = t; verdict = None } ∷ []) text in
+    ap (map (row_as action)) alone ∙ ap (λ (t : List ℕ). record { action = action; resource = t; verdict = unshown.verdict } ∷ []) text
+    ∙ ap (λ (v : Option Verdict). record { action = action; resource = line.text; verdict = v } ∷ []) c.in_ok-unshown-in-NotShown.ensures.verdict in
     let passes : TextsPass every p action k line = record { at = at; groups = told.groups; own = told.own; passes = told.answer } in
     (rows_unshown every p action k line told.groups rows at told.own told.answer same, (line, at, inl (passes, same))))
     c.alone.ensures

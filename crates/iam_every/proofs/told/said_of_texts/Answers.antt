@@ -6,7 +6,6 @@ use Rattle.iam_every.specs.Code.Told.{IsLived, row_as}
 use Rattle.iam_every.specs.Every.{IsFirst, LineValue, RowValue, every_of}
 use Rattle.iam_every.specs.Made.{AreJoined, AreOfText, IsRowOf}
 use Rattle.iam_every.specs.declared.told.Lived.{Lived}
-use Rattle.iam_every.specs.declared.told.Said.{Said}
 use Rattle.iam_every.proofs.MadeLemmas.{joined_more}
 use Rattle.iam_every.proofs.NamesLemmas.{one_some}
 use Rattle.iam_every.proofs.told.said_of_texts.Goals as goal
@@ -39,7 +38,7 @@ loop-text-preserved c =
                 let (other, first) = c.is_first_line.ensures.0 w.if-is_first_line.true in
                 let its : other ≡ line = one_some (slice_get every.lines k) other line first.at at in
                 let pushed : map (row_as action) c.if-is_first_line.said.items ≡ rows ++ (row ∷ []) =
-                ap (λ (v : Vec Said). map (row_as action) v.items) w.said-is ∙ ap (map (row_as action)) w.in_ok-push.ensures.items
+                ap (λ (v : Vec _). map (row_as action) v.items) w.said-is ∙ ap (map (row_as action)) w.in_ok-push.ensures.items
                 ∙ map-append (row_as action) c.loop-text.said.items _ in
                 let Made = AreOfText every p action k line in
                 subst (λ (xs : List (List ℕ)). AreJoined Made xs (map (row_as action) c.if-is_first_line.said.items)) more
@@ -58,7 +57,7 @@ loop-text-preserved c =
                 let never : ¬ IsFirst every.lines text k line =
                 λ it. let yes = c.is_first_line.ensures.1 (line, it) in let no = w.if-is_first_line.false in let wrong : ⊥ = cc in wrong in
                 subst (λ (xs : List (List ℕ)). AreJoined Made xs (map (row_as action) c.if-is_first_line.said.items)) more
-                (subst (AreJoined Made (before ++ (text ∷ []))) (append-nil rows ∙ ap (λ (v : Vec Said). map (row_as action) v.items) (sym w.said-is))
+                (subst (AreJoined Made (before ++ (text ∷ []))) (append-nil rows ∙ ap (λ (v : Vec _). map (row_as action) v.items) (sym w.said-is))
                 (joined_more Made before text rows [] (c.loop-text.invariant.said action line at is act) (inr (never, refl))));
           }
     ]
