@@ -336,7 +336,7 @@ fn told_in<'a: 'c, 'c>(
     })
 }
 
-/// What is told for each of the actions, of texts of which this is said; this is one of them.
+/// What is told for each of the actions, of texts of which this is said. Who asks in which context is the same for each; `*` stands for one.
 fn told_with<'a>(
     alloc: Global,
     walks: &mut Walks,
@@ -344,7 +344,6 @@ fn told_with<'a>(
     given: Given<'a>,
     about: About,
     unnamed: Unnamed<'_>,
-    text: &str,
     actions: &[String],
 ) -> Result<Told, OutOfMemory>
     requires given { IsGiven given }
@@ -361,7 +360,7 @@ fn told_with<'a>(
     let applicable = world.unnamed_applicable(given.p, unnamed);
     let derived = world.unnamed_derived(alloc, given.p, unnamed)?;
     let context = world.unnamed_context(alloc, given.p, unnamed, given.none, &derived)?;
-    let access = world.unnamed_access(given.p, unnamed, text, &context);
+    let access = world.unnamed_access(given.p, unnamed, "*", &context);
     let eligible = eligible(alloc, &applicable, access)?;
     let scene = Scene {
         access,
@@ -389,7 +388,7 @@ pub fn told_of<'a>(
     ensures told { IfOk result (IsTold (every_of given.entry.asked) given.entry.p about (map string_bytes actions.now)) }
 {
     let unnamed = unnamed_of(given, about);
-    told_with(alloc, walks, acting, given, about, unnamed, "*", actions)
+    told_with(alloc, walks, acting, given, about, unnamed, actions)
 }
 
 /// What is said of the texts that are asked about.

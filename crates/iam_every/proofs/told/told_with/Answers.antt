@@ -1,4 +1,4 @@
-use Rattle.std.proofs.Common.{ℕ, List, map, subst, sym}
+use Rattle.std.proofs.Common.{ℕ, List, codes, map, subst, sym}
 use Rattle.iam_match.specs.Request.{access_of}
 use Rattle.iam_decision.specs.Applicable.{value_of}
 use Rattle.iam_decision.specs.Code.Scan.{placed_value}
@@ -24,7 +24,7 @@ told_in-requires-clause-scene c =
     let scene : Scene = record { access = c.unnamed_access-access.result; frame = c.frame_of.result; eligible = c.as_slice.result } in
     let asks : (action : List ℕ) → IsUnnamedAccess world p unnamed action access.resource a access = λ action.
     let h = c.unnamed_access-access.ensures action a c.unnamed_applicable-applicable.ensures.value in
-    subst (λ (t : List ℕ). IsUnnamedAccess world p unnamed action t a access) (sym (text_of world p unnamed action c.args.text.now a access h)) h in
+    subst (λ (t : List ℕ). IsUnnamedAccess world p unnamed action t a access) (sym (text_of world p unnamed action (codes "*") a access h)) h in
     let is : IsScene world p unnamed scene = record {
       applicable = a;
       asks = asks;
