@@ -1,5 +1,5 @@
 -- What is known is found again by its number.
-use Rattle.std.proofs.Common.{◌≡◌, ◌<◌, ℕ, zero, suc, All, List, [], ◌∷◌, ◌++◌, Some, ap, arith, get_or, length, refl, subst, sym}
+use Rattle.std.proofs.Common.{◌≡◌, ◌<◌, ℕ, zero, suc, All, List, [], ◌∷◌, ◌++◌, Some, ap, arith, get_or, length, map, refl, subst, sym}
 use Rattle.std.proofs.lemmas.List.Elements.{All-append, All-cons, All-contains, All-nil}
 use Rattle.std.specs.List.{AllZip, slice_get}
 use Rattle.iam_every.proofs.LineLemmas.{at_in}
@@ -52,3 +52,8 @@ pub same_or : {X : Type 0} (xs : List X) (i : ℕ) (d e : X) → i < length xs �
 same_or [] i d e below = absurd (let wrong : ⊥ = omega (arith, below) in wrong)
 same_or (x ∷ xs) zero d e below = refl
 same_or (x ∷ xs) (suc i) d e below = same_or xs i d e (omega (arith, below))
+
+pub map_at : {X Y : Type 0} (f : X → Y) (xs : List X) (n : ℕ) (x : X) → slice_get xs n ≡ Some x → slice_get (map f xs) n ≡ Some (f x)
+map_at f [] n x at = absurd (let wrong : ⊥ = cc in wrong)
+map_at {X} {Y} f (y ∷ xs) zero x at = let same : y ≡ x = cc in ap (λ (z : X). Some (f z)) same
+map_at f (y ∷ xs) (suc n) x at = map_at f xs n x at

@@ -5,7 +5,7 @@ ghost use Rattle.std.specs.List.{slice_get};
 ghost use Rattle.iam_every.specs.Code.Acting.{IsActing};
 ghost use Rattle.iam_every.specs.Code.Picked.{ActsOn, TellEach};
 ghost use Rattle.iam_every.specs.Code.Rows.{AreRowsOn, AreWalksOf, IsGiven, IsLined};
-ghost use Rattle.iam_every.specs.Code.Told.{AreRowsAbout, IsAbout, IsKnown, IsLived, IsNumberFor, IsSaidFor, IsSaidOf, IsScene, IsSceneOf, IsTold, eligible_in, row_as};
+ghost use Rattle.iam_every.specs.Code.Told.{AreRowsAbout, IsAbout, IsKnown, IsLived, IsNumberFor, IsSaidFor, IsSaidOf, IsScene, IsSceneOf, IsTold, SaidList, eligible_in, row_as};
 ghost use Rattle.iam_every.specs.Every.{EveryValue, LineValue, RowValue, every_of, row_of};
 ghost use Rattle.iam_every.specs.declared.told.About.TheVariants.{Line};
 ghost use Rattle.iam_every.specs.Made.{AreJoined, AreOfLine, AreOfText, IsRowOf};
@@ -50,7 +50,7 @@ struct Memo {
 /// What is told for actions, and for each action its number.
 #[derive(Drop)]
 pub struct Told {
-    pub known: Vec<Known>,
+    pub lists: Vec<Vec<Arc<Said>>>,
     pub numbers: Vec<usize>,
 }
 
@@ -331,9 +331,20 @@ fn told_in<'a: 'c, 'c>(
         numbers.push(number_for(alloc, walks, given, about, &mut memo, scene, acts)?)?;
     }
     Ok(Told {
-        known: memo.known,
+        lists: lists_of(alloc, memo.known)?,
         numbers,
     })
+}
+
+/// What is told, without the statements.
+fn lists_of(alloc: Global, known: Vec<Known>) -> Result<Vec<Vec<Arc<Said>>>, OutOfMemory>
+    ensures { IfOk result (λ lists. lists.items ≡ map (λ one. one.said) known.items) }
+{
+    let mut lists = Vec::with_capacity(alloc, known.len())?;
+    for one in known {
+        lists.push(one.said)?;
+    }
+    Ok(lists)
 }
 
 /// What is told for each of the actions, of texts of which this is said. Who asks in which context is the same for each; `*` stands for one.
@@ -405,14 +416,14 @@ fn unnamed_of<'a>(given: Given<'a>, about: About) -> Unnamed<'a>
     }
 }
 
-/// What is known under number i of these.
-fn said_at<'t>(known: &'t [Known], numbers: &[usize], i: usize) -> &'t [Arc<Said>]
-    ensures { (n : ℕ) (one : Known) → slice_get numbers.now i ≡ Some n → slice_get known.entry.now n ≡ Some one → result.now ≡ one.said.items }
+/// What is told under number i of these.
+fn said_at<'t>(lists: &'t [Vec<Arc<Said>>], numbers: &[usize], i: usize) -> &'t [Arc<Said>]
+    ensures { (n : ℕ) (one : SaidList) → slice_get numbers.now i ≡ Some n → slice_get lists.entry.now n ≡ Some one → result.now ≡ one.items }
 {
     if i < numbers.len() {
         let n = numbers[i];
-        if n < known.len() {
-            return known[n].said.as_slice();
+        if n < lists.len() {
+            return lists[n].as_slice();
         }
     }
     &[]
@@ -429,7 +440,7 @@ pub fn add_rows(
         → slice_get actions i ≡ Some (string_bytes (arc_value action.now))
         → (more : List RowValue) × AreRowsAbout every p about (string_bytes (arc_value action.now)) more × (map row_of rows.new.items ≡ map row_of rows.old.items ++ more)) }
 {
-    for said in said_at(told.known.as_slice(), told.numbers.as_slice(), i) {
+    for said in said_at(told.lists.as_slice(), told.numbers.as_slice(), i) {
         rows.push(row_for(said, action)?)?;
     }
     Ok(())

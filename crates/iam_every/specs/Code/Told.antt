@@ -1,7 +1,7 @@
 -- What is told for each action, worked out once for actions that the same statements match.
 use Rattle.std.specs.Prelude.{◌≡◌, ◌⊎◌, ◌<◌, ◌∷◌, [], ℕ, List, Option, Some, MatchOption, codes, length, map, string_bytes}
 use Rattle.std.specs.Arc.{arc_value}
-use Rattle.std.specs.Global.{Global}
+use Rattle.std.specs.Global.{Global, Vec}
 use Rattle.std.specs.declared.sync.Arc.{Arc}
 use Rattle.std.specs.List.{AllZip, Any, range_with_len, slice_get}
 use Rattle.std.specs.Str.{chars}
@@ -100,8 +100,16 @@ IsLived scene lived = TellEach (Lives (access_at (access_of scene.access) (strin
 abbrev pub IsNumberFor : EveryValue → ℕ → About → List Known → List ℕ → ℕ → Type 0
 IsNumberFor every p about known action n = (one : Known) × (slice_get known n ≡ Some one) × IsSaidFor every p about action one.said.items
 
+-- so it is where the statements are let go
+abbrev pub SaidList : Type 0
+SaidList = Vec (Arc Said Global)
+
+abbrev pub IsNumberIn : EveryValue → ℕ → About → List SaidList → List ℕ → ℕ → Type 0
+IsNumberIn every p about lists action n =
+    (one : SaidList) × (slice_get lists n ≡ Some one) × IsSaidFor every p about action one.items
+
 abbrev pub IsTold : EveryValue → ℕ → About → List (List ℕ) → Told → Type 0
-IsTold every p about actions told = AllZip (IsNumberFor every p about told.known.items) actions told.numbers.items
+IsTold every p about actions told = AllZip (IsNumberIn every p about told.lists.items) actions told.numbers.items
 
 -- ---- what is told of all
 -- of each resource that some line matches

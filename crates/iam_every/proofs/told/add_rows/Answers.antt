@@ -2,23 +2,22 @@ use Rattle.std.proofs.Common.{◌≡◌, ◌++◌, ◌∙◌, ℕ, List, Some, a
 use Rattle.std.proofs.lemmas.List.{take_all}
 use Rattle.std.specs.List.{slice_get}
 use Rattle.std.specs.Arc.{arc_value}
-use Rattle.iam_every.specs.Code.Told.{IsNumberFor, row_as}
+use Rattle.iam_every.specs.Code.Told.{IsNumberIn, row_as}
 use Rattle.iam_every.specs.Every.{row_of}
-use Rattle.iam_every.specs.declared.told.Known.{Known}
 use Rattle.iam_every.proofs.KnownLemmas.{zip_get}
 use Rattle.iam_every.proofs.told.add_rows.Goals as goal
 
 pub returns : goal.returns
 returns c every p about actions told at =
-    let known = c.args.told.now.known.items in
+    let lists = c.args.told.now.lists.items in
     let numbers = c.args.told.now.numbers.items in
     let action = string_bytes (arc_value c.args.action.now) in
-    let (n, at_n, (one, at_one, said)) = zip_get (IsNumberFor every p about known) actions numbers c.args.i action told at in
-    let items : c.said_at-said-items.result.now ≡ one.said.items =
+    let (n, at_n, (one, at_one, said)) = zip_get (IsNumberIn every p about lists) actions numbers c.args.i action told at in
+    let items : c.said_at-said-items.result.now ≡ one.items =
     c.said_at-said-items.ensures n one (subst (λ (l : List ℕ). slice_get l c.args.i ≡ Some n) (sym c.as_slice-2.ensures.value) at_n)
-    (subst (λ (l : List Known). slice_get l n ≡ Some one) (sym c.as_slice.ensures.value) at_one) in
+    (subst (λ l. slice_get l n ≡ Some one) (sym c.as_slice.ensures.value) at_one) in
     let before = map row_of c.args.rows.now.items in (
-      map (row_as action) one.said.items,
+      map (row_as action) one.items,
       said,
       c.loop-said.invariant
           ∙ ap (λ (l : List _). before ++ map (row_as action) l)

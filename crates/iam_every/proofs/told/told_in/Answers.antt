@@ -5,11 +5,12 @@ use Rattle.std.specs.Global.{Global}
 use Rattle.std.specs.List.{AllZip, slice_get}
 use Rattle.iam_every.specs.Code.Acting.{acts_in}
 use Rattle.iam_every.specs.Code.Picked.{ActsOn, TellEach}
-use Rattle.iam_every.specs.Code.Told.{IsNumberFor, eligible_in}
+use Rattle.iam_every.specs.Code.Told.{IsNumberFor, IsNumberIn, eligible_in}
 use Rattle.iam_every.specs.Every.{every_of}
 use Rattle.iam_every.specs.declared.acting.ElementActs.{ElementActs}
+use Rattle.iam_every.specs.declared.told.Known.{Known}
 use Rattle.iam_every.proofs.ActingLemmas.{acts_tell}
-use Rattle.iam_every.proofs.KnownLemmas.{zip_map}
+use Rattle.iam_every.proofs.KnownLemmas.{map_at, zip_map}
 use Rattle.iam_every.proofs.SideLemmas.{both_more}
 use Rattle.iam_every.proofs.told.told_in.Goals as goal
 
@@ -53,6 +54,17 @@ loop-i-preserved c =
 pub returns-clause-told : goal.returns-clause-told
 returns-clause-told c =
     let given = c.args.given in
-    let R = IsNumberFor (every_of given.asked) given.p c.args.about c.loop-i.memo.known.items in
-    subst (λ (xs : List (String Global)). AllZip R (map string_bytes xs) c.loop-i.numbers.items)
-    (take_all c.loop-i.i c.args.actions.now (omega (arith, c.loop-i-test.false, c.loop-i.auto.i-end))) c.loop-i.invariant.numbers
+    let every = every_of given.asked in
+    let known = c.loop-i.memo.known.items in
+    let lists = c.in_ok-lists_of.field-0.items in
+    let numbers = c.loop-i.numbers.items in
+    let R = IsNumberFor every given.p c.args.about known in
+    let all = map string_bytes c.args.actions.now in
+    zip_map R (IsNumberIn every given.p c.args.about lists)
+    (λ action n (one, there, said). (
+      one.said,
+      subst (λ l. slice_get l n ≡ Some one.said) (sym c.in_ok-lists_of.ensures) (map_at (λ (x : Known). x.said) known n one there),
+      said,
+    )) all numbers
+    (subst (λ (xs : List (String Global)). AllZip R (map string_bytes xs) numbers)
+    (take_all c.loop-i.i c.args.actions.now (omega (arith, c.loop-i-test.false, c.loop-i.auto.i-end))) c.loop-i.invariant.numbers)
