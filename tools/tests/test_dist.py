@@ -146,6 +146,7 @@ def repository():
         {
             "bin/rt": '#!/bin/sh\n[ $1 = version ] && echo kit 1 || echo "40 passed, ${FAILED:-0} failed"\n',
             "tools/lanes": "#!/bin/sh\necho 1\n",
+            "tools/early": "#!/bin/sh\n",
         }
     )
     for name, text in {**files, "tools/gate": read(TOOLS, "gate")}.items():
