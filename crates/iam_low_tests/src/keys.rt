@@ -94,6 +94,17 @@ fn one_allow(rt: HostRuntime) -> Result<(), Fail> {
             "possible at 1000",
         ),
         (r#""DateLessThan":{"aws:EpochTime":"500"}"#, "", "open"),
+        (
+            r#""DateGreaterThan":{"aws:CurrentTime":"500"},"StringEquals":{"k":"a"}"#,
+            "",
+            "possible at 1000 k=a",
+        ),
+        (
+            r#""IpAddress":{"aws:SourceIp":"10.0.0.0/8"}"#,
+            "",
+            "possible at 1000 aws:SourceIp=10.0.0.1",
+        ),
+        (r#""BinaryEquals":{"k":"QUJD"}"#, "", "open"),
     ];
     for (conditions, keys, want) in rows {
         let statement = on_all(alloc, "Allow", conditions)?;
@@ -112,11 +123,11 @@ fn a_deny_beside_an_allow(rt: HostRuntime) -> Result<(), Fail> {
     let allow = on_all(alloc, "Allow", "")?;
     let rows = [
         (r#""StringEquals":{"k":"a"}"#, "", "possible at 1000 k="),
-        (r#""Null":{"k":"true"}"#, "", "possible at 1000 k=x"),
+        (r#""Null":{"k":"true"}"#, "", "possible at 1000 k=true"),
         (
             r#""BoolIfExists":{"k":"false"}"#,
             "",
-            "possible at 1000 k=x",
+            "possible at 1000 k=true",
         ),
         (
             r#""StringNotEquals":{"aws:PrincipalAccount":"111122223333"}"#,
