@@ -1,5 +1,5 @@
 -- What a run of `matrix --any-key` writes, and why it ends without its report. LOGIC 13.11.
-use Rattle.std.specs.Prelude.{◌≡◌, ◌≢◌, ℕ, List, Option}
+use Rattle.std.specs.Prelude.{◌≡◌, ℕ, List, Option}
 use Rattle.iam_world.specs.World.{WorldValue}
 use Rattle.iam_matrix.specs.Workers.{IsUnlawful}
 use Rattle.iam_matrix.specs.declared.fault.MatrixFault.TheVariants as m
@@ -26,7 +26,7 @@ abbrev pub EndsTurnedBy : RunOptions → Option (List ℕ) → Option (List ℕ)
 EndsTurnedBy options input old new Read = new ≡ old
 EndsTurnedBy options input old new (World fault) = (new ≡ old) × IsNoWorld input fault
 EndsTurnedBy options input old new (Matrix fault) =
-    (new ≡ old) × (fault ≢ m.OutOfMemory → (fault ≡ m.Workers) × IsUnlawful options.workers × ((world : WorldValue) × HasWorld input world))
+    (new ≡ old) × (fault ≡ m.Workers) × IsUnlawful options.workers × ((world : WorldValue) × HasWorld input world)
 EndsTurnedBy options input old new Write = HasTurned options input (AppendsBeginning old new)
 EndsTurnedBy options input old new NoSuchCell = ⊥
 EndsTurnedBy options input old new (Cut fault) = ⊥

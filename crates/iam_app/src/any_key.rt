@@ -1,5 +1,5 @@
 // A run on all requests of a world, whatever values the keys have that nothing gives.
-ghost use Rattle.std.specs.Prelude.{◌≡◌, ◌≢◌, IfErr, IfOk, OnOk};
+ghost use Rattle.std.specs.Prelude.{◌≡◌, IfErr, IfOk, OnOk};
 ghost use Rattle.std.specs.Io.KnownBytes.{Appends};
 ghost use Rattle.iam_matrix.specs.Workers.{IsUnlawful};
 ghost use Rattle.iam_matrix.specs.declared.fault.MatrixFault.TheVariants as m;

@@ -1,5 +1,5 @@
 -- A run of `matrix --any-key` whose world is read.
-use Rattle.std.specs.Prelude.{◌≡◌, ◌≢◌, ℕ, List, Option, ⊤}
+use Rattle.std.specs.Prelude.{◌≡◌, ℕ, List, Option, ⊤}
 use Rattle.std.specs.Io.KnownBytes.{Appends}
 use Rattle.iam_world.specs.World.{WorldValue}
 use Rattle.iam_matrix.specs.Workers.{IsUnlawful}
@@ -12,7 +12,7 @@ use Rattle.iam_app.specs.declared.fault.RunFault.TheVariants.{Read, World, Matri
 
 -- there is no report, for this fault; of want of memory nothing is said
 abbrev pub NotTurned : RunOptions → RunFault → Type 0
-NotTurned options (Matrix fault) = fault ≢ m.OutOfMemory → (fault ≡ m.Workers) × IsUnlawful options.workers
+NotTurned options (Matrix fault) = (fault ≡ m.Workers) × IsUnlawful options.workers
 NotTurned options OutOfMemory = ⊤
 NotTurned options fault = ⊥
 
