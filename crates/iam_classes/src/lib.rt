@@ -13,7 +13,7 @@ pub use engine::ClassEngine;
 pub use iam_columns::Numbered;
 pub use iam_index::Index;
 pub use iam_layers::{Decision, Shared, Verdict, World};
+pub use iam_living::{Block, Survey, Surveyor, wants_survey};
 pub use iam_span::Known;
-pub use iam_survey::{Block, Survey, Surveyor, wants_survey};
 pub use iam_text::OutOfMemory;
 pub use memo::Found;

@@ -4,4 +4,5 @@ mod AskerLemmas
 mod KnownLemmas
 mod ListWordLemmas
 mod MarkLemmas
+mod SurveyLemmas
 pub mod WordLemmas

@@ -4,7 +4,7 @@ ghost use Rattle.std.specs.Prelude.{◌≡◌, IfOk, length};
 use crate::matrix::{HOME, is_decision, is_verdict};
 use iam_classes::{ClassEngine, Index};
 use iam_layers::{Decision, Layer, Place, Verdict, World};
-use iam_survey::{Survey, Surveyor};
+use iam_living::{Survey, Surveyor};
 use std::alloc::Global;
 use std::test::Fail;
 

@@ -3,11 +3,11 @@ use Rattle.std.proofs.lemmas.List.{length-append}
 use Rattle.std.specs.List.{slice_get}
 use Rattle.iam_decision.specs.Living.{SharedValue}
 use Rattle.iam_living.specs.Keys.{AreKeys}
-use Rattle.iam_survey.specs.Survey.{AreClassesOf, IsSharedBy}
+use Rattle.iam_living.specs.Survey.{AreClassesOf, IsSharedBy}
 use Rattle.iam_living.specs.declared.keys.Keys.{Keys}
-use Rattle.iam_survey.proofs.SurveyLemmas.{classes_more}
-use Rattle.iam_survey.proofs.survey.block_from.Goals as goal
-use Rattle.iam_survey.proofs.survey.block_from.Goals.{else-loop-pair-test, then-loop-pair-test+then-room-eq0, then-loop-pair-test+else-room-eq0+in_ok-shared+in_default}
+use Rattle.iam_living.proofs.SurveyLemmas.{classes_more}
+use Rattle.iam_living.proofs.survey.block_from.Goals as goal
+use Rattle.iam_living.proofs.survey.block_from.Goals.{else-loop-pair-test, then-loop-pair-test+then-room-eq0, then-loop-pair-test+else-room-eq0+in_ok-shared+in_default}
 
 pub loop-pair-preserved : goal.loop-pair-preserved
 loop-pair-preserved c =

@@ -3,9 +3,9 @@ use Rattle.std.proofs.lemmas.Option.{slice_get-get_or}
 use Rattle.std.specs.List.{slice_get}
 use Rattle.iam_decision.specs.Living.{SharedValue}
 use Rattle.iam_world.specs.World.{WorldValue}
-use Rattle.iam_survey.specs.Survey.{IsSharedBy}
+use Rattle.iam_living.specs.Survey.{IsSharedBy}
 use Rattle.iam_index.proofs.ListLemmas.{some_same}
-use Rattle.iam_survey.proofs.survey.Block.shared.Goals as goal
+use Rattle.iam_living.proofs.survey.Block.shared.Goals as goal
 
 pub returns : goal.returns
 returns c =

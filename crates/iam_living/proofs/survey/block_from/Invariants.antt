@@ -1,7 +1,7 @@
 use Rattle.std.proofs.Common.{◌≡◌, ◌+◌, All, length}
 use Rattle.iam_living.specs.Keys.{AreKeys}
-use Rattle.iam_survey.specs.Survey.{AreClassesOf}
-use Rattle.iam_survey.proofs.survey.block_from.Given as goal
+use Rattle.iam_living.specs.Survey.{AreClassesOf}
+use Rattle.iam_living.proofs.survey.block_from.Given as goal
 
 -- the pairs so far
 abbrev pub invariant-loop-pair : goal.invariant-loop-pair

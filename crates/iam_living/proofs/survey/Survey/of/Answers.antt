@@ -1,7 +1,7 @@
 use Rattle.std.proofs.Common.{sym, subst}
 use Rattle.iam_world.specs.World.{WorldValue}
-use Rattle.iam_survey.specs.Survey.{AreOf}
-use Rattle.iam_survey.proofs.survey.Survey.of.Goals as goal
+use Rattle.iam_living.specs.Survey.{AreOf}
+use Rattle.iam_living.proofs.survey.Survey.of.Goals as goal
 
 pub invariant_of-result : goal.invariant_of-result
 invariant_of-result c =

@@ -4,12 +4,12 @@ ghost use Rattle.std.specs.List.{slice_get};
 ghost use Rattle.iam_decision.specs.Living.{SharedValue};
 ghost use Rattle.iam_world.specs.World.{WorldValue};
 ghost use Rattle.iam_living.specs.Keys.{AreKeys};
-ghost use Rattle.iam_survey.specs.Survey.{IsSharedBy, AreOf, AreClassesOf};
+ghost use Rattle.iam_living.specs.Survey.{IsSharedBy, AreOf, AreClassesOf};
 
+use crate::keys::{Keys, no_keys, shared_by};
 use iam_columns::{empty_slots, keep, kept, slot_of};
 use iam_index::Index;
 use iam_layers::{Shared, World};
-use iam_living::{Keys, no_keys, shared_by};
 use iam_text::OutOfMemory;
 use std::alloc::Global;
 use std::marker::Model;

@@ -3,9 +3,9 @@ use Rattle.std.proofs.lemmas.Option.{slice_get-get_or}
 use Rattle.std.specs.List.{slice_get}
 use Rattle.iam_layers.specs.Cell.{IsSharedAt}
 use Rattle.iam_world.specs.World.{WorldValue}
-use Rattle.iam_survey.specs.Survey.{IsSharedBy}
+use Rattle.iam_living.specs.Survey.{IsSharedBy}
 use Rattle.iam_index.proofs.ListLemmas.{if_some}
-use Rattle.iam_survey.proofs.survey.Survey.shared.Goals as goal
+use Rattle.iam_living.proofs.survey.Survey.shared.Goals as goal
 
 pub returns : goal.returns
 returns c =

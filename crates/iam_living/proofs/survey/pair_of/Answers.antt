@@ -1,6 +1,6 @@
 use Rattle.std.proofs.Common.{◌+◌, ◌*◌, ◌/◌, ◌%◌, length, ap, ◌∙◌}
 use Rattle.std.proofs.lemmas.Nat.{div-mul-add, mod-mul-add}
-use Rattle.iam_survey.proofs.survey.pair_of.Goals as goal
+use Rattle.iam_living.proofs.survey.pair_of.Goals as goal
 
 pub returns-clause-principal : goal.returns-clause-principal
 returns-clause-principal c =

@@ -3,7 +3,7 @@ use Rattle.std.proofs.Common.{◌≡◌, inl, inr, ℕ, ◌+◌, List, [], ◌�
 use Rattle.std.specs.List.{slice_get}
 use Rattle.iam_decision.specs.Living.{SharedValue}
 use Rattle.iam_world.specs.World.{WorldValue}
-use Rattle.iam_survey.specs.Survey.{AreClassesOf, IsClass, IsSharedBy}
+use Rattle.iam_living.specs.Survey.{AreClassesOf, IsClass, IsSharedBy}
 use Rattle.iam_index.proofs.ListLemmas.{get_back, get_more}
 
 -- one more pair, with what was put behind what was found
