@@ -108,6 +108,27 @@ impl Range {
         Some(Range { address, prefix })
     }
 
+    /// How many bits the addresses of its family have, 32 or 128.
+    pub fn width(&self) -> u32
+        ensures { result ≡ self.now.address.width }
+    {
+        self.address.width
+    }
+
+    /// The number that the bits of its address make.
+    pub fn number(&self) -> u128
+        ensures { result ≡ self.now.address.number }
+    {
+        self.address.number
+    }
+
+    /// How many of the first bits of its address count.
+    pub fn prefix(&self) -> u32
+        ensures { result ≡ self.now.prefix }
+    {
+        self.prefix
+    }
+
     /// Whether the address is of the range's family and agrees with it in the bits that count.
     pub fn holds(&self, address: &Address) -> bool
         ensures { IsTrue result ↔ Holds self.now address.now }
