@@ -102,9 +102,13 @@ fn one_allow(rt: HostRuntime) -> Result<(), Fail> {
         (
             r#""IpAddress":{"aws:SourceIp":"10.0.0.0/8"}"#,
             "",
-            "possible at 1000 aws:SourceIp=10.0.0.1",
+            "possible at 1000 aws:SourceIp=10.255.255.255",
         ),
-        (r#""BinaryEquals":{"k":"QUJD"}"#, "", "open"),
+        (
+            r#""BinaryEquals":{"k":"QUJD"}"#,
+            "",
+            "possible at 1000 k=QUJD",
+        ),
     ];
     for (conditions, keys, want) in rows {
         let statement = on_all(alloc, "Allow", conditions)?;

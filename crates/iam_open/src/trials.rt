@@ -1,21 +1,24 @@
 // Values that are tried for keys that nothing gives: those at which what policies ask of them turns. Nothing is claimed of them.
 use crate::example::LAST_MOMENT;
 use crate::known::Known;
+use base64::engine::general_purpose::STANDARD;
 use iam_condition::{Entry, Operand, Template};
 use iam_context::{Context, DerivedKey, Draft, KeyName, Part, Text, Values, resolve};
 use iam_decision::Standing;
 use iam_glob::{Glob, Sign};
 use iam_layers::OutOfMemory;
 use iam_text::{Form, TemplateForm};
+use iam_value::Range;
 use std::alloc::Global;
+use std::net::{Ipv4Addr, Ipv6Addr};
 
 /// So many keys are tried at most, and so many values of one.
 const KEYS: usize = 6;
 
 const VALUES: usize = 24;
 
-/// Addresses of documents (RFC 5737, RFC 3849) and of a private network (RFC 1918); no other one is tried, whatever range is asked for.
-const ADDRESSES: [&str; 3] = ["10.0.0.1", "192.0.2.1", "2001:db8::1"];
+/// Addresses of documents (RFC 5737, RFC 3849), which are tried beside the ends of the ranges that are asked for.
+const ADDRESSES: [&str; 2] = ["192.0.2.1", "2001:db8::1"];
 
 /// A key that nothing gives, with the texts that are tried for it beside having none.
 #[derive(Drop)]
@@ -149,13 +152,52 @@ fn add_value<'a>(
             add_text(alloc, trials, key, "true")?;
             add_text(alloc, trials, key, "false")
         }
-        Operand::Range(_) => {
-            for address in ADDRESSES {
-                add_text(alloc, trials, key, address)?;
-            }
-            Ok(())
+        Operand::Range(range) => add_range(alloc, trials, key, range.get()),
+        Operand::Bytes(bytes) => {
+            let text = STANDARD.encode(alloc, bytes.as_slice())?;
+            add_text(alloc, trials, key, text.as_str())
         }
-        Operand::Bytes(_) => Ok(()),
+    }
+}
+
+/// Adds the last and the first address of a range, those right beside it, and others.
+fn add_range<'a>(
+    alloc: Global,
+    trials: &mut Vec<Trial<'a>>,
+    key: &'a str,
+    range: &Range,
+) -> Result<(), OutOfMemory> {
+    let free = range.width().saturating_sub(range.prefix());
+    let rest = 1_u128.checked_shl(free).unwrap_or(0).wrapping_sub(1);
+    let first = range.number() & !rest;
+    let last = first | rest;
+    for number in [last, first, last.saturating_add(1), first.saturating_sub(1)] {
+        add_address(alloc, trials, key, range.width(), number)?;
+    }
+    for address in ADDRESSES {
+        add_text(alloc, trials, key, address)?;
+    }
+    Ok(())
+}
+
+/// Adds the address of so many bits that this number makes, if there is one.
+fn add_address<'a>(
+    alloc: Global,
+    trials: &mut Vec<Trial<'a>>,
+    key: &'a str,
+    width: u32,
+    number: u128,
+) -> Result<(), OutOfMemory> {
+    if width > 32 {
+        let text = Ipv6Addr::from_bits(number).to_string(alloc)?;
+        return add_text(alloc, trials, key, text.as_str());
+    }
+    match u32::try_from(number) {
+        Ok(bits) => {
+            let text = Ipv4Addr::from_bits(bits).to_string(alloc)?;
+            add_text(alloc, trials, key, text.as_str())
+        }
+        Err(_) => Ok(()),
     }
 }
 
