@@ -156,7 +156,7 @@ session_more allows more frame on (inl none) = inl none
 session_more allows more frame on (inr allowed) = inr (on Session 0 allowed)
 
 -- where more is allowed and granted, what was allowed still is
-more_allowed : (allows more : Allowing) (grants further : Granting) (frame : Frame) → ((layer : Layer) (level : ℕ) → allows layer level → more layer level)
+pub more_allowed : (allows more : Allowing) (grants further : Granting) (frame : Frame) → ((layer : Layer) (level : ℕ) → allows layer level → more layer level)
     → ((grant : Grant) → grants grant → further grant) → IsAllowed allows grants frame → IsAllowed more further frame
 more_allowed allows more grants further frame on grant (org, control, suffices) = (
   λ level below. on Org level (org level below),

@@ -69,7 +69,7 @@ fn may_be_given(world: &World, own: &Part, moment: u64) -> bool
 }
 
 /// Whether each key has one value at most. Names and values are texts.
-fn are_single(own: &Part) -> bool
+pub fn are_single(own: &Part) -> bool
     ensures { IsTrue result → All (λ entry. IsUtf8 entry.0 × All IsUtf8 entry.1 × (length entry.1 ≤ 1)) own.now.items }
 {
     for (name, values) in own {

@@ -88,7 +88,7 @@ fn entries(alloc: Global, own: &[(KeyName, Values)]) -> Result<String, OutOfMemo
 }
 
 /// Keys and a moment as JSON.
-fn example(alloc: Global, own: &Part, moment: u64) -> Result<String, OutOfMemory>
+pub fn example_text(alloc: Global, own: &Part, moment: u64) -> Result<String, OutOfMemory>
     ensures { IfOk result (λ text. string_bytes text ≡ example_text own.now.items moment) }
 {
     let entries = entries(alloc, own.as_slice())?;
@@ -101,11 +101,11 @@ fn shown(alloc: Global, format: Format, turned: &Turned) -> Result<String, OutOf
 {
     match (format, turned) {
         (Format::Csv, Turned::Possible(it)) => {
-            let text = example(alloc, &it.own, it.moment)?;
+            let text = example_text(alloc, &it.own, it.moment)?;
             quote(alloc, Format::Csv, text.as_str())
         }
         (Format::Csv, _) => Ok(String::new(alloc)),
-        (Format::Json, Turned::Possible(it)) => example(alloc, &it.own, it.moment),
+        (Format::Json, Turned::Possible(it)) => example_text(alloc, &it.own, it.moment),
         (Format::Json, _) => String::from_str(alloc, "null"),
     }
 }
