@@ -1,8 +1,10 @@
 mod AgreeLemmas
+mod AskedLemmas
 mod BoundLemmas
 mod CertainLemmas
 mod ContextLemmas
 mod DecideLemmas
+mod FirstLemmas
 mod FitLemmas
 mod FormLemmas
 mod GivenLemmas

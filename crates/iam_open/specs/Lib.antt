@@ -1,4 +1,6 @@
+pub mod Asked
 pub mod Code
+pub mod First
 pub mod InQuestion
 pub mod Report
 pub mod Rows

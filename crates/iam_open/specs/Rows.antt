@@ -1,11 +1,13 @@
 -- Rows of what is said of requests whatever values the keys have that nothing gives, as CSV and as JSON. LOGIC 13.11.
-use Rattle.std.specs.Prelude.{◌+◌, ℕ, List, [], ◌∷◌, ◌++◌, Bool, true, false, codes, decimal}
+use Rattle.std.specs.Prelude.{◌+◌, ℕ, List, [], ◌∷◌, ◌++◌, Bool, true, false, Option, Some, None, codes, decimal}
 use Rattle.std.specs.List.{join_by}
 use Rattle.iam_context.specs.Context.{ContextValue}
 use Rattle.iam_decision.specs.declared.verdict.Verdict.{Verdict}
 use Rattle.iam_open.specs.declared.answer.Turned.{Turned}
 use Rattle.iam_open.specs.declared.answer.Turned.TheVariants.{Always, Never, Possible, Open}
-use Rattle.iam_row.specs.Piece.{closing_text, comma_before, quote_of}
+use Rattle.iam_open.specs.declared.asked.Word.{Word}
+use Rattle.iam_open.specs.declared.asked.Word.TheVariants as word
+use Rattle.iam_row.specs.Piece.{closing_text, quote_of}
 use Rattle.iam_row.specs.Report.{CellTexts}
 use Rattle.iam_row.specs.Words.{layer_word, marked, place_text}
 use Rattle.iam_row.specs.declared.quoted.Format.{Format}
@@ -17,11 +19,21 @@ pub record TurnedRow : Type 0 where
   pub turned : Turned
   pub verdict : Verdict
 
+-- what is said, as a word
+abbrev pub word_of : Turned → Word
+word_of Always = word.Always
+word_of Never = word.Never
+word_of (Possible example) = word.Possible
+word_of Open = word.Open
+
+abbrev pub word_text : Word → List ℕ
+word_text word.Always = codes "always"
+word_text word.Never = codes "never"
+word_text word.Possible = codes "possible"
+word_text word.Open = codes "open"
+
 abbrev pub turned_word : Turned → List ℕ
-turned_word Always = codes "always"
-turned_word Never = codes "never"
-turned_word (Possible example) = codes "possible"
-turned_word Open = codes "open"
+turned_word turned = word_text (word_of turned)
 
 -- ---- examples
 
@@ -66,8 +78,7 @@ abbrev pub front_text : Format → ℕ → CellTexts → List ℕ → List ℕ
 front_text Csv cell texts word =
     decimal cell ++ (codes "," ++ (texts.principal ++ (codes "," ++ (texts.action ++ (codes "," ++ (texts.resource ++ (codes "," ++ word)))))))
 front_text Json cell texts word =
-    comma_before cell ++ (codes "{\"action\":" ++ (texts.action ++ (codes ",\"cell\":" ++ (decimal cell ++ (codes ",\"decision\":\""
-    ++ (word ++ codes "\""))))))
+    codes "{\"action\":" ++ (texts.action ++ (codes ",\"cell\":" ++ (decimal cell ++ (codes ",\"decision\":\"" ++ (word ++ codes "\"")))))
 
 -- a row in brief, and one in full
 abbrev pub brief_text : Format → ℕ → CellTexts → List ℕ → List ℕ
@@ -97,11 +108,23 @@ opening_text Csv true = codes "cell,principal,action,resource,decision\n"
 opening_text Csv false = codes "cell,principal,action,resource,decision,statements,lacks,example\n"
 opening_text Json brief = codes "["
 
--- the rows of cells that follow one another from this one
-abbrev pub rows_text : Format → Bool → ℕ → List TurnedRow → List ℕ
+-- texts of rows one behind the other: in JSON with a comma between them, where neither is empty
+abbrev pub together : Format → List ℕ → List ℕ → List ℕ
+together Csv one other = one ++ other
+together Json [] other = other
+together Json (c ∷ one) [] = c ∷ one
+together Json (c ∷ one) (d ∷ other) = (c ∷ one) ++ (codes "," ++ (d ∷ other))
+
+-- the row of a cell, where it has one
+abbrev pub told_text : Format → Bool → ℕ → Option TurnedRow → List ℕ
+told_text format brief cell None = []
+told_text format brief cell (Some row) = row_text format brief cell row
+
+-- the rows of cells that follow one another from this one, of those that have one
+abbrev pub rows_text : Format → Bool → ℕ → List (Option TurnedRow) → List ℕ
 rows_text format brief cell [] = []
-rows_text format brief cell (row ∷ rows) = row_text format brief cell row ++ rows_text format brief (cell + 1) rows
+rows_text format brief cell (told ∷ more) = together format (told_text format brief cell told) (rows_text format brief (cell + 1) more)
 
 -- the report of rows, from cell 0 on
-abbrev pub report_text : Format → Bool → List TurnedRow → List ℕ
-report_text format brief rows = opening_text format brief ++ (rows_text format brief 0 rows ++ closing_text format)
+abbrev pub report_text : Format → Bool → List (Option TurnedRow) → List ℕ
+report_text format brief told = opening_text format brief ++ (rows_text format brief 0 told ++ closing_text format)

@@ -12,12 +12,14 @@
 #![tactic(auto)]
 
 mod answer;
+mod asked;
 mod beyond;
 mod bounds;
 mod certain;
 mod decide;
 mod entry;
 mod example;
+mod first;
 mod known;
 mod report;
 mod resource;
@@ -28,9 +30,11 @@ mod sure;
 mod trials;
 
 pub use answer::{Turned, turned_of};
+pub use asked::{Asked, Word};
 pub use certain::Certain;
 pub use decide::verdict_in;
 pub use example::{Example, LAST_MOMENT, are_single};
+pub use first::first_turned_report;
 pub use iam_layers::{OutOfMemory, World};
 pub use known::Known;
 pub use report::turned_report;

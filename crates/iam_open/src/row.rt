@@ -1,15 +1,18 @@
 // The rows of requests: what is said of each, and an example.
-ghost use Rattle.std.specs.Prelude.{◌≡◌, ◌++◌, IfOk, OnOk, codes, false, string_bytes, true};
+ghost use Rattle.std.specs.Prelude.{◌≡◌, ◌++◌, ◌∷◌, [], IfOk, Option, OnOk, codes, false, string_bytes, true};
 ghost use Rattle.std.specs.List.{join_by};
 ghost use Rattle.iam_layers.specs.Cell.{IsCell};
-ghost use Rattle.iam_open.specs.Report.{IsRow};
-ghost use Rattle.iam_open.specs.Rows.{TurnedRow, brief_text, entry_text, example_text, front_text, full_text, joined_row, json_of, lacks_in, opening_text, row_text, shown_text, statements_in, turned_word};
+ghost use Rattle.iam_open.specs.Asked.{asked_of};
+ghost use Rattle.iam_open.specs.Report.{IsRow, IsTold};
+ghost use Rattle.iam_open.specs.Rows.{TurnedRow, brief_text, entry_text, example_text, front_text, full_text, joined_row, json_of, lacks_in, opening_text, row_text, shown_text, statements_in, told_text, turned_word};
+ghost use Rattle.iam_open.specs.Turned.{IsTurned};
 ghost use Rattle.iam_decision.specs.declared.verdict.Verdict.{Verdict};
 
 use crate::answer::{Turned, turned_of};
+use crate::asked::{Asked, is_selected, is_wanted, word_of, word_text};
 use iam_context::{KeyName, Part, Values};
 use iam_layers::{OutOfMemory, Verdict, World};
-use iam_row::{Format, Layers, Places, Position, bare, comma_before, quote};
+use iam_row::{Format, Layers, Places, Position, quote};
 use iam_text::Text;
 use std::alloc::Global;
 
@@ -28,12 +31,7 @@ pub fn opening(format: Format, brief: bool) -> &'static str
 fn word(turned: &Turned) -> &'static str
     ensures { result.now ≡ turned_word turned.now }
 {
-    match turned {
-        Turned::Always => "always",
-        Turned::Never => "never",
-        Turned::Possible(_) => "possible",
-        Turned::Open => "open",
-    }
+    word_text(word_of(turned))
 }
 
 /// Puts a text as a string of JSON behind another.
@@ -123,13 +121,10 @@ fn front_text(
     ensures { IfOk result (λ text. string_bytes text
         ≡ front_text format cell (record { principal = principal.now; action = action.now; resource = resource.now }) word.now) }
 {
-    let comma = comma_before(cell);
     match format {
         Format::Csv => format!(in alloc; "{cell},{principal},{action},{resource},{word}"),
         Format::Json => {
-            format!(in alloc;
-                "{comma}{{\"action\":{action},\"cell\":{cell},\"decision\":\"{word}\""
-            )
+            format!(in alloc; "{{\"action\":{action},\"cell\":{cell},\"decision\":\"{word}\"")
         }
     }
 }
@@ -238,22 +233,24 @@ fn full_row(
     )
 }
 
-/// The row of a cell.
+/// The row of a cell, of whose request this is said.
 pub fn row(
     alloc: Global,
     world: &World,
     format: Format,
     brief: bool,
     at: Position,
+    turned: &Turned,
 ) -> Result<String, OutOfMemory>
-    requires { IsCell world.now at.cell at.principal at.action at.resource }
-    ensures { IfOk result (λ text. (row : TurnedRow) × IsRow brief world.now at.cell row × (string_bytes text ≡ row_text format brief at.cell row)) }
+    requires cell { IsCell world.now at.cell at.principal at.action at.resource }
+    requires turned { IsTurned (world.now ∷ []) world.now at.principal at.action at.resource turned.now }
+    ensures { IfOk result (λ text. (row : TurnedRow) × IsRow brief world.now at.cell row × (row.turned ≡ turned.now)
+        × (string_bytes text ≡ row_text format brief at.cell row)) }
 {
     let (p, a, r) = (at.principal, at.action, at.resource);
     let principal = quote(alloc, format, world.principal_text(p))?;
     let action = quote(alloc, format, world.action_text(a))?;
     let resource = quote(alloc, format, world.resource_text(r))?;
-    let turned = turned_of(alloc, world, p, a, r)?;
     if brief {
         return brief_text(
             alloc,
@@ -262,10 +259,10 @@ pub fn row(
             principal.as_str(),
             action.as_str(),
             resource.as_str(),
-            word(&turned),
+            word(turned),
         );
     }
-    match &turned {
+    match turned {
         Turned::Possible(it) => full_row(
             alloc,
             format,
@@ -273,7 +270,7 @@ pub fn row(
             principal.as_str(),
             action.as_str(),
             resource.as_str(),
-            &turned,
+            turned,
             &it.verdict,
         ),
         _ => {
@@ -285,9 +282,38 @@ pub fn row(
                 principal.as_str(),
                 action.as_str(),
                 resource.as_str(),
-                &turned,
+                turned,
                 &verdict,
             )
         }
     }
+}
+
+fn nothing(alloc: Global) -> String
+    ensures { string_bytes result ≡ [] }
+{
+    String::new(alloc)
+}
+
+/// The row of a cell, where it is asked for; else nothing.
+pub fn told(
+    alloc: Global,
+    world: &World,
+    asked: Asked<'_>,
+    format: Format,
+    brief: bool,
+    at: Position,
+) -> Result<String, OutOfMemory>
+    requires { IsCell world.now at.cell at.principal at.action at.resource }
+    ensures { IfOk result (λ text. (told : Option TurnedRow) × IsTold brief (asked_of asked) world.now at.cell told
+        × (string_bytes text ≡ told_text format brief at.cell told)) }
+{
+    if !is_selected(asked, world, at) {
+        return Ok(nothing(alloc));
+    }
+    let turned = turned_of(alloc, world, at.principal, at.action, at.resource)?;
+    if !is_wanted(asked, word_of(&turned)) {
+        return Ok(nothing(alloc));
+    }
+    row(alloc, world, format, brief, at, &turned)
 }

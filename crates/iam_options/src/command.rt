@@ -1,11 +1,12 @@
 // The whole command line: the options, the file of the world, and what is asked for.
-ghost use Rattle.std.specs.Prelude.{◌≡◌, ◌↔◌, IsTrue, IfOk, codes, length, map, option_map, string_bytes};
+ghost use Rattle.std.specs.Prelude.{◌≡◌, ◌≢◌, ◌↔◌, IsTrue, IfErr, IfOk, codes, length, map, option_map, string_bytes};
 ghost use Rattle.clap.specs.Matches.{first_value, found_of};
-ghost use Rattle.iam_options.specs.AnyKey.{asks_any_key};
+ghost use Rattle.iam_options.specs.AnyKey.{AreWords, HasOtherWords, asks_any_key};
 ghost use Rattle.iam_options.specs.EveryChanges.{asks_every};
 ghost use Rattle.iam_options.specs.Words.{HasAsked, IsFileAt, IsFlag, texts_at};
+ghost use Rattle.iam_options.specs.declared.options.Usage.TheVariants as u;
 
-use crate::any_key::{AnyKeyCommand, any_key, any_key_in};
+use crate::any_key::{AnyKeyCommand, any_key, any_key_in, has_words};
 use crate::arguments::{check, decide, first, matrix, named, with};
 use crate::ask::{AskCommand, ask, ask_in};
 use crate::changes::{ChangesCommand, changes, changes_in};
@@ -34,12 +35,35 @@ An option with PATTERN or WORD may be given several times; then one of its value
 /// The decisions that `--decision` takes.
 static DECISIONS: [&str; 3] = ["allowed", "explicitDeny", "implicitDeny"];
 
+/// Those that it takes of `matrix`, where the last four stand beside `--any-key` alone.
+static MATRIX_DECISIONS: [&str; 7] = [
+    "allowed",
+    "explicitDeny",
+    "implicitDeny",
+    "always",
+    "never",
+    "possible",
+    "open",
+];
+
+const ANY_KEY: &str =
+    "Tell whether keys that nothing gives can turn requests: always, never, possible or open";
+
+const FIRST_ANY_KEY: &str =
+    "Find the first request that is not never allowed, whatever values keys have that nothing gives";
+
+/// What `matrix` is called by.
+const MATRIX: &str = "iamsim matrix";
+
+const OTHER_WORD: &str =
+    "--decision takes always, never, possible and open beside --any-key, and the other words without it";
+
 /// What a command line asks for.
 #[derive(Debug, Drop)]
 pub enum Command {
     /// A command about one world.
     World(WorldCommand),
-    /// All requests of one world, whatever values the keys have that nothing gives.
+    /// Requests of one world, whatever values the keys have that nothing gives.
     AnyKey(AnyKeyCommand),
     /// The changes between two worlds.
     Changes(ChangesCommand),
@@ -73,7 +97,7 @@ pub struct Asked {
     pub actions: Vec<String>,
     /// Patterns of resources.
     pub resources: Vec<String>,
-    /// Words for decisions: `allowed`, `explicitDeny` or `implicitDeny`.
+    /// Words for decisions: `allowed`, `explicitDeny` or `implicitDeny`; beside `--any-key` `always`, `never`, `possible` or `open`.
     pub decisions: Vec<String>,
 }
 
@@ -113,12 +137,20 @@ fn command_or_usage(
     }
 }
 
-/// A command about one world that was read: of its requests as they are, or whatever values the keys have that nothing gives.
+/// A command about one world that was read: of its requests as they are, or whatever values the keys have that nothing gives. It is refused
+/// where a word for decisions is one of the other kind.
 fn about_world(alloc: Global, options: Options, command: &ArgMatches<'_>) -> Result<Command, Usage>
-    ensures { IfOk result (λ read. IsFlag command.now (codes "any-key") (asks_any_key read)) }
+    ensures flag { IfOk result (λ read. IsFlag command.now (codes "any-key") (asks_any_key read)) }
+    ensures words { IfOk result (λ read. AreWords command.now (asks_any_key read)) }
+    ensures refused { IfErr result (λ usage. usage ≢ u.OutOfMemory → HasOtherWords command.now) }
 {
-    if command.get_flag("any-key") {
-        return Ok(Command::AnyKey(any_key_in(alloc, command)?));
+    let any_key = command.get_flag("any-key");
+    if !has_words(alloc, command, any_key)? {
+        let kind = ErrorKind::InvalidValue;
+        return Err(refused(alloc, matrix_of_world(alloc)?, MATRIX, kind, OTHER_WORD)?);
+    }
+    if any_key {
+        return Ok(Command::AnyKey(any_key_in(alloc, options.task, command)?));
     }
     Ok(Command::World(world_in(alloc, options, command)?))
 }
@@ -234,11 +266,18 @@ fn copied(alloc: Global, texts: &[&str]) -> Result<Vec<String>, AllocError>
 fn iamsim<'a>(alloc: Global) -> Result<Parser<'a>, AllocError> {
     let parser = with(named(alloc, ABOUT), of_world(alloc, Ok(check(alloc))));
     let parser = with(parser, of_world(alloc, decide(alloc)));
-    let matrix = selecting_rows(alloc, of_world(alloc, matrix(alloc)));
-    let parser = with(parser, matrix?.arg(any_key(alloc)?));
-    let parser = with(parser, selecting(alloc, of_world(alloc, first(alloc))));
+    let parser = with(parser, matrix_of_world(alloc));
+    let first = selecting(alloc, of_world(alloc, first(alloc)));
+    let parser = with(parser, first?.arg(any_key(alloc, FIRST_ANY_KEY)?));
     let parser = with(parser, changes(alloc));
     with(with(parser, ask(alloc)), every(alloc))
+}
+
+/// The parser of `matrix`.
+fn matrix_of_world<'a>(alloc: Global) -> Result<Parser<'a>, AllocError> {
+    selecting(alloc, of_world(alloc, matrix(alloc)))?
+        .arg(decision(alloc).value_parser(MATRIX_DECISIONS.as_slice()))?
+        .arg(any_key(alloc, ANY_KEY)?)
 }
 
 /// A command of a world that may be named.
@@ -280,14 +319,6 @@ pub fn allow_empty<'a>(alloc: Global, help: &'static str) -> Arg<'a> {
         .long("allow-empty")
         .action(ArgAction::SetTrue)
         .help(help)
-}
-
-/// A command for some rows.
-fn selecting_rows<'a>(
-    alloc: Global,
-    command: Result<Parser<'a>, AllocError>,
-) -> Result<Parser<'a>, AllocError> {
-    selecting(alloc, command)?.arg(decision(alloc))
 }
 
 pub fn file<'a>(alloc: Global, name: &'static str, help: &'static str) -> Arg<'a> {

@@ -10,7 +10,7 @@ use iam_app::{
     WorldCommand, ask_status, changes_command_status, changes_fault_line, command_of,
     command_status, every_changes_fault_line, every_changes_status, every_status, fault_line,
     names_fault_line, requests_fault_line, run_any_key, run_ask, run_changes_command, run_command,
-    run_every, run_every_changes, status,
+    run_every, run_every_changes,
 };
 use serde_json::Value;
 use std::alloc::Global;
@@ -194,13 +194,13 @@ fn any_key_answer<R: AllocGlobal + Threads + Sync>(
     let alloc = rt.alloc();
     let mut reader = input;
     let mut output = Vec::new(alloc);
-    let outcome = run_any_key(rt, alloc, &command.options, &mut reader, &mut output);
+    let outcome = run_any_key(rt, alloc, command, &mut reader, &mut output);
     let fault = match &outcome {
-        Ok(()) => String::new(alloc),
+        Ok(_) => String::new(alloc),
         Err(fault) => fault_line(alloc, fault)?,
     };
     Ok(Answer {
-        status: u64::from(status(&outcome)),
+        status: u64::from(command_status(&outcome, command.allow_empty)),
         output,
         fault,
     })

@@ -4,7 +4,7 @@ use iam_app::{
     changes_command_status, changes_fault_line, command_of, command_status,
     every_changes_fault_line, every_changes_status, every_status, fault_line, names_fault_line,
     requests_fault_line, run_any_key, run_ask, run_changes_command, run_command, run_every,
-    run_every_changes, status,
+    run_every_changes,
 };
 use std::io;
 use std::io::{ErrorKind, Read, Write};
@@ -216,12 +216,12 @@ fn end_of_any_key<R: Read, W: Write>(
     world: &mut R,
     writer: &mut W,
 ) -> Result<(u8, String), Fail> {
-    let outcome = run_any_key(rt, rt.alloc(), &asked.options, world, writer);
+    let outcome = run_any_key(rt, rt.alloc(), asked, world, writer);
     let line = match &outcome {
-        Ok(()) => String::new(rt.alloc()),
+        Ok(_) => String::new(rt.alloc()),
         Err(fault) => fault_line(rt.alloc(), fault)?,
     };
-    Ok((status(&outcome), line))
+    Ok((command_status(&outcome, asked.allow_empty), line))
 }
 
 /// The same of a run of requests.

@@ -8,7 +8,7 @@ use iam_app::{
     OutOfMemory, Texts, Usage, WorldCommand, ask_status, changes_command_status,
     changes_fault_line, command_of, command_status, every_changes_fault_line, every_changes_status,
     every_status, fault_line, names_fault_line, requests_fault_line, run_any_key, run_ask,
-    run_changes_command, run_command, run_every, run_every_changes, status,
+    run_changes_command, run_command, run_every, run_every_changes,
 };
 use source::{Input, NotRead, Source, line_of_file};
 use std::alloc::Global;
@@ -122,11 +122,11 @@ fn any_key<T: Threads + Sync + Files + Eprint, R: Read + Drop, W: Write>(
     input: &mut Input<'_, R, T>,
     stdout: &mut W,
 ) -> u8 {
-    let outcome = run_any_key(rt, alloc, &command.options, input, stdout);
+    let outcome = run_any_key(rt, alloc, command, input, stdout);
     if let Err(fault) = &outcome {
         tell_fault(rt, alloc, fault_line(alloc, fault), input.not_read());
     }
-    status(&outcome)
+    command_status(&outcome, command.allow_empty)
 }
 
 /// Answers what has changed from one world to another; the exit status.

@@ -15,7 +15,7 @@ returns-then-brief c =
     let texts : CellTexts = record { principal = c.principal_text.result.now; action = c.action_text.result.now; resource = c.resource_text.result.now } in
     let has : HasTexts c.args.world.now c.args.at.principal c.args.at.action c.args.at.resource texts =
     record { principal = c.principal_text.ensures; action = c.action_text.ensures; resource = c.resource_text.ensures } in
-    let turned = c.in_ok-turned.turned in
+    let turned = c.args.turned.now in
     let row : TurnedRow = record { texts = texts; turned = turned; verdict = bare ImplicitDeny } in
     let quoted : CellTexts = record { principal = c.as_str.result.now; action = c.as_str-then-brief.result.now; resource = c.as_str-then-brief-2.result.now } in
     let made =
@@ -26,7 +26,7 @@ returns-then-brief c =
     λ text is. (
       row,
       subst (λ b. IsRow b c.args.world.now c.args.at.cell row) (sym c.if-brief.true)
-          (c.args.at.principal, c.args.at.action, c.args.at.resource, c.requires, has, c.in_ok-turned.ensures, tt),
+          (c.args.at.principal, c.args.at.action, c.args.at.resource, c.requires.cell, has, c.requires.turned, tt),
       is ∙ ap (brief_text c.args.format c.args.at.cell quoted) c.word.ensures ∙ made ∙ ap (λ b. row_text c.args.format b c.args.at.cell row) (sym c.if-brief.true),
     )
     )
@@ -37,7 +37,7 @@ returns-in-Possible c =
     let texts : CellTexts = record { principal = c.principal_text.result.now; action = c.action_text.result.now; resource = c.resource_text.result.now } in
     let has : HasTexts c.args.world.now c.args.at.principal c.args.at.action c.args.at.resource texts =
     record { principal = c.principal_text.ensures; action = c.action_text.ensures; resource = c.resource_text.ensures } in
-    let turned = c.in_ok-turned.turned in
+    let turned = c.args.turned.now in
     let row : TurnedRow = record { texts = texts; turned = turned; verdict = c.in-Possible.it.verdict } in
     let quoted : CellTexts = record { principal = c.as_str-in-Possible.result.now; action = c.as_str-in-Possible-2.result.now; resource = c.as_str-in-Possible-3.result.now } in
     let made =
@@ -48,7 +48,7 @@ returns-in-Possible c =
     λ text is. (
       row,
       subst (λ b. IsRow b c.args.world.now c.args.at.cell row) (sym c.if-brief.false)
-          (c.args.at.principal, c.args.at.action, c.args.at.resource, c.requires, has, c.in_ok-turned.ensures, subst (λ (t : Turned). IsSaid false c.args.world.now c.args.at.principal c.args.at.action c.args.at.resource t c.in-Possible.it.verdict) (sym c.in-Possible.is) refl),
+          (c.args.at.principal, c.args.at.action, c.args.at.resource, c.requires.cell, has, c.requires.turned, subst (λ (t : Turned). IsSaid false c.args.world.now c.args.at.principal c.args.at.action c.args.at.resource t c.in-Possible.it.verdict) (sym c.in-Possible.is) refl),
       is ∙ made ∙ ap (λ b. row_text c.args.format b c.args.at.cell row) (sym c.if-brief.false),
     )
     )
@@ -59,7 +59,7 @@ returns c =
     let texts : CellTexts = record { principal = c.principal_text.result.now; action = c.action_text.result.now; resource = c.resource_text.result.now } in
     let has : HasTexts c.args.world.now c.args.at.principal c.args.at.action c.args.at.resource texts =
     record { principal = c.principal_text.ensures; action = c.action_text.ensures; resource = c.resource_text.ensures } in
-    let turned = c.in_ok-turned.turned in
+    let turned = c.args.turned.now in
     let row : TurnedRow = record { texts = texts; turned = turned; verdict = c.in_ok-verdict-in_default.verdict } in
     let quoted : CellTexts = record { principal = c.as_str-in_default.result.now; action = c.as_str-in_default-2.result.now; resource = c.as_str-in_default-3.result.now } in
     let made =
@@ -70,7 +70,7 @@ returns c =
     λ text is. (
       row,
       subst (λ b. IsRow b c.args.world.now c.args.at.cell row) (sym c.if-brief.false)
-          (c.args.at.principal, c.args.at.action, c.args.at.resource, c.requires, has, c.in_ok-turned.ensures, said_plain c.args.world.now c.args.at.principal c.args.at.action c.args.at.resource turned c.in_ok-verdict-in_default.verdict c.in_default.not-Possible c.in_ok-verdict-in_default.ensures),
+          (c.args.at.principal, c.args.at.action, c.args.at.resource, c.requires.cell, has, c.requires.turned, said_plain c.args.world.now c.args.at.principal c.args.at.action c.args.at.resource turned c.in_ok-verdict-in_default.verdict c.in_default.not-Possible c.in_ok-verdict-in_default.ensures),
       is ∙ made ∙ ap (λ b. row_text c.args.format b c.args.at.cell row) (sym c.if-brief.false),
     )
     )
