@@ -27,6 +27,7 @@ returns-then-brief c =
       row,
       subst (λ b. IsRow b c.args.world.now c.args.at.cell row) (sym c.if-brief.true)
           (c.args.at.principal, c.args.at.action, c.args.at.resource, c.requires.cell, has, c.requires.turned, tt),
+      refl,
       is ∙ ap (brief_text c.args.format c.args.at.cell quoted) c.word.ensures ∙ made ∙ ap (λ b. row_text c.args.format b c.args.at.cell row) (sym c.if-brief.true),
     )
     )
@@ -49,6 +50,7 @@ returns-in-Possible c =
       row,
       subst (λ b. IsRow b c.args.world.now c.args.at.cell row) (sym c.if-brief.false)
           (c.args.at.principal, c.args.at.action, c.args.at.resource, c.requires.cell, has, c.requires.turned, subst (λ (t : Turned). IsSaid false c.args.world.now c.args.at.principal c.args.at.action c.args.at.resource t c.in-Possible.it.verdict) (sym c.in-Possible.is) refl),
+      refl,
       is ∙ made ∙ ap (λ b. row_text c.args.format b c.args.at.cell row) (sym c.if-brief.false),
     )
     )
@@ -71,6 +73,7 @@ returns c =
       row,
       subst (λ b. IsRow b c.args.world.now c.args.at.cell row) (sym c.if-brief.false)
           (c.args.at.principal, c.args.at.action, c.args.at.resource, c.requires.cell, has, c.requires.turned, said_plain c.args.world.now c.args.at.principal c.args.at.action c.args.at.resource turned c.in_ok-verdict-in_default.verdict c.in_default.not-Possible c.in_ok-verdict-in_default.ensures),
+      refl,
       is ∙ made ∙ ap (λ b. row_text c.args.format b c.args.at.cell row) (sym c.if-brief.false),
     )
     )

@@ -1,4 +1,4 @@
-use Rattle.std.proofs.Common.{◌≡◌, ◌↔◌, ◌∙◌, All, Global, IsTrue, List, String, ap, arith, codes, length, map, string_bytes, subst, sym}
+use Rattle.std.proofs.Common.{◌≡◌, ◌↔◌, All, Global, IsTrue, List, String, arith, codes, map, string_bytes, subst, sym}
 use Rattle.std.proofs.lemmas.List.{get_or-map, length-map}
 use Rattle.std.proofs.lemmas.List.Elements.{All-map}
 use Rattle.iam_options.specs.AnyKey.{is_any_key_word}
