@@ -1,4 +1,5 @@
-"""matrix --any-key, on the program as it is built: examples, workers, streams that fail, and memory that is refused."""
+"""matrix and first with --any-key, on the program as it is built: examples, what is asked for, workers, streams that fail, and memory that
+is refused."""
 
 import itertools
 import json
@@ -60,6 +61,24 @@ def test_examples_are_allowed():
         same((told[0]["decision"], told[0]["statements"]), ("allowed", row["statements"]))
 
 
+def test_what_is_asked_for_stands_as_in_the_report_of_all():
+    for path in (COMPANY, ROLES, SHARED):
+        rows = rows_of("--any-key", path)
+        who = rows[-1]["principal"]
+        for word in ("always", "never", "possible", "open"):
+            wanted = [it for it in rows if it["decision"] == word]
+            same(rows_of("--any-key", "--decision", word, path), wanted, f"{path} {word}")
+            some = rows_of("--any-key", "--decision", word, "--principal", who, "--workers", "7", path)
+            same(some, [it for it in wanted if it["principal"] == who], f"{path} {word} {who}")
+
+
+def test_the_first_that_is_not_never():
+    for path, number in itertools.product((SMALLEST, COMPANY, ROLES, SHARED), ("1", "64")):
+        header, *lines = any_key("--brief", path)[1].splitlines(True)
+        first = next((it for it in lines if not it.endswith(b",never\n")), b"")
+        same(answer(["first", "--any-key", "--workers", number, path], b""), (0, header + first, b""), path)
+
+
 def test_any_number_of_workers():
     for path, form in itertools.product((COMPANY, ROLES, SHARED), FORMS):
         found = {any_key(path, *form, "--workers", number) for number in ("1", "2", "7", "64")}
@@ -87,9 +106,10 @@ def test_streams_that_fail():
 def jobs(kind, path):
     with open(path, "rb") as it:
         world = it.read()
-    for words in (["--workers", "1"], ["--brief", "--format", "json"]):
+    one = ["--principal", "*", "--workers", "1"]
+    for words in (["matrix", "--workers", "1"], ["matrix", "--brief", "--format", "json"], ["matrix", "--decision", "open", *one], ["first", *one]):
         for later in (0, 1):
-            yield kind, later, ["matrix", "--any-key", *words], world
+            yield kind, later, [*words, "--any-key"], world
 
 
 def test_memory_refused():
