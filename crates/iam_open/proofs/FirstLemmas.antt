@@ -1,10 +1,10 @@
 -- The first request of those that are selected of which it is not seen that it is never allowed.
-use Rattle.std.proofs.Common.{◌≡◌, ◌≢◌, ◌⊎◌, ◌∙◌, ℕ, ◌+◌, ◌*◌, ◌/◌, ◌<◌, ◌≤◌, List, ⊤, Option, Some, None, ⊎_elim, ap, append-nil, arith, get_or, length, min, refl, subst, sym, ◌++◌, true}
+use Rattle.std.proofs.Common.{◌≡◌, ◌≢◌, ◌⊎◌, ◌∙◌, ℕ, zero, suc, ◌+◌, ◌*◌, ◌/◌, ◌<◌, ◌≤◌, List, [], ◌∷◌, Option, Some, None, ⊎_elim, ap, arith, length, min, refl, subst, sym, ◌++◌, true}
 use Rattle.std.specs.List.{slice_get}
 use Rattle.std.proofs.Math.Nat.{div-mul-le_self, lt-div-mul-add}
 use Rattle.std.proofs.lemmas.Bool.{cases_lt}
+use Rattle.std.proofs.lemmas.List.{append-nil}
 use Rattle.std.proofs.lemmas.Nat.{le-div}
-use Rattle.std.proofs.lemmas.Option.{slice_get-get_or}
 use Rattle.iam_layers.specs.Cell.{IsCell}
 use Rattle.iam_open.specs.Asked.{AskedValue, IsSelected}
 use Rattle.iam_open.specs.Code.Parts.{AreNeverBelow, IsFirstIn, IsFoundHere, IsOther, found_report, from_of, to_of}
@@ -62,10 +62,15 @@ found_here asked world from to cell found above inside before (same, other) = re
   lower = subst (λ n. AreNeverBelow asked world from to n) (sym same) before;
 }
 
+some_at : {O : Type 0} (xs : List O) (i : ℕ) → i < length xs → (x : O) × (slice_get xs i ≡ Some x)
+some_at [] i below = absurd (let wrong : ⊥ = omega (arith, below) in wrong)
+some_at (x ∷ xs) zero below = (x, refl)
+some_at (x ∷ xs) (suc i) below = some_at xs i (omega (arith, below))
+
 -- each cell lies in a tile
-pub tiles_never : (asked : AskedValue) (world : WorldValue) (each bound : ℕ) (outputs : List ⊤) → 0 < each
+pub tiles_never : {O : Type 0} (asked : AskedValue) (world : WorldValue) (each bound : ℕ) (outputs : List O) → 0 < each
     → length outputs ≡ world_cells world / each + 1
-    → ((tile : ℕ) (output : ⊤) → slice_get outputs tile ≡ Some output
+    → ((tile : ℕ) (output : O) → slice_get outputs tile ≡ Some output
     → AreNeverBelow asked world (from_of world each tile) (to_of world each tile) bound)
     → (cell : ℕ) → cell < world_cells world → cell < bound → IsSelected asked world cell → IsNeverAt world cell
 tiles_never asked world each bound outputs some count given cell inside below =
@@ -73,8 +78,8 @@ tiles_never asked world each bound outputs some count given cell inside below =
     let low : tile * each ≤ cell = div-mul-le_self cell each in
     let high : cell < tile * each + each = lt-div-mul-add some in
     let few : tile ≤ world_cells world / each = le-div tile (world_cells world) each some (omega (arith, low, inside)) in
-    let there = slice_get-get_or outputs tile tt (omega (arith, few, count)) in
-    given tile (get_or outputs tile tt) there cell (omega (arith, low)) (omega (arith, low, high, inside)) below
+    let (output, there) = some_at outputs tile (omega (arith, few, count)) in
+    given tile output there cell (omega (arith, low)) (omega (arith, low, high, inside)) below
 
 -- the report, where no cell that is below the one from which on was looked is to be told
 pub first_whole : (asked : AskedValue) (world : WorldValue) (from : ℕ)

@@ -1,5 +1,6 @@
 -- The report as it is made: the rows of some cells each.
-use Rattle.std.specs.Prelude.{◌≡◌, ◌++◌, ◌+◌, ◌*◌, ◌<◌, ◌≤◌, ◌≢◌, ℕ, Bool, true, Global, List, [], ◌∷◌, Option, Some, None, String, length, min, string_bytes}
+use Rattle.std.specs.Prelude.{◌≡◌, ◌++◌, ◌+◌, ◌*◌, ◌<◌, ◌≤◌, ◌≢◌, ℕ, Bool, true, List, [], ◌∷◌, Option, Some, None, String, length, min, string_bytes}
+use Rattle.std.specs.Global.{Global}
 use Rattle.iam_open.specs.Asked.{AskedValue, IsSelected}
 use Rattle.iam_open.specs.First.{IsNeverAt}
 use Rattle.iam_open.specs.Report.{IsRow, IsTold}

@@ -2,6 +2,7 @@ use Rattle.std.proofs.Common.{◌≡◌, ◌+◌, ◌/◌, ◌<◌, ap, arith, �
 use Rattle.std.proofs.lemmas.Result.{MatchResult-weaker}
 use Rattle.iam_crew.specs.Bound.{bound_of}
 use Rattle.iam_open.specs.Asked.{asked_of}
+use Rattle.iam_open.specs.Code.Parts.{IsFirstIn}
 use Rattle.iam_open.proofs.FirstLemmas.{first_whole, tiles_never}
 use Rattle.iam_world.specs.World.{world_cells}
 use Rattle.iam_open.proofs.first.first_turned_report.Goals as goal
@@ -19,6 +20,6 @@ returns g c =
     (
     λ text is.
     first_whole asked world c.low_of-from.result (λ cell inside below. all cell inside (omega (arith, below, c.low_of-from.ensures))) c.in_ok-found.found
-    c.in_ok-found.ensures (string_bytes text) is
+    (subst (λ n. IsFirstIn asked world c.low_of-from.result n c.in_ok-found.found) c.cells-cells.ensures.value c.in_ok-found.ensures) (string_bytes text) is
     )
     (λ _ _. tt)
