@@ -54,7 +54,7 @@ fn is_meant_fold(patterns: &[Glob], text: &str) -> bool
 /// Whether the request of the cell is selected.
 pub fn is_selected(asked: Asked<'_>, world: &World, at: Position) -> bool
     requires { IsCell world.now at.cell at.principal at.action at.resource }
-    ensures { IsTrue result ↔ IsSelected (asked_of asked) world.now at.cell }
+    ensures { IsTrue result ↔ IsSelected (asked_of asked.entry) world.now at.cell }
 {
     one_triple();
     let principal = world.principal_text(at.principal);
@@ -71,7 +71,7 @@ pub fn is_selected(asked: Asked<'_>, world: &World, at: Position) -> bool
 
 /// Whether rows with the word are asked for.
 pub fn is_wanted(asked: Asked<'_>, word: Word) -> bool
-    ensures { IsTrue result ↔ IsWanted (asked_of asked) word }
+    ensures { IsTrue result ↔ IsWanted (asked_of asked.entry) word }
 {
     asked.words.is_empty() || asked.words.iter().any(|&said| said == word)
 }

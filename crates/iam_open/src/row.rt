@@ -305,7 +305,7 @@ pub fn told(
     at: Position,
 ) -> Result<String, OutOfMemory>
     requires { IsCell world.now at.cell at.principal at.action at.resource }
-    ensures { IfOk result (λ text. (told : Option TurnedRow) × IsTold brief (asked_of asked) world.now at.cell told
+    ensures { IfOk result (λ text. (told : Option TurnedRow) × IsTold brief (asked_of asked.entry) world.now at.cell told
         × (string_bytes text ≡ told_text format brief at.cell told)) }
 {
     if !is_selected(asked, world, at) {
