@@ -52,6 +52,11 @@ pub none_here : (asked : AskedValue) (world : WorldValue) (cell : ℕ) (found : 
 none_here asked world cell None none here = here
 none_here asked world cell (Some found) none here = absurd (none found refl)
 
+pub none_in : (asked : AskedValue) (world : WorldValue) (from to : ℕ) (found : Option Found) → ((one : Found) → found ≢ Some one)
+    → IsFirstIn asked world from to found → AreNeverBelow asked world from to to
+none_in asked world from to None none are = are
+none_in asked world from to (Some found) none are = absurd (none found refl)
+
 -- the first of these cells was found
 pub found_here : (asked : AskedValue) (world : WorldValue) (from to cell : ℕ) (found : Found) → from ≤ cell → cell < to
     → AreNeverBelow asked world from to cell → IsFoundHere asked world cell (Some found) → IsFirstIn asked world from to (Some found)

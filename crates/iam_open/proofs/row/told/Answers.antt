@@ -24,7 +24,7 @@ returns-then-not-is_wanted c =
             let told = c.is_wanted.ensures.1 (subst (λ (word : Word). IsWanted (asked_of c.args.asked) word) (sym c.word_of.ensures) wanted) in
             absurd (let wrong : ⊥ = cc in wrong),
       ),
-      c.nothing.ensures,
+      c.nothing-then-not-is_wanted.ensures,
     )
 
 pub returns : goal.returns
