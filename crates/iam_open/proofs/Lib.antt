@@ -1,16 +1,16 @@
 mod AgreeLemmas
 mod AskedLemmas
-mod BoundLemmas
+pub mod BoundLemmas
 mod CertainLemmas
 mod ContextLemmas
 mod DecideLemmas
 mod FirstLemmas
 mod FitLemmas
 mod FormLemmas
-mod GivenLemmas
-mod ListLemmas
+pub mod GivenLemmas
+pub mod ListLemmas
 mod PartLemmas
 mod RowLemmas
-mod TriedLemmas
-mod TurnLemmas
-mod WhereLemmas
+pub mod TriedLemmas
+pub mod TurnLemmas
+pub mod WhereLemmas
