@@ -158,6 +158,12 @@ def meeting(first: Sequence[str], second: Sequence[str], fold: bool) -> Optional
     return None
 
 
+@functools.lru_cache(maxsize=None)
+def shortest(first: str, second: str) -> Optional[str]:
+    """A shortest text that matches both patterns."""
+    return meeting(signs_of(first), signs_of(second), False)
+
+
 def written(sign: str) -> str:
     """A sign as patterns have it."""
     return of_given(sign[1]) if is_given(sign) else sign

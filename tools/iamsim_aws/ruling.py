@@ -185,7 +185,7 @@ def refused(scope: Scope, asked: List[Asked]) -> List[Break]:
     found = []
     for it, answers in zip(asked, ask_all([it.world for it in asked])):
         flags = answers.flags()
-        found += [Break(answers, cell, None, it.witnesses) for cell in cells_of(scope, answers) if not flags[cell]]
+        found += [Break(answers, cell, None, {}) for cell in cells_of(scope, answers) if not flags[cell]]
     return found
 
 

@@ -27,9 +27,7 @@ def by_another(script, *words):
 def changes(*words):
     """{(change, principal, action, resource): (before, after)} of an answer in CSV."""
     words = ["changes", *words, "--format", "csv", "--session", "s1", "--moment", "0"]
-    answer = out, _ = aws(*words)
-    # It is the same where the program does not hold two worlds against each other, and each is asked alone.
-    same(by_another('[ "$1" != changes ] || exit 1', *words), answer, str(words))
+    out, _ = aws(*words)
     return {tuple(row[:4]): tuple(row[4:6]) for row in list(csv.reader(io.StringIO(out)))[1:]}
 
 

@@ -4,9 +4,9 @@ import argparse
 from typing import Any, List, Tuple
 
 from .. import drafts, files, reviews
-from ..changing import Changes, changes_of, differing, spoken_of
+from ..changing import Comparison, compare, differing, paged
 from ..covering import tell_actions, tell_strangers
-from ..documents import World
+from ..documents import bare
 from ..faults import TOLD, Fault, tell
 from ..joining import joined
 from ..paging import data, page, request_of
@@ -41,30 +41,38 @@ def add_all(commands: Any) -> None:
 def run(options: argparse.Namespace) -> int:
     before, after = drafts.both(options)
     patterns = options.action or ["*"]
-    found = changes_of(before, after, patterns, options.resource, options.account, options.format == "page")
-    tell_actions(after, patterns)
-    plain = [it for it in found if not it.given]
-    tell_strangers(after, [world for it in plain for world in changed(it)], True)
-    lines = [line for it in found for line in reviews.lines_of(it, options.verbose)]
-    requests, left = sum(it.requests for it in plain), sum(it.left for it in plain)
-    if left:
-        tell(f"{left} requests that change are left out, since no service has them (--services)")
+    found = compare(before, after, patterns, options.resource, options.account)
+    if not found.people:
+        tell_actions(after, patterns)
+    tell_strangers(after, list(differing(*(it.world([ASSUME]) for it in (before, after))))[::-1], True)
+    lines = [line for it in found.changes for line in reviews.lines_of(it, options.verbose)]
+    if found.left:
+        tell(f"{found.left} requests that change are left out, since no service has them (--services)")
     if not lines:
         tell_slips((before, after), patterns, options.resource)
-    if not requests and options.format != "page":
+    is_nothing = not found.people and not found.requests
+    if is_nothing and options.format != "page":
         tell("no request was compared: the two sides differ in no policy, or no resource matches")
+    for it in found.opens:
+        tell(f"open: {it}")
     write = {"text": reviews.as_text, "csv": reviews.as_csv, "markdown": reviews.as_markdown}
-    files.write(page_of(found) if options.format == "page" else write[options.format](lines, requests))
+    scope = found.scope + (f", and {len(found.opens)} open" if found.opens else "")
+    files.write(page_of(found) if options.format == "page" else write[options.format](lines, scope))
     asked = "any" if options.exit_status else options.fail_on
     if not asked:
         return 0
+    if any(asked in ("any", it.change) for it in lines):
+        return 3
+    if found.opens or after.left:
+        return 5
     is_choice = bool(options.action) or options.resource != "*"
-    is_empty = not requests and is_choice and is_different(before, after)
-    return 3 if any(asked in ("any", it.change) for it in lines) else 4 if is_empty else 0
+    return 4 if is_nothing and is_choice and is_different(before, after) else 0
 
 
 def is_different(before: Source, after: Source) -> bool:
-    return bool(spoken_of(before.world([ASSUME]), after.world([ASSUME])))
+    """Whether a policy, or anything that decides, is another after."""
+    first, second = (it.world([ASSUME]) for it in (before, after))
+    return bare({**first, "actions": []}) != bare({**second, "actions": []})
 
 
 def tell_slips(sources: Tuple[Source, Source], patterns: List[str], resource: str) -> None:
@@ -76,25 +84,19 @@ def tell_slips(sources: Tuple[Source, Source], patterns: List[str], resource: st
                 tell(line)
 
 
-def changed(changes: Changes) -> Tuple[World, World]:
-    """Both worlds with the documents alone that differ, those of after first."""
-    before, after = differing(changes.before.world, changes.after.world)
-    return after, before
-
-
-def page_of(found: List[Changes]) -> str:
+def page_of(found: Comparison) -> str:
     """The page of the matrix before and after, with what changes with a key alone."""
-    plain = [it for it in found if not it.given]
-    if not plain:
+    if not found.people and not found.requests:
         raise Fault("the two sides differ in no policy, so there is no page")
-    sides = [[it.before for it in plain], [it.after for it in plain]]
-    actions = list(dict.fromkeys(action for it in plain for action in it.after.world["actions"]))
+    whole = paged(found)
+    sides = [[it.before for it in whole], [it.after for it in whole]]
+    actions = list(dict.fromkeys(action for it in whole for action in it.after.world["actions"]))
     before, after = (joined(of, actions) if of[1:] else of[0] for of in sides)
-    keyed = [
+    requests = [
         (kind, request_of(answers, cell), it.given)
-        for it in found
+        for it in found.changes
         for kind, answers, cells in (("gained", it.after, it.gained), ("lost", it.before, it.lost))
         for cell in (cells if it.given else ())
     ]
-    stand = {text: origin for it in plain for text, origin in it.stand.items()}
-    return page(data(after, False, before=before, stand=stand, keyed=keyed))
+    stand = {text: origin for it in found.changes for of in it.stand.values() for text, origin in of.items()}
+    return page(data(after, False, before=before, stand=stand, keyed=requests))
