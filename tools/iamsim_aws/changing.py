@@ -8,8 +8,9 @@ from .arns import account_of, is_access_point, principal_arn, principal_text, se
 from .asking import ask_all, ask_changes
 from .checking import NOTHING
 from .covering import tell_lacked
-from .documents import FOREIGN, MEMBERS, THROUGH, Place, World, mapped, places, statements_of
+from .documents import FOREIGN, MEMBERS, THROUGH, Place, Policy, World, mapped, places, statements_of
 from .every import UNNAMED, WORLDS
+from .exports import ACCOUNT
 from .files import compact
 from .keys import CALLER, context_of, with_key
 from .names import (
@@ -18,6 +19,7 @@ from .names import (
     Names,
     Row,
     Side,
+    abroad,
     alike,
     answers_of,
     controlled,
@@ -42,7 +44,7 @@ from .reports import Answers, axes_of, keys_of
 from .roles import with_linked, with_sessions
 from .sources import ASSUME, Source
 from .speaking import Origins, beside, shares, texts_of
-from .strangers import is_stranger, strangers, with_strangers
+from .strangers import ASSUMED, is_stranger, strangers, with_strangers
 
 ANY = "*"
 REQUEST = ("principal", "action", "resource")
@@ -50,6 +52,8 @@ REQUEST = ("principal", "action", "resource")
 FEW, MOST = 8, 1000
 TOO_MUCH = "what changes with these keys alone was not asked, since it is too much: "
 BY_POINT = "it changes by the access point, and what its bucket says is not asked of all names"
+TO_ALL = {"Effect": "Allow", "Principal": "*", "Action": "*", "Resource": "*"}
+ANYBODY_MAY = Policy(ASSUMED, {"Version": "2012-10-17", "Statement": TO_ALL})
 Principal = Dict[str, Any]
 
 
@@ -268,7 +272,17 @@ def kinds_of_pairs(scopes: List[Scope], every: List[World], resource: str) -> It
         worlds = [it.worlds([action])[0] for it in sources]
         sides = [side_of(*it) for it in zip(scopes, prepared(sources, worlds, every))]
         is_one = not is_pattern(resource) and ARN.fullmatch(plain(resource))
-        yield kind, with_named(sides, worlds[0], plain(resource)) if is_one else sides
+        yield kind, with_abroad(with_named(sides, worlds[0], plain(resource)) if is_one else sides)
+
+
+def with_abroad(sides: List[Side]) -> List[Side]:
+    """The sides, where accounts without an export that policies name are taken to let in whoever is named."""
+    every = (one for side in sides for it in places(side.world) for one in statements_of(it.policy.document))
+    named = {account_of(it) for one in every for it in texts_of(one, "Resource", "NotResource")}
+    known = {it for side in sides for it in side.scope.source.accounts()}
+    some = sorted(it for it in named - known if ACCOUNT.fullmatch(it))
+    owners = {abroad(it): {"arn": abroad(it), "account": it, "policy": ANYBODY_MAY} for it in some}
+    return [it._replace(owners={**it.owners, **owners}) for it in sides]
 
 
 def with_named(sides: List[Side], world: World, arn: str) -> List[Side]:

@@ -223,9 +223,8 @@ def account_lines(
     return found + ([Line("\\*", {"arn": "*", "account": account})] if any_matches(asked, ["*"]) else [])
 
 
-def elsewhere(world: World, account: str, lines: List[Line], is_assumed: bool) -> Iterator[str]:
-    """Patterns of what is not of an account, though a line for it may match: those of policies that name another one, and roles
-    that nothing names, since they are not there to be assumed."""
+def elsewhere(world: World, account: str, lines: List[Line]) -> Iterator[str]:
+    """Patterns of what is not of an account, though a line for it may match: those of policies that name another one."""
     texts = set()
     for _, statement, is_new in statements(world, world["actions"]):
         texts.update((it, is_new) for it in texts_of(statement, "Resource", "NotResource"))
@@ -233,8 +232,6 @@ def elsewhere(world: World, account: str, lines: List[Line], is_assumed: bool) -
         pattern = opened(text) if is_new else of_policy(text)
         if names_another(pattern, account) and any(common(pattern, it.pattern) for it in lines):
             yield pattern
-    if is_assumed:
-        yield "arn:*:iam::*:role/*"
 
 
 def nobody_of(sides: Sequence[Side]) -> str:
@@ -265,10 +262,21 @@ def lines_of(sides: Sequence[Side], question: Question, action: str, account: st
         return named
     lines = owners_lines(sides, asked, account)
     of = account_lines(sides, action, people, account, asked) if account else []
-    closed, is_assumed = asked, action.lower().startswith("sts:")
-    if of:
-        closed = list(dict.fromkeys(it for one in sides for it in elsewhere(one.world, account, of, is_assumed)))
-    return [*lines, *(Line(it, {"arn": "", "account": shut}, 0, True) for it in closed), *of, *named]
+    closed = list(dict.fromkeys(it for one in sides for it in elsewhere(one.world, account, of))) if of else asked
+    # Roles that nothing names are not there to be assumed.
+    closed += ["arn:*:iam::*:role/*"] if of and action.lower().startswith("sts:") else []
+    return [*lines, *(closed_line(sides, it, shut) for it in closed), *of, *named]
+
+
+def closed_line(sides: Sequence[Side], pattern: str, shut: str) -> Line:
+    """The line for texts that are not of who asks: nothing is allowed there, but what is assumed of an account without an export."""
+    of = next((it for side in sides for it in [side.owners.get(abroad(account_of(pattern)))] if it), None)
+    return Line(pattern, of) if of else Line(pattern, {"arn": "", "account": shut}, 0, True)
+
+
+def abroad(account: str) -> str:
+    """The resource that stands for what an account without an export has."""
+    return f"arn:aws:::{account}:{UNNAMED}"
 
 
 def groups(action: str) -> Iterator[Tuple[str, str, Tuple[str, ...]]]:
