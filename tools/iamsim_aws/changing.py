@@ -4,7 +4,7 @@ import functools
 from typing import Any, Dict, FrozenSet, Iterable, Iterator, List, NamedTuple, Optional, Sequence, Set, Tuple
 
 from . import hanging
-from .arns import account_of, is_access_point, principal_arn, principal_text, service_of
+from .arns import account_of, is_access_point, owner_of, principal_arn, principal_text, service_of
 from .asking import ask_all, ask_changes
 from .checking import NOTHING
 from .covering import tell_lacked
@@ -14,6 +14,7 @@ from .exports import ACCOUNT
 from .files import compact
 from .keys import CALLER, context_of, with_key
 from .names import (
+    REQUEST,
     Found,
     Line,
     Names,
@@ -22,6 +23,7 @@ from .names import (
     abroad,
     alike,
     answers_of,
+    cells_in,
     controlled,
     everybody,
     groups,
@@ -38,16 +40,15 @@ from .names import (
 )
 from .patterns import is_pattern, matcher, of_given, plain
 from .points import tell_points
-from .questions import ACTION, ARN, Question, Scope, account_for, with_account
+from .questions import ACTION, ARN, Question, Scope, account_for, lacked, with_account
 from .references import References
-from .reports import Answers, axes_of, keys_of
+from .reports import Answers, keys_of
 from .roles import with_linked, with_sessions
 from .sources import ASSUME, Source
 from .speaking import Origins, beside, shares, texts_of
 from .strangers import ASSUMED, is_stranger, strangers, with_strangers
 
 ANY = "*"
-REQUEST = ("principal", "action", "resource")
 # Patterns of actions of one service that are asked by themselves, and questions with keys that are asked at most.
 FEW, MOST = 8, 1000
 TOO_MUCH = "what changes with these keys alone was not asked, since it is too much: "
@@ -344,6 +345,8 @@ def compare(before: Source, after: Source, asked: List[str], resource: str, acco
     of_names = before.estate is not None and after.estate is not None
     pairs = list(kinds_of_pairs(scopes, every, resource) if of_names else named_pairs(scopes, every, asked, resource))
     names = [one for kind, sides in pairs for one in (of_kind(sides, kind, asked, resource) if of_names else of_worlds(sides))]
+    is_had = is_had_by_services(after, asked, resource)
+    names = names if is_had else []
     known = {it for one in names for it in one.world["actions"] if not is_pattern(it)}
     tell_lacked(sorted(it for it in known if not after.references.knows(it)))
     for it in names:
@@ -354,12 +357,19 @@ def compare(before: Source, after: Source, asked: List[str], resource: str, acco
     keyed, more = with_keys(scopes[1], names, {it for one in made for it in one.told})
     told = [it for it in [*made, *keyed] if not it.changes.given or it.changes.lost or it.changes.gained]
     opens = list(dict.fromkeys([*opens, *more, *(line for it in told for line in it.opens)]))
-    is_asked = of_names and (bool(names) or any(is_chosen(sides, asked) for _, sides in pairs))
+    is_asked = of_names and is_had and (bool(names) or any(is_chosen(sides, asked) for _, sides in pairs))
     people = {principal_text(it) for _, sides in pairs for it in everybody(sides)} if is_asked else set()
     worlds = [[it.world for it in sides] for _, sides in pairs] if not of_names else []
     requests = sum(requests_of(after.references, after_world) for _, after_world in worlds)
     changes = [it.changes for it in told]
     return Comparison(changes, len(people), requests, sum(found.left for _, found in first), opens, worlds)
+
+
+def is_had_by_services(source: Source, asked: List[str], resource: str) -> bool:
+    """Whether some service has a request that is chosen, where no pattern chooses it."""
+    world = {"actions": list(map(plain, asked)), "resources": [{"arn": plain(resource)}]}
+    is_open = any(map(is_pattern, [*asked, resource]))
+    return is_open or any(source.references.pairs(world, lacked(source, world["actions"])))
 
 
 def requests_of(references: References, world: World) -> int:
@@ -411,21 +421,17 @@ def changes_of(names: Names, found: Found, given: str) -> Told:
     of, patterns = stands(names), met_patterns(names)
     origins = {id(it): of(it) for it in rows}
 
-
     def kind_of(row: Row) -> Tuple[object, ...]:
-        is_open = is_pattern(names.line_of(row["resource"]).pattern) or row["resource"] == ANY
-        return origins[id(row)].get(row["resource"]), patterns(row), is_open
+        text = row["resource"]
+        return origins[id(row)].get(text), patterns(row), owner_of(names.line_of(text).of["arn"]) == text
 
     some = nearest(names, rows, kind_of, True)
     first, second = answers_of(names, some)
     made = Changes(first, second, [], [], given, {})
-    numbers = [[{text: n for n, text in enumerate(axis)} for axis in axes_of(it.world)] for it in (first, second)]
-    for row in some:
-        is_lost = row["change"] == "lost"
-        answers, axes = (first, numbers[0]) if is_lost else (second, numbers[1])
-        cell = answers.cell(*(axis[row[name]] for axis, name in zip(axes, REQUEST)))
-        (made.lost if is_lost else made.gained).append(cell)
-        made.stand[is_lost, cell] = origins[id(row)]
+    for is_lost, answers, cells in ((True, first, made.lost), (False, second, made.gained)):
+        own = [it for it in some if (it["change"] == "lost") == is_lost]
+        cells += cells_in(answers, own)
+        made.stand.update(((is_lost, cell), origins[id(it)]) for cell, it in zip(cells, own))
     return Told(made, {texts_in(it) for it in rows}, [*found.opens, *opens])
 
 

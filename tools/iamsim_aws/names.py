@@ -50,6 +50,7 @@ from .telling import Cause, cause_of
 FAR, NAMED = 1, -1
 # The layers of the statements that let somebody in.
 LETS = ("identity", "resource")
+REQUEST = ("principal", "action", "resource")
 Principal = Dict[str, Any]
 Row = Dict[str, Any]
 
@@ -436,13 +437,18 @@ def answers_of(names: Names, rows: List[Row]) -> List[Answers]:
         world = {**side.world, "actions": actions, "resources": [it[n] for it in shown]}
         answers = Answers(world, cells_of(world))
         answers.number(REFUSED, lambda: REFUSED)
-        places = [{text: n for n, text in enumerate(axis)} for axis in axes_of(world)]
-        for row in (it for it in rows if it[word]):
+        own = [it for it in rows if it[word]]
+        for cell, row in zip(cells_in(answers, own), own):
             it = Answer(row[word], tuple(row[f"statements{suffix}"]), tuple(row[f"lacks{suffix}"]))
-            cell = answers.cell(*(of[row[name]] for of, name in zip(places, ("principal", "action", "resource"))))
             answers.numbers[cell] = answers.number(it, lambda it=it: it)
         found.append(answers)
     return found
+
+
+def cells_in(answers: Answers, rows: List[Row]) -> List[int]:
+    """The cells of the requests of rows."""
+    places = [{text: n for n, text in enumerate(axis)} for axis in axes_of(answers.world)]
+    return [answers.cell(*(of[row[name]] for of, name in zip(places, REQUEST))) for row in rows]
 
 
 def words_of(names: Names) -> List[Tuple[str, str]]:
@@ -504,7 +510,7 @@ def alike(names: Names, rows: List[Row]) -> List[Dict[str, str]]:
             world = {**side.world, "accounts": [], "principals": who, "resources": [things[n]]}
             for text in shortest_in(world, row["action"], names):
                 found[row["principal"], row["action"], text] = None
-    return [dict(zip(("principal", "action", "resource"), it)) for it in found]
+    return [dict(zip(REQUEST, it)) for it in found]
 
 
 def shortest_in(world: World, action: str, names: Names) -> Set[str]:

@@ -134,7 +134,8 @@ def asked_of(scope: Scope, world: World, question: Question) -> Asked:
 
 def people_of(scope: Scope, world: World, resources: List[Any], question: Question) -> List[str]:
     """For whom nobody is asked, though policies let them in, where a question means everybody."""
-    meant = [{**world, "resources": resources}] if not question.principal.strip("*") else []
+    is_meant = scope.outside and not question.principal.strip("*")
+    meant = [{**world, "resources": resources}] if is_meant else []
     return [it for it in unasked(scope.source, meant) if NOT_ASKED in it]
 
 

@@ -6,9 +6,10 @@ from typing import Any, List, Tuple
 from .. import drafts, files, reviews
 from ..changing import Comparison, compare, differing, paged
 from ..covering import tell_actions, tell_strangers
-from ..documents import bare
+from ..documents import World, bare
 from ..faults import TOLD, Fault, tell
 from ..joining import joined
+from ..names import is_named
 from ..paging import data, page, request_of
 from ..questions import Question, Scope
 from ..slips import slips
@@ -42,9 +43,9 @@ def run(options: argparse.Namespace) -> int:
     before, after = drafts.both(options)
     patterns = options.action or ["*"]
     found = compare(before, after, patterns, options.resource, options.account)
-    if not found.people:
+    if found.worlds:
         tell_actions(after, patterns)
-    tell_strangers(after, list(differing(*(it.world([ASSUME]) for it in (before, after))))[::-1], True)
+    tell_strangers(after, changed(before, after, patterns, options.resource), True)
     lines = [line for it in found.changes for line in reviews.lines_of(it, options.verbose)]
     if found.left:
         tell(f"{found.left} requests that change are left out, since no service has them (--services)")
@@ -67,6 +68,14 @@ def run(options: argparse.Namespace) -> int:
         return 5
     is_choice = bool(options.action) or options.resource != "*"
     return 4 if is_nothing and is_choice and is_different(before, after) else 0
+
+
+def changed(before: Source, after: Source, patterns: List[str], resource: str) -> List[World]:
+    """The worlds, for what is chosen, with the documents alone that differ; those of after first."""
+    worlds = ({**it.world([ASSUME]), "actions": list(patterns)} for it in (before, after))
+    asked = Question("*", "*", resource)
+    some = [{**it, "resources": [one for one in it["resources"] if is_named(asked, one["arn"])]} for it in worlds]
+    return list(differing(*some))[::-1]
 
 
 def is_different(before: Source, after: Source) -> bool:

@@ -6,7 +6,7 @@ from typing import Any, List, Sequence, Set, Tuple
 
 from .. import drafts, files
 from ..coming import with_chains
-from ..covering import tell_actions, tell_lacked, tell_strangers
+from ..covering import tell_lacked, tell_strangers
 from ..faults import TOLD, Fault, line_of, tell
 from ..speaking import stand_words
 from ..pipelines import Case, fault, junit, sarif
@@ -107,7 +107,6 @@ def checked(options: argparse.Namespace) -> int:
 
 def notes(scope: Scope, outcomes: List[Outcome]) -> None:
     """What the outcomes cover."""
-    tell_actions(scope.source, [it.rule.question.action for it in outcomes if it.rule.kind == "always"])
     named = dict.fromkeys(it for of in outcomes if of.asked for it in actions(scope, of.rule.question.action))
     tell_lacked(lacked(scope.source, named))
     tell_strangers(scope.source, [asked.world for it in outcomes for asked in it.asked])
