@@ -30,6 +30,7 @@ from .names import (
     met_patterns,
     names_of,
     nearest,
+    nobody_of,
     settled,
     side_of,
     stands,
@@ -39,7 +40,7 @@ from .names import (
     with_people,
 )
 from .patterns import is_pattern, matcher, of_given, plain
-from .points import tell_points
+from .points import tell_points, through
 from .questions import ACTION, ARN, Question, Scope, account_for, lacked, with_account
 from .references import References
 from .reports import Answers, keys_of
@@ -290,8 +291,11 @@ def with_named(sides: List[Side], world: World, arn: str) -> List[Side]:
     """The sides where an ARN that none of them names is named too."""
     if any(arn in it.named for it in sides):
         return sides
-    account = account_for(sides[0].scope, world, arn)
-    return [it._replace(named={**it.named, arn: it.resource(arn, account)}) for it in sides]
+    account, shut = account_for(sides[0].scope, world, arn), nobody_of(sides)
+    is_there = [owner_of(arn) in it.owners for it in sides]
+    # By an access point that comes or goes nothing is allowed where it is not.
+    own = [it.resource(arn, account, shut if any(is_there) else "") for it in sides]
+    return [it._replace(named={**it.named, arn: one}) for it, one in zip(sides, own)]
 
 
 def prepared(sources: List[Source], pair: Sequence[World], every: List[World]) -> List[World]:
@@ -352,7 +356,7 @@ def compare(before: Source, after: Source, asked: List[str], resource: str, acco
     for it in names:
         tell_points(it.world, True)
     opens = [line for it in names for line in unsettled(it)]
-    first = [one for of in settled(scopes[1], names, len(names), []) for one in of]
+    first = with_buckets(scopes[1], [one for of in settled(scopes[1], names, len(names), []) for one in of])
     made = [changes_of(one, found, "") for one, found in first]
     keyed, more = with_keys(scopes[1], names, {it for one in made for it in one.told})
     told = [it for it in [*made, *keyed] if not it.changes.given or it.changes.lost or it.changes.gained]
@@ -423,7 +427,7 @@ def changes_of(names: Names, found: Found, given: str) -> Told:
 
     def kind_of(row: Row) -> Tuple[object, ...]:
         text = row["resource"]
-        return origins[id(row)].get(text), patterns(row), owner_of(names.line_of(text).of["arn"]) == text
+        return origins[id(row)].get(text), patterns(row), text != ANY and owner_of(names.line_of(text).of["arn"]) == text
 
     some = nearest(names, rows, kind_of, True)
     first, second = answers_of(names, some)
@@ -456,6 +460,44 @@ def texts_in(row: Row) -> Tuple[str, ...]:
     return (row["change"], *(row[name] for name in REQUEST))
 
 
+def in_bucket_of(names: Names) -> Iterator[Tuple[Names, Dict[str, str]]]:
+    """What the requests by each access point are in its bucket; and the points' own texts of those there that are named."""
+    points: Dict[str, Dict[str, List[Any]]] = {}
+    for some in zip(*(side.world["resources"] for side in names.sides)):
+        if any(THROUGH in it for it in some):
+            points.setdefault(owner_of(some[0]["arn"]), {})[some[0]["arn"]] = list(some)
+    for of in points.values():
+        inside = [next(it[THROUGH]["arn"] for it in some if THROUGH in it) for some in of.values()]
+        shut = nobody_of(names.sides)
+        sides = []
+        for n, side in enumerate(names.sides):
+            own = [through(it[n]) if THROUGH in it[n] else {"arn": arn, "account": shut} for it, arn in zip(of.values(), inside)]
+            accounts = with_account(side.scope, side.world, own)
+            sides.append(side._replace(world={**side.world, "resources": own, "accounts": accounts}))
+        forms = [arn if not arn.endswith(UNNAMED) else f"{of_given(owner_of(arn))}*" for arn in inside]
+        lines = [Line(it, {"arn": arn, "account": shut}) for it, arn in zip(forms, inside)]
+        question = names.question._replace(resource=f"{of_given(owner_of(inside[0]))}*")
+        yield names._replace(sides=sides, lines=lines, question=question), dict(zip(inside, of))
+
+
+def with_buckets(scope: Scope, some: List[Tuple[Names, Found]]) -> List[Tuple[Names, Found]]:
+    """What is found, with the requests by access points that change in their buckets."""
+    every = [(n, *it) for n, (names, _) in enumerate(some) for it in in_bucket_of(names)]
+    made = list(some)
+    for (n, _, named), of in zip(every, settled(scope, [it for _, it, _ in every], len(every), [])):
+        names, found = made[n]
+        point = owner_of(next(iter(named.values())))
+        for row in (row for _, it in of for row in it.rows):
+            text = named.get(row["resource"], f"{point}/object{row['resource'][len(owner_of(row['resource'])):]}")
+            text = point if text == f"{point}/object" else text
+            if names.is_meant(text):
+                found.rows.append({**row, "resource": text})
+            else:
+                found.opens.append(f"{' '.join(row[name] for name in REQUEST)}: {BY_POINT}")
+        found.opens.extend(line for _, it in of for line in it.opens)
+    return made
+
+
 def by_points(names: Names, found: Found) -> Tuple[List[Row], List[str]]:
     """The rows, those on access points as they are with what their buckets say; and those of which that is not known."""
     rest = [it for it in found.rows if not is_access_point(it["resource"])]
@@ -463,16 +505,29 @@ def by_points(names: Names, found: Found) -> Tuple[List[Row], List[str]]:
     if not some:
         return rest, []
     arns = list(dict.fromkeys(it["resource"] for it in some))
-    actions = list(dict.fromkeys(it["action"] for it in some))
-    worlds = []
+    own = {"actions": list(dict.fromkeys(it["action"] for it in some))}
+    worlds, shut = [], nobody_of(names.sides)
     for side in names.sides:
-        resources = [side.resource(it, account_of(it), account_of(it)) for it in arns]
-        worlds.append({**side.world, "actions": actions, "resources": resources})
+        resources = [side.resource(it, account_of(it), shut) for it in arns]
+        accounts = with_account(side.scope, side.world, resources)
+        worlds.append({**side.world, **own, "resources": resources, "accounts": accounts})
     both = compared(*ask_all(worlds))
     sides = (("lost", both.before, both.lost), ("gained", both.after, both.gained))
-    told = {(change, *answers.texts(cell)) for change, answers, cells in sides for cell in cells}
-    opens = [f"{' '.join(texts_in(it)[1:])}: {BY_POINT}" for it in some if texts_in(it) not in told]
-    return rest + [it for it in some if texts_in(it) in told], opens
+    told = {(change, *answers.texts(cell)): (answers, cell) for change, answers, cells in sides for cell in cells}
+    asked = dict.fromkeys(texts_in(it)[1:] for it in some)
+    opens = [f"{' '.join(it)}: {BY_POINT}" for it in asked if not {("lost", *it), ("gained", *it)} & set(told)]
+    return rest + [row_of(it, both) for it in told if it[1:] in asked], opens
+
+
+def row_of(texts: Tuple[str, ...], both: Changes) -> Row:
+    """The row of a request that changes, by the answers before and after."""
+    row: Row = dict(zip(("change", *REQUEST), texts))
+    for word, answers in (("before", both.before), ("after", both.after)):
+        is_there = texts[1] in map(principal_text, answers.world["principals"])
+        answer = answers.at(cells_in(answers, [row])[0]) if is_there else None
+        row.update({word: answer and answer.decision, f"statements_{word}": list(answer.statements if answer else ())})
+        row[f"lacks_{word}"] = list(answer.lacks if answer else ())
+    return row
 
 
 def unsettled(names: Names) -> List[str]:

@@ -41,9 +41,9 @@ def changed(given, *words, status, fail_on="gained"):
     """{(action, resource)} that is gained; each is confirmed over the draft, where a key is not wanted."""
     out, said = aws("changes", given, *words, "--fail-on", fail_on, "--format", "csv", "--moment", "0", status=status)
     rows = list(csv.reader(io.StringIO(out)))[1:]
-    for change, who, action, resource, *_ in (it for it in rows if not it[6] and it[1] == ALICE and it[3] != "*"):
+    for _, who, action, resource, *_ in (it for it in rows if it[0] == "gained" and not it[6] and it[1] == ALICE and it[3] != "*"):
         drafts = [word for n, word in enumerate(words) if words[n - 1] not in ("--action", "--resource") and word not in ("--action", "--resource")]
-        aws("can", who, action, resource, given, *drafts, "--moment", "0", status=0 if change == "gained" else 3)
+        aws("can", who, action, resource, given, *drafts, "--moment", "0")
     return {(row[1], row[2].lower(), row[3]) for row in rows if row[0] == "gained"}, said
 
 
