@@ -191,7 +191,16 @@ def is_plain(resource: Resource) -> bool:
     return set(resource) <= {"arn", "account"}
 
 
-def owners_lines(sides: Sequence[Side], asked: List[str], account: str) -> List[Line]:
+def within(asked: List[str], form: str, one: Resource, shut: str, far: int = 0) -> List[Line]:
+    """The lines for what is meant within a form of ARNs. A name stands behind its fifth colon, and what else is there is not meant."""
+    if asked[0].startswith(("arn:", "*")):
+        return [Line(it, one, far) for pattern in asked for it in overlap(pattern, form)]
+    head, names = form.split(":", 5)[:5], [asked[0], *(f"*/{asked[0]}" for _ in asked[2:])]
+    some = dict.fromkeys(it for name in names for it in overlap(":".join([*head, name]), form))
+    return [*(Line(it, one, far) for it in some), Line(form, {"arn": "", "account": shut}, 0, True)]
+
+
+def owners_lines(sides: Sequence[Side], asked: List[str], account: str, shut: str = "") -> List[Line]:
     """Lines for the objects of buckets and access points that have more than those of an account that nothing names."""
     found = []
     for owner in dict.fromkeys(it for side in reversed(sides) for it in side.owners if service_of(it) == "s3"):
@@ -200,12 +209,12 @@ def owners_lines(sides: Sequence[Side], asked: List[str], account: str) -> List[
         if is_plain(one) and one["account"] == account:
             continue
         for form in (of_given(owner), f"{of_given(owner)}/*"):
-            found += [Line(it, one) for pattern in asked for it in overlap(pattern, form)]
+            found += within(asked, form, one, shut)
     return found
 
 
 def account_lines(
-    sides: Sequence[Side], action: str, people: List[Principal], account: str, asked: List[str]
+    sides: Sequence[Side], action: str, people: List[Principal], account: str, asked: List[str], shut: str
 ) -> List[Line]:
     """Lines for all else that may be of an account: first for what the action's service is likely to have, where that is one."""
     service = action.partition(":")[0].lower()
@@ -215,7 +224,7 @@ def account_lines(
     for partition in sorted({principal_arn(it).split(":")[1] for it in people}):
         for it in likely:
             form = f"arn:{partition}:s3:::?*" if it == "s3" else f"arn:{partition}:{it}:*:{account}:?*"
-            found += [Line(one, unnamed(sides, it, account)) for pattern in asked for one in overlap(pattern, form)]
+            found += within(asked, form, unnamed(sides, it, account), shut) if asked else []
     for it in controlled(sides[-1].scope.source.estate):
         form, one = f"arn:?*:{it}:*:*:?*", unnamed(sides, it, account)
         found += [Line(of, one, FAR) for pattern in asked for of in overlap(pattern, form)]
@@ -261,8 +270,8 @@ def lines_of(sides: Sequence[Side], question: Question, action: str, account: st
     named = [Line(of_given(arn), it) for arn, it in every.items()]
     if not is_pattern(question.resource):
         return named
-    lines = owners_lines(sides, asked, account)
-    of = account_lines(sides, action, people, account, asked) if account else []
+    lines = owners_lines(sides, asked, account, shut)
+    of = account_lines(sides, action, people, account, asked, shut) if account else []
     closed = list(dict.fromkeys(it for one in sides for it in elsewhere(one.world, account, of))) if of else asked
     # Roles that nothing names are not there to be assumed.
     closed += ["arn:*:iam::*:role/*"] if of and action.lower().startswith("sts:") else []
@@ -338,32 +347,58 @@ def with_lines(names: Names, lines: List[Line]) -> Names:
     return names._replace(lines=lines, sides=list(map(own, names.sides)))
 
 
-def texts_for(names: Names, part: Part) -> List[Dict[str, Any]]:
-    """What is said of the texts that a part of a world does not name: of what other parts name nothing here."""
+class Here(NamedTuple):
+    """What a part of a world names, and speaks of; of what other parts name nothing holds there."""
+
+    number_of: Dict[str, int]
+    elsewhere: List[str]
+    is_first: bool
+
+    def has(self, line: Line) -> bool:
+        """Whether a line is asked in the part."""
+        arn = line.of["arn"]
+        return arn in self.number_of or (self.is_first and arn not in self.elsewhere)
+
+
+def here(names: Names, part: Part) -> Here:
     number_of = {it["arn"]: n for n, it in enumerate(part.world["resources"])}
     rest = [it["arn"] for it in names.world["resources"] if it["arn"] not in number_of]
+    return Here(number_of, rest, part.resource == 0)
+
+
+def is_told(names: Names, here_is: Here, row: Row) -> bool:
+    """Whether a part tells a row of what it names and speaks of."""
+    text = row["resource"]
+    if text in here_is.number_of or text in here_is.elsewhere:
+        return text in here_is.number_of
+    if NOT_SHOWN in (row.get("decision"), row.get("change")):
+        return any(here_is.has(it) for it in names.lines if it.pattern == text)
+    return here_is.has(names.line_of(text))
+
+
+def texts_for(names: Names, here_is: Here) -> List[Dict[str, Any]]:
+    """What is said of the texts that a part of a world does not name."""
     shut = nobody_of(names.sides)
-    found: List[Dict[str, Any]] = [{"pattern": of_given(it), "account": shut} for it in rest]
+    found: List[Dict[str, Any]] = [{"pattern": of_given(it), "account": shut} for it in here_is.elsewhere]
     for it in names.lines:
-        arn, is_here = it.of["arn"], part.resource == 0
-        if arn in number_of:
-            found.append({"pattern": it.pattern, "like": number_of[arn]})
-        else:
-            found.append({"pattern": it.pattern, "account": it.of["account"] if is_here and arn not in rest else shut})
+        number = here_is.number_of.get(it.of["arn"])
+        account = it.of["account"] if here_is.has(it) else shut
+        found.append({"pattern": it.pattern, **({"account": account} if number is None else {"like": number})})
     return found
 
 
-def jobs_of(names: Names, words: List[str]) -> Iterator[Job]:
+def jobs_of(names: Names, words: List[str]) -> Iterator[Tuple[Job, Here]]:
     """What is asked of iamsim, in parts where a world is past the limits."""
     worlds = [whole(it.world) for it in names.sides]
     if names.pattern:
         worlds = [{**it, "actions": [WORLDS[""]]} for it in worlds]
     action = ["--action", names.pattern] if names.pattern else []
     for some in parts_of_all(worlds):
-        texts = texts_for(names, some[-1])
+        here_is = here(names, some[-1])
+        texts = texts_for(names, here_is)
         further = {it["account"] for it in texts if "account" in it}
         *before, after = (with_ids(part.world, further, world) for part, world in zip(some, worlds))
-        yield Job(after, texts, [*words, *action], before[0] if before else None)
+        yield Job(after, texts, [*words, *action], before[0] if before else None), here_is
 
 
 def with_ids(part: World, ids: Set[str], of: World) -> World:
@@ -533,18 +568,18 @@ def met_patterns(names: Names) -> Callable[[Row], Tuple[Origin, ...]]:
 
 def ask_names(some: Iterable[Names], count: int, words: List[str]) -> Iterator[Tuple[Names, Found]]:
     """What is found of each of so many, where iamsim is asked with these words."""
-    jobs: List[Tuple[Names, int]] = []
+    jobs: List[Tuple[Names, int, Here]] = []
 
     def made() -> Iterator[Job]:
         for it in some:
             own = list(jobs_of(it, words))
-            jobs.extend((it, len(own) - n) for n in range(len(own)))
-            yield from own
+            jobs.extend((it, len(own) - n, here_is) for n, (_, here_is) in enumerate(own))
+            yield from (job for job, _ in own)
 
     found = Found([], [])
     for n, rows in enumerate(ask_every(made(), count)):
-        of, left = jobs[n]
-        more = found_in(of, rows)
+        of, left, here_is = jobs[n]
+        more = found_in(of, [it for it in rows if is_told(of, here_is, it)])
         found = Found(found.rows + more.rows, found.opens + more.opens)
         if left == 1:
             yield of, found
@@ -590,15 +625,23 @@ def may_speak_of(statement: Any, asked: str) -> bool:
 
 def is_met(scope: Scope, world: World, question: Question, chosen: List[str]) -> bool:
     """Whether a request that some service has is of what is named, or of a pattern of a policy; else a question may have a slip."""
-    found = [it["arn"] for it in world["resources"] if is_named(question, it["arn"])]
+    further, seen = lacked(scope.source, chosen), set()
+    for it in meant_texts(world, question, chosen):
+        if it not in seen and any(scope.source.references.pairs({"actions": chosen, "resources": [{"arn": it}]}, further)):
+            return True
+        seen.add(it)
+    return False
+
+
+def meant_texts(world: World, question: Question, chosen: List[str]) -> Iterator[str]:
+    """What is named and a question means, and a text for each pattern of policies that meets it; of one for anything `*`."""
+    yield from (it["arn"] for it in world["resources"] if is_named(question, it["arn"]))
     for place, statement, is_new in statements(world, chosen) if is_pattern(question.resource) else ():
         values = values_of(world, place.path)[0]
         for text in texts_of(statement, "Resource", "NotResource"):
             pattern = (pattern_of(text, values) or opened(text)) if is_new else of_policy(text)
             shared = (common(pattern, it) for it in patterns_of(question.resource))
-            found += [it if it.startswith("arn:") else "*" for it in shared if it]
-    resources = [{"arn": it} for it in dict.fromkeys(found)]
-    return any(scope.source.references.pairs({"actions": chosen, "resources": resources}, lacked(scope.source, chosen)))
+            yield from (it if it.startswith("arn:") else "*" for it in shared if it)
 
 
 def typed_lines(scope: Scope, names: Names, service: str) -> List[Line]:

@@ -1,7 +1,7 @@
 """What must never be allowed: requests that are allowed all the same, as they are or with keys that nothing gives."""
 
 import functools
-from typing import Any, Dict, List, NamedTuple, Optional, Sequence, Tuple
+from typing import Any, Callable, Dict, List, NamedTuple, Optional, Sequence, Tuple
 
 from .arns import is_access_point, principal_text
 from .asking import ask_all
@@ -16,6 +16,7 @@ from .names import (
     Found,
     Names,
     answers_of,
+    cells_in,
     groups,
     is_met,
     names_of,
@@ -49,7 +50,7 @@ class Break(NamedTuple):
     answers: Answers
     cell: int
     turn: Optional[Turn]
-    stand: Origins
+    stand: Callable[[], Origins]
     before: Optional[Tuple[Answers, int]] = None
     way: Optional[Way] = None
 
@@ -114,7 +115,7 @@ def asked_by(scope: Scope, question: Question, as_given: bool) -> Never:
         if names:
             met = found.is_met or is_met(scope, {**world, "resources": own["resources"]}, question, chosen)
             opens = found.opens + opens_of([asked_for], question, as_given)
-            meant = {id(it.of): it.of for one in names for it in one.lines}
+            meant = {id(it.of): it.of for one in names for it in one.lines if not it.is_shut}
             opens += people_of(scope, own, list(meant.values()), question)
             found = Never(question, [*found.asked, asked_for], found.names + names, met, opens)
     return found._replace(opens=list(dict.fromkeys(found.opens)))
@@ -124,7 +125,7 @@ def asked_of(scope: Scope, world: World, question: Question) -> Asked:
     """The principals that a question means, and who is outside and let in by a policy of what it means."""
     asked = asked_in(scope._replace(outside=False), world, question)
     further = owners_lines([side_of(scope, world)], patterns_of(question.resource), "")
-    meant = asked.world["resources"] + [it.of for it in further]
+    meant = asked.world["resources"] + [it.of for it in further if not it.is_shut]
     spoken_of = with_named(scope.source, {**world, "resources": meant})
     some = strangers(scope.source, [spoken_of], question.principal) if scope.outside else []
     resources = world["resources"] if is_pattern(question.resource) else asked.world["resources"]
@@ -176,9 +177,9 @@ def of_names(some: List[Tuple[Names, Found]], turn: Optional[Turn]) -> Finding:
         points = [it for it in found.rows if is_access_point(it["resource"])]
         opens = [f"{it['principal']} {it['action']} {it['resource']} {BY_POINT}" for it in points]
         rows = nearest(names, [it for it in found.rows if it not in points], lambda row: kind_of(names, row["resource"]))
-        [answers], stand = answers_of(names, rows), {(it["principal"], it["action"], it["resource"]): it for it in rows}
-        origins = stands(names)
-        broken = [Break(answers, it, turn, origins(stand[answers.texts(it)])) for it in answers.allowed()]
+        [answers], of = answers_of(names, rows), stands(names)
+        by_cell = dict(zip(cells_in(answers, rows), rows))
+        broken = [Break(answers, it, turn, functools.partial(of, by_cell[it])) for it in answers.allowed()]
         made = joined(made, Finding(broken, found.opens + opens))
     return made
 
@@ -191,7 +192,7 @@ def allowed(scope: Scope, of: Never, asked: Asked, answers: Answers, as_given: b
     """The requests that are allowed, of those that some service has; each with the keys too that nothing gives."""
     cells = cells_of(scope, answers)
     flags = answers.flags()
-    found = [Break(answers, cell, None, {}) for cell in cells if flags[cell]]
+    found = [Break(answers, cell, None, dict) for cell in cells if flags[cell]]
     if as_given or not cells:
         return Finding(found, [])
     if is_too_much(answers.world):
@@ -200,7 +201,7 @@ def allowed(scope: Scope, of: Never, asked: Asked, answers: Answers, as_given: b
     opened_by = [(cell, it) for cell in cells for it in turned.get(cell, []) if it.decision == "allowed"]
     keys = list(dict.fromkeys((it.key, it.value) for _, it in opened_by))
     given = dict(zip(keys, ask_all([with_key(answers.world, *it) for it in keys])))
-    found += [Break(given[it.key, it.value], cell, it, {}) for cell, it in opened_by]
+    found += [Break(given[it.key, it.value], cell, it, dict) for cell, it in opened_by]
     done = {it.cell for it in found}
     return joined(Finding(found, []), several_keys(answers.world, [it for it in cells if it not in done]))
 
@@ -213,7 +214,7 @@ def several_keys(world: World, cells: List[int]) -> Finding:
     found: List[Break] = []
     for of, answers in zip(several, ask_all([with_all(world, it) for it in several])):
         turn, flags, done = turn_of(of), answers.flags(), {it.cell for it in found}
-        found += [Break(answers, it, turn, {}) for it in cells if flags[it] and it not in done]
+        found += [Break(answers, it, turn, dict) for it in cells if flags[it] and it not in done]
     return Finding(found, [])
 
 
@@ -287,7 +288,8 @@ def worlds_of_kinds(scope: Scope, question: Question) -> List[Asked]:
         found = one._replace(world={**one.world, "actions": [], "resources": []}, opens=list(of.opens))
         for keys, (names, rows) in of_world:
             found = with_rows(found, names, rows, bool(keys))
-        made += [found] if found.world["actions"] and found.world["principals"] else []
+        is_told = bool(found.world["actions"] or found.opens)
+        made += [found] if is_told and found.world["principals"] else []
     return made
 
 

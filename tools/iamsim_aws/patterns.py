@@ -43,6 +43,7 @@ def matcher(pattern: str, fold: bool = False) -> Callable[[str], object]:
     return re.compile(expression, re.DOTALL | (re.IGNORECASE if fold else 0)).fullmatch
 
 
+@functools.lru_cache(maxsize=None)
 def is_pattern(text: str) -> bool:
     return not all(map(is_given, signs_of(text)))
 

@@ -187,12 +187,12 @@ def refused(scope: Scope, of: Never) -> Finding:
         lacked = [it for it in rows.rows if it["decision"] != "allowed"]
         told = nearest(names, lacked, lambda it: kind_of(names, it["resource"]), True)
         [answers] = answers_of(names, told)
-        found = joined(found, Finding([Break(answers, it, None, {}) for it in cells_in(answers, told)], rows.opens))
+        found = joined(found, Finding([Break(answers, it, None, dict) for it in cells_in(answers, told)], rows.opens))
     flat = of.asked if not of.names else []
     for answers in ask_all([it.world for it in flat]):
         flags = answers.flags()
         cells = [cell for cell in cells_of(scope, answers) if not flags[cell]]
-        found = joined(found, Finding([Break(answers, it, None, {}) for it in cells], []))
+        found = joined(found, Finding([Break(answers, it, None, dict) for it in cells], []))
     return found
 
 

@@ -126,7 +126,7 @@ def message(broken: Break, giver: str, is_verbose: bool) -> str:
     why += [f"lacks {it}: {LACKS[it]}" for it in row.answer.lacks]
     before = deciding(*broken.before, is_verbose) if broken.before else []
     why += [f"was {BY['allowed']} {it.words()}" for it in before]
-    why += stand_words(broken.stand, row.action, row.resource)
+    why += stand_words(broken.stand(), row.action, row.resource)
     may = "may" if row.answer.decision == "allowed" else "may not"
     given = f" if {turn.words()}, which nothing gives ({giver} gives it)" if turn else ""
     because = "; ".join(why) or "no statement speaks of it"
