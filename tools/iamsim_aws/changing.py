@@ -117,7 +117,7 @@ def differing(before: World, after: World) -> Tuple[World, World]:
     return left(before, of_after), left(after, of_before)
 
 
-# --- what is in question --------------------------------------------------------------------------------------------------
+# --- what is in question ----------------------------------------------------------------------------------------------
 
 
 def layer_of(it: Place) -> str:
@@ -245,7 +245,8 @@ def chosen(spoken: Iterable[str], asked: List[str], given: Iterable[str]) -> Cho
                 named.update({it.lower(): it} if matcher(one, True)(it) else {})
             elif shares(it, one):
                 wide[it if one == ANY else one] = None
-        named.update((it.lower(), it) for it in given if matcher(one, True)(it) and any(shares(of, it) for of in spoken))
+        some = [it for it in given if matcher(one, True)(it)]
+        named.update((it.lower(), it) for it in some if any(shares(of, it) for of in spoken))
     return Chosen(list(named.values()), few(list(wide)))
 
 
@@ -254,7 +255,8 @@ def few(patterns: List[str]) -> List[str]:
     found: Dict[str, List[str]] = {}
     for it in patterns:
         found.setdefault(it.partition(":")[0].lower(), []).append(it)
-    some = [one for service, of in found.items() for one in (of if len(of) <= FEW or is_pattern(service) else [f"{service}:*"])]
+    own = [of if len(of) <= FEW or is_pattern(service) else [f"{service}:*"] for service, of in found.items()]
+    some = [it for of in own for it in of]
     return [it for it in some if not any(is_covered(it, one) for one in some if one != it)]
 
 
@@ -264,7 +266,7 @@ def is_covered(pattern: str, by: str) -> bool:
     return by.endswith("*") and not is_pattern(begin) and pattern.lower().startswith(begin)
 
 
-# --- all names ------------------------------------------------------------------------------------------------------------
+# --- all names --------------------------------------------------------------------------------------------------------
 
 
 def kinds_of_pairs(scopes: List[Scope], every: List[World], resource: str) -> Iterator[Tuple[str, List[Side]]]:
@@ -321,7 +323,8 @@ def of_kind(sides: List[Side], kind: str, asked: List[str], resource: str) -> Li
 
 def is_chosen(sides: List[Side], asked: List[str]) -> bool:
     """Whether patterns of actions choose any that is given, or that is in question on other resources."""
-    given = [it for side in sides for it in side.scope.source.actions] + [plain(it) for it in asked if not is_pattern(it)]
+    given = [it for side in sides for it in side.scope.source.actions]
+    given += [plain(it) for it in asked if not is_pattern(it)]
     spoken = {it for of, _ in (*Difference(sides).people(), *Difference(sides).resources()) for it in of}
     return any(matcher(one, True)(it) for one in asked for it in given) or any(chosen(spoken, asked, []))
 
@@ -337,18 +340,26 @@ def jobs(some: Chosen, kind: str) -> Iterator[Tuple[List[str], str, Tuple[str, .
 
 
 def names_for(
-    sides: List[Side], resource: str, some: List[str], pattern: str, without: Tuple[str, ...], arns: Optional[Set[str]] = None
+    sides: List[Side],
+    resource: str,
+    some: List[str],
+    pattern: str,
+    without: Tuple[str, ...],
+    arns: Optional[Set[str]] = None,
 ) -> List[Names]:
+    """The requests for some actions, or for a pattern of them, by lines of all resources or of some."""
     own = [it._replace(world={**it.world, "actions": some}) for it in sides]
     return names_of(own, Question("*", pattern or some[0], resource), pattern, some[0], without, arns)
 
 
 def compare(before: Source, after: Source, asked: List[str], resource: str, account: Optional[str]) -> Comparison:
     """What changes, as it is and with keys that nothing gives: of exports for all names, of worlds for what they name."""
-    scopes, every = [Scope(it, account=account) for it in (before, after)], [it.world([ASSUME]) for it in (before, after)]
+    scopes = [Scope(it, account=account) for it in (before, after)]
+    every = [it.world([ASSUME]) for it in (before, after)]
     of_names = before.estate is not None and after.estate is not None
     pairs = list(kinds_of_pairs(scopes, every, resource) if of_names else named_pairs(scopes, every, asked, resource))
-    names = [one for kind, sides in pairs for one in (of_kind(sides, kind, asked, resource) if of_names else of_worlds(sides))]
+    own = (of_kind(sides, kind, asked, resource) if of_names else of_worlds(sides) for kind, sides in pairs)
+    names = [one for of in own for one in of]
     is_had = is_had_by_services(after, asked, resource)
     names = names if is_had else []
     known = {it for one in names for it in one.world["actions"] if not is_pattern(it)}
@@ -427,7 +438,8 @@ def changes_of(names: Names, found: Found, given: str) -> Told:
 
     def kind_of(row: Row) -> Tuple[object, ...]:
         text = row["resource"]
-        return origins[id(row)].get(text), patterns(row), text != ANY and owner_of(names.line_of(text).of["arn"]) == text
+        is_bucket = text != ANY and owner_of(names.line_of(text).of["arn"]) == text
+        return origins[id(row)].get(text), patterns(row), is_bucket
 
     some = nearest(names, rows, kind_of, True)
     first, second = answers_of(names, some)
@@ -449,7 +461,8 @@ def further(names: Names, rows: List[Row]) -> List[Row]:
     texts = list(dict.fromkeys(it["resource"] for it in asked))
     pair = []
     for n, side in enumerate(names.sides):
-        own = {"actions": list(dict.fromkeys(it["action"] for it in asked)), "resources": [shown(it)[n] for it in texts]}
+        actions = list(dict.fromkeys(it["action"] for it in asked))
+        own = {"actions": actions, "resources": [shown(it)[n] for it in texts]}
         people = [it for it in side.world["principals"] if principal_text(it) in {one["principal"] for one in asked}]
         pair.append({**side.world, **own, "principals": people})
     [found] = ask_changes([(pair[0], pair[1])])
@@ -471,7 +484,8 @@ def in_bucket_of(names: Names) -> Iterator[Tuple[Names, Dict[str, str]]]:
         shut = nobody_of(names.sides)
         sides = []
         for n, side in enumerate(names.sides):
-            own = [through(it[n]) if THROUGH in it[n] else {"arn": arn, "account": shut} for it, arn in zip(of.values(), inside)]
+            lacking = ({"arn": arn, "account": shut} for arn in inside)
+            own = [through(it[n]) if THROUGH in it[n] else one for it, one in zip(of.values(), lacking)]
             accounts = with_account(side.scope, side.world, own)
             sides.append(side._replace(world={**side.world, "resources": own, "accounts": accounts}))
         forms = [arn if not arn.endswith(UNNAMED) else f"{of_given(owner_of(arn))}*" for arn in inside]
@@ -538,7 +552,8 @@ def unsettled(names: Names) -> List[str]:
     is_wide = any(is_limit(it) for one in changed for it in places(one)) or not any(map(is_there, places(changed[1])))
     asked = names.question.resource
     elements = ("Resource", "NotResource")
-    return [line for it in (worlds if is_wide else changed) for line in unresolved(it, asked, *elements) + untried(it, asked)]
+    some = worlds if is_wide else changed
+    return [line for it in some for line in unresolved(it, asked, *elements) + untried(it, asked)]
 
 
 def is_there(it: Place) -> bool:
@@ -551,7 +566,7 @@ def is_limit(it: Place) -> bool:
     return is_there(it) and (it.path.split("/")[2] not in ("identity", "policy") or is_deny)
 
 
-# --- keys that nothing gives ----------------------------------------------------------------------------------------------
+# --- keys that nothing gives ------------------------------------------------------------------------------------------
 
 
 def keys_in(worlds: Sequence[World]) -> List[Dict[str, str]]:
@@ -603,7 +618,7 @@ def as_it_is(some: List[Tuple[Names, Found]]) -> Set[Tuple[str, ...]]:
     return {texts_in(it) for of in rows for it in of}
 
 
-# --- the matrix before and after ------------------------------------------------------------------------------------------
+# --- the matrix before and after --------------------------------------------------------------------------------------
 
 
 def compared(first: Answers, second: Answers, given: str = "") -> Changes:

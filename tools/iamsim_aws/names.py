@@ -563,7 +563,8 @@ def shortest_in(world: World, action: str, names: Names) -> Set[str]:
 def met_patterns(names: Names) -> Callable[[Row], Tuple[Origin, ...]]:
     """The patterns of resources in the statements that keep a row on the other side from being allowed."""
     causes = causes_in(names)
-    return lambda row: tuple(patterns_for(causes(row, -1 if row["change"] == "lost" else 0), "Resource", row["resource"]))
+    other = {"lost": -1, "gained": 0}
+    return lambda row: tuple(patterns_for(causes(row, other[row["change"]]), "Resource", row["resource"]))
 
 
 def ask_names(some: Iterable[Names], count: int, words: List[str]) -> Iterator[Tuple[Names, Found]]:
@@ -627,7 +628,8 @@ def is_met(scope: Scope, world: World, question: Question, chosen: List[str]) ->
     """Whether a request that some service has is of what is named, or of a pattern of a policy; else a question may have a slip."""
     further, seen = lacked(scope.source, chosen), set()
     for it in meant_texts(world, question, chosen):
-        if it not in seen and any(scope.source.references.pairs({"actions": chosen, "resources": [{"arn": it}]}, further)):
+        one = {"actions": chosen, "resources": [{"arn": it}]}
+        if it not in seen and any(scope.source.references.pairs(one, further)):
             return True
         seen.add(it)
     return False

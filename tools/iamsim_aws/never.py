@@ -15,6 +15,7 @@ from .keys import with_key
 from .names import (
     Found,
     Names,
+    Row,
     answers_of,
     cells_in,
     groups,
@@ -176,7 +177,8 @@ def of_names(some: List[Tuple[Names, Found]], turn: Optional[Turn]) -> Finding:
     for names, found in some:
         points = [it for it in found.rows if is_access_point(it["resource"])]
         opens = [f"{it['principal']} {it['action']} {it['resource']} {BY_POINT}" for it in points]
-        rows = nearest(names, [it for it in found.rows if it not in points], lambda row: kind_of(names, row["resource"]))
+        rest = [it for it in found.rows if not is_access_point(it["resource"])]
+        rows = nearest(names, rest, functools.partial(kind_of_row, names))
         [answers], of = answers_of(names, rows), stands(names)
         by_cell = dict(zip(cells_in(answers, rows), rows))
         broken = [Break(answers, it, turn, functools.partial(of, by_cell[it])) for it in answers.allowed()]
@@ -184,8 +186,10 @@ def of_names(some: List[Tuple[Names, Found]], turn: Optional[Turn]) -> Finding:
     return made
 
 
-def kind_of(names: Names, text: str) -> str:
-    return text if text == "*" else str(names.line_of(text).of["arn"])
+def kind_of_row(names: Names, row: Row) -> str:
+    """What holds of a row's text, by the resource that has it."""
+    text = row["resource"]
+    return str(text if text == "*" else names.line_of(text).of["arn"])
 
 
 def allowed(scope: Scope, of: Never, asked: Asked, answers: Answers, as_given: bool) -> Finding:

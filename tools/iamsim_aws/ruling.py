@@ -1,5 +1,6 @@
 """Rules that a team keeps: which requests are never allowed, and which always."""
 
+import functools
 import re
 from typing import Dict, List, NamedTuple, Optional
 
@@ -11,7 +12,7 @@ from .documents import cells_of as count_of
 from .faults import Fault, tell
 from .hanging import later, together
 from .names import answers_of, cells_in, is_named, nearest, settled
-from .never import Break, Finding, Never, asked_by, cells_of, findings, joined, kind_of, never
+from .never import Break, Finding, Never, asked_by, cells_of, findings, joined, kind_of_row, never
 from .patterns import is_pattern, near, of_given
 from .points import is_half_known
 from .questions import Asked, Question, Scope, missing, worlds
@@ -185,7 +186,7 @@ def refused(scope: Scope, of: Never) -> Finding:
     found = Finding([], list(of.opens))
     for names, rows in (it for some in settled(scope, of.names, len(of.names), []) for it in some):
         lacked = [it for it in rows.rows if it["decision"] != "allowed"]
-        told = nearest(names, lacked, lambda it: kind_of(names, it["resource"]), True)
+        told = nearest(names, lacked, functools.partial(kind_of_row, names), True)
         [answers] = answers_of(names, told)
         found = joined(found, Finding([Break(answers, it, None, dict) for it in cells_in(answers, told)], rows.opens))
     flat = of.asked if not of.names else []

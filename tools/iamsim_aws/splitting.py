@@ -113,8 +113,9 @@ def parts_of_all(worlds: List[World], cells: int = CELLS) -> List[List[Part]]:
     of_principals = runs(principals, left, most)
     if len(worlds) == 1:
         return [[part_of(worlds[0], some, of)] for some in of_principals for of in of_resources]
-    names = [[{it.name for it in axis[slice(*it)]} for it in of] for axis, of in ((principals, of_principals), (resources, of_resources))]
-    return [[named_part(it, some, of, first) for it in worlds] for some in names[0] for of, (first, _) in zip(names[1], of_resources)]
+    people = [{it.name for it in principals[slice(*some)]} for some in of_principals]
+    things = [({it.name for it in resources[slice(*of)]}, of[0]) for of in of_resources]
+    return [[named_part(it, some, *of) for it in worlds] for some in people for of in things]
 
 
 def most_of(axes: Sequence[List[Weight]]) -> List[Weight]:
@@ -130,7 +131,8 @@ def most_of(axes: Sequence[List[Weight]]) -> List[Weight]:
 
 def named_part(world: World, people: Set[str], things: Set[str], first: int) -> Part:
     principals = [it for it in world["principals"] if principal_text(it) in people]
-    return Part({**world, "principals": principals, "resources": [it for it in world["resources"] if it["arn"] in things]}, 0, first)
+    resources = [it for it in world["resources"] if it["arn"] in things]
+    return Part({**world, "principals": principals, "resources": resources}, 0, first)
 
 
 def part_of(world: World, some: Tuple[int, int], of: Tuple[int, int]) -> Part:

@@ -27,15 +27,15 @@ def add_all(commands: Any) -> None:
     drafts.add_options(parser)
     parser.add_argument("--before", nargs="+", metavar="FILE", help="exports, or a world")
     parser.add_argument("--after", nargs="+", metavar="FILE", help="exports, or a world")
-    help_of_action = "only actions that match (default: those of which the changed policies speak)"
+    help_of_action = "only actions that match (default: all whose answers may change)"
     parser.add_argument("--action", action="append", default=[], metavar="PATTERN", help=help_of_action)
     help_of_resource = "only resources whose ARN matches; an ARN that nothing names is asked for all the same"
     parser.add_argument("--resource", default="*", metavar="PATTERN", help=help_of_resource)
     parser.add_argument("--format", choices=["text", "csv", "markdown", "page"], default="text")
     add_verbose(parser)
-    help_of_status = "status 3 where anything changes, 4 where no request is of --action and --resource"
+    help_of_status = "as --fail-on any"
     parser.add_argument("--exit-status", action="store_true", help=help_of_status)
-    help_of_fail_on = "status 3 where such a request is told, 4 where no request is of --action and --resource"
+    help_of_fail_on = "status 3 where such a request is told, 5 where something is open, 4 where nothing is of the choice"
     parser.add_argument("--fail-on", choices=["gained", "lost", "any"], help=help_of_fail_on)
 
 

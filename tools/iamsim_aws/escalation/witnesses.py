@@ -85,7 +85,8 @@ def resources(world: World, asked: str, actions: List[str]) -> List[Witness]:
     found: Dict[Tuple[str, str], Witness] = {}
     wide = in_parts_of("", asked)
     for pattern, account in [*patterns, *((wide, account) for account in ids if (wide, account) not in patterns)]:
-        arn = witness(pattern, in_parts_of(pattern, asked), account, functools.partial(open_parts, world, actions, account))
+        template = functools.partial(open_parts, world, actions, account)
+        arn = witness(pattern, in_parts_of(pattern, asked), account, template)
         owner = (account_of(arn) or account) if arn else ""
         if arn and arn not in named and owner in ids and not is_absent_role(world, arn):
             one = beside(world, arn, owner)
