@@ -256,7 +256,7 @@ def few(patterns: List[str]) -> List[str]:
     for it in patterns:
         found.setdefault(it.partition(":")[0].lower(), []).append(it)
     own = [of if len(of) <= FEW or is_pattern(service) else [f"{service}:*"] for service, of in found.items()]
-    some = [it for of in own for it in of]
+    some = list({it.lower(): it for of in own for it in of}.values())
     return [it for it in some if not any(is_covered(it, one) for one in some if one != it)]
 
 
@@ -549,7 +549,8 @@ def unsettled(names: Names) -> List[str]:
     on them too."""
     worlds = [it.world for it in names.sides]
     changed = differing(worlds[0], worlds[1])
-    is_wide = any(is_limit(it) for one in changed for it in places(one)) or not any(map(is_there, places(changed[1])))
+    own = [it for one in changed for it in places(one) if is_there(it)]
+    is_wide = not own or any(map(is_limit, own))
     asked = names.question.resource
     elements = ("Resource", "NotResource")
     some = worlds if is_wide else changed
@@ -563,7 +564,7 @@ def is_there(it: Place) -> bool:
 def is_limit(it: Place) -> bool:
     """Whether a document may keep from somebody what others allow."""
     is_deny = any(isinstance(one, dict) and one.get("Effect") == "Deny" for one in statements_of(it.policy.document))
-    return is_there(it) and (it.path.split("/")[2] not in ("identity", "policy") or is_deny)
+    return it.path.split("/")[2] not in ("identity", "policy") or is_deny
 
 
 # --- keys that nothing gives ------------------------------------------------------------------------------------------
