@@ -441,7 +441,8 @@ def changes_of(names: Names, found: Found, given: str) -> Told:
         is_bucket = text != ANY and owner_of(names.line_of(text).of["arn"]) == text
         return origins[id(row)].get(text), patterns(row), is_bucket
 
-    some = nearest(names, rows, kind_of, True)
+    told = set(map(id, nearest(names, rows, kind_of, True)))
+    some = [it for it in rows if id(it) in told]
     first, second = answers_of(names, some)
     made = Changes(first, second, [], [], given, {})
     for is_lost, answers, cells in ((True, first, made.lost), (False, second, made.gained)):
