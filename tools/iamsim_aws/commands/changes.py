@@ -4,7 +4,8 @@ import argparse
 from typing import Any, List, Tuple
 
 from .. import drafts, files, reviews
-from ..changing import Comparison, compare, differing, paged
+from ..asking import ask_all
+from ..changing import Comparison, compare, compared, differing, paged
 from ..covering import tell_actions, tell_strangers
 from ..documents import World, bare
 from ..faults import TOLD, Fault, tell
@@ -58,7 +59,7 @@ def run(options: argparse.Namespace) -> int:
         tell(f"open: {it}")
     write = {"text": reviews.as_text, "csv": reviews.as_csv, "markdown": reviews.as_markdown}
     scope = found.scope + (f", and {len(found.opens)} open" if found.opens else "")
-    files.write(page_of(found) if options.format == "page" else write[options.format](lines, scope))
+    files.write(page_of(found, before, after) if options.format == "page" else write[options.format](lines, scope))
     asked = "any" if options.exit_status else options.fail_on
     if not asked:
         return 0
@@ -93,11 +94,11 @@ def tell_slips(sources: Tuple[Source, Source], patterns: List[str], resource: st
                 tell(line)
 
 
-def page_of(found: Comparison) -> str:
-    """The page of the matrix before and after, with what changes with a key alone."""
+def page_of(found: Comparison, first: Source, second: Source) -> str:
+    """The page of the matrix before and after, with what changes with a key alone; where nothing changes of who may assume what."""
     if not found.people and not found.requests:
         raise Fault("the two sides differ in no policy, so there is no page")
-    whole = paged(found)
+    whole = paged(found) or [compared(*ask_all([it.world([ASSUME]) for it in (first, second)]))]
     sides = [[it.before for it in whole], [it.after for it in whole]]
     actions = list(dict.fromkeys(action for it in whole for action in it.after.world["actions"]))
     before, after = (joined(of, actions) if of[1:] else of[0] for of in sides)
