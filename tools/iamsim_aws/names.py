@@ -638,7 +638,10 @@ def is_met(scope: Scope, world: World, question: Question, chosen: List[str]) ->
 def meant_texts(world: World, question: Question, chosen: List[str]) -> Iterator[str]:
     """What is named and a question means, and a text for each pattern of policies that meets it; of one for anything `*`."""
     yield from (it["arn"] for it in world["resources"] if is_named(question, it["arn"]))
-    for place, statement, is_new in statements(world, chosen) if is_pattern(question.resource) else ():
+    # Roles that nothing names are not there to be assumed.
+    is_absent = "role/" in question.resource and all(it.lower().startswith("sts:") for it in chosen)
+    is_open = is_pattern(question.resource) and not is_absent
+    for place, statement, is_new in statements(world, chosen) if is_open else ():
         values = values_of(world, place.path)[0]
         for text in texts_of(statement, "Resource", "NotResource"):
             pattern = (pattern_of(text, values) or opened(text)) if is_new else of_policy(text)
