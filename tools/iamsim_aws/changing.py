@@ -1,43 +1,96 @@
 """What changes between two sources: requests that are lost, and those that are gained."""
 
 import functools
-from typing import Any, Callable, Dict, Iterable, Iterator, List, NamedTuple, Optional, Sequence, Tuple
+from typing import Any, Dict, FrozenSet, Iterable, Iterator, List, NamedTuple, Optional, Sequence, Set, Tuple
 
-from . import hanging, kinds
-from .arns import is_access_point, owner_of, principal_text
-from .asking import ask_all, ask_changes, whole
+from . import hanging
+from .arns import account_of, is_access_point, owner_of, principal_arn, principal_text, service_of
+from .asking import ask_all, ask_changes
 from .checking import NOTHING
 from .covering import tell_lacked
-from .documents import Place, World, bare, cells_of, mapped, places, statements_of
-from .faults import tell
+from .documents import FOREIGN, MEMBERS, THROUGH, Place, Policy, World, mapped, places, statements_of
+from .every import UNNAMED, WORLDS
+from .exports import ACCOUNT
 from .files import compact
-from .keys import with_key
-from .kinds import Origin, Origins
-from .making import Estate, bound
-from .patterns import common, is_pattern, matcher, plain
-from .questions import ARN, Scope, account_for, with_account
-from .program import Refused
+from .keys import CALLER, context_of, with_key
+from .names import (
+    REQUEST,
+    Found,
+    Line,
+    Names,
+    Row,
+    Side,
+    abroad,
+    alike,
+    answers_of,
+    cells_in,
+    controlled,
+    everybody,
+    groups,
+    met_patterns,
+    names_of,
+    nearest,
+    nobody_of,
+    settled,
+    side_of,
+    stands,
+    unresolved,
+    untried,
+    with_lines,
+    with_people,
+)
+from .patterns import is_pattern, matcher, of_given, plain
+from .points import tell_points, through
+from .questions import ACTION, ARN, Question, Scope, account_for, lacked, with_account
 from .references import References
-from .reports import Answer, Answers, axes_of, keys_of
+from .reports import Answers, keys_of
 from .roles import with_linked, with_sessions
 from .sources import ASSUME, Source
-from .splitting import parts
-from .strangers import strangers, with_strangers
+from .speaking import Origins, beside, shares, texts_of
+from .strangers import ASSUMED, is_stranger, strangers, with_strangers
+
+ANY = "*"
+# Patterns of actions of one service that are asked by themselves, and questions with keys that are asked at most.
+FEW, MOST = 8, 1000
+TOO_MUCH = "what changes with these keys alone was not asked, since it is too much: "
+BY_POINT = "it changes by the access point, and what its bucket says is not asked of all names"
+TO_ALL = {"Effect": "Allow", "Principal": "*", "Action": "*", "Resource": "*"}
+ANYBODY_MAY = Policy(ASSUMED, {"Version": "2012-10-17", "Statement": TO_ALL})
+Principal = Dict[str, Any]
 
 
 class Changes(NamedTuple):
-    """The answers before and after, the cells of `before` that are allowed no longer, and those of `after` that were not;
-    the key that was given besides, in words; what texts that are made up stand for; and how many requests were compared,
-    and how many that change are left out since no service has them."""
+    """The answers before and after, the cells of `before` that are allowed no longer, and those of `after` that were not; the key that
+    was given besides, in words; and what the texts of a request stand for, by whether it is lost, and its cell."""
 
     before: Answers
     after: Answers
     lost: List[int]
     gained: List[int]
-    given: str
-    stand: Origins = {}
-    requests: int = 0
-    left: int = 0
+    given: str = ""
+    stand: Dict[Tuple[bool, int], Origins] = {}
+
+
+class Comparison(NamedTuple):
+    """What changes, as it is and with keys that nothing gives; how many principals were asked with all names, or how many requests,
+    and how many that change are left out since no service has them; what could not be settled, in words; and the worlds before and
+    after whose requests were compared."""
+
+    changes: List[Changes]
+    people: int
+    requests: int
+    left: int
+    opens: List[str]
+    worlds: List[List[World]] = []
+
+    @property
+    def scope(self) -> str:
+        """What was compared, in words."""
+        return f"{self.people} principals and all names" if self.people else f"{self.requests} requests"
+
+
+def name_of(axis: str, it: Dict[str, Any]) -> str:
+    return principal_text(it) if axis == "principals" else str(it["id"] if axis == "accounts" else it["arn"])
 
 
 def holders(world: World) -> Dict[Tuple[str, str], List[str]]:
@@ -47,10 +100,6 @@ def holders(world: World) -> Dict[Tuple[str, str], List[str]]:
         axis, n = it.path.split("/")[:2]
         found.setdefault((axis, name_of(axis, world[axis][int(n)])), []).append(compact(it.policy.document))
     return found
-
-
-def name_of(axis: str, it: Dict[str, Any]) -> str:
-    return principal_text(it) if axis == "principals" else str(it["id"] if axis == "accounts" else it["arn"])
 
 
 def differing(before: World, after: World) -> Tuple[World, World]:
@@ -68,145 +117,510 @@ def differing(before: World, after: World) -> Tuple[World, World]:
     return left(before, of_after), left(after, of_before)
 
 
-def is_limit(it: Place) -> bool:
-    """Whether a document may keep from somebody what others allow."""
-    member, statements = it.path.split("/")[2], statements_of(it.policy.document)
-    is_deny = any(isinstance(one, dict) and one.get("Effect") == "Deny" for one in statements)
-    return is_there(it) and (member not in ("identity", "policy") or is_deny)
+# --- what is in question ----------------------------------------------------------------------------------------------
+
+
+def layer_of(it: Place) -> str:
+    """The layer and level of which a document is one."""
+    parts_of_path = it.path.split("/")[2:]
+    return "/".join(parts_of_path[:-1] if parts_of_path[-1].isdigit() else parts_of_path)
+
+
+def rules_in(axis: str, holder: Dict[str, Any]) -> Set[Tuple[str, str, str]]:
+    """What the documents of a holder say: (pattern of actions, layer, all else of its statement)."""
+    found: Set[Tuple[str, str, str]] = set()
+    for it in places({axis: [holder]}):
+        document = it.policy.document
+        version = document.get("Version") if isinstance(document, dict) else None
+        for one in statements_of(document):
+            texts = texts_of(one, "Action")
+            rest = {key: value for key, value in one.items() if key not in ("Action", "Sid")} if texts else one
+            said = layer_of(it), compact([version, rest])
+            found.update((text, *said) for text in texts or [ANY])
+    return found
+
+
+def frame_of(axis: str, holder: Dict[str, Any]) -> str:
+    """What a holder has besides documents, and how many limits of each kind bind it."""
+    own = {key: it for key, it in holder.items() if key not in (*MEMBERS[axis], THROUGH, FOREIGN, "context")}
+    # Who calls KMS follows from the principal, and stands there where a document asks for it.
+    context = {key: it for key, it in context_of(holder).items() if key.lower() != CALLER.lower()}
+    limits = [len(holder.get(it, [])) for it in ("org", "control")]
+    inside = frame_of(axis, holder[THROUGH]) if THROUGH in holder else ""
+    return compact([own, context, "boundary" in holder, bool(holder.get("sessionPolicies")), limits, inside])
+
+
+def spoken_between(axis: str, before: Dict[str, Any], after: Dict[str, Any]) -> Optional[Set[str]]:
+    """The patterns of the actions whose answers may change by a holder; None where any may."""
+    if frame_of(axis, before) != frame_of(axis, after):
+        return None
+    return {text for text, _, _ in rules_in(axis, before) ^ rules_in(axis, after)}
+
+
+def allows(axis: str, holder: Dict[str, Any]) -> Set[str]:
+    """The patterns of the actions that the documents of a holder allow."""
+    every = (one for it in places({axis: [holder]}) for one in statements_of(it.policy.document))
+    some = [it for it in every if isinstance(it, dict) and it.get("Effect") == "Allow"]
+    return {text for it in some for text in texts_of(it, "Action") or [ANY]}
+
+
+class Difference:
+    """What differs between two worlds: for whom, and for which resources, with the patterns of the actions in question."""
+
+    def __init__(self, sides: Sequence[Side]):
+        self.sides = sides
+        self.granted = {it for side in sides for one in side.world["resources"] for it in allows("resources", one)}
+        frames = [compact([it.world["moment"], context_of(it.world)]) for it in sides]
+        self.is_all = len(set(frames)) > 1
+        self.accounts = self.pairs("accounts", "id")
+
+    def pairs(self, axis: str, key: str) -> Dict[str, List[Dict[str, Any]]]:
+        found: Dict[str, List[Dict[str, Any]]] = {}
+        for side in self.sides:
+            for it in side.world[axis]:
+                found.setdefault(it[key], []).append(it)
+        return found
+
+    def of_account(self, account: str) -> Optional[Set[str]]:
+        some = self.accounts.get(account, [])
+        return spoken_between("accounts", *some) if len(some) == 2 else set()
+
+    def people(self) -> Iterator[Tuple[FrozenSet[str], List[Principal]]]:
+        """The principals by the patterns of the actions that are in question for them."""
+        found: Dict[FrozenSet[str], Dict[str, Principal]] = {}
+        known = [{principal_text(it): it for it in side.world["principals"]} for side in self.sides]
+        of_accounts = {it: self.of_account(it) for it in self.accounts}
+        for it in everybody(self.sides):
+            text = principal_text(it)
+            some = [of[text] for of in known if text in of]
+            limits = of_accounts.get(account_of(principal_arn(it)), set())
+            own = spoken_between("principals", *some) if len(some) == 2 and not self.is_all else None
+            spoken = own | limits if own is not None and limits is not None else self.granted | may(some)
+            if spoken:
+                found.setdefault(frozenset(spoken), {})[text] = it
+        yield from ((spoken, list(of.values())) for spoken, of in found.items())
+
+    def resources(self) -> Iterator[Tuple[FrozenSet[str], Set[str]]]:
+        """The ARNs of resources, and of those that stand for what is unnamed, by the patterns of the actions in question."""
+        ids = [it["id"] for side in self.sides for it in side.world["accounts"]]
+        owner = {of: it["account"] for side in self.sides for of, it in side.owners.items()}
+        every = {arn: it["account"] for side in self.sides for arn, it in side.named.items()}
+        every.update((f"{it}/{UNNAMED}", account) for it, account in owner.items() if service_of(it) == "s3")
+        services = [*controlled(self.sides[-1].scope.source.estate), ""]
+        every.update((f"arn:aws:{it}::{account}:{UNNAMED}", account) for account in ids for it in services)
+        found: Dict[FrozenSet[str], Set[str]] = {}
+        for arn, account in every.items():
+            some = [side.resource(arn, account, "-") for side in self.sides]
+            spoken = spoken_between("resources", *some)
+            if spoken is None:
+                spoken = {it for one in some for it in allows("resources", one)} | may(everybody(self.sides))
+            if spoken:
+                found.setdefault(frozenset(spoken), set()).add(arn)
+        yield from found.items()
+
+
+def may(people: Iterable[Principal]) -> Set[str]:
+    """The patterns of the actions that policies of principals allow; who is outside may do what policies of resources say."""
+    return {it for one in people if not is_stranger(one) for it in allows("principals", one)}
+
+
+class Chosen(NamedTuple):
+    """The actions, and the patterns of actions, that are asked."""
+
+    actions: List[str]
+    patterns: List[str]
+
+
+def chosen(spoken: Iterable[str], asked: List[str], given: Iterable[str]) -> Chosen:
+    """What is asked of the patterns of actions in question, as far as patterns choose it; and those of a list that they mean."""
+    named: Dict[str, str] = {}
+    wide: Dict[str, None] = {}
+    for one in asked:
+        if not is_pattern(one):
+            if any(shares(it, plain(one)) for it in spoken):
+                named.setdefault(plain(one).lower(), plain(one))
+            continue
+        for it in sorted(spoken):
+            if not is_pattern(it) and ACTION.fullmatch(it):
+                named.update({it.lower(): it} if matcher(one, True)(it) else {})
+            elif shares(it, one):
+                wide[it if one == ANY else one] = None
+        some = [it for it in given if matcher(one, True)(it)]
+        named.update((it.lower(), it) for it in some if any(shares(of, it) for of in spoken))
+    return Chosen(list(named.values()), few(list(wide)))
+
+
+def few(patterns: List[str]) -> List[str]:
+    """The patterns without those that another one covers; of a service that has many one for all of it."""
+    found: Dict[str, List[str]] = {}
+    for it in patterns:
+        found.setdefault(it.partition(":")[0].lower(), []).append(it)
+    own = [of if len(of) <= FEW or is_pattern(service) else [f"{service}:*"] for service, of in found.items()]
+    some = list({it.lower(): it for of in own for it in of}.values())
+    return [it for it in some if not any(is_covered(it, one) for one in some if one != it)]
+
+
+def is_covered(pattern: str, by: str) -> bool:
+    """Whether a pattern is one with something behind a beginning that another one leaves open."""
+    begin = by[:-1].lower()
+    return by.endswith("*") and not is_pattern(begin) and pattern.lower().startswith(begin)
+
+
+# --- all names --------------------------------------------------------------------------------------------------------
+
+
+def kinds_of_pairs(scopes: List[Scope], every: List[World], resource: str) -> Iterator[Tuple[str, List[Side]]]:
+    """The sides for actions of iam, of sts and of other services."""
+    sources = [it.source for it in scopes]
+    for kind, action in WORLDS.items():
+        worlds = [it.worlds([action])[0] for it in sources]
+        sides = [side_of(*it) for it in zip(scopes, prepared(sources, worlds, every))]
+        is_one = not is_pattern(resource) and ARN.fullmatch(plain(resource))
+        yield kind, with_abroad(with_named(sides, worlds[0], plain(resource)) if is_one else sides)
+
+
+def with_abroad(sides: List[Side]) -> List[Side]:
+    """The sides, where accounts without an export that policies name are taken to let in whoever is named."""
+    every = (one for side in sides for it in places(side.world) for one in statements_of(it.policy.document))
+    named = {account_of(it) for one in every for it in texts_of(one, "Resource", "NotResource")}
+    known = {it for side in sides for it in side.scope.source.accounts()}
+    some = sorted(it for it in named - known if ACCOUNT.fullmatch(it))
+    owners = {abroad(it): {"arn": abroad(it), "account": it, "policy": ANYBODY_MAY} for it in some}
+    return [it._replace(owners={**it.owners, **owners}) for it in sides]
+
+
+def with_named(sides: List[Side], world: World, arn: str) -> List[Side]:
+    """The sides where an ARN that none of them names is named too."""
+    if any(arn in it.named for it in sides):
+        return sides
+    account, shut = account_for(sides[0].scope, world, arn), nobody_of(sides)
+    is_there = [owner_of(arn) in it.owners for it in sides]
+    # By an access point that comes or goes nothing is allowed where it is not.
+    own = [it.resource(arn, account, shut if any(is_there) else "") for it in sides]
+    return [it._replace(named={**it.named, arn: one}) for it, one in zip(sides, own)]
+
+
+def prepared(sources: List[Source], pair: Sequence[World], every: List[World]) -> List[World]:
+    """Both worlds with whom their policies name besides, and with who is outside. All policies on resources tell these apart."""
+    linked = [with_linked(source, world, [*pair, *every]) for source, world in zip(sources, pair)]
+    linked = with_sessions(linked, every)
+    some = strangers(sources[1], linked, speaking=every)
+    return [with_strangers(source, world, some) for source, world in zip(sources, linked)]
+
+
+def of_kind(sides: List[Side], kind: str, asked: List[str], resource: str) -> List[Names]:
+    """What is asked in the worlds for actions of iam, of sts or of other services."""
+    difference, found = Difference(sides), []
+    given = [it for side in sides for it in side.scope.source.actions]
+    for spoken, people in difference.people():
+        some = [it._replace(world=with_people(it.world, people)) for it in sides]
+        found += [one for it in jobs(chosen(spoken, asked, given), kind) for one in names_for(some, resource, *it)]
+    for spoken, arns in difference.resources():
+        for it in jobs(chosen(spoken, asked, given), kind):
+            found += names_for(sides, resource, *it, arns)
+    return found
+
+
+def is_chosen(sides: List[Side], asked: List[str]) -> bool:
+    """Whether patterns of actions choose any that is given, or that is in question on other resources."""
+    given = [it for side in sides for it in side.scope.source.actions]
+    given += [plain(it) for it in asked if not is_pattern(it)]
+    spoken = {it for of, _ in (*Difference(sides).people(), *Difference(sides).resources()) for it in of}
+    return any(matcher(one, True)(it) for one in asked for it in given) or any(chosen(spoken, asked, []))
+
+
+def jobs(some: Chosen, kind: str) -> Iterator[Tuple[List[str], str, Tuple[str, ...]]]:
+    """What is asked at once in the worlds of a kind: actions of one service, or a pattern; and the services that others are for."""
+    by_service: Dict[str, List[str]] = {}
+    for it in some.actions:
+        by_service.setdefault(it.partition(":")[0].lower(), []).append(it)
+    yield from ((of, "", ()) for service, of in by_service.items() if (service if service in WORLDS else "") == kind)
+    for it in some.patterns:
+        yield from (([pattern], pattern, without) for action, pattern, without in groups(it) if action == WORLDS[kind])
+
+
+def names_for(
+    sides: List[Side],
+    resource: str,
+    some: List[str],
+    pattern: str,
+    without: Tuple[str, ...],
+    arns: Optional[Set[str]] = None,
+) -> List[Names]:
+    """The requests for some actions, or for a pattern of them, by lines of all resources or of some."""
+    own = [it._replace(world={**it.world, "actions": some}) for it in sides]
+    return names_of(own, Question("*", pattern or some[0], resource), pattern, some[0], without, arns)
+
+
+def compare(before: Source, after: Source, asked: List[str], resource: str, account: Optional[str]) -> Comparison:
+    """What changes, as it is and with keys that nothing gives: of exports for all names, of worlds for what they name."""
+    scopes = [Scope(it, account=account) for it in (before, after)]
+    every = [it.world([ASSUME]) for it in (before, after)]
+    of_names = before.estate is not None and after.estate is not None
+    pairs = list(kinds_of_pairs(scopes, every, resource) if of_names else named_pairs(scopes, every, asked, resource))
+    own = (of_kind(sides, kind, asked, resource) if of_names else of_worlds(sides) for kind, sides in pairs)
+    names = [one for of in own for one in of]
+    is_had = is_had_by_services(after, asked, resource)
+    names = names if is_had else []
+    known = {it for one in names for it in one.world["actions"] if not is_pattern(it)}
+    tell_lacked(sorted(it for it in known if not after.references.knows(it)))
+    for it in names:
+        tell_points(it.world, True)
+    opens = [line for it in names for line in unsettled(it)]
+    first = with_buckets(scopes[1], [one for of in settled(scopes[1], names, len(names), []) for one in of])
+    made = [changes_of(one, found, "") for one, found in first]
+    keyed, more = with_keys(scopes[1], names, {it for one in made for it in one.told})
+    told = [it for it in [*made, *keyed] if not it.changes.given or it.changes.lost or it.changes.gained]
+    opens = list(dict.fromkeys([*opens, *more, *(line for it in told for line in it.opens)]))
+    is_asked = of_names and is_had and (bool(names) or any(is_chosen(sides, asked) for _, sides in pairs))
+    people = {principal_text(it) for _, sides in pairs for it in everybody(sides)} if is_asked else set()
+    worlds = [[it.world for it in sides] for _, sides in pairs] if not of_names else []
+    requests = sum(requests_of(after.references, after_world) for _, after_world in worlds)
+    changes = [it.changes for it in told]
+    return Comparison(changes, len(people), requests, sum(found.left for _, found in first), opens, worlds)
+
+
+def is_had_by_services(source: Source, asked: List[str], resource: str) -> bool:
+    """Whether some service has a request that is chosen, where no pattern chooses it."""
+    world = {"actions": list(map(plain, asked)), "resources": [{"arn": plain(resource)}]}
+    is_open = any(map(is_pattern, [*asked, resource]))
+    return is_open or any(source.references.pairs(world, lacked(source, world["actions"])))
+
+
+def requests_of(references: References, world: World) -> int:
+    return sum(references.pairs(world, world["actions"])) * len(world["principals"])
+
+
+def named_pairs(
+    scopes: List[Scope], every: List[World], asked: List[str], resource: str
+) -> Iterator[Tuple[str, List[Side]]]:
+    """The sides with what two worlds name of what patterns choose."""
+    sources = [it.source for it in scopes]
+    listed = [it for source in sources for it in [*(source.given or {}).get("actions", []), *source.actions]]
+    named = [plain(it) for it in asked if not is_pattern(it)]
+    some = {it.lower(): it for it in [*named, *listed] if any(matcher(one, True)(it) for one in asked)}
+    for worlds in zip(*(it.worlds(list(some.values())) for it in sources)):
+        pair = [in_question(scope, world, worlds, resource) for scope, world in zip(scopes, worlds)]
+        yield "", [side_of(*it) for it in zip(scopes, prepared(sources, pair, every))]
+
+
+def in_question(scope: Scope, world: World, worlds: Sequence[World], resource: str) -> World:
+    """The world with the resources that a pattern chooses; an ARN that no world names is asked for all the same."""
+    arn, resources = plain(resource), [it for it in world["resources"] if matcher(resource)(it["arn"])]
+    is_one = ARN.fullmatch(arn) and not is_pattern(resource)
+    if is_one and not any(it["arn"] == arn for of in worlds for it in of["resources"]):
+        resources = [beside(world, arn, account_for(scope, world, arn))]
+    return {**world, "resources": resources, "accounts": with_account(scope, world, resources)}
+
+
+def of_worlds(sides: List[Side]) -> List[Names]:
+    """The requests of what two worlds name."""
+    every = {arn: it for side in sides for arn, it in side.named.items()}
+    lines = [Line(of_given(arn), it) for arn, it in every.items()]
+    some = Names(sides, lines, Question("*", "*", "*"), "", ())
+    return [with_lines(some, lines)] if lines and some.people and some.world["actions"] else []
+
+
+class Told(NamedTuple):
+    """Changes, with the texts of what is lost and gained, and what could not be settled, in words."""
+
+    changes: Changes
+    told: Set[Tuple[str, ...]]
+    opens: List[str]
+
+
+def changes_of(names: Names, found: Found, given: str) -> Told:
+    """The changes that rows tell: of all that stand for the same patterns of policies the shortest."""
+    rows, opens = by_points(names, found)
+    rows = rows + further(names, rows)
+    of, patterns = stands(names), met_patterns(names)
+    origins = {id(it): of(it) for it in rows}
+
+    def kind_of(row: Row) -> Tuple[object, ...]:
+        text = row["resource"]
+        is_bucket = text != ANY and owner_of(names.line_of(text).of["arn"]) == text
+        return origins[id(row)].get(text), patterns(row), is_bucket
+
+    told = set(map(id, nearest(names, rows, kind_of, True)))
+    some = [it for it in rows if id(it) in told]
+    first, second = answers_of(names, some)
+    made = Changes(first, second, [], [], given, {})
+    for is_lost, answers, cells in ((True, first, made.lost), (False, second, made.gained)):
+        own = [it for it in some if (it["change"] == "lost") == is_lost]
+        cells += cells_in(answers, own)
+        made.stand.update(((is_lost, cell), origins[id(it)]) for cell, it in zip(cells, own))
+    return Told(made, {texts_in(it) for it in rows}, [*found.opens, *opens])
+
+
+def further(names: Names, rows: List[Row]) -> List[Row]:
+    """What changes by the other patterns of the statements that allow: names of one kind are shown by one of them alone."""
+    asked = alike(names, rows)
+    if not asked:
+        return []
+    shown, wanted = names.shown(), {tuple(it.values()) for it in asked}
+    known = {tuple(it[name] for name in REQUEST) for it in rows}
+    texts = list(dict.fromkeys(it["resource"] for it in asked))
+    pair = []
+    for n, side in enumerate(names.sides):
+        actions = list(dict.fromkeys(it["action"] for it in asked))
+        own = {"actions": actions, "resources": [shown(it)[n] for it in texts]}
+        people = [it for it in side.world["principals"] if principal_text(it) in {one["principal"] for one in asked}]
+        pair.append({**side.world, **own, "principals": people})
+    [found] = ask_changes([(pair[0], pair[1])])
+    return [it for it in found if tuple(it[name] for name in REQUEST) in wanted - known]
+
+
+def texts_in(row: Row) -> Tuple[str, ...]:
+    return (row["change"], *(row[name] for name in REQUEST))
+
+
+def in_bucket_of(names: Names) -> Iterator[Tuple[Names, Dict[str, str]]]:
+    """What the requests by each access point are in its bucket; and the points' own texts of those there that are named."""
+    points: Dict[str, Dict[str, List[Any]]] = {}
+    for some in zip(*(side.world["resources"] for side in names.sides)):
+        if any(THROUGH in it for it in some):
+            points.setdefault(owner_of(some[0]["arn"]), {})[some[0]["arn"]] = list(some)
+    for of in points.values():
+        inside = [next(it[THROUGH]["arn"] for it in some if THROUGH in it) for some in of.values()]
+        shut = nobody_of(names.sides)
+        sides = []
+        for n, side in enumerate(names.sides):
+            lacking = ({"arn": arn, "account": shut} for arn in inside)
+            own = [through(it[n]) if THROUGH in it[n] else one for it, one in zip(of.values(), lacking)]
+            accounts = with_account(side.scope, side.world, own)
+            sides.append(side._replace(world={**side.world, "resources": own, "accounts": accounts}))
+        forms = [arn if not arn.endswith(UNNAMED) else f"{of_given(owner_of(arn))}*" for arn in inside]
+        lines = [Line(it, {"arn": arn, "account": shut}) for it, arn in zip(forms, inside)]
+        question = names.question._replace(resource=f"{of_given(owner_of(inside[0]))}*")
+        yield names._replace(sides=sides, lines=lines, question=question), dict(zip(inside, of))
+
+
+def with_buckets(scope: Scope, some: List[Tuple[Names, Found]]) -> List[Tuple[Names, Found]]:
+    """What is found, with the requests by access points that change in their buckets."""
+    every = [(n, *it) for n, (names, _) in enumerate(some) for it in in_bucket_of(names)]
+    made = list(some)
+    for (n, _, named), of in zip(every, settled(scope, [it for _, it, _ in every], len(every), [])):
+        names, found = made[n]
+        point = owner_of(next(iter(named.values())))
+        for row in (row for _, it in of for row in it.rows):
+            text = named.get(row["resource"], f"{point}/object{row['resource'][len(owner_of(row['resource'])):]}")
+            text = point if text == f"{point}/object" else text
+            if names.is_meant(text):
+                found.rows.append({**row, "resource": text})
+            else:
+                found.opens.append(f"{' '.join(row[name] for name in REQUEST)}: {BY_POINT}")
+        found.opens.extend(line for _, it in of for line in it.opens)
+    return made
+
+
+def by_points(names: Names, found: Found) -> Tuple[List[Row], List[str]]:
+    """The rows, those on access points as they are with what their buckets say; and those of which that is not known."""
+    rest = [it for it in found.rows if not is_access_point(it["resource"])]
+    some = [it for it in found.rows if is_access_point(it["resource"])]
+    if not some:
+        return rest, []
+    arns = list(dict.fromkeys(it["resource"] for it in some))
+    own = {"actions": list(dict.fromkeys(it["action"] for it in some))}
+    worlds, shut = [], nobody_of(names.sides)
+    for side in names.sides:
+        resources = [side.resource(it, account_of(it), shut) for it in arns]
+        accounts = with_account(side.scope, side.world, resources)
+        worlds.append({**side.world, **own, "resources": resources, "accounts": accounts})
+    both = compared(*ask_all(worlds))
+    sides = (("lost", both.before, both.lost), ("gained", both.after, both.gained))
+    told = {(change, *answers.texts(cell)): (answers, cell) for change, answers, cells in sides for cell in cells}
+    asked = dict.fromkeys(texts_in(it)[1:] for it in some)
+    opens = [f"{' '.join(it)}: {BY_POINT}" for it in asked if not {("lost", *it), ("gained", *it)} & set(told)]
+    return rest + [row_of(it, both) for it in told if it[1:] in asked], opens
+
+
+def row_of(texts: Tuple[str, ...], both: Changes) -> Row:
+    """The row of a request that changes, by the answers before and after."""
+    row: Row = dict(zip(("change", *REQUEST), texts))
+    for word, answers in (("before", both.before), ("after", both.after)):
+        is_there = texts[1] in map(principal_text, answers.world["principals"])
+        answer = answers.at(cells_in(answers, [row])[0]) if is_there else None
+        row.update({word: answer and answer.decision, f"statements_{word}": list(answer.statements if answer else ())})
+        row[f"lacks_{word}"] = list(answer.lacks if answer else ())
+    return row
+
+
+def unsettled(names: Names) -> List[str]:
+    """The variables and keys that nothing gives on which it hangs what changes; where a limit or a tag changes, what else allows hangs
+    on them too."""
+    worlds = [it.world for it in names.sides]
+    changed = differing(worlds[0], worlds[1])
+    own = [it for one in changed for it in places(one) if is_there(it)]
+    is_wide = not own or any(map(is_limit, own))
+    asked = names.question.resource
+    elements = ("Resource", "NotResource")
+    some = worlds if is_wide else changed
+    return [line for it in some for line in unresolved(it, asked, *elements) + untried(it, asked)]
 
 
 def is_there(it: Place) -> bool:
     return it.policy is not NOTHING
 
 
-def speaking(changed: World, world: World, widens: Callable[[Place], bool]) -> World:
-    """The world with the changed documents, and with all that decide besides a changed one that widens: of principals those
-    whom it binds alone."""
-    bounds = {tuple(it.path.split("/")[:2]) for it in places(changed) if widens(it)}
-    if any(axis != "principals" for axis, _ in bounds):
-        return world
-    own = {it.path for it in places(changed) if is_there(it)}
-
-    def keep(_kind: str, path: str, policy: Any) -> Any:
-        axis, n = path.split("/")[:2]
-        is_met = (axis, n) in bounds or (axis != "principals" and bounds)
-        return policy if is_met or path in own else NOTHING
-
-    return mapped(world, keep)
+def is_limit(it: Place) -> bool:
+    """Whether a document may keep from somebody what others allow."""
+    is_deny = any(isinstance(one, dict) and one.get("Effect") == "Deny" for one in statements_of(it.policy.document))
+    return it.path.split("/")[2] not in ("identity", "policy") or is_deny
 
 
-def all_speaking(before: World, after: World, widens: Callable[[Place], bool]) -> List[World]:
-    """Both worlds with the documents that decide what changes: with all where anything else changes, as a tag."""
-    if rest_of(before) != rest_of(after):
-        return [before, after]
-    return [speaking(of, it, widens) for of, it in zip(differing(before, after), (before, after))]
+# --- keys that nothing gives ------------------------------------------------------------------------------------------
 
 
-def rest_of(world: World) -> Dict[str, Any]:
-    """What worlds have besides documents, by who has it."""
-    plain = bare(mapped(world, lambda *_: NOTHING))
-    found = {
-        f"{axis} {name_of(axis, it)}": it for axis in ("accounts", "principals", "resources") for it in plain[axis]
-    }
-    kept = {
-        key: {name: it[name] for name in ("context", "sealed", "management", "account") if name in it}
-        for key, it in found.items()
-    }
-    return {**kept, "": plain.get("context", {})}
+def keys_in(worlds: Sequence[World]) -> List[Dict[str, str]]:
+    """The keys that requests lack and documents ask for, each with a value: one at a time, those of the changed documents first, and
+    behind these all of a statement that asks for several."""
+    every = [*differing(worlds[0], worlds[1]), *worlds]
+    asked: Dict[Tuple[str, str], str] = {}
+    for key, texts in (it for world in every for it in hanging.wanted(world).items()):
+        for text in texts:
+            asked.setdefault((key.lower(), text), key)
+    several = [it for world in every for it in hanging.together(world)]
+    return [{key: text} for (_, text), key in asked.items()] + [
+        it for n, it in enumerate(several) if it not in several[:n]
+    ]
 
 
-def limits_of(world: World) -> Dict[Tuple[str, str], Any]:
-    """How many limits of each kind bind whom."""
-
-    def counts(it: Dict[str, Any]) -> Any:
-        levels = [len(it.get(of, [])) for of in ("org", "control")]
-        return "boundary" in it, bool(it.get("sessionPolicies")), levels
-
-    axes = ("accounts", "principals", "resources")
-    return {(axis, name_of(axis, it)): counts(it) for axis in axes for it in world[axis]}
+def with_all(world: World, keys: Dict[str, str]) -> World:
+    return functools.reduce(lambda made, it: with_key(made, *it), keys.items(), world)
 
 
-def is_freed(before: World, after: World) -> bool:
-    """Whether a limit binds somebody in one of the worlds alone. What it said nothing of changes too."""
-    one, other = limits_of(before), limits_of(after)
-    return any(other.get(key, counts) != counts for key, counts in one.items())
+def key_words(keys: Dict[str, str]) -> str:
+    return " and ".join(f"`{key}` is `{text}`" for key, text in keys.items())
 
 
-def spoken_of(before: World, after: World) -> Dict[str, str]:
-    """The action patterns of the changed documents, each with its policy's name; of all documents where anything else
-    changes, as a tag."""
-    worlds = (before, after) if rest_of(before) != rest_of(after) else differing(before, after)
-    spoken = patterns_in(worlds)
-    if any(map(has_rest, worlds)) or is_freed(before, after):
-        spoken.setdefault("*", "")
-    return spoken
+def left_words(keys: List[Dict[str, str]]) -> str:
+    return TOO_MUCH + ", ".join(dict.fromkeys(key for it in keys for key in it))
 
 
-def patterns_in(worlds: Sequence[World]) -> Dict[str, str]:
-    """The actions and action patterns of both worlds, each with its policy's name."""
-    return {text: policy for it in worlds for text, policy in kinds.patterns_of_actions(it).items()}
+def with_keys(scope: Scope, some: List[Names], told: Set[Tuple[str, ...]]) -> Tuple[List[Told], List[str]]:
+    """What changes with keys alone that nothing gives; no more than can be asked."""
+    asked = [(names, it) for names in some for it in keys_in([side.world for side in names.sides])]
+    opens = [left_words([it for _, it in asked[MOST:]])] if asked[MOST:] else []
+    given = [(names, names.mapped(functools.partial(with_all, keys=keys)), keys) for names, keys in asked[:MOST]]
+    answers = settled(scope, (it for _, it, _ in given), len(given), [])
+    found = [(names, it, keys, rows) for (names, _, keys), of in zip(given, answers) for it, rows in of]
+    known, made = told | as_it_is([(names, rows) for names, _, _, rows in found]), []
+    for _, names, keys, rows in found:
+        new = rows._replace(rows=[it for it in rows.rows if texts_in(it) not in known])
+        made.append(changes_of(names, new, key_words(keys)))
+        known = known | made[-1].told
+    return made, opens
 
 
-def binding(world: World) -> Dict[str, str]:
-    """The action patterns of limits and of the policies of resources, without which other policies may allow nothing; each
-    with its policy's name."""
-    found: Dict[str, str] = {}
-    for it in places(world):
-        if it.path.startswith("resources/") or is_limit(it):
-            for statement in statements_of(it.policy.document):
-                found.update((text, it.policy.name) for text in kinds.texts_of(statement, "Action") if is_pattern(text))
-    return found
+def as_it_is(some: List[Tuple[Names, Found]]) -> Set[Tuple[str, ...]]:
+    """The texts of those rows that tell what changes without keys too."""
+    some = [(names, found) for names, found in some if found.rows]
+    pairs = [[it.world for it in answers_of(names, found.rows)] for names, found in some]
+    rows = ask_changes([(first, second) for first, second in pairs])
+    return {texts_in(it) for of in rows for it in of}
 
 
-def has_rest(world: World) -> bool:
-    """Whether a document speaks of all actions but some."""
-    every = (statement for it in places(world) for statement in statements_of(it.policy.document))
-    return any(isinstance(it, dict) and "NotAction" in it for it in every)
-
-
-# Actions by their lower case, each with what it stands for if it is made up.
-Actions = Dict[str, Tuple[str, Optional[Origin]]]
-
-
-def actions_of(before: Source, after: Source, patterns: List[str]) -> Dict[str, Optional[Origin]]:
-    """The given actions of a choice, and of exports those of which the changed documents speak."""
-    listed = [it for source in (before, after) for it in [*(source.given or {}).get("actions", []), *source.actions]]
-    given: Actions = {it.lower(): (it, None) for it in listed if any(matcher(asked, True)(it) for asked in patterns)}
-    return dict({**(spoken_actions(before, after, patterns) if before.estate else {}), **given}.values())
-
-
-def spoken_actions(before: Source, after: Source, patterns: List[str]) -> Actions:
-    """The actions of a choice of which the changed documents speak."""
-    worlds = before.world([ASSUME]), after.world([ASSUME])
-    spoken, references = spoken_of(*worlds), before.references
-    bounds = {text: policy for it in worlds for text, policy in binding(it).items()}
-    texts = [text for text in patterns_in(worlds) if not is_pattern(text)]
-    # Of a service that has a file all actions are known, but for those that somebody names all the same.
-    known = [*references.actions(), *(it for it in texts if not references.has_file(it))]
-    lacked = [it for it in texts if not references.knows(it) and it in spoken]
-    tell_lacked(lacked)
-    known += lacked
-    wide = {text: policy for text, policy in spoken.items() if is_pattern(text)}
-    found: Actions = {}
-    for asked in patterns:
-        if not is_pattern(asked):
-            found[plain(asked).lower()] = plain(asked), None
-            continue
-        for action in known:
-            if matcher(asked, True)(action) and any(matcher(it, True)(action) for it in spoken):
-                found.setdefault(action.lower(), (action, None))
-        for text, origin in [*witnesses(wide, [asked]), *witnesses(bounds, spoken)]:
-            if matcher(asked, True)(text) and not references.has_file(text):
-                found.setdefault(text.lower(), (text, origin))
-    return found
-
-
-def witnesses(patterns: Dict[str, str], others: Iterable[str]) -> Iterator[Tuple[str, Origin]]:
-    """An action for each pair of patterns that meet, which stands for the first."""
-    for one, policy in patterns.items():
-        for text in (common(one, other, True) for other in others):
-            if text:
-                yield kinds.action_text(text), Origin(one, policy)
+# --- the matrix before and after --------------------------------------------------------------------------------------
 
 
 def compared(first: Answers, second: Answers, given: str = "") -> Changes:
@@ -223,50 +637,7 @@ def compared(first: Answers, second: Answers, given: str = "") -> Changes:
                 found.append(cell)
         return found
 
-    return Changes(first, second, only(first, second), only(second, first), given)
-
-
-def is_held(before: World, after: World) -> bool:
-    """Whether the program holds the worlds against each other: each is within its limits, no text stands twice in one, and
-    no ARN is of one account before and of another after. What is by an access point is of two answers."""
-    accounts = {it["arn"]: it["account"] for it in before["resources"]}
-    is_moved = any(accounts.get(it["arn"], it["account"]) != it["account"] for it in after["resources"])
-    is_twice = any(len(set(axis)) < len(axis) for world in (before, after) for axis in axes_of(world))
-    is_joined = any(is_access_point(it["arn"]) for world in (before, after) for it in world["resources"])
-    if is_moved or is_twice or is_joined:
-        return False
-    return all(len(parts(whole(it))) == 1 for it in (before, after))
-
-
-def listed(before: World, after: World, rows: List[Dict[str, Any]], given: str) -> Changes:
-    """The changes of the program's rows; nothing is known of other cells."""
-    sides = []
-    for world, side in ((before, "before"), (after, "after")):
-        numbers = [{text: n for n, text in enumerate(axis)} for axis in axes_of(world)]
-        answers = Answers(world, cells_of(world))
-        answers.number("", lambda: Answer("", (), ()))
-        cells: Dict[str, List[int]] = {"lost": [], "gained": []}
-        for row in (it for it in rows if it[side]):
-            p, a, r = (of[row[name]] for of, name in zip(numbers, ("principal", "action", "resource")))
-            cell = answers.cell(p, a, r)
-            answer = Answer(row[side], tuple(row[f"statements_{side}"]), tuple(row[f"lacks_{side}"]))
-            answers.numbers[cell] = answers.number(answer, lambda it=answer: it)
-            cells[row["change"]].append(cell)
-        sides.append((answers, cells))
-    (first, of_first), (second, of_second) = sides
-    return Changes(first, second, sorted(of_first["lost"]), sorted(of_second["gained"]), given)
-
-
-def compared_all(pairs: List[Tuple[World, World]], given: List[str], is_page: bool) -> List[Changes]:
-    """What changes between the worlds of each pair; a page has all their cells."""
-    if not is_page and all(is_held(*it) for it in pairs):
-        try:
-            return [listed(*pair, rows, words) for pair, rows, words in zip(pairs, ask_changes(pairs), given)]
-        except (Refused, OSError):
-            # Which world was refused, and by which policy, is told by asking each alone; that wants no file.
-            pass
-    answers = ask_all([it for pair in pairs for it in pair])
-    return [compared(*of, words) for of, words in zip(zip(answers[::2], answers[1::2]), given)]
+    return Changes(first, second, only(first, second), only(second, first), given, {})
 
 
 def same_cell(changes: Changes, cell: int, is_before: bool) -> Any:
@@ -280,144 +651,21 @@ def same_cell(changes: Changes, cell: int, is_before: bool) -> Any:
     return other.cell(p, a, r)
 
 
-def is_named(worlds: Sequence[World], asked: str) -> bool:
-    """Whether an ARN is asked for, which no resource of the worlds has."""
-    is_arn = ARN.fullmatch(plain(asked)) is not None and not is_pattern(asked)
-    return is_arn and not any(it["arn"] == plain(asked) for world in worlds for it in world["resources"])
+def paged(found: Comparison) -> List[Changes]:
+    """The answers to all requests of what changes, by worlds of one kind of actions."""
+    several: Dict[str, List[Changes]] = {}
+    for it in found.changes:
+        for action in it.after.world["actions"]:
+            service = action.partition(":")[0].lower()
+            several.setdefault(service if service in WORLDS else "", []).append(it)
+    made = [[widest([it.before.world for it in of]), widest([it.after.world for it in of])] for of in several.values()]
+    answers = ask_all([it for pair in found.worlds or made for it in pair])
+    return [compared(*of) for of in zip(answers[::2], answers[1::2])]
 
 
-def witnesses_of(worlds: Sequence[World], pattern: str) -> Dict[Tuple[str, str], Origin]:
-    """The ARNs and accounts of texts for the patterns of the documents that speak, with what they stand for: for one of a
-    changed document if there is one."""
-    found: Dict[Tuple[str, str], Origin] = {}
-    absent: Dict[str, None] = {}
-    without: Dict[str, None] = {}
-    before, after = worlds
-    changed = differing(before, after)
-    # What a changed limit kept back is what others allow.
-    for some in (changed, all_speaking(before, after, is_limit)):
-        for world in some:
-            made = kinds.resources(world, pattern, world["actions"])
-            absent.update(dict.fromkeys(made.absent))
-            without.update(dict.fromkeys(made.without if some is changed else ()))
-            for it in made.found:
-                key = it.resource["arn"], it.resource["account"]
-                if key not in found or not found[key].policy:
-                    found[key] = it.origin
-    if absent:
-        tell(f"no export has these roles, so nobody may assume them: {', '.join(absent)}")
-    if without:
-        tell(f"no text stands for these patterns, whose account or variables nothing gives: {', '.join(without)}")
-    return found
-
-
-def with_witnesses(scopes: Sequence[Scope], worlds: Sequence[World], pattern: str) -> Tuple[List[World], Origins]:
-    """The resources of the worlds before and after that a pattern chooses; of exports with a text for each pattern of the
-    documents that speak, and what these stand for. An ARN that no world names is asked for all the same."""
-    if is_named(worlds, pattern):
-        account = account_for(scopes[0], worlds[0], plain(pattern))
-        some = zip(scopes, worlds, may_be(worlds, plain(pattern)))
-        return [with_named(scope, world, [plain(pattern)][: int(it)], account) for scope, world, it in some], {}
-    named = {it["arn"] for world in worlds for it in world["resources"]}
-    every = witnesses_of(worlds, pattern) if scopes[0].source.estate and is_pattern(pattern) else {}
-    # A resource that one of the worlds has is not made up in the other.
-    found = {key: origin for key, origin in every.items() if key[0] not in named}
-
-    def joined(estate: Optional[Estate], world: World, n: int) -> World:
-        ids = {it["id"] for it in world["accounts"]}
-        there = [it for it in found if it[1] in ids and may_be(worlds, it[0])[n]]
-        more = [kinds.beside(world, *it) for it in there]
-        more = [bound(estate, it) if estate else it for it in more]
-        chosen = [it for it in [*world["resources"], *more] if matcher(pattern)(it["arn"])]
-        return {**world, "resources": chosen}
-
-    stand = {arn: origin for (arn, _), origin in found.items()}
-    return [joined(scope.source.estate, world, n) for n, (scope, world) in enumerate(zip(scopes, worlds))], stand
-
-
-def may_be(worlds: Sequence[World], arn: str) -> List[bool]:
-    """In which of the worlds a resource may be that neither names: by an access point that comes or goes in the one that
-    has it."""
-    point = owner_of(arn) if is_access_point(arn) else ""
-    there = [bool(point) and any(owner_of(it["arn"]) == point for it in of["resources"]) for of in worlds]
-    return there if any(there) else [True] * len(worlds)
-
-
-def with_named(scope: Scope, world: World, arns: List[str], account: str) -> World:
-    """The world with these resources alone."""
-    some, estate = [kinds.beside(world, it, account) for it in arns], scope.source.estate
-    resources = [bound(estate, it) if estate else it for it in some]
-    return {**world, "resources": resources, "accounts": with_account(scope, world, resources)}
-
-
-def keys_in(before: World, after: World) -> List[Dict[str, str]]:
-    """The keys that requests lack and documents ask for which decide what changes, each with a value: one at a time, those
-    of the changed documents first, and behind these all of a statement that asks for several."""
-    worlds = [*differing(before, after), *all_speaking(before, after, is_there)]
-    asked: Dict[Tuple[str, str], str] = {}
-    for key, texts in (it for world in worlds for it in hanging.wanted(world).items()):
-        for text in texts:
-            asked.setdefault((key.lower(), text), key)
-    several = [it for world in worlds for it in hanging.together(world)]
-    return [{key: text} for (_, text), key in asked.items()] + [
-        it for n, it in enumerate(several) if it not in several[:n]
-    ]
-
-
-def with_keys(before: World, after: World) -> List[Tuple[str, World, World]]:
-    """The worlds with the keys that nothing gives, with these in words; no more than can be asked."""
-    asked = keys_in(before, after)
-    most = hanging.MOST // max(cells_of(before) + cells_of(after), 1)
-    if asked[most:]:
-        left = ", ".join(dict.fromkeys(key for it in asked[most:] for key in it))
-        tell(f"what changes with these keys alone was not asked, since it is too much: {left}")
-
-    def given(world: World, keys: Dict[str, str]) -> World:
-        return functools.reduce(lambda made, key: with_key(made, key, keys[key]), keys, world)
-
-    words = [" and ".join(f"`{key}` is `{text}`" for key, text in it.items()) for it in asked[:most]]
-    return [(text, given(before, it), given(after, it)) for text, it in zip(words, asked)]
-
-
-def as_services_have(references: References, changes: Changes) -> Changes:
-    """The changes without requests that no service has, as far as the service reference is given."""
-    before, after = (references.pairs(it.world, it.world["actions"]) for it in changes[:2])
-    lost = [cell for cell in changes.lost if before[cell % len(before)]]
-    gained = [cell for cell in changes.gained if after[cell % len(after)]]
-    left = len(changes.lost) + len(changes.gained) - len(lost) - len(gained)
-    return changes._replace(lost=lost, gained=gained, left=left, requests=sum(after) * changes.after.shape[0])
-
-
-def changes_of(
-    before: Source,
-    after: Source,
-    patterns: List[str],
-    resource: str,
-    account: Optional[str] = None,
-    is_page: bool = False,
-) -> List[Changes]:
-    """What changes, by worlds of actions: as it is, and what changes with a key alone that nothing gives."""
-    scopes = [Scope(it, account=account) for it in (before, after)]
-    chosen, found = actions_of(before, after, patterns), []
-    made_up = {it: origin for it, origin in chosen.items() if origin}
-    # Whatever is chosen, all policies on resources tell apart who is outside.
-    actions, every = list(chosen), [it.world([ASSUME]) for it in (before, after)]
-    for worlds in zip(before.worlds(actions), after.worlds(actions)):
-        pair, stand = with_witnesses(scopes, worlds, resource)
-        pair = [with_linked(source, world, [*pair, *every]) for source, world in zip((before, after), pair)]
-        pair, some = with_sessions(pair, every), strangers(after, pair, speaking=every)
-        one, other = (with_strangers(source, world, some) for source, world in zip((before, after), pair))
-        keyed = with_keys(one, other)
-        pairs = [(one, other), *((first, second) for _, first, second in keyed)]
-        answers = compared_all(pairs, ["", *(words for words, _, _ in keyed)], is_page)
-        first, *others = (as_services_have(after.references, it._replace(stand={**made_up, **stand})) for it in answers)
-        lost, gained = set(first.lost), set(first.gained)
-        found.append(first)
-        for more in others:
-            new = more._replace(
-                lost=[it for it in more.lost if it not in lost], gained=[it for it in more.gained if it not in gained]
-            )
-            lost.update(new.lost)
-            gained.update(new.gained)
-            found += [new] if new.lost or new.gained else []
-    return found
+def widest(worlds: List[World]) -> World:
+    """One world with all that several have."""
+    made = dict(worlds[0])
+    for axis in ("accounts", "principals", "resources"):
+        made[axis] = list({name_of(axis, it): it for world in reversed(worlds) for it in world[axis]}.values())
+    return {**made, "actions": list(dict.fromkeys(it for world in worlds for it in world["actions"]))}

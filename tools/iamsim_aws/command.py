@@ -16,9 +16,10 @@ Only 'organization' calls AWS; iamsim decides. docs/AWS.md explains it."""
 
 STATUSES = """statuses: 0 done; 1 a fault, told in one line; 2 the command line is refused; 3 'can': not all is allowed,
 'rules': a rule is broken, 'changes --fail-on': something changes, 'replay': a call is refused then, or answered otherwise,
-'escalate': somebody can come there; 4 'rules': a rule meets no request, 'changes --fail-on': no request is of --action and --resource, 'replay': no call is
-asked for, 'escalate': there is nobody to ask; 5 'replay --strict': something of the log was not asked, 'escalate': nobody is
-found, and something is open; 6 '--database': of some requests nothing is known"""
+'escalate': somebody can come there; 4 'rules': a rule meets no request, 'changes --fail-on': what is in question is nothing of
+--action and --resource, 'replay': no call is asked for, 'escalate': there is nobody to ask; 5 'rules', 'changes --fail-on',
+'can', 'who-can' and 'escalate': nothing of 3 and 4, but something could not be asked or shown, 'replay --strict': something of
+the log was not asked; 6 '--database': of some requests nothing is known"""
 
 
 def parser() -> argparse.ArgumentParser:

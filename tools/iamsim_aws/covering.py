@@ -7,7 +7,7 @@ from .arns import account_of, principal_arn
 from .documents import World, conditions_of, each, statements_of
 from .exports import ACCOUNT
 from .faults import tell
-from .kinds import speaks_of
+from .speaking import speaks_of
 from .parties import EVERYBODY, named_by
 from .patterns import is_pattern
 from .roles import LINKED, linked

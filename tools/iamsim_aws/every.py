@@ -1,10 +1,10 @@
-"""Asking 'iamsim every' for all names that patterns match (docs/LOGIC.md, 11.6 and 13.9)."""
+"""Asking 'iamsim every' and 'iamsim changes --every' for all names that patterns match (docs/LOGIC.md, 11.6 and 13.9)."""
 
 import collections
 import json
 import os
 import tempfile
-from typing import Any, Deque, Dict, Iterable, Iterator, List, NamedTuple, Tuple
+from typing import Any, Deque, Dict, Iterable, Iterator, List, NamedTuple, Optional, Tuple
 
 from .asking import explained
 from .documents import World
@@ -18,16 +18,18 @@ UNNAMED = "what-nothing-names"
 
 
 class Job(NamedTuple):
-    """What is asked at once: a world, what holds of which texts that it does not name, and further words of the command."""
+    """What is asked at once: a world, what holds of which texts that it does not name, and further words of the command; and a world
+    before it, where what changes is asked."""
 
     world: World
     texts: List[Dict[str, Any]]
     words: List[str]
+    before: Optional[World] = None
 
 
 def ask_every(some: Iterable[Job], count: int) -> Iterator[List[Dict[str, Any]]]:
     """The rows of each of so many jobs, in their order."""
-    waiting: Deque[World] = collections.deque()
+    waiting: Deque[Job] = collections.deque()
     with tempfile.TemporaryDirectory() as room:
 
         def made() -> Iterator[Tuple[List[str], bytes]]:
@@ -38,8 +40,13 @@ def ask_every(some: Iterable[Job], count: int) -> Iterator[List[Dict[str, Any]]]
                     to.write("".join(f"{json.dumps(one)}\n" for one in it.texts))
                 if it.world is not last:
                     last, world = it.world, world_bytes(it.world)
-                waiting.append(it.world)
-                yield ["every", "--format", "json", "--texts", path, "--allow-empty", *it.words], world
+                waiting.append(it)
+                command = ["every"]
+                if it.before is not None:
+                    command = ["changes", f"{path}.before", "--every"]
+                    with open(command[1], "wb") as old:
+                        old.write(world_bytes(it.before))
+                yield [*command, "--format", "json", "--texts", path, "--allow-empty", *it.words], world
 
         texts = each_of(made(), count)
         try:
@@ -47,4 +54,5 @@ def ask_every(some: Iterable[Job], count: int) -> Iterator[List[Dict[str, Any]]]
                 waiting.popleft()
                 yield list(rows_of(text.decode()))
         except Refused as refused:
-            raise explained(waiting[0], refused) from None
+            it = waiting[0]
+            raise explained(it.before if it.before and "9 Before" in str(refused) else it.world, refused) from None

@@ -8,7 +8,7 @@ from .asking import whole
 from .documents import World, places, statements_of
 from .every import NOT_SHOWN, UNNAMED, WORLDS, Job, ask_every
 from .faults import Fault, tell
-from .kinds import owners, patterns_of_actions, speaks_of, texts_of
+from .speaking import owners, patterns_of_actions, speaks_of, texts_of
 from .making import bound
 from .patterns import common, is_pattern, matcher, of_given
 from .points import tell_points

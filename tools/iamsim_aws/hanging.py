@@ -6,7 +6,7 @@ from typing import Any, Dict, Iterator, List, NamedTuple, Optional, Tuple
 
 from .documents import World, cells_of, conditions_of, each, statements_of
 from .keys import givers, lacks, plain_operator
-from .kinds import first_text, statements, values_of
+from .speaking import first_text, statements, values_of
 from .patterns import common, of_policy, resolved
 from .reports import Answers
 from .requests import decisions

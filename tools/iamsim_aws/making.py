@@ -20,7 +20,7 @@ from .documents import THROUGH, World
 from .exports import ACCOUNT, Account, is_service_linked, policy, role_of, tags, text, user_of
 from .faults import Fault
 from .keys import with_callers
-from .kinds import owned, owners
+from .speaking import owned, owners
 from .naming import control_policy, resource_policy, trust_policy
 from .organizations import Organization
 from .patterns import any_matches, matcher

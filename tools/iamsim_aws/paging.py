@@ -13,7 +13,7 @@ from .documents import THROUGH, Policy, World, statements_of
 from .files import compact
 from .hanging import Turn
 from .joining import ABSENT
-from .kinds import Origins, stands
+from .speaking import Origins, stands
 from .reports import DECISIONS, Answers, Numbers, keys_of
 from .strangers import shown
 

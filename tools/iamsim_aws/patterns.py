@@ -43,6 +43,7 @@ def matcher(pattern: str, fold: bool = False) -> Callable[[str], object]:
     return re.compile(expression, re.DOTALL | (re.IGNORECASE if fold else 0)).fullmatch
 
 
+@functools.lru_cache(maxsize=None)
 def is_pattern(text: str) -> bool:
     return not all(map(is_given, signs_of(text)))
 
@@ -156,6 +157,12 @@ def meeting(first: Sequence[str], second: Sequence[str], fold: bool) -> Optional
                     seen[state] = seen[i, j] + (given[0] if given else "x")
                     queue.append(state)
     return None
+
+
+@functools.lru_cache(maxsize=None)
+def shortest(first: str, second: str) -> Optional[str]:
+    """A shortest text that matches both patterns."""
+    return meeting(signs_of(first), signs_of(second), False)
 
 
 def written(sign: str) -> str:

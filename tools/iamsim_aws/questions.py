@@ -3,16 +3,15 @@
 import re
 from typing import Any, Dict, Iterable, List, NamedTuple, Optional
 
-from . import kinds
 from .arns import account_of, names_of_resource, principal_arn
 from .documents import Policy, World
 from .faults import Fault
-from .kinds import Origin, Origins
 from .making import bound
 from .naming import resource_policy
 from .patterns import any_matches, is_pattern, matcher, near, plain
 from .roles import with_named
 from .sources import ASSUME, Source
+from .speaking import Origins, beside, is_absent_role, patterns_of_actions
 from .strangers import is_excepted, is_meant, strangers, with_strangers
 
 ACTION = re.compile(r"[A-Za-z0-9-]+:[A-Za-z0-9_.-]+")
@@ -40,46 +39,47 @@ class Question(NamedTuple):
 
 
 class Asked(NamedTuple):
-    """A world of a question's requests, what its witnesses stand for, patterns without a witness, the resources that the
-    world did not name, and roles that are not there to be assumed."""
+    """A world of a question's requests, what its texts stand for, the resources that the world did not name, and what was not shown,
+    in words."""
 
     world: World
-    witnesses: Origins
-    without: List[str]
+    stand: Origins
     added: List[str]
-    absent: List[str]
+    opens: List[str]
 
 
 def principals(some: List[Dict[str, Any]], question: Question) -> List[Dict[str, Any]]:
     return [it for it in some if is_meant(it, question.principal) and not is_excepted(it, question.exceptions)]
 
 
-def actions(scope: Scope, pattern: str) -> Dict[str, Optional[Origin]]:
-    """The actions that a pattern asks for; of a text that stands for others, what for."""
+def actions(scope: Scope, pattern: str) -> List[str]:
+    """The actions that a pattern asks for: those of its service that are known, and those that policies and lists name."""
     if not is_pattern(pattern):
         if not ACTION.fullmatch(pattern):
             raise Fault(f"{pattern or 'an empty text'}: an action is written 'service:Name', and '*' and '?' are wild")
-        return {pattern: None}
-    source = scope.source
-    references = source.references
-    found = kinds.actions(source.world([ASSUME]), pattern, source.actions, scope.kinds)
+        return [pattern]
+    source, references = scope.source, scope.source.references
+    named: Dict[str, str] = {}
+    for it in [*source.actions, *patterns_of_actions(source.world([ASSUME]))]:
+        if not is_pattern(it) and matcher(pattern, True)(it):
+            named.setdefault(it.lower(), it)
     # Of a service that has a file all actions are known, but for those that policies name all the same.
-    more = {*source.actions, *lacked(source, found)}
-    rest = {it: of for it, of in found.items() if it in more or not references.has_file(it)}
-    return {**{it: None for it in references.actions() if matcher(pattern, True)(it)}, **rest}
+    more = {*source.actions, *lacked(source, named.values())}
+    rest = [it for it in named.values() if it in more or not references.has_file(it)]
+    return list(dict.fromkeys([*(it for it in references.actions() if matcher(pattern, True)(it)), *rest]))
 
 
 def lacked(source: Source, actions: Iterable[str]) -> List[str]:
     """The actions that policies name, and that the file of their service lacks."""
     if not source.references.services:
         return []
-    spoken = {it.lower() for it in kinds.patterns_of_actions(source.world([ASSUME]))}
+    spoken = {it.lower() for it in patterns_of_actions(source.world([ASSUME]))}
     return [it for it in actions if it.lower() in spoken and not source.references.knows(it)]
 
 
 def account_for(scope: Scope, world: World, arn: str) -> str:
     """The account of a resource that the world does not have; an object of a bucket that it has is of the bucket's."""
-    found = account_of(arn) or kinds.beside(world, arn, scope.account or "")["account"]
+    found = account_of(arn) or beside(world, arn, scope.account or "")["account"]
     ids = [it["id"] for it in world["accounts"]]
     if not found and scope.account is None and len(ids) == 1:
         return str(ids[0])
@@ -116,12 +116,8 @@ def asked_in(scope: Scope, world: World, question: Question) -> Asked:
     found = [it for it in world["resources"] if any_matches([pattern], names_of_resource(it["arn"]))]
     added = []
     is_one, arn = not is_pattern(pattern), plain(pattern)
-    if not found and is_one and ARN.fullmatch(arn) and not kinds.is_absent_role(world, arn):
-        found, added = [kinds.beside(world, arn, account_for(scope, world, arn))], [arn]
-    has_kinds = scope.kinds and not is_one
-    nothing = kinds.Witnesses([], [], [])
-    witnesses, without, absent = kinds.resources(world, pattern, world["actions"]) if has_kinds else nothing
-    found += [it.resource for it in witnesses]
+    if not found and is_one and ARN.fullmatch(arn) and not is_absent_role(world, arn):
+        found, added = [beside(world, arn, account_for(scope, world, arn))], [arn]
     estate = scope.source.estate
     resources = [bound(estate, dressed(scope, it)) if estate else dressed(scope, it) for it in found]
     narrow = with_named(scope.source, {**world, "resources": resources})
@@ -129,18 +125,12 @@ def asked_in(scope: Scope, world: World, question: Question) -> Asked:
     narrow["accounts"] = with_account(scope, world, resources)
     some = strangers(scope.source, [narrow], question.principal) if scope.outside else []
     narrow = with_strangers(scope.source, narrow, principals(some, question))
-    stand: Origins = {}
-    for it in witnesses:
-        stand.setdefault(it.resource["arn"], it.origin)
-    return Asked(narrow, stand, without, added, absent)
+    return Asked(narrow, {}, added, [])
 
 
 def worlds(scope: Scope, question: Question) -> List[Asked]:
     """The worlds of a question's requests; none of them where it asks for none."""
-    chosen = actions(scope, question.action)
-    found = [asked_in(scope, world, question) for world in scope.source.worlds(list(chosen))]
-    stand = {action: origin for action, origin in chosen.items() if origin}
-    found = [it._replace(witnesses={**stand, **it.witnesses}) for it in found]
+    found = [asked_in(scope, it, question) for it in scope.source.worlds(actions(scope, question.action))]
     return [it for it in found if it.world["principals"] and it.world["resources"]]
 
 
@@ -149,11 +139,11 @@ def missing(scope: Scope, question: Question) -> str:
     chosen = actions(scope, question.action)
     if not chosen:
         return f"no action matches {question.action}: name actions by --actions, or their services by --services"
-    found = scope.source.worlds(list(chosen))
+    found = scope.source.worlds(chosen)
     if not any(principals(it["principals"], question) for it in found):
         people = [principal_arn(one) for it in found for one in it["principals"]]
         return f"no principal matches {question.principal}{near(question.principal, people)}"
-    if any(kinds.is_absent_role(it, plain(question.resource)) for it in found):
+    if any(is_absent_role(it, plain(question.resource)) for it in found):
         return f"no export has the role {question.resource}, so nobody may assume it"
     hint = near(question.resource, [one["arn"] for it in found for one in it["resources"]])
     more = ", resources by --resources," if scope.source.estate else ""

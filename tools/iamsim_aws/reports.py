@@ -81,6 +81,11 @@ class Answers:
         world = self.world
         return Row(shown(world["principals"][p]), world["actions"][a], world["resources"][r]["arn"], self.at(cell))
 
+    def texts(self, cell: int) -> Tuple[str, str, str]:
+        """The texts of a request as the program has them."""
+        p, a, r = (axis[n] for axis, n in zip(axes_of(self.world), self.place(cell)))
+        return p, a, r
+
     def flags(self) -> bytes:
         """1 for each cell that is allowed, in order, else 0."""
         allowed = [it.decision == "allowed" for it in self.table]

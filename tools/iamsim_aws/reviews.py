@@ -5,7 +5,7 @@ from typing import Any, Dict, Iterable, Iterator, List, NamedTuple, Tuple
 from .changing import Changes, same_cell
 from .documents import statements_of
 from .faults import TOLD, line_of
-from .kinds import Origins, stand_words
+from .speaking import Origins, stand_words
 from .references import is_mixed
 from .reports import csv_text
 from .strangers import is_stranger
@@ -63,8 +63,8 @@ def line_for(changes: Changes, cell: int, is_lost: bool, is_verbose: bool) -> Li
         why += [f"was {BY['allowed']} {it.words()}" for it in deciding(one, cell, is_verbose)]
     request = row.principal, row.action, row.resource
     is_administrator = may_everything(one.world["principals"][one.place(cell)[0]])
-    change = "lost" if is_lost else "gained"
-    return Line(change, *request, *decisions, changes.given, why, changes.stand, is_administrator)
+    change, stand = "lost" if is_lost else "gained", changes.stand.get((is_lost, cell), {})
+    return Line(change, *request, *decisions, changes.given, why, stand, is_administrator)
 
 
 def parted(lines: List[Line]) -> List[Tuple[str, List[Line]]]:
@@ -81,7 +81,7 @@ def may_everything(principal: Dict[str, Any]) -> bool:
     return not is_stranger(principal) and any(map(is_everything, every))
 
 
-def verdict(lines: List[Line], requests: int) -> str:
+def verdict(lines: List[Line], scope: str) -> str:
     """What is gained and lost, and by how many."""
     told = []
     for kind in KINDS:
@@ -90,16 +90,16 @@ def verdict(lines: List[Line], requests: int) -> str:
         by = f" by {who} principal{'s' if who > 1 else ''}" if of else ""
         is_grave = kind == "gained" and any(it.is_administrator for it in of)
         told.append(f"{len(of)} {kind}{by}{', among them an administrator,' if is_grave else ''}")
-    return f"{' and '.join(told)}, of {requests} requests"
+    return f"{' and '.join(told)}, of {scope}"
 
 
-def summary(lines: List[Line], requests: int) -> str:
+def summary(lines: List[Line], scope: str) -> str:
     counts: Dict[str, int] = {kind: sum(it.change == kind for it in lines) for kind in KINDS}
-    return f"{counts['lost']} lost and {counts['gained']} gained, of {requests} requests"
+    return f"{counts['lost']} lost and {counts['gained']} gained, of {scope}"
 
 
-def as_text(lines: List[Line], requests: int) -> str:
-    found = [summary(lines, requests)]
+def as_text(lines: List[Line], scope: str) -> str:
+    found = [summary(lines, scope)]
     for title, of in parted(lines):
         found.append(f"{title}:")
         for it in of:
@@ -109,7 +109,7 @@ def as_text(lines: List[Line], requests: int) -> str:
     return "".join(f"{line_of(it)}\n" for it in found)
 
 
-def as_csv(lines: List[Line], _requests: int) -> str:
+def as_csv(lines: List[Line], _scope: str) -> str:
     header = ["change", "principal", "action", "resource", "before", "after", "if", "why", "stands for"]
     rows = sorted(lines, key=Line.is_mixed)
     stands = ["; ".join(stand_words(it.stand, it.action, it.resource)) for it in rows]
@@ -203,9 +203,9 @@ def fitting(pieces: Iterable[Tuple[str, int]], room: int) -> Tuple[List[str], in
     return kept, left
 
 
-def as_markdown(lines: List[Line], requests: int) -> str:
+def as_markdown(lines: List[Line], scope: str) -> str:
     """For a comment on GitHub, with what was told on standard error; its last line says what it has no room for."""
-    head = f"**{verdict(lines, requests)}**"
+    head = f"**{verdict(lines, scope)}**"
     notes, untold = fitting(((f"- {code(it)}", 1) for it in TOLD), LIMIT // 4)
     notes = ["", "### Notes", "", *notes] if notes else []
     rows, left = fitting(pieces_of(lines), LIMIT - LAST - len("\n".join([head, *notes])))

@@ -1,5 +1,6 @@
 """Rules that a team keeps: which requests are never allowed, and which always."""
 
+import functools
 import re
 from typing import Dict, List, NamedTuple, Optional
 
@@ -10,9 +11,9 @@ from .documents import World
 from .documents import cells_of as count_of
 from .faults import Fault, tell
 from .hanging import later, together
-from .names import is_named
-from .never import Break, Finding, Never, cells_of, findings, never
-from .patterns import is_pattern, near
+from .names import answers_of, cells_in, is_named, nearest, settled
+from .never import Break, Finding, Never, asked_by, cells_of, findings, joined, kind_of_row, never
+from .patterns import is_pattern, near, of_given
 from .points import is_half_known
 from .questions import Asked, Question, Scope, missing, worlds
 from .reports import Answers
@@ -21,6 +22,8 @@ from .slips import is_unnamed, unnamed
 from .sources import ASSUME
 from .strangers import is_excepted, strangers
 
+# Texts of broken rules for which it is asked what allowed them before a draft.
+MOST = 100
 WORD = re.compile(r"(?:\\.|\S)+")
 KINDS = ("never", "always")
 NOTHING_SPEAKS = "nothing that is named, and no pattern of a policy, is meant by it (--actions, --services and --resources name more)"
@@ -121,10 +124,7 @@ def of_rule(scope: Scope, rule: Rule, as_given: bool) -> Never:
             names = map(principal_arn, scope.source.world([ASSUME])["principals"])
             tell(f"{rule.name}: the exception {it} matches no principal{near(it, names)}")
     try:
-        if rule.kind == "never":
-            return never(scope, rule.question, as_given)
-        asked = worlds(scope, rule.question)
-        return Never(rule.question, asked, [], bool(asked), [])
+        return never(scope, rule.question, as_given) if rule.kind == "never" else asked_by(scope, rule.question, True)
     except Fault as fault:
         raise Fault(f"{rule.name}: {fault}") from None
 
@@ -147,7 +147,7 @@ def in_doubt(scope: Scope, rule: Rule, broken: List[Break]) -> List[str]:
     if scope.source.narrow is None:
         return []
     narrow, known = scope._replace(source=scope.source.narrow), {it.answers.row(it.cell)[:3] for it in broken}
-    rows = [it.answers.row(it.cell)[:3] for it in refused(narrow, worlds(narrow, rule.question))]
+    rows = [it.answers.row(it.cell)[:3] for it in refused(narrow, asked_by(narrow, rule.question, True)).broken]
     return [f"{' '.join(it)} may be refused by what is known only after the apply" for it in rows if it not in known]
 
 
@@ -176,16 +176,24 @@ def outcome(scope: Scope, rule: Rule, of: Never, found: Finding) -> Outcome:
 
 def lacking(scope: Scope, rule: Rule, of: Never, before: Optional[Scope]) -> Finding:
     """The requests that have to be allowed and are not."""
-    found = refused(scope, of.asked)
-    return Finding(since(before, rule, found) if before else found, in_doubt(scope, rule, found))
+    found = refused(scope, of)
+    broken = since(before, rule, found.broken) if before else found.broken
+    return Finding(broken, found.opens + in_doubt(scope, rule, broken))
 
 
-def refused(scope: Scope, asked: List[Asked]) -> List[Break]:
-    """The requests that are not allowed."""
-    found = []
-    for it, answers in zip(asked, ask_all([it.world for it in asked])):
+def refused(scope: Scope, of: Never) -> Finding:
+    """The requests that are not allowed; of all names those that a service is likely to have, if there are such."""
+    found = Finding([], list(of.opens))
+    for names, rows in (it for some in settled(scope, of.names, len(of.names), []) for it in some):
+        lacked = [it for it in rows.rows if it["decision"] != "allowed"]
+        told = nearest(names, lacked, functools.partial(kind_of_row, names), True)
+        [answers] = answers_of(names, told)
+        found = joined(found, Finding([Break(answers, it, None, dict) for it in cells_in(answers, told)], rows.opens))
+    flat = of.asked if not of.names else []
+    for answers in ask_all([it.world for it in flat]):
         flags = answers.flags()
-        found += [Break(answers, cell, None, it.witnesses) for cell in cells_of(scope, answers) if not flags[cell]]
+        cells = [cell for cell in cells_of(scope, answers) if not flags[cell]]
+        found = joined(found, Finding([Break(answers, it, None, dict) for it in cells], []))
     return found
 
 
@@ -205,8 +213,8 @@ def tell_later(some: List[World]) -> None:
 
 def since(before: Scope, rule: Rule, broken: List[Break]) -> List[Break]:
     """The requests that have to be allowed and are not, with those answers before a draft that allowed them."""
-    if not broken:
-        return broken
-    answers = ask_all([it.world for it in worlds(before, rule.question)])
+    some = dict.fromkeys(it.answers.row(it.cell)[1:3] for it in broken)
+    asked = [rule.question._replace(action=action, resource=of_given(resource)) for action, resource in some]
+    answers = ask_all([it.world for one in asked[:MOST] for it in worlds(before, one)])
     allowed = {found.row(cell)[:3]: (found, cell) for found in answers for cell in found.allowed()}
     return [it._replace(before=allowed.get(it.answers.row(it.cell)[:3])) for it in broken]

@@ -4,7 +4,7 @@ from typing import List
 
 from .arns import names_of_resource, resource_part
 from .documents import places, statements_of
-from .kinds import patterns_of_actions, texts_of
+from .speaking import patterns_of_actions, texts_of
 from .patterns import any_matches, common, is_pattern, near, opened
 from .questions import Question, Scope
 from .sources import ASSUME

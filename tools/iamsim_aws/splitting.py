@@ -1,6 +1,6 @@
 """Several worlds of one that is past the limits of a world (docs/LOGIC.md, section 15)."""
 
-from typing import Any, Dict, Iterable, List, NamedTuple, Tuple
+from typing import Any, Dict, Iterable, List, NamedTuple, Sequence, Set, Tuple
 
 from .arns import account_of, principal_arn, principal_text
 from .documents import MEMBERS, World, cells_of, changed, statements_of
@@ -90,23 +90,49 @@ def total(items: Iterable[Weight]) -> Weight:
 
 def parts(world: World, cells: int = CELLS) -> List[Part]:
     """The world in parts, which together have its requests, each once."""
-    accounts, principals, resources = weights(world)
-    kept, room = total(accounts).statements, total(accounts).size + room_of(world)
+    return [it for [it] in parts_of_all([world], cells)]
+
+
+def parts_of_all(worlds: List[World], cells: int = CELLS) -> List[List[Part]]:
+    """Worlds in parts, each of all of them with the same principals and resources."""
+    accounts, principals, resources = map(most_of, zip(*map(weights, worlds)))
+    kept, room = total(accounts).statements, total(accounts).size + max(map(room_of, worlds))
     if kept > STATEMENTS // 2 or room > BYTES // 2:
         raise Fault("the organisation's policies and the actions alone are too large for several worlds")
     free = Weight(STATEMENTS - kept, BYTES - room, "")
     whole = total([*principals, *resources])
-    if whole.statements <= free.statements and whole.size <= free.size and cells_of(world) <= cells:
-        return [Part(world, 0, 0)]
+    if whole.statements <= free.statements and whole.size <= free.size and max(map(cells_of, worlds)) <= cells:
+        return [[Part(it, 0, 0) for it in worlds]]
     of_resources = runs(resources, Weight(free.statements // 2, free.size // 2, "resource"), 4096)
     largest = [total(resources[first:end]) for first, end in of_resources]
     left = Weight(
         free.statements - max(it.statements for it in largest), free.size - max(it.size for it in largest), "principal"
     )
     longest = max(end - first for first, end in of_resources)
-    most = max(1, cells // max(1, len(world["actions"]) * longest))
+    most = max(1, cells // max(1, max(len(it["actions"]) for it in worlds) * longest))
     of_principals = runs(principals, left, most)
-    return [part_of(world, some, of) for some in of_principals for of in of_resources]
+    if len(worlds) == 1:
+        return [[part_of(worlds[0], some, of)] for some in of_principals for of in of_resources]
+    people = [{it.name for it in principals[slice(*some)]} for some in of_principals]
+    things = [({it.name for it in resources[slice(*of)]}, of[0]) for of in of_resources]
+    return [[named_part(it, some, *of) for it in worlds] for some in people for of in things]
+
+
+def most_of(axes: Sequence[List[Weight]]) -> List[Weight]:
+    """What each brings at most, of one world in its order; of several by name, those of the last one first."""
+    if len(axes) == 1:
+        return axes[0]
+    found: Dict[str, Weight] = {}
+    for it in (it for axis in reversed(axes) for it in axis):
+        known = found.get(it.name, it)
+        found[it.name] = Weight(max(it.statements, known.statements), max(it.size, known.size), it.name)
+    return list(found.values())
+
+
+def named_part(world: World, people: Set[str], things: Set[str], first: int) -> Part:
+    principals = [it for it in world["principals"] if principal_text(it) in people]
+    resources = [it for it in world["resources"] if it["arn"] in things]
+    return Part({**world, "principals": principals, "resources": resources}, 0, first)
 
 
 def part_of(world: World, some: Tuple[int, int], of: Tuple[int, int]) -> Part:

@@ -7,7 +7,7 @@ from .arns import account_of, principal_arn
 from .documents import THROUGH, Policy, World, each, statements_of
 from .faults import line_of
 from .hanging import Turn
-from .kinds import Origins, speaks_of, texts_of
+from .speaking import Origins, speaks_of, texts_of
 from .patterns import any_matches, opened
 from .reports import Answers
 from .strangers import is_stranger

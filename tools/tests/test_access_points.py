@@ -145,9 +145,9 @@ def test_rules_and_drafts():
     out, _ = aws("changes", EXPORT, "--resources", before, "--put", draft, *ask)
     rows = [line.split(",")[:2] for line in out.splitlines()[1:]]
     same(sorted(rows), [["gained", f"{USERS}jane"], ["gained", f"{USERS}narrow"]])
-    # Nobody has to name the object: the access point's own pattern is asked for.
+    # Nobody has to name the object: all by the access point are asked for.
     out, _ = aws("changes", EXPORT, "--resources", before, "--put", draft, *ask[:2], *ask[4:])
-    rows = [line.split(",")[:2] for line in out.splitlines() if f",{POINT}/object/x," in line]
+    rows = [line.split(",")[:2] for line in out.splitlines() if f",{POINT}/object/" in line]
     same(sorted(rows), [["gained", f"{USERS}jane"], ["gained", f"{USERS}narrow"]])
     ask[3] = f"{BUCKET}/k"
     same(aws("changes", EXPORT, "--resources", resources(TO_POINTS), "--put", draft, *ask)[0].count("\n"), 1)

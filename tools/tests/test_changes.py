@@ -27,9 +27,7 @@ def by_another(script, *words):
 def changes(*words):
     """{(change, principal, action, resource): (before, after)} of an answer in CSV."""
     words = ["changes", *words, "--format", "csv", "--session", "s1", "--moment", "0"]
-    answer = out, _ = aws(*words)
-    # It is the same where the program does not hold two worlds against each other, and each is asked alone.
-    same(by_another('[ "$1" != changes ] || exit 1', *words), answer, str(words))
+    out, _ = aws(*words)
     return {tuple(row[:4]): tuple(row[4:6]) for row in list(csv.reader(io.StringIO(out)))[1:]}
 
 
@@ -48,14 +46,14 @@ def test_a_draft_of_a_managed_policy():
             "--resource",
             "arn:aws:s3:::*/x",
         )
-        # alice and deploy read everything today; with the draft the homes alone: teams/x is lost, and whatever x/x stands for.
+        # alice and deploy read everything today; with the draft the homes alone: teams/x is lost, and whatever /x stands for.
         # bob and worker read by policies of their own.
         same(
             found,
             {
                 ("lost", it, "s3:GetObject", f"arn:aws:s3:::{of}/x"): ("allowed", "implicitDeny")
                 for it in (ALICE, f"{SESSION}deploy/s1")
-                for of in ("teams", "x")
+                for of in ("teams", "")
             },
             name,
         )
@@ -71,13 +69,13 @@ def test_the_program_is_asked_what_has_changed():
 
 
 def test_actions_follow_from_what_changes():
-    """Without --action: the actions of which the changed policies speak, and a text for each of their patterns."""
+    """Without --action: the actions of which the changed policies speak, and all that their patterns mean."""
     draft = file(document(statement(action=["s3:Get*", "s3:List*"]), statement("Allow", "dynamodb:Query")))
     found = changes(EXPORT, "--put", f"ReadObjects={draft}")
     # Both speak of s3:Get* and s3:List*, which changes nothing; the draft adds dynamodb:Query.
     same(set(found), {("gained", it, "dynamodb:Query", "*") for it in (ALICE, f"{SESSION}deploy/s1")})
     draft = file(document(statement(action="s3:Get*")))
-    same({it[2] for it in changes(EXPORT, "--put", f"ReadObjects={draft}")}, {"s3:Listx"})
+    same({it[2] for it in changes(EXPORT, "--put", f"ReadObjects={draft}")}, {"s3:List"})
 
 
 def test_drafts_of_each_kind():
@@ -91,20 +89,18 @@ def test_drafts_of_each_kind():
         changes(EXPORT, "--put", f"audit={nothing}"),
         {("lost", ALICE, "sts:AssumeRole", role): ("allowed", "implicitDeny")},
     )
-    # An inline policy of a group, and a boundary that knows all roles under app/: those that are there do not trust bob, and
-    # one that is not there is not asked for, which is told.
+    # An inline policy of a group, and a boundary that knows all roles under app/: those that are there do not trust bob, and one
+    # that is not there nobody may assume.
     same(
         set(changes(EXPORT, "--put", f"Homes={nothing}")),
         {
-            ("lost", ALICE, "s3:PutObject", "arn:aws:s3:::homes/alice/x"),
-            ("lost", ALICE, "s3:PutObject", "arn:aws:s3:::teams/red/x"),
+            ("lost", ALICE, "s3:PutObject", "arn:aws:s3:::homes/alice/"),
+            ("lost", ALICE, "s3:PutObject", "arn:aws:s3:::teams/red/"),
         },
     )
     boundary = file(document(statement(action="sts:AssumeRole", resource=f"{ACCOUNT}role/app/*")))
     found = changes(EXPORT, "--put", f"AtMost={boundary}", "--action", "sts:AssumeRole")
     same(found, {})
-    _, said = aws("changes", EXPORT, "--put", f"AtMost={boundary}", "--action", "sts:AssumeRole")
-    assert f"no export has these roles, so nobody may assume them: {ACCOUNT}role/app/x\n" in said, said
     same(
         set(changes(EXPORT, "--put", f"AtMost={nothing}", "--action", "sts:AssumeRole")),
         {("lost", BOB, "sts:AssumeRole", f"{ACCOUNT}role/app/deploy")},
@@ -116,8 +112,8 @@ def test_drafts_of_buckets_and_organisations():
     denying = file(document({"Effect": "Deny", "Principal": {"AWS": ALICE}, "Action": "s3:GetObject", "Resource": "*"}))
     for name in ("homes", "arn:aws:s3:::homes"):
         found = changes(EXPORT, "--resources", file(objects), "--put", f"{name}={denying}")
-        # The policy of the role worker speaks of another object of the bucket, which its policy binds too.
-        bound = [*(it["arn"] for it in objects), "arn:aws:s3:::homes/alice/x"]
+        # The bucket's policy binds itself, and all objects that nothing names.
+        bound = [*(it["arn"] for it in objects), "arn:aws:s3:::homes", "arn:aws:s3:::homes/"]
         same(set(found), {("lost", ALICE, "s3:GetObject", it) for it in bound}, name)
     # A service control policy, by its name, its id and its ARN: without NoAudit alice may assume audit.
     content = file(document(statement("Deny", "s3:DeleteBucket")))
@@ -169,7 +165,7 @@ def test_drafts_that_bind_what_is_not_named():
     same(
         found,
         {
-            ("lost", it, "s3:GetObject", "arn:aws:s3:::new/x"): ("allowed", "explicitDeny")
+            ("lost", it, "s3:GetObject", "arn:aws:s3:::new/"): ("allowed", "explicitDeny")
             for it in (ALICE, BOB, f"{SESSION}deploy/s1")
         },
     )
@@ -185,7 +181,7 @@ def test_what_a_limit_leaves():
     alice["UserPolicyList"] = [{"PolicyName": "Guard", "PolicyDocument": guard}]
     draft = file({"PolicyVersion": {"Document": document(statement(action="s3:ListBucket"))}})
     # Homes, of her group, lets her put objects into her home and her team's folder, and the guard alone keeps her from it.
-    places = [f"arn:aws:s3:::{it}/x" for it in ("homes/alice", "teams/red")]
+    places = [f"arn:aws:s3:::{it}/" for it in ("homes/alice", "teams/red")]
     words = [file(guarded), "--put", f"Guard={draft}", "--action", "s3:PutObject"]
     same(changes(*words), {("gained", ALICE, "s3:PutObject", it): ("explicitDeny", "allowed") for it in places})
     for asked, status in (("gained", 3), ("lost", 0), ("any", 3)):
@@ -206,7 +202,7 @@ def test_what_a_limit_leaves():
     same(
         changes(file(walled), "--put", f"Wall={draft}", "--action", "s3:GetObject"),
         {
-            ("gained", f"{SESSION}worker/s1", "s3:GetObject", "arn:aws:s3:::homes/alice/x"): (
+            ("gained", f"{SESSION}worker/s1", "s3:GetObject", "arn:aws:s3:::homes/alice/"): (
                 "implicitDeny",
                 "allowed",
             )
@@ -247,7 +243,7 @@ def test_drafts_that_are_of_nothing():
         changes(
             file(export), "--put", f"worker inline Inside={draft}", "--action", "s3:GetObject", "--resource", "*homes*"
         ),
-        {("lost", f"{SESSION}worker/s1", "s3:GetObject", "arn:aws:s3:::homes/alice/x"): ("allowed", "implicitDeny")},
+        {("lost", f"{SESSION}worker/s1", "s3:GetObject", "arn:aws:s3:::homes/alice/"): ("allowed", "implicitDeny")},
     )
 
 
@@ -266,11 +262,11 @@ def test_a_named_action_does_not_hide_the_rest_of_a_pattern():
     )
     draft = file(document(statement(action=["s3:Get*", "s3:ListBucket"])))
     gained = lambda *words: {(it[0], it[2]) for it in changes(export, "--put", *words)}
-    same(gained(f"Own={draft}"), {("gained", "s3:Getx")})
+    same(gained(f"Own={draft}"), {("gained", "s3:Get")})
     # A statement on all actions but some speaks of all others.
     rest = file(document(statement(action="s3:ListBucket"), {"Effect": "Allow", "NotAction": "iam:*", "Resource": "*"}))
-    same(gained(f"Own={rest}"), {("gained", "any:x")})
-    same(gained(f"Own={rest}", "--action", "kms:*"), {("gained", "kms:x")})
+    assert {it for it, _ in gained(f"Own={rest}")} == {"gained"} and "iam:" not in str(gained(f"Own={rest}"))
+    same({it[0] for it in gained(f"Own={rest}", "--action", "kms:*")}, {"gained"})
     # With the service reference of one service the actions of others are asked for too.
     both = file(document(statement(action=["s3:P*", "s3:ListBucket", "kms:Decrypt", "sqs:*"])))
     same(
@@ -306,7 +302,10 @@ def test_given_actions_join_those_of_the_draft():
         "--resource",
         "arn:aws:s3:::b/k",
     )
-    same(out, "0 lost and 0 gained, of 8 requests\n")
+    same(out, "0 lost and 0 gained, of 9 principals and all names\n")
+    # The page then shows who may assume what.
+    page, _ = aws("changes", EXPORT, "--put", f"ReadObjects={draft}", "--action", "kms:Decrypt", "--format", "page")
+    assert '"sts:AssumeRole"' in page, page[:200]
 
 
 def test_an_object_that_nothing_names():
@@ -423,8 +422,12 @@ def test_a_tag_changes_access_too():
     same(
         found,
         {
-            ("lost", ALICE, "s3:PutObject", "arn:aws:s3:::teams/red/x"): ("allowed", "implicitDeny"),
-            ("gained", ALICE, "s3:PutObject", "arn:aws:s3:::teams/blue/x"): ("implicitDeny", "allowed"),
+            (change, ALICE, "s3:PutObject", f"arn:aws:s3:::teams/{of}"): decisions
+            for change, it, decisions in (
+                ("lost", "red", ("allowed", "implicitDeny")),
+                ("gained", "blue", ("implicitDeny", "allowed")),
+            )
+            for of in (f"{it}/x", f"{it}/")
         },
     )
 
@@ -604,17 +607,17 @@ def test_texts_that_are_made_up():
     """It is said for which pattern of which policy they stand."""
     draft = file(document(statement(action="s3:Get*")))
     words = ["changes", EXPORT, "--put", f"ReadObjects={draft}", "--session", "s1"]
-    stands = "s3:Listx stands for s3:List* of arn:aws:iam::aws:policy/ReadObjects"
+    stands = "s3:List stands for s3:List* of arn:aws:iam::aws:policy/ReadObjects"
     out, _ = aws(*words)
     lines = out.splitlines()
-    same(lines[1:4], ["lost:", f"- {ALICE} s3:Listx *", f"    {stands}"])
+    same(lines[1:4], ["lost:", f"- {ALICE} s3:List *", f"    {stands}"])
     out, _ = aws(*words, "--format", "csv")
     header, *rows = csv.reader(io.StringIO(out))
     same([header[-1], *(row[-1] for row in rows)], ["stands for", stands, stands])
     out, _ = aws(*words, "--format", "markdown")
     assert f"  - <code>{stands.replace('*', '&#42;')}</code> on <code>&#42;</code>\n" in out, out
     out, _ = aws(*words, "--format", "page")
-    assert f'["s3:Listx","{stands.partition(" ")[2]}"]' in out, "the page does not have it"
+    assert f'["s3:List","{stands.partition(" ")[2]}"]' in out, "the page does not have it"
 
 
 def test_texts_that_a_variable_makes():
@@ -636,43 +639,31 @@ def test_texts_that_a_variable_makes():
     assert f"+ {ALICE} iam:ChangePassword {ACCOUNT}user/bob\n    allowed by" in out, out
 
 
-def test_patterns_for_which_no_text_stands():
-    """Nothing gives the variable's value, so nobody was asked for it: that is told, and of what changes alone."""
-    line = "no text stands for these patterns, whose account or variables nothing gives: arn:aws:s3:::"
-    path = "secrets/${aws:PrincipalTag/none}/*"
-    for resource, wanted in (
-        (f"arn:aws:s3:::{path}", True),
-        ("arn:aws:s3:::secrets/${aws:username}/*", False),
-        ("*", False),
-    ):
+def test_variables_that_nothing_gives():
+    """Nothing gives the variable's value, so nobody was asked for it: that is open, of what changes alone."""
+    path = "arn:aws:s3:::secrets/${aws:PrincipalTag/none}/*"
+    words = ["--action", "s3:GetObject"]
+    for resource, wanted in ((path, True), ("arn:aws:s3:::secrets/${aws:username}/*", False), ("*", False)):
         draft = file(document(statement(action="s3:GetObject", resource=resource)))
-        _, said = aws("changes", EXPORT, "--put", f"ReadObjects={draft}")
-        same(f"{line}{path}\n" in said, wanted, resource + said)
-        _, said = aws("changes", EXPORT, "--put", f"Homes={draft}", "--attach", f"New={draft}@bob")
-        same(f"{line}{path}\n" in said, wanted, resource + said)
-        assert (
-            not wanted
-            or "no text"
-            not in aws("changes", EXPORT, "--put", f"Homes={draft}", "--resource", "arn:aws:s3:::homes/*")[1]
-        )
+        for given in (["--put", f"ReadObjects={draft}"], ["--attach", f"New={draft}@bob"]):
+            out, said = aws("changes", EXPORT, *given, *words)
+            same(f"nothing gives it, and {ACCOUNT}" in said.replace("arn:aws:iam::aws:", ACCOUNT), wanted, resource + said)
+            same(out.splitlines()[0].endswith(" all names, and 1 open"), wanted, out)
+        if wanted:
+            assert "open" not in aws("changes", EXPORT, *given, *words, "--resource", "arn:aws:s3:::homes/*")[1]
+            aws("changes", EXPORT, *given, *words, "--fail-on", "lost", status=5)
     # The policy of a bucket does not know who asks.
-    grant = {
-        "Effect": "Allow",
-        "Principal": "*",
-        "Action": "s3:GetObject",
-        "Resource": "arn:aws:s3:::homes/${aws:username}/*",
-    }
-    resources = ["--resources", file([{"arn": "arn:aws:s3:::homes", "account": "111122223333"}])]
-    _, said = aws("changes", EXPORT, *resources, "--put", f"homes={file(document(grant))}")
-    assert f"{line}homes/${{aws:username}}/*\n" in said, said
-    # A session has no user's name, and may have a tag.
+    grant = {"Effect": "Allow", "Principal": "*", "Action": "s3:GetObject"}
+    resources = lambda **more: file([{"arn": "arn:aws:s3:::homes", "account": "111122223333", **more}])
     rule = file("never chain s3:GetObject arn:aws:s3:::homes/*\n")
+    # A session has no user's name, and may have a tag.
     for variable, status, failures in (("aws:username", 0, 0), ("aws:PrincipalTag/none", 5, 1)):
-        grant["Resource"] = f"arn:aws:s3:::homes/${{{variable}}}/*"
-        given = file([{"arn": "arn:aws:s3:::homes", "account": "111122223333", "policy": document(grant)}])
+        policy = document({**grant, "Resource": f"arn:aws:s3:::homes/${{{variable}}}/*"})
         junit = file("")
-        aws("rules", rule, EXPORT, "--resources", given, "--junit", junit, status=status)
+        aws("rules", rule, EXPORT, "--resources", resources(policy=policy), "--junit", junit, status=status)
         assert f'failures="{failures}"' in open(junit).read(), variable
+        _, said = aws("changes", EXPORT, "--resources", resources(), "--put", f"homes={file(policy)}")
+        same(f"open: {variable}: nothing gives it" in said, status == 5, said)
 
 
 def test_an_action_of_one_service_on_a_resource_of_another():
@@ -698,7 +689,7 @@ def test_an_action_of_one_service_on_a_resource_of_another():
     assert f"\n### {title[:-1]}\n" in out and out.index("### Gained") < out.index("### 2 of"), out
     out, said = aws(*words, "--services", data("kms.json"), "--services", data("s3.json"))
     same(sorted(lines(out)[2:]), gained)
-    assert "2 requests that change are left out, since no service has them (--services)\n" in said, said
+    assert "4 requests that change are left out, since no service has them (--services)\n" in said, said
     words += ["--action", "kms:Decrypt", "--resource", places[2], "--fail-on", "gained"]
     aws(*words, status=3)
     aws(*words, "--services", data("kms.json"), status=4)
@@ -744,7 +735,6 @@ def test_a_review_has_the_warnings():
         lines,
         [
             "1 changes of aws_lambda_function are not read: they are taken to change no policy",
-            "without --services an action pattern is taken over the actions of the world and of its policies",
             "no request was compared: the two sides differ in no policy, or no resource matches",
         ],
     )
@@ -756,8 +746,7 @@ def test_a_review_has_the_warnings():
             "### Notes",
             "",
             "- <code>1 changes of aws&#95;lambda&#95;function are not read: they are taken to change no policy</code>",
-            f"- <code>{lines[1].replace('`', '&#96;')}</code>",
-            f"- <code>{lines[2]}</code>",
+            f"- <code>{lines[1]}</code>",
         ],
     )
     before = small_world(document(statement()))
@@ -765,19 +754,6 @@ def test_a_review_has_the_warnings():
         "changes", "--before", file(before), "--after", file(before), "--action", "s3:GetObject", "--format", "markdown"
     )
     same((out, said), ("**0 gained and 0 lost, of 1 requests**\n", ""))
-
-
-def test_actions_without_the_service_reference():
-    line = "without --services an action pattern is taken over the actions of the world and of its policies"
-    draft = f"Homes={file(document())}"
-    for words, is_said in (
-        ([], True),
-        (["--action", "s3:*"], True),
-        (["--action", "s3:PutObject"], False),
-        (["--services", data("s3.json")], False),
-    ):
-        _, said = aws("changes", EXPORT, "--put", draft, *words)
-        same(line in said, is_said, words)
 
 
 def test_changes_with_a_key_alone():
@@ -824,12 +800,12 @@ def test_what_is_freed_with_a_key_alone():
 
 
 def test_a_tag_alone_opens_what_no_resource_names():
-    """Where a tag changes, texts stand for the patterns of policies that did not."""
+    """Where a tag changes, policies that did not allow something else."""
     after = load(EXPORT)
     after["UserDetailList"][0]["Tags"] = [{"Key": "team", "Value": "blue"}]
     found = changes("--before", EXPORT, "--after", file(after), "--action", "s3:PutObject")
     wanted = [("lost", "red", ("allowed", "implicitDeny")), ("gained", "blue", ("implicitDeny", "allowed"))]
-    same(found, {(way, ALICE, "s3:PutObject", f"arn:aws:s3:::teams/{of}/x"): it for way, of, it in wanted})
+    same(found, {(way, ALICE, "s3:PutObject", f"arn:aws:s3:::teams/{of}/"): it for way, of, it in wanted})
 
 
 def test_changes_with_the_keys_of_a_statement():

@@ -52,9 +52,9 @@ def test_what_a_user_may_do():
     same(set(asked("alice", EXPORT, action="S3:*")), {("s3:get", "allowed"), ("s3:putobject", "allowed")})
     same(set(asked("alice", EXPORT, action="sts:*")), {("sts:assumerole", "allowed")})
     same(asked("alice", EXPORT, action="kms:*", status=3), {})
-    # With --kinds the requests are asked for that the policies' patterns give, as ever.
+    # With --kinds each is told by itself, also what she may not.
     out, _ = aws("can", "alice", "s3:*", "*", EXPORT, "--kinds", status=3)
-    assert f"\nallowed: {ALICE} s3:Getx arn:aws:s3:::homes/alice/x\n" in out, out
+    assert f"\nallowed: {ALICE} s3:Get *\n" in out and f"\nimplicitDeny: {ALICE} s3:PutObject *\n" in out, out
 
 
 def test_it_is_told_in_words():

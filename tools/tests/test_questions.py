@@ -270,23 +270,21 @@ def test_a_role_that_no_export_has():
     assert f"no export has the role {absent}" in out, out
     out, said = aws("rules", file("never * sts:AssumeRole *:role/adm*\n"), EXPORT, "--allow-empty")
     assert "arn:x" not in out + said and "0 broken" in out, out
-    out, _ = aws("who-can", "sts:AssumeRole", "*:role/app/*", "--kinds", EXPORT)
-    assert f"no export has these roles, so nobody may assume them: {ACCOUNT}role/app/x\n" in out, out
+    found = rows("who-can", "sts:AssumeRole", "*:role/app/*", "--kinds", EXPORT)
+    there = {f"{ACCOUNT}role/app/{it}" for it in ("audit", "chain", "deploy", "partner")}
+    same({it["resource"] for it in found if ":iam:" in it["resource"]}, there)
     # A role that is not there may be made or passed, and one of another account may be there.
     aws("can", "bob", "iam:PassRole", absent, EXPORT, status=3)
     other = "arn:aws:iam::999988887777:role/there"
     out, _ = aws("can", "bob", "sts:AssumeRole", other, EXPORT, status=3)
     assert out.startswith(f"implicitDeny: {ACCOUNT}user/ops/bob sts:AssumeRole {other}\n"), out
     for action, pattern, wanted in (
-        ("kms:Decrypt", "*:key/q*", "arn:aws:kms:us-east-1:111122223333:key/qx"),
-        ("iam:PassRole", "*:role/q*", f"{ACCOUNT}role/qx"),
-        ("s3:GetObject", "*/q*", "arn:aws:s3:::x/qx"),
-        ("s3:GetObject", "arn:aws:s3:*:*:q/*", "arn:aws:s3:::q/x"),
-        ("s3:GetObject", "arn:aws:s3:*:*:accesspoint/q*", "arn:aws:s3:us-east-1:111122223333:accesspoint/qx"),
-        ("s3:GetObject", "arn:aws:kms:*:*:key/q*", "arn:aws:kms:us-east-1:111122223333:key/qx"),
+        ("iam:PassRole", "*:role/q*", f"{ACCOUNT}role/q"),
+        ("s3:GetObject", "arn:aws:s3:*:*:q/*", "arn:aws:s3:::q/"),
+        ("s3:GetObject", "arn:aws:s3:::*/q*", "arn:aws:s3:::/q"),
     ):
-        found = rows("who-can", action, pattern, "--kinds", EXPORT)
-        assert wanted in {it["resource"] for it in found}, {it["resource"] for it in found}
+        found = {it["resource"] for it in rows("who-can", action, pattern, "--kinds", EXPORT)}
+        assert wanted in found, found
 
 
 def test_a_world_that_was_made_for_other_actions():
@@ -406,48 +404,34 @@ def test_texts_that_stand_for_patterns():
         resources=[{"arn": key, "account": "111122223333"}],
     )
     found = rows("who-can", "kms:Decrypt", "*", "--world", file(made), "--kinds")
-    # The key that is named is the first pattern; a text stands for each of the two others, and `*` for what is asked, which none
-    # of them meets. Of s3 nothing is asked.
-    wanted = [key, "arn:aws:kms:us-east-1:111122223333:key/ax", "arn:aws:kms:us-east-1:111122223333:key/ann"]
-    same(
-        [(it["resource"], it["decision"]) for it in found if it["resource"] != "*"], [(it, "allowed") for it in wanted]
-    )
-    same([it["decision"] for it in found if it["resource"] == "*"], ["implicitDeny"])
-    patterns = {wanted[1]: "arn:aws:kms:*:111122223333:key/a*", wanted[2]: "arn:aws:kms:*:*:key/ann"}
-    stand = [{"text": it, "pattern": of, "policy": "principals/0/identity/0"} for it, of in patterns.items()]
-    same([more for it in found for more in it["standsFor"]], stand)
+    # The key that is named is the first pattern; what the two others mean is decided alike. Of s3 nothing is asked.
+    other = "arn:aws:kms::111122223333:key/a"
+    same([it["resource"] for it in found if it["decision"] == "allowed"], [key, other])
+    stand = {"text": other, "pattern": "arn:aws:kms:*:111122223333:key/a*", "policy": "principals/0/identity/0"}
+    same([more for it in found if it["decision"] == "allowed" for more in it["standsFor"]], [stand])
     out, _ = aws("who-can", "kms:Decrypt", "*", "--world", file(made), "--kinds")
-    assert f"{wanted[1]} stands for arn:aws:kms:*:111122223333:key/a* of principals/0/identity/0\n" in out, out
-    assert "the answer covers such texts as were asked for" in out, out
+    assert f"{other} stands for arn:aws:kms:*:111122223333:key/a* of principals/0/identity/0\n" in out, out
+    assert "all names were asked for" in out, out
+    # A deny of a name that stands for a pattern hides no other one, and what is too much to show is open.
+    denied = document(statement(action="kms:*"), statement("Deny", "kms:*", other))
+    found = rows("who-can", "kms:Decrypt", "arn:aws:kms:*:key/a*", "--world", file(small_world(denied)), "--kinds")
+    assert other not in {it["resource"] for it in found if it["decision"] == "allowed"}, found
+    assert any(it["decision"] == "allowed" for it in found), found
+    letters = small_world(document(*(statement(action=f"s3:*{it}*") for it in "abcdefghijklm")))
+    out, _ = aws("who-can", "s3:*", "arn:aws:s3:::b/k", "--world", file(letters), "--kinds", status=5)
+    assert f"open: {ACCOUNT}user/ann s3:* arn:aws:s3:::b/k has too many kinds to be shown\n" in out, out
     # Without --kinds the resources of the world alone are asked for.
     same(len(rows("who-can", "kms:Decrypt", "*", "--world", file(made))), 1)
-    # An action pattern takes the actions that policies name, and with --kinds a text for each pattern.
-    same(
-        {it["action"] for it in rows("who-can", "kms:*", key, "--world", file(made), "--kinds")},
-        {"kms:Decrypt", "kms:x"},
-    )
     same({it["action"] for it in rows("who-can", "kms:*", key, "--world", file(made))}, {"kms:Decrypt"})
 
 
-def test_made_up_arns_are_as_those_of_their_service():
-    """Of parts that a pattern leaves open they have the partition of the account's others, the service and its region."""
+def test_names_have_the_partition_of_their_account():
     for partition in ("aws", "aws-us-gov"):
         export = json.loads(json.dumps(load(EXPORT)).replace("arn:aws:", f"arn:{partition}:"))
-        for action, rest, wanted in (
-            ("secretsmanager:GetSecretValue", "db*", "secretsmanager:us-east-1:111122223333:dbx"),
-            ("iam:GetPolicy", "policy/a*", "iam::111122223333:policy/ax"),
-            ("s3:GetObject", "logs/*", "s3:::logs/x"),
-        ):
-            own = [
-                {
-                    "PolicyName": "own",
-                    "PolicyDocument": document(statement(action=action, resource=f"arn:*:*:*:*:{rest}")),
-                }
-            ]
-            export["UserDetailList"][0]["UserPolicyList"] = own
-            found = {it["resource"] for it in rows("who-can", action, f"*:{rest}", file(export), "--kinds")}
-            assert f"arn:{partition}:{wanted}" in found, (action, found)
-            assert all(it.startswith(f"arn:{partition}:") for it in found), (action, found)
+        own = statement(action="secretsmanager:GetSecretValue", resource="arn:*:*:*:*:db*")
+        export["UserDetailList"][0]["UserPolicyList"] = [{"PolicyName": "own", "PolicyDocument": document(own)}]
+        found = rows("who-can", "secretsmanager:GetSecretValue", "*:db*", file(export), "--kinds")
+        assert found and all(it["resource"].startswith(f"arn:{partition}:secretsmanager:") for it in found), found
 
 
 def chained():
@@ -542,7 +526,7 @@ def test_an_account_past_the_limits_of_a_world():
     assert "the world has 6000 statements, and at most 4096 are read" in said, said
     out, _ = aws(
         "rules",
-        file("always u2 s3:GetObject *b/2\nnever * s3:GetObject *b/2 except u2"),
+        file("always u2 s3:GetObject b/2\nnever * s3:GetObject *b/2 except u2"),
         export,
         "--resources",
         resources,
@@ -675,4 +659,4 @@ def test_roles_with_a_key():
 def test_a_name_stands_behind_the_parts_of_a_pattern():
     made = file(small_world(document(statement(resource=["arn:aws:s3:::ledger/*", "arn:aws:s3:::other/*"]))))
     found = rows("who-can", "s3:GetObject", "ledger/secret/*", "--world", made, "--kinds")
-    same([it["resource"] for it in found if it["decision"] == "allowed"], ["arn:aws:s3:::ledger/secret/x"])
+    same([it["resource"] for it in found if it["decision"] == "allowed"], ["arn:aws:s3:::ledger/secret/"])

@@ -35,10 +35,10 @@ def test_rules_that_are_kept():
     assert out.splitlines()[1].endswith(" (8 principals, every name of action and resource)"), out
     same(out.splitlines()[-1], "2 rules: 2 kept, 0 broken, 0 empty, 0 open")
     assert "without --services" not in said, said
-    out, said = rules("always bob s3:Get* arn:aws:s3:::releases/app.zip\n")
-    assert (
-        "without --services an action pattern is taken over the actions of the world and of its policies" in said
-    ), said
+    # An always means every name too.
+    out, _ = rules("always bob s3:Get* arn:aws:s3:::releases/app.zip\nalways alice s3:Put* arn:aws:s3:::homes/alice/*\n", status=3)
+    same(states(out), ["kept", "broken"])
+    assert f"  {ALICE} may not s3:Put arn:aws:s3:::homes/alice/: " in out, out
 
 
 def test_rules_that_are_broken():
@@ -165,10 +165,10 @@ def test_dates_that_come_later_are_told():
 
 
 def test_rules_that_meet_nothing():
-    text = "never *:role/none s3:GetObject *\nalways alice s3:GetObject *.none\n"
+    text = "never *:role/none s3:GetObject *\nalways alice s3:GetObject arn:aws:kms:*.none\n"
     out, _ = rules(text, status=4)
-    same(states(out), ["empty", "empty"])
-    assert "no principal matches *:role/none" in out and "no resource matches *.none" in out, out
+    same(states(out)[0], "empty")
+    assert "no principal matches *:role/none" in out, out
     rules(text, "--allow-empty")
     # A slip in a pattern: nothing is named so, and no policy speaks of it. Where a policy would allow it all the same, it is broken.
     slip = small_world(document(statement(action="s3:GetObject", resource="arn:aws:s3:::b/*")))
@@ -212,7 +212,7 @@ def test_rules_over_a_service_reference():
     out, _ = rules("never alice s3:ListB* arn:aws:s3:::releases/app.zip\n", *services, status=4)
     assert "nothing that is named, and no pattern of a policy, is meant by it" in out, out
     out, _ = rules("always *:role/app/deploy s3:Get* *\n", *services)
-    assert "(1 requests)" in out, out
+    assert "(1 principals, every name of action and resource)" in out, out
     out, _ = rules("never alice s3:Delete* *\n", *services, status=4)
     assert "no action matches s3:Delete*" in out, out
 

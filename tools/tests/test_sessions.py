@@ -154,7 +154,8 @@ def test_rules_and_drafts_ask_for_sessions_that_are_named():
         same((is_told, said), (status == 3 and rule.startswith("never"), ""), out)
     # A draft that names a session gives it what its role may not, and nothing else is gained.
     reads, writes = (document(grant(f"{SESSION}deploy/ci", action=f"s3:{it}Object")) for it in ("Get", "Put"))
-    for draft, gained in ((writes, [f"+ {SESSION}deploy/ci s3:PutObject {BUCKET}"]), (reads, [])):
+    writer = f"+ {SESSION}deploy/ci s3:PutObject {BUCKET}"
+    for draft, gained in ((writes, [writer, f"{writer}/"]), (reads, [])):
         out, _ = aws("changes", EXPORT, "--resources", bucket(), "--put", f"releases={file(draft)}")
         same([it for it in out.splitlines() if it[0] in "+-"], gained)
 

@@ -375,7 +375,7 @@ def test_changes_show_what_they_gain():
     same(
         out.splitlines(),
         [
-            "0 lost and 1 gained, of 9 requests",
+            "0 lost and 1 gained, of 10 principals and all names",
             "gained:",
             f"+ {OUT} s3:GetObject {BUCKET}",
             "    allowed by arn:aws:s3:::releases policy, statement 0 (the resource's policy)",
@@ -407,13 +407,15 @@ def test_changes_ask_the_same_whatever_is_chosen():
     resources = file([{"arn": BUCKET, "account": OWN, "policy": policy()}, archive])
     action, chosen = ["--action", "s3:Get*"], ["--resource", BUCKET]
     choices = [["--action", "s3:GetObject"], ["--resource", f"{BUCKET}*", *action], chosen]
-    for who, gained, asked in ((OTHER, [f"+ {OF_OTHER} s3:GetObject {BUCKET}"], 12), (OWN, [], 11)):
+    gains = [f"+ {OF_OTHER} s3:GetObject {it}" for it in (BUCKET, f"{BUCKET}/")]
+    for who, gained, asked in ((OTHER, gains, 12), (OWN, [], 11)):
         before, after = ({"bucket": "releases", "policy": json.dumps(it)} for it in (policy(), policy(who)))
         terraform = plan(change("aws_s3_bucket_policy.b", before, after))
-        for words, count in zip([[], *choices], (4, 4, 2, 1)):
+        for words in ([], *choices):
             out = aws("changes", EXPORT, "--resources", resources, "--terraform", terraform, *words)[0].splitlines()
-            same([it for it in out if it[0] in "+-"], gained, str((who, words)))
-            same(out[0].split(", of ")[1], f"{asked * count} requests", str((who, words)))
+            wanted = gained[: 1 if words == chosen else 2]
+            same([it for it in out if it[0] in "+-"], wanted, str((who, words)))
+            same(out[0].split(", of ")[1], f"{asked} principals and all names", str((who, words)))
 
 
 def test_accounts_that_are_named_are_asked():

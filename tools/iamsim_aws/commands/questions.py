@@ -10,8 +10,9 @@ from ..everything import is_meant
 from ..exports import policy
 from ..faults import Fault, line_of, tell
 from ..hanging import Turn
-from ..kinds import made_up, stand_words
+from ..speaking import made_up, stand_words
 from ..points import is_half_known
+from ..never import worlds_of_kinds
 from ..questions import Asked, Question, Scope, account_words, lacked, missing, worlds
 from ..reports import Answers, csv_text
 from ..sources import add_outside, add_source, source_of
@@ -19,6 +20,9 @@ from ..strangers import is_stranger
 from ..telling import HEADER, as_fields, as_json, told
 from . import databases, everything
 from .parsers import add, add_chains, add_verbose
+
+
+ALL_NAMES = "all names were asked for, of those that one pattern allows the shortest is shown; what is not named has no policy but its bucket's"
 
 
 class Found(NamedTuple):
@@ -50,7 +54,7 @@ def add_question(parser: argparse.ArgumentParser) -> None:
     parser.add_argument("resource", metavar="RESOURCE", help="an ARN, a name, or a pattern of what the world has")
     add_source(parser)
     parser.add_argument(
-        "--kinds", action="store_true", help="also ask for a text that stands for each pattern of the policies"
+        "--kinds", action="store_true", help="a pattern means every name, and not only what is named"
     )
     parser.add_argument("--policy", metavar="FILE", help="the policy of the resource, as a bucket's")
     parser.add_argument(
@@ -72,7 +76,7 @@ def scope_of(options: argparse.Namespace) -> Scope:
 
 
 def answered(scope: Scope, question: Question) -> List[Found]:
-    asked = worlds(scope, question)
+    asked = worlds_of_kinds(scope, question) if scope.kinds else worlds(scope, question)
     if not asked:
         raise Fault(missing(scope, question))
     found = []
@@ -91,29 +95,18 @@ def notes(found: List[Found]) -> List[str]:
             whose = account_words(asked.world, arn)
             lines.append(f"{arn} is not in the world: it is asked for {policy_words(asked, arn)}{whose}")
         lines += stand_lines(asked, answers, turns)
-        if asked.without:
-            lines.append(
-                f"no text stands for these patterns, whose account or variables nothing gives: {', '.join(asked.without)}"
-            )
-        if asked.absent:
-            lines.append(f"no export has these roles, so nobody may assume them: {', '.join(asked.absent)}")
         lines += key_notes(asked, turns)
-    if any(it.asked.witnesses for it in found):
-        lines.append(
-            "the answer covers such texts as were asked for and the resources of the world; a text has no policy of its own but its bucket's"
-        )
+        lines += [f"open: {it}" for it in asked.opens]
+    if any(it.asked.stand for it in found):
+        lines.append(ALL_NAMES)
     return [line_of(it) for it in lines]
 
 
 def stand_lines(asked: Asked, answers: Answers, turns: Dict[int, List[Turn]]) -> List[str]:
-    """What the texts stand for by which something is allowed, or would be; the others are counted."""
+    """What the texts stand for by which something is allowed, or would be; by the others nothing is."""
     rows = [answers.row(cell) for cell in {*answers.allowed(), *turns}]
     told_of = {text for row in rows for text in (row.action, row.resource)}
-    lines = stand_words(asked.witnesses, *(it for it in asked.witnesses if it in told_of))
-    rest = len(stand_words(asked.witnesses, *asked.witnesses)) - len(lines)
-    return (
-        [*lines, f"{rest} further texts stand for patterns, and by none of them anything is allowed"] if rest else lines
-    )
+    return stand_words(asked.stand, *(it for it in asked.stand if it in told_of))
 
 
 def key_notes(asked: Asked, turns: Dict[int, List[Turn]]) -> List[str]:
@@ -143,7 +136,7 @@ def write(options: argparse.Namespace, found: List[Found], text: List[str]) -> N
     values: List[Dict[str, Any]] = []
     fields: List[List[str]] = []
     for asked, answers, turns in found:
-        made = made_up(asked.witnesses)
+        made = made_up(asked.stand)
         for cell in range(len(answers.numbers)):
             if options.format == "json":
                 values.append(as_json(answers, cell, turns.get(cell, []), made))
@@ -166,6 +159,8 @@ def can(options: argparse.Namespace) -> int:
     write(options, found, lines)
     if not all(it.decision == "allowed" for of in found for it in of.answers.table):
         return 3
+    if is_open(found):
+        return 5
     return 6 if any(is_half_known(it) for of in found for it in of.answers.world["resources"]) else 0
 
 
@@ -181,7 +176,11 @@ def who_can(options: argparse.Namespace) -> int:
         lines += chain_lines(scope, found, options.depth)
     write(options, found, lines)
     tell_strangers(scope.source, [it.asked.world for it in found])
-    return 0
+    return 5 if is_open(found) else 0
+
+
+def is_open(found: List[Found]) -> bool:
+    return any(it.asked.opens for it in found)
 
 
 def who_lines(found: Found, is_verbose: bool) -> List[str]:

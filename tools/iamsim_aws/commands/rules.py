@@ -6,11 +6,11 @@ from typing import Any, List, Sequence, Set, Tuple
 
 from .. import drafts, files
 from ..coming import with_chains
-from ..covering import tell_actions, tell_lacked, tell_strangers
+from ..covering import tell_lacked, tell_strangers
 from ..faults import TOLD, Fault, line_of, tell
-from ..kinds import stand_words
+from ..speaking import stand_words
 from ..pipelines import Case, fault, junit, sarif
-from ..questions import Scope, account_words, lacked
+from ..questions import Scope, account_words, actions, lacked
 from ..never import Break
 from ..ruling import Outcome, check, read_rules
 from ..slips import slips
@@ -107,9 +107,8 @@ def checked(options: argparse.Namespace) -> int:
 
 def notes(scope: Scope, outcomes: List[Outcome]) -> None:
     """What the outcomes cover."""
-    tell_actions(scope.source, [it.rule.question.action for it in outcomes if it.rule.kind == "always"])
-    actions = dict.fromkeys(it for of in outcomes for asked in of.asked for it in asked.world["actions"])
-    tell_lacked(lacked(scope.source, actions))
+    named = dict.fromkeys(it for of in outcomes if of.asked for it in actions(scope, of.rule.question.action))
+    tell_lacked(lacked(scope.source, named))
     tell_strangers(scope.source, [asked.world for it in outcomes for asked in it.asked])
     for it in outcomes:
         for line in slips(scope, it.rule.question) if it.rule.kind == "never" and it.state == "kept" else ():
@@ -118,14 +117,6 @@ def notes(scope: Scope, outcomes: List[Outcome]) -> None:
     for arn, world in sorted(added.items(), key=lambda it: it[0]):
         whose = account_words(world, arn)
         tell(f"{arn} is not in the world: it is asked for without a policy of its own, but its bucket's{whose}")
-    absent = {arn for it in outcomes for asked in it.asked for arn in asked.absent}
-    if absent:
-        tell(f"no export has these roles, so nobody may assume them: {', '.join(sorted(absent))}")
-    without = {pattern for it in outcomes for asked in it.asked for pattern in asked.without}
-    if without:
-        tell(
-            f"no text stands for these patterns, whose account or variables nothing gives: {', '.join(sorted(without))}"
-        )
 
 
 def message(broken: Break, giver: str, is_verbose: bool) -> str:
@@ -135,7 +126,7 @@ def message(broken: Break, giver: str, is_verbose: bool) -> str:
     why += [f"lacks {it}: {LACKS[it]}" for it in row.answer.lacks]
     before = deciding(*broken.before, is_verbose) if broken.before else []
     why += [f"was {BY['allowed']} {it.words()}" for it in before]
-    why += stand_words(broken.stand, row.action, row.resource)
+    why += stand_words(broken.stand(), row.action, row.resource)
     may = "may" if row.answer.decision == "allowed" else "may not"
     given = f" if {turn.words()}, which nothing gives ({giver} gives it)" if turn else ""
     because = "; ".join(why) or "no statement speaks of it"

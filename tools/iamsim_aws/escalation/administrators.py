@@ -3,13 +3,14 @@ organisation's policies and those of resources leave to nobody, an administrator
 
 from typing import Any, Dict, Iterator, List, Optional, Set, Tuple
 
-from .. import kinds
 from ..arns import account_of, principal_arn
 from ..asking import ask_all, explained, whole
 from ..documents import Policy, World, statements_of
 from ..making import bound
+from ..patterns import common, is_pattern
 from ..program import Refused, side_by_side, world_bytes
 from ..reports import rows_of
+from ..speaking import patterns_of_actions
 from ..telling import is_everything
 from .nodes import EVERYTHING, GIVEN, Node, People, Principal
 from .requests import Things
@@ -56,7 +57,8 @@ def likely(things: Things, principals: List[Principal]) -> List[Optional[bool]]:
     """Whether each is allowed a few requests, as far as it would be without limits; None where it would be allowed nothing."""
     accounts = sorted({account_of(principal_arn(it)) for it in principals})
     resources = [anything(things, it) for it in accounts]
-    named = list(kinds.actions(things.base, "*", FEW, True))
+    named = [it if not is_pattern(it) else common(it, "*:*", True) or "" for it in patterns_of_actions(things.base)]
+    named = list(dict.fromkeys(filter(None, [*FEW, *named])))
     actions = list(dict.fromkeys([*FEW, *named[:: len(named) // MOST + 1]]))
     made = {**things.base, "actions": actions, "resources": resources}
     own, every = ask_all([{**made, "principals": of} for of in (principals, list(map(unlimited, principals)))], True)

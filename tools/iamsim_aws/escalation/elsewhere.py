@@ -5,7 +5,7 @@ from typing import Dict, Set
 from ..arns import account_of
 from ..documents import World
 from ..exports import ACCOUNT
-from ..kinds import statements, texts_of
+from ..speaking import statements, texts_of
 from ..patterns import common, is_pattern, matcher, opened
 from ..sources import ASSUME
 from .loosening import ODD

@@ -7,7 +7,7 @@ from typing import Any, Dict, Iterable, Iterator, List, Set
 from ..arns import account_of
 from ..documents import Policy, World, mapped, statements_of
 from ..exports import ACCOUNT
-from ..kinds import texts_of
+from ..speaking import texts_of
 from ..patterns import filled_runs, is_pattern, matcher, meeting, of_policy, opened, signs_of, variables_of
 from .nodes import Principal
 from .table import KINDS

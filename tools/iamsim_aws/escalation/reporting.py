@@ -4,7 +4,7 @@ from typing import Any, Dict, List, Optional, Tuple
 
 from ..faults import line_of
 from ..files import compact
-from ..kinds import Origin, made_up
+from ..speaking import Origin, made_up
 from ..telling import causes, deciding
 from .nodes import Node
 from .requests import Request

@@ -8,17 +8,17 @@ from ..asking import ask_allowed
 from ..documents import Policy, World, each, statements_of
 from ..exports import is_service_linked, policy, tags
 from ..keys import with_key
-from ..kinds import Origins, meets, texts_of
 from ..making import RUNS_AS, bound
 from ..naming import trust_policy
 from ..patterns import is_pattern
-from ..questions import Question, Scope, asked_in
 from ..reports import Answers
 from ..sources import ASSUME, Source
+from ..speaking import Origins, meets, texts_of
 from .elsewhere import elsewhere
 from .loosening import Loose, is_of
 from .nodes import Node, People, boundary_of
 from .table import ADMINISTRATOR, ELSEWHERE, HELD, KINDS, OWN, SERVICE_KEY, BOUNDARY_KEY, WAYS, Ask
+from .witnesses import resources
 
 OPEN, ASSUMED, EVERY = "role open to all", "role to assume", "*"
 OPENED = {"Version": "2012-10-17", "Statement": {"Effect": "Allow", "Principal": {"AWS": "*"}, "Action": ASSUME}}
@@ -174,10 +174,12 @@ class Things:
         found = {(EVERY, it["id"]): {"arn": EVERY, "account": it["id"]} for it in world["accounts"]}
         for kind, pattern in KINDS.items():
             actions = sorted({it.action for way in WAYS for it in way.asks if it.kind == kind})
-            own = asked_in(Scope(self.source, kinds=True), {**world, "actions": actions}, Question("*", "*", pattern))
-            some = [it for it in own.world["resources"] if is_of(pattern, it["arn"])]
+            made = resources({**world, "actions": actions}, pattern, actions)
+            some = [*world["resources"], *(it.resource for it in made)]
+            some = [bound(self.estate, it) for it in some if is_of(pattern, it["arn"])]
             found.update(((it["arn"], it["account"]), it) for it in some)
-            self.stand.update({text: it for text, it in own.witnesses.items() if text not in self.stand})
+            for it in made:
+                self.stand.setdefault(it.resource["arn"], it.origin)
         return list(found.values())
 
 

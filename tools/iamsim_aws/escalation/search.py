@@ -5,7 +5,7 @@ from typing import Dict, Iterable, List, NamedTuple, Optional, Set, Tuple
 from .. import chains
 from ..covering import unasked
 from ..hanging import wanted
-from ..kinds import Origins
+from ..speaking import Origins
 from ..patterns import any_matches
 from ..sources import Source
 from ..strangers import NOT_ASKED, shown, strangers

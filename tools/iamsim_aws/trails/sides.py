@@ -4,7 +4,7 @@ requests, within the limits."""
 import functools
 from typing import Any, Dict, Iterator, List, NamedTuple, Optional, Set, Tuple
 
-from .. import keys, kinds
+from .. import keys, speaking
 from ..arns import account_of, principal_arn, resource_part, service_of, session_arn
 from ..documents import Policy, World, places
 from ..exports import ACCOUNT
@@ -89,7 +89,7 @@ class Side:
             sessions.setdefault((principal_arn(it), str(it.get("session", ""))), it)
         things = {it["arn"]: it for it in world["resources"]}
         of = {account_of(it) for it in people}
-        return Base(world, people, sessions, things, kinds.owners(world["resources"]), of)
+        return Base(world, people, sessions, things, speaking.owners(world["resources"]), of)
 
     def every(self) -> List[World]:
         """The worlds of the three kinds of actions: of sts, of iam, and of others."""
@@ -104,7 +104,7 @@ class Side:
         key = id(base), arn, hint
         if key not in self.homes:
             own = account_of(arn)
-            known = own if ACCOUNT.fullmatch(own) else kinds.owned(base.owners, arn, "")["account"]
+            known = own if ACCOUNT.fullmatch(own) else speaking.owned(base.owners, arn, "")["account"]
             self.homes[key] = next((it for it in (known, hint, given or "") if ACCOUNT.fullmatch(it)), "")
         return self.homes[key]
 
@@ -150,7 +150,7 @@ class Side:
 
     def further(self, base: Base, request: Request, is_own: bool) -> Thing:
         """A resource that the world does not name."""
-        made = self.with_limits(kinds.owned(base.owners, request.resource, request.account))
+        made = self.with_limits(speaking.owned(base.owners, request.resource, request.account))
         is_taken = not is_own and request.resource != "*" and "policy" not in made
         made = {**made, "policy": GRANTS} if is_taken else made
         return Thing(made, is_taken, is_bare(made))
