@@ -7,3 +7,4 @@ mod NamingLemmas
 pub mod OneOutput
 pub mod Refusals
 mod Selecting
+mod TurnedLemmas
