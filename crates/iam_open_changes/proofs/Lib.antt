@@ -1,0 +1,10 @@
+mod AddsLemmas
+mod CellsLemmas
+mod CertainLemmas
+mod KeptLemmas
+mod LookLemmas
+mod PartLemmas
+mod RequestLemmas
+mod RequesterLemmas
+mod SameLemmas
+mod ShownLemmas

@@ -1,0 +1,6 @@
+pub mod Adds
+pub mod Certain
+pub mod Kept
+pub mod Parts
+pub mod Same
+pub mod Texts

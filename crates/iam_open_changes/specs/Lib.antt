@@ -1,0 +1,7 @@
+pub mod Code
+pub mod InBoth
+pub mod Laws
+pub mod Report
+pub mod Rows
+pub mod Same
+pub mod Told
