@@ -7,4 +7,5 @@ mod NamingLemmas
 pub mod OneOutput
 pub mod Refusals
 mod Selecting
+mod TurnedChangesLemmas
 mod TurnedLemmas

@@ -5,3 +5,4 @@ pub mod Naming
 pub mod Pieces
 pub mod Sides
 pub mod Turning
+pub mod TurningSides

@@ -1,4 +1,5 @@
 pub mod AnyKey
+pub mod AnyKeyChanges
 pub mod Ask
 pub mod Changes
 pub mod ChangesFault

@@ -2,6 +2,7 @@
 #![tactic(auto)]
 
 mod any_key;
+mod any_key_changes;
 mod ask;
 mod cells;
 mod changes;
@@ -20,6 +21,7 @@ mod requests_fault;
 mod selected;
 
 pub use any_key::run_any_key;
+pub use any_key_changes::{TurnedChanges, any_key_changes_status, run_any_key_changes};
 pub use ask::{ask_status, run_ask};
 pub use changes::{Comparison, changes_status, run_changes};
 pub use changes_fault::{ChangesFault, Side, changes_fault_line};
@@ -34,9 +36,9 @@ pub use iam_every_changes::ChangesTold;
 pub use iam_layers::WorldFault;
 pub use iam_matrix::{CutFault, MatrixFault};
 pub use iam_options::{
-    AnyKeyCommand, AskCommand, Asked, ChangesCommand, ChangesOptions, Command, EveryChangesCommand,
-    EveryCommand, FailOn, Options, RunOptions, Task, Texts, Usage, WorldCommand, command_of,
-    options_of,
+    AnyKeyChangesCommand, AnyKeyCommand, AskCommand, Asked, ChangesCommand, ChangesOptions,
+    Command, EveryChangesCommand, EveryCommand, FailOn, Options, RunOptions, Task, Texts, Usage,
+    WorldCommand, command_of, options_of,
 };
 pub use iam_selection::Selection;
 pub use iam_text::OutOfMemory;

@@ -4,7 +4,7 @@ use Rattle.std.specs.Str.{bytes_eq}
 use Rattle.clap.specs.declared.parser.matches.ArgMatches.{ArgMatches}
 use Rattle.iam_options.specs.Words.{IsFlag, texts_at}
 use Rattle.iam_options.specs.declared.command.Command.{Command}
-use Rattle.iam_options.specs.declared.command.Command.TheVariants.{World, AnyKey, Changes, EveryChanges, Ask, Every}
+use Rattle.iam_options.specs.declared.command.Command.TheVariants.{World, AnyKey, Changes, EveryChanges, AnyKeyChanges, Ask, Every}
 use Rattle.iam_options.specs.declared.options.Task.{Task}
 use Rattle.iam_options.specs.declared.options.Task.TheVariants.{Check, Decide, Matrix, First}
 
@@ -14,8 +14,19 @@ asks_any_key (World command) = false
 asks_any_key (AnyKey command) = true
 asks_any_key (Changes command) = false
 asks_any_key (EveryChanges command) = false
+asks_any_key (AnyKeyChanges command) = false
 asks_any_key (Ask command) = false
 asks_any_key (Every command) = false
+
+-- what is asked about are changes between two worlds that any value of such a key makes
+abbrev pub asks_any_key_changes : Command → Bool
+asks_any_key_changes (World command) = false
+asks_any_key_changes (AnyKey command) = false
+asks_any_key_changes (Changes command) = false
+asks_any_key_changes (EveryChanges command) = false
+asks_any_key_changes (AnyKeyChanges command) = true
+asks_any_key_changes (Ask command) = false
+asks_any_key_changes (Every command) = false
 
 abbrev pub is_first : Task → Bool
 is_first Check = false

@@ -6,7 +6,7 @@ use Rattle.clap.specs.Matches.{first_value, found_of}
 use Rattle.clap.specs.declared.parser.matches.ArgMatches.{ArgMatches}
 use Rattle.iam_options.specs.Words.{file_named, texts_at}
 use Rattle.iam_options.specs.declared.command.Command.{Command}
-use Rattle.iam_options.specs.declared.command.Command.TheVariants.{World, AnyKey, Changes, EveryChanges, Ask, Every}
+use Rattle.iam_options.specs.declared.command.Command.TheVariants.{World, AnyKey, Changes, EveryChanges, AnyKeyChanges, Ask, Every}
 
 -- what is asked about are the changes between two worlds for all names
 abbrev pub asks_every : Command → Bool
@@ -14,6 +14,7 @@ asks_every (World command) = false
 asks_every (AnyKey command) = false
 asks_every (Changes command) = false
 asks_every (EveryChanges command) = true
+asks_every (AnyKeyChanges command) = false
 asks_every (Ask command) = false
 asks_every (Every command) = false
 

@@ -5,6 +5,7 @@ ghost use Rattle.iam_options.specs.Words.{HasAsked, HasRun, IsFailOn, IsFileAt, 
 ghost use Rattle.iam_options.specs.declared.changes.FailOn.{FailOn};
 ghost use Rattle.iam_options.specs.declared.options.Usage.TheVariants as u;
 
+use crate::any_key::any_key as any_key_flag;
 use crate::arguments::{brief, format, run};
 use crate::command::{Asked, asked_in, file, file_at, refused, texts_file, with_patterns};
 use crate::options::{Usage, run_options};
@@ -27,11 +28,17 @@ by its number, or that they are of an account:
 The lines are read from FILE, or from standard input for -. Texts, and with --action actions, of which
 the policies tell no two apart have one row. A line that cannot be looked at whole has a row notShown.
 
+With --any-key requests are compared whatever values the keys have that neither world gives, at whatever
+moment from the worlds' on: gained and lost have an example, and what is neither shown nor excluded is open.
+
 In a PATTERN * and ? are wild; given several times, one of them has to match. With --every there may
 be one --action, and no --resource.";
 
 /// What the command is called by.
 pub const NAME: &str = "iamsim changes";
+
+const ANY_KEY: &str =
+    "Report what values of keys that neither world gives can turn: gained, lost or open";
 
 const BOTH: &str = "BEFORE and AFTER cannot both come from standard input";
 
@@ -94,12 +101,7 @@ pub fn changes_in(alloc: Global, command: &ArgMatches<'_>) -> Result<ChangesComm
     ensures one { IfOk result (λ read. ¬ ((read.before ≡ None) × (read.after ≡ None))) }
     ensures refused { IfErr result (λ usage. usage ≢ u.OutOfMemory → NamesNeither command.now (codes "BEFORE") (codes "AFTER")) }
 {
-    let before = file_at(alloc, command, "BEFORE")?;
-    let after = file_at(alloc, command, "AFTER")?;
-    if before.is_none() && after.is_none() {
-        let kind = ErrorKind::ArgumentConflict;
-        return Err(refused(alloc, changes(alloc)?, NAME, kind, BOTH)?);
-    }
+    let (before, after) = sides_in(alloc, command)?;
     Ok(ChangesCommand {
         before,
         after,
@@ -108,6 +110,25 @@ pub fn changes_in(alloc: Global, command: &ArgMatches<'_>) -> Result<ChangesComm
         fail_on: fail_on_of(command),
         allow_empty: command.get_flag("allow-empty"),
     })
+}
+
+/// The files with the worlds before and after, if not standard input; refused where both come from there.
+pub fn sides_in(
+    alloc: Global,
+    command: &ArgMatches<'_>,
+) -> Result<(Option<String>, Option<String>), Usage>
+    ensures before { IfOk result (λ sides. IsFileAt command.now (codes "BEFORE") sides.0) }
+    ensures after { IfOk result (λ sides. IsFileAt command.now (codes "AFTER") sides.1) }
+    ensures one { IfOk result (λ sides. ¬ ((sides.0 ≡ None) × (sides.1 ≡ None))) }
+    ensures refused { IfErr result (λ usage. usage ≢ u.OutOfMemory → NamesNeither command.now (codes "BEFORE") (codes "AFTER")) }
+{
+    let before = file_at(alloc, command, "BEFORE")?;
+    let after = file_at(alloc, command, "AFTER")?;
+    if before.is_none() && after.is_none() {
+        let kind = ErrorKind::ArgumentConflict;
+        return Err(refused(alloc, changes(alloc)?, NAME, kind, BOTH)?);
+    }
+    Ok((before, after))
 }
 
 fn options_at(command: &ArgMatches<'_>) -> ChangesOptions
@@ -151,7 +172,8 @@ pub fn changes<'a>(alloc: Global) -> Result<Parser<'a>, AllocError> {
         .arg(all(alloc))?
         .arg(fail_on(alloc))?
         .arg(every(alloc)?)?
-        .arg(texts_file(alloc).requires_arg("every")?)?;
+        .arg(texts_file(alloc).requires_arg("every")?)?
+        .arg(any_key(alloc)?)?;
     with_patterns(alloc, parser)
 }
 
@@ -168,6 +190,14 @@ fn fail_on<'a>(alloc: Global) -> Arg<'a> {
         .value_name("CHANGE")
         .value_parser(CHANGES.as_slice())
         .help("End with status 3 where such a request was reported")
+}
+
+fn any_key<'a>(alloc: Global) -> Result<Arg<'a>, AllocError> {
+    any_key_flag(alloc, ANY_KEY)?
+        .conflicts_with("all")?
+        .conflicts_with("principal")?
+        .conflicts_with("action")?
+        .conflicts_with("resource")
 }
 
 fn every<'a>(alloc: Global) -> Result<Arg<'a>, AllocError> {

@@ -1,15 +1,16 @@
 // The whole command line: the options, the file of the world, and what is asked for.
 ghost use Rattle.std.specs.Prelude.{◌≡◌, ◌≢◌, ◌↔◌, IsTrue, IfErr, IfOk, codes, length, map, option_map, string_bytes};
 ghost use Rattle.clap.specs.Matches.{first_value, found_of};
-ghost use Rattle.iam_options.specs.AnyKey.{AreWords, HasOtherWords, asks_any_key};
+ghost use Rattle.iam_options.specs.AnyKey.{AreWords, HasOtherWords, asks_any_key, asks_any_key_changes};
 ghost use Rattle.iam_options.specs.EveryChanges.{asks_every};
 ghost use Rattle.iam_options.specs.Words.{HasAsked, IsFileAt, IsFlag, texts_at};
 ghost use Rattle.iam_options.specs.declared.options.Usage.TheVariants as u;
 
 use crate::any_key::{AnyKeyCommand, any_key, any_key_in, has_words};
+use crate::any_key_changes::{AnyKeyChangesCommand, any_key_changes_in};
 use crate::arguments::{check, decide, first, matrix, named, with};
 use crate::ask::{AskCommand, ask, ask_in};
-use crate::changes::{ChangesCommand, changes, changes_in};
+use crate::changes::{ChangesCommand, NAME, changes, changes_in};
 use crate::every::{EveryCommand, every, every_in};
 use crate::every_changes::{EveryChangesCommand, every_changes_in};
 use crate::options::{Options, Usage, options_in, usage_of};
@@ -52,6 +53,8 @@ const ANY_KEY: &str =
 const FIRST_ANY_KEY: &str =
     "Find the first request that is not never allowed, whatever values keys have that nothing gives";
 
+const EVERY_KEY: &str = "--any-key cannot be used with --every";
+
 /// What `matrix` is called by.
 const MATRIX: &str = "iamsim matrix";
 
@@ -69,6 +72,8 @@ pub enum Command {
     Changes(ChangesCommand),
     /// The changes between two worlds, for all names.
     EveryChanges(EveryChangesCommand),
+    /// The changes between two worlds, whatever values the keys have that neither gives.
+    AnyKeyChanges(AnyKeyChangesCommand),
     /// The requests of a file.
     Ask(AskCommand),
     /// All names.
@@ -155,14 +160,21 @@ fn about_world(alloc: Global, options: Options, command: &ArgMatches<'_>) -> Res
     Ok(Command::World(world_in(alloc, options, command)?))
 }
 
-/// A command about two worlds that was read: of their requests, or for all names.
+/// A command about two worlds that was read: of their requests as they are, or whatever values the keys have that neither gives, or for all
+/// names; refused where it asks for both of these.
 fn changes_of(alloc: Global, command: &ArgMatches<'_>) -> Result<Command, Usage>
-    ensures { IfOk result (λ read. IsFlag command.now (codes "every") (asks_every read)) }
+    ensures every { IfOk result (λ read. IsFlag command.now (codes "every") (asks_every read)) }
+    ensures any_key { IfOk result (λ read. IsFlag command.now (codes "any-key") (asks_any_key_changes read)) }
 {
-    if command.get_flag("every") {
-        return Ok(Command::EveryChanges(every_changes_in(alloc, command)?));
+    match (command.get_flag("every"), command.get_flag("any-key")) {
+        (true, true) => {
+            let kind = ErrorKind::ArgumentConflict;
+            Err(refused(alloc, changes(alloc)?, NAME, kind, EVERY_KEY)?)
+        }
+        (true, false) => Ok(Command::EveryChanges(every_changes_in(alloc, command)?)),
+        (false, true) => Ok(Command::AnyKeyChanges(any_key_changes_in(alloc, command)?)),
+        (false, false) => Ok(Command::Changes(changes_in(alloc, command)?)),
     }
-    Ok(Command::Changes(changes_in(alloc, command)?))
 }
 
 /// The command with this parser is refused with this message; `name` is what it is called by.

@@ -2,6 +2,7 @@
 #![tactic(auto)]
 
 mod any_key;
+mod any_key_changes;
 mod arguments;
 mod ask;
 mod changes;
@@ -11,6 +12,7 @@ mod every_changes;
 mod options;
 
 pub use any_key::AnyKeyCommand;
+pub use any_key_changes::AnyKeyChangesCommand;
 pub use ask::AskCommand;
 pub use changes::{ChangesCommand, ChangesOptions, FailOn};
 pub use command::{Asked, Command, WorldCommand, command_of};

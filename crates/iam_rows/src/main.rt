@@ -21,8 +21,9 @@ use std::thread::Threads;
 const WORLDS: &str = "worlds.json";
 
 /// The files of rows, by theme.
-const ROWS: [&str; 16] = [
+const ROWS: [&str; 17] = [
     "any_key.json",
+    "any_key_changes.json",
     "ask.json",
     "changes.json",
     "commands.json",

@@ -6,11 +6,11 @@
 use crate::input::{input_of, number_at, text_at};
 use crate::problem::Problem;
 use iam_app::{
-    AnyKeyCommand, AskCommand, ChangesCommand, Command, EveryChangesCommand, EveryCommand, Usage,
-    WorldCommand, ask_status, changes_command_status, changes_fault_line, command_of,
-    command_status, every_changes_fault_line, every_changes_status, every_status, fault_line,
-    names_fault_line, requests_fault_line, run_any_key, run_ask, run_changes_command, run_command,
-    run_every, run_every_changes,
+    AnyKeyChangesCommand, AnyKeyCommand, AskCommand, ChangesCommand, Command, EveryChangesCommand,
+    EveryCommand, Usage, WorldCommand, any_key_changes_status, ask_status, changes_command_status,
+    changes_fault_line, command_of, command_status, every_changes_fault_line, every_changes_status,
+    every_status, fault_line, names_fault_line, requests_fault_line, run_any_key,
+    run_any_key_changes, run_ask, run_changes_command, run_command, run_every, run_every_changes,
 };
 use serde_json::Value;
 use std::alloc::Global;
@@ -158,6 +158,7 @@ fn answer_to<R: AllocGlobal + Threads + Sync>(
         Ok(Command::AnyKey(command)) => any_key_answer(rt, &command, inputs.world.as_slice()),
         Ok(Command::Changes(command)) => changes_answer(rt, &command, inputs),
         Ok(Command::EveryChanges(command)) => every_changes_answer(rt, &command, inputs, lines),
+        Ok(Command::AnyKeyChanges(command)) => any_key_changes_answer(rt, &command, inputs),
         Ok(Command::Ask(command)) => ask_answer(rt, &command, inputs.world.as_slice(), lines),
         Ok(Command::Every(command)) => every_answer(rt, &command, inputs.world.as_slice(), lines),
         Err(usage) => usage_answer(rt.alloc(), usage),
@@ -201,6 +202,35 @@ fn any_key_answer<R: AllocGlobal + Threads + Sync>(
     };
     Ok(Answer {
         status: u64::from(command_status(&outcome, command.allow_empty)),
+        output,
+        fault,
+    })
+}
+
+/// What comes of a command about two worlds, whatever values the keys have that neither gives.
+fn any_key_changes_answer<R: AllocGlobal + Threads + Sync>(
+    rt: &R,
+    command: &AnyKeyChangesCommand,
+    inputs: &Inputs,
+) -> Result<Answer, Problem> {
+    let alloc = rt.alloc();
+    let mut before = inputs.before.as_slice();
+    let mut after = inputs.world.as_slice();
+    let mut output = Vec::new(alloc);
+    let outcome = run_any_key_changes(
+        rt,
+        alloc,
+        command.options,
+        &mut before,
+        &mut after,
+        &mut output,
+    );
+    let fault = match &outcome {
+        Ok(_) => String::new(alloc),
+        Err(fault) => changes_fault_line(alloc, fault)?,
+    };
+    Ok(Answer {
+        status: u64::from(any_key_changes_status(&outcome, command.fail_on, command.allow_empty)),
         output,
         fault,
     })

@@ -1,10 +1,10 @@
 // Readers and writers that fail, at each of their calls, for all commands.
 use iam_app::{
-    AnyKeyCommand, AskCommand, Command, EveryChangesCommand, EveryCommand, ask_status,
-    changes_command_status, changes_fault_line, command_of, command_status,
-    every_changes_fault_line, every_changes_status, every_status, fault_line, names_fault_line,
-    requests_fault_line, run_any_key, run_ask, run_changes_command, run_command, run_every,
-    run_every_changes,
+    AnyKeyChangesCommand, AnyKeyCommand, AskCommand, Command, EveryChangesCommand, EveryCommand,
+    any_key_changes_status, ask_status, changes_command_status, changes_fault_line, command_of,
+    command_status, every_changes_fault_line, every_changes_status, every_status, fault_line,
+    names_fault_line, requests_fault_line, run_any_key, run_any_key_changes, run_ask,
+    run_changes_command, run_command, run_every, run_every_changes,
 };
 use std::io;
 use std::io::{ErrorKind, Read, Write};
@@ -68,7 +68,7 @@ const LINES: &str = r#"{"pattern":"arn:aws:s3:::b/k","like":0}
 
 const EVERY: &str = "every world.json --texts - --workers 1 --brief";
 
-/// What is gained for all names from the world without a policy to the one with it, and how it is asked for.
+/// What is gained from the world without a policy to the one with it, for all names and whatever values keys have, and how it is asked for.
 const GAINED_NAMES: &str = "change,principal,action,resource,before,after
 gained,arn:aws:iam::111122223333:user/ann,S3:getobject,arn:aws:s3:::b/k,implicitDeny,allowed
 ";
@@ -76,8 +76,11 @@ gained,arn:aws:iam::111122223333:user/ann,S3:getobject,arn:aws:s3:::b/k,implicit
 const EVERY_CHANGES: &str =
     "changes before.json after.json --every --texts - --workers 1 --brief --fail-on lost";
 
+const ANY_KEY_CHANGES: &str =
+    "changes before.json after.json --any-key --workers 1 --brief --fail-on lost";
+
 /// Each command, in each form of its report, and what it writes.
-const RUNS: [(&str, &str); 13] = [
+const RUNS: [(&str, &str); 14] = [
     (
         "check",
         "ok principals 1 actions 1 resources 1 cells 1 statements 1\n",
@@ -94,6 +97,7 @@ const RUNS: [(&str, &str); 13] = [
     (ASK, BRIEF),
     (EVERY, BRIEF),
     (EVERY_CHANGES, GAINED_NAMES),
+    (ANY_KEY_CHANGES, GAINED_NAMES),
 ];
 
 /// The command of these words.
@@ -108,6 +112,7 @@ fn beside(command: &Command) -> &'static str {
         Command::Ask(_) => REQUESTS,
         Command::Every(_) => LINES,
         Command::EveryChanges(_) => BARE,
+        Command::AnyKeyChanges(_) => BARE,
         Command::World(_) | Command::AnyKey(_) | Command::Changes(_) => EMPTY,
     }
 }
@@ -201,12 +206,35 @@ fn end_of<R: Read, S: Read, L: Read, W: Write>(
             ))
         }
         Command::AnyKey(asked) => end_of_any_key(rt, asked, after, writer),
+        Command::AnyKeyChanges(asked) => {
+            end_of_any_key_changes(rt, asked, before, after, writer)
+        }
         Command::Ask(asked) => end_of_requests(rt, asked, after, before, writer),
         Command::Every(asked) => end_of_lines(rt, asked, after, before, writer),
         Command::EveryChanges(asked) => {
             end_of_names_changes(rt, asked, before, after, lines, writer)
         }
     }
+}
+
+/// The same of a run of two worlds whatever values the keys have.
+fn end_of_any_key_changes<R: Read, S: Read, W: Write>(
+    rt: &(impl AllocGlobal + Threads + Sync),
+    asked: &AnyKeyChangesCommand,
+    before: &mut R,
+    after: &mut S,
+    writer: &mut W,
+) -> Result<(u8, String), Fail> {
+    let alloc = rt.alloc();
+    let outcome = run_any_key_changes(rt, alloc, asked.options, before, after, writer);
+    let line = match &outcome {
+        Ok(_) => String::new(alloc),
+        Err(fault) => changes_fault_line(alloc, fault)?,
+    };
+    Ok((
+        any_key_changes_status(&outcome, asked.fail_on, asked.allow_empty),
+        line,
+    ))
 }
 
 /// The same of a run whatever values the keys have.

@@ -4,11 +4,12 @@
 mod source;
 
 use iam_app::{
-    AnyKeyCommand, AskCommand, ChangesCommand, Command, EveryChangesCommand, EveryCommand,
-    OutOfMemory, Texts, Usage, WorldCommand, ask_status, changes_command_status,
-    changes_fault_line, command_of, command_status, every_changes_fault_line, every_changes_status,
-    every_status, fault_line, names_fault_line, requests_fault_line, run_any_key, run_ask,
-    run_changes_command, run_command, run_every, run_every_changes,
+    AnyKeyChangesCommand, AnyKeyCommand, AskCommand, ChangesCommand, Command, EveryChangesCommand,
+    EveryCommand, OutOfMemory, Texts, Usage, WorldCommand, any_key_changes_status, ask_status,
+    changes_command_status, changes_fault_line, command_of, command_status,
+    every_changes_fault_line, every_changes_status, every_status, fault_line, names_fault_line,
+    requests_fault_line, run_any_key, run_any_key_changes, run_ask, run_changes_command,
+    run_command, run_every, run_every_changes,
 };
 use source::{Input, NotRead, Source, line_of_file};
 use std::alloc::Global;
@@ -37,6 +38,20 @@ fn main(rt: HostRuntime) -> ExitCode {
             let mut after = Input::of(&rt, &command.after, rt.stdin());
             let mut stdout = rt.stdout();
             let status = changes(&rt, alloc, &command, &mut before, &mut after, &mut stdout);
+            ExitCode::from(status)
+        }
+        Ok(Command::AnyKeyChanges(command)) => {
+            let mut before = Input::of(&rt, &command.before, rt.stdin());
+            let mut after = Input::of(&rt, &command.after, rt.stdin());
+            let mut stdout = rt.stdout();
+            let status = any_key_changes(
+                &rt,
+                alloc,
+                &command,
+                &mut before,
+                &mut after,
+                &mut stdout,
+            );
             ExitCode::from(status)
         }
         Ok(Command::Ask(command)) => {
@@ -145,6 +160,24 @@ fn changes<T: Threads + Sync + Files + Eprint, R: Read + Drop, W: Write>(
         tell_fault(rt, alloc, changes_fault_line(alloc, fault), not_read);
     }
     changes_command_status(&outcome, command.fail_on, command.allow_empty)
+}
+
+/// Answers what values of keys that neither world gives can turn from one to the other; the exit status.
+fn any_key_changes<T: Threads + Sync + Files + Eprint, R: Read + Drop, W: Write>(
+    rt: &T,
+    alloc: Global,
+    command: &AnyKeyChangesCommand,
+    before: &mut Input<'_, R, T>,
+    after: &mut Input<'_, R, T>,
+    stdout: &mut W,
+) -> u8 {
+    let outcome = run_any_key_changes(rt, alloc, command.options, before, after, stdout);
+    if let Err(fault) = &outcome {
+        // Where BEFORE can't be read, AFTER was not.
+        let not_read = before.not_read().or(after.not_read());
+        tell_fault(rt, alloc, changes_fault_line(alloc, fault), not_read);
+    }
+    any_key_changes_status(&outcome, command.fail_on, command.allow_empty)
 }
 
 /// Answers the requests of a file; the exit status.
