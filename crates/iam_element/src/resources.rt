@@ -12,7 +12,7 @@ use crate::OutOfMemory;
 use crate::element::{either, has_text, values_in};
 use crate::grammar::TextForm;
 use crate::members::Members;
-use iam_text::{Template, TemplateForm, Version};
+use iam_text::{Template, Version};
 use serde_json::Value;
 use std::alloc::Global;
 use std::marker::Model;
@@ -47,20 +47,18 @@ impl Resources {
         self.texts.as_slice()
     }
 
-    /// `true` only where both elements are the same; `false` says nothing, and is the answer where a text has variables.
+    /// `true` only where both elements are the same; `false` says nothing.
     pub fn equals(&self, other: &Resources) -> bool
         ensures { IsTrue result → self.now ≡ other.now }
     {
         self.is_negated == other.is_negated && are_same(self.texts(), other.texts())
     }
 
-    /// A number that tells most elements apart whose texts have no variables. Nothing is claimed of it.
+    /// A number that tells most elements apart. Nothing is claimed of it.
     pub fn print(&self) -> u64 {
         let mut print: u64 = if self.is_negated { 1 } else { 0 };
         for text in self.texts() {
-            if let TemplateForm::Fixed(pattern) = text.form() {
-                print = pattern.print(print);
-            }
+            print = text.print(print);
         }
         print
     }
@@ -112,7 +110,7 @@ fn templates(
     Ok(templates)
 }
 
-/// Whether both lists have the same texts in the same order, and none of them has variables.
+/// `true` only where both lists have the same texts in the same order.
 fn are_same(ones: &[Template], others: &[Template]) -> bool
     ensures { IsTrue result → ones.now ≡ others.now }
 {
@@ -120,19 +118,9 @@ fn are_same(ones: &[Template], others: &[Template]) -> bool
         return false;
     }
     for i in 0..ones.len() {
-        if !is_same(&ones[i], &others[i]) {
+        if !ones[i].is_same(&others[i]) {
             return false;
         }
     }
     true
-}
-
-/// Whether both texts are the same pattern, kept alike.
-fn is_same(one: &Template, other: &Template) -> bool
-    ensures { IsTrue result → one.now ≡ other.now }
-{
-    match (one.form(), other.form()) {
-        (TemplateForm::Fixed(pattern), TemplateForm::Fixed(other)) => pattern.is_same(other),
-        _ => false,
-    }
 }

@@ -2,7 +2,7 @@
 ghost use Rattle.std.specs.Prelude.{◌≡◌, IsTrue};
 
 use iam_condition::{Base, Entry, Operand, Operator, Quantifier};
-use iam_text::{Template, TemplateForm};
+use iam_value::Range;
 
 /// `true` only where both lists have the same entries in the same order.
 pub fn are_same_entries(ones: &[Entry], others: &[Entry]) -> bool
@@ -28,7 +28,8 @@ fn is_same_entry(one: &Entry, other: &Entry) -> bool
     are_same_values(one.values(), other.values())
 }
 
-fn is_same_operator(one: Operator, other: Operator) -> bool
+/// `true` only where both are the same operator.
+pub fn is_same_operator(one: Operator, other: Operator) -> bool
     ensures { IsTrue result → one ≡ other }
 {
     if one.is_negated != other.is_negated || one.if_exists != other.if_exists {
@@ -64,26 +65,24 @@ fn are_same_values(ones: &[Operand], others: &[Operand]) -> bool
     true
 }
 
-/// `true` only where both values are the same; ranges of addresses are not compared.
-fn is_same_value(one: &Operand, other: &Operand) -> bool
+/// `true` only where both values are the same.
+pub fn is_same_value(one: &Operand, other: &Operand) -> bool
     ensures { IsTrue result → one.now ≡ other.now }
 {
     match (one, other) {
-        (Operand::Text(one), Operand::Text(other)) => is_same_text(one, other),
+        (Operand::Text(one), Operand::Text(other)) => one.is_same(other),
         (Operand::Number(one), Operand::Number(other)) => one == other,
         (Operand::Instant(one), Operand::Instant(other)) => one.get() == other.get(),
         (Operand::Truth(one), Operand::Truth(other)) => one == other,
         (Operand::Bytes(one), Operand::Bytes(other)) => one.as_slice() == other.as_slice(),
+        (Operand::Range(one), Operand::Range(other)) => is_same_range(one.get(), other.get()),
         _ => false,
     }
 }
 
-/// `true` only where both texts are the same, and have no variables.
-fn is_same_text(one: &Template, other: &Template) -> bool
+/// `true` only where both ranges have the same address, and as many of its bits count.
+fn is_same_range(one: &Range, other: &Range) -> bool
     ensures { IsTrue result → one.now ≡ other.now }
 {
-    match (one.form(), other.form()) {
-        (TemplateForm::Fixed(one), TemplateForm::Fixed(other)) => one.is_same(other),
-        _ => false,
-    }
+    one.width() == other.width() && one.number() == other.number() && one.prefix() == other.prefix()
 }

@@ -1,4 +1,4 @@
-//! Whether two statements are the same, and lists of them.
+//! Whether two statements are the same, parts of them, and lists of them.
 #![tactic(auto)]
 
 mod conditions;
@@ -7,5 +7,6 @@ mod principals;
 mod prints;
 mod statement;
 
+pub use conditions::{is_same_operator, is_same_value};
 pub use lists::{are_all_equal, print_all};
 pub use prints::{action_print, text_print};

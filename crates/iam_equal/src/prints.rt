@@ -2,7 +2,6 @@
 use iam_condition::{Entry, Operand};
 use iam_element::{Actions, Principals};
 use iam_policy::{Effect, Statement};
-use iam_text::TemplateForm;
 
 /// A number that tells most statements apart.
 pub fn print(statement: &Statement) -> u64 {
@@ -52,14 +51,12 @@ fn with_names(print: u64, principal: &Principals) -> u64 {
     print
 }
 
-/// The number of what has this one, with the key of an entry behind it, and those of its values that are patterns.
+/// The number of what has this one, with the key of an entry behind it, and those of its values that are texts.
 fn with_entry(print: u64, entry: &Entry) -> u64 {
     let mut print = with(print, text_print(entry.key()));
     for value in entry.values() {
         if let Operand::Text(text) = value {
-            if let TemplateForm::Fixed(pattern) = text.form() {
-                print = pattern.print(print);
-            }
+            print = text.print(print);
         }
     }
     print

@@ -7,8 +7,7 @@ use crate::principals::are_same_principals;
 use iam_element::Resources;
 use iam_policy::Statement;
 
-/// `true` only where both statements are the same, element by element; `false` says nothing, and is the answer where a text has
-/// variables or a value of a condition is a range of addresses.
+/// `true` only where both statements are the same, element by element; `false` says nothing.
 pub fn are_equal(one: &Statement, other: &Statement) -> bool
     ensures { IsTrue result → one.now ≡ other.now }
 {

@@ -40,6 +40,14 @@ kept_same version wild text other same one again =
     let P : List ℕ → Type 0 = λ t. IsDraftIn version wild t one.0 in
     ∥∥₁_elim one.1 (Coded-set (coded_list the_row.coded) again.0 one.0) (λ x. kept_is version wild other again one.0 (subst P (sym same) x.0))
 
+-- also where version, and what wildcards are, are told to be the same
+pub kept_alike : (version wanted : Version) (wild read : Bool) (text other : List ℕ) → text ≡ other → wild ≡ read → version ≡ wanted
+    → (one : OneDraft version wild text) (again : OneDraft wanted read other) → one.0 ≡ again.0
+kept_alike version wanted wild read text other same wildcards of_version one again =
+    let P : Version → Type 0 = λ v. (w : Bool) → w ≡ read → (it : OneDraft v w text) → it.0 ≡ again.0 in
+    let Q : Bool → Type 0 = λ w. (it : OneDraft wanted w text) → it.0 ≡ again.0 in
+    subst P (sym of_version) (λ w is. subst Q (sym is) (kept_same wanted read other text same again)) wild wildcards one
+
 -- up to the form that stands behind the first `${`
 over : (wild : Bool) (text front inside behind : List ℕ) (piece : Piece) → IsUtf8 front → IsCutAtForm text front inside → HasForm piece inside behind
     → Along wild text (plain_draft (map (sign_of wild) (chars front)) ++ piece ∷ []) behind

@@ -17,6 +17,7 @@ use crate::text::Text;
 use crate::version::Version;
 use iam_glob::Sign;
 use std::alloc::Global;
+use std::hash::{FoldHasher, Hasher};
 use std::marker::Model;
 
 /// A piece of a text that may hold variables. Contracts see a text as its pieces; a [`Draft`] keeps the text.
@@ -101,6 +102,24 @@ impl Draft {
     {
         let pieces = pieces_of(alloc, self.stretches())?;
         Ok(Items::from_vec(pieces))
+    }
+
+    /// `true` only where both have the same pieces; `false` says nothing, since unlike texts may have the same pieces.
+    pub fn is_same(&self, other: &Draft) -> bool
+        ensures { IsTrue result → self.now ≡ other.now }
+    {
+        if self.text.as_str() != other.text.as_str() || self.wild != other.wild {
+            return false;
+        }
+        self.version == other.version
+    }
+
+    /// A number that tells most drafts apart, with this one before it. Nothing is claimed of it.
+    pub fn print(&self, print: u64) -> u64 {
+        let mut hasher = FoldHasher::default();
+        hasher.write_u64(print);
+        hasher.write(self.text.as_str().as_bytes());
+        hasher.finish()
     }
 
     /// The text, to be walked from its front.

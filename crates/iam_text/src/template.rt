@@ -40,7 +40,7 @@ impl Model for Template {
 }
 
 impl Template {
-    ghost use Rattle.std.specs.Prelude.{IfOk, IsTrue};
+    ghost use Rattle.std.specs.Prelude.{◌≡◌, IfOk, IsTrue};
     ghost use Rattle.iam_text.specs.Draft.{IsDraftIn};
     ghost use Rattle.iam_text.specs.Template.{IsFormOf};
     ghost use Rattle.iam_text.specs.Variables.{is_draft_in};
@@ -75,6 +75,26 @@ impl Template {
         match &self.kind {
             Kind::Fixed(glob) => TemplateForm::Fixed(glob),
             Kind::Open(draft) => TemplateForm::Open(draft),
+        }
+    }
+
+    /// `true` only where both have the same pieces; `false` says nothing, since like texts may be kept unlike.
+    pub fn is_same(&self, other: &Template) -> bool
+        ensures { IsTrue result → self.now ≡ other.now }
+    {
+        match (&self.kind, &other.kind) {
+            (Kind::Fixed(one), Kind::Fixed(other)) => one.is_same(other),
+            (Kind::Open(one), Kind::Open(other)) => one.is_same(other),
+            _ => false,
+        }
+    }
+
+    /// A number that tells most lists of templates apart, where the last of them is this one and those before it have this
+    /// number. Nothing is claimed of it.
+    pub fn print(&self, print: u64) -> u64 {
+        match &self.kind {
+            Kind::Fixed(glob) => glob.print(print),
+            Kind::Open(draft) => draft.print(print),
         }
     }
 }
