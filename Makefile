@@ -57,6 +57,7 @@ stress: build
 	bench/names
 	bench/changed-names
 	bench/any-key
+	bench/changed-any-key
 
 # The further edits that the prover has to refuse, of all crates or of CRATE=name; not part of the gate.
 attacks:
