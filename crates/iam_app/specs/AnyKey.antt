@@ -1,5 +1,5 @@
 -- What the runs of `matrix --any-key` and `first --any-key` write, and why they end without their report. LOGIC 13.4 and 13.11.
-use Rattle.std.specs.Prelude.{◌≡◌, ◌⊎◌, ◌↔◌, ℕ, Bool, IsTrue, List, [], MatchBool, Option, String, string_bytes}
+use Rattle.std.specs.Prelude.{◌≡◌, ◌≢◌, ◌⊎◌, ◌↔◌, ℕ, Bool, IsTrue, List, [], MatchBool, Option, String, string_bytes}
 use Rattle.std.specs.Global.{Global}
 use Rattle.std.specs.List.{AllZip}
 use Rattle.iam_world.specs.World.{WorldValue}
@@ -10,6 +10,7 @@ use Rattle.iam_open.specs.First.{IsFirstTurnedReport}
 use Rattle.iam_open.specs.Report.{IsTurnedReport}
 use Rattle.iam_open.specs.Rows.{word_text}
 use Rattle.iam_open.specs.declared.asked.Word.{Word}
+use Rattle.iam_open.specs.declared.asked.Word.TheVariants.{Open}
 use Rattle.iam_options.specs.declared.any_key.AnyKeyCommand.{AnyKeyCommand}
 use Rattle.iam_options.specs.declared.command.Asked.{Asked}
 use Rattle.iam_report.specs.Streams.{AppendsBeginning}
@@ -22,9 +23,10 @@ use Rattle.iam_app.specs.Selected.{patterns_in}
 use Rattle.iam_app.specs.declared.fault.RunFault.{RunFault}
 use Rattle.iam_app.specs.declared.fault.RunFault.TheVariants.{Read, World, Matrix, Write, NoSuchCell, Cut, OutOfMemory}
 
--- a text that is a word for what is said means it
+-- a text that is a word for what is said means it, and one that is none means what is not known
 abbrev pub MeansWord : String Global → Word → Type 0
-MeansWord text word = (said : Word) → string_bytes text ≡ word_text said → word ≡ said
+MeansWord text word =
+    ((said : Word) → string_bytes text ≡ word_text said → word ≡ said) × (((said : Word) → string_bytes text ≢ word_text said) → word ≡ Open)
 
 -- the requests that the words of a command line select
 abbrev pub selected_by : Asked → SelectionValue

@@ -1,5 +1,5 @@
 // Runs on requests of a world, whatever values the keys have that nothing gives.
-ghost use Rattle.std.specs.Prelude.{◌≡◌, ◌↔◌, IfErr, IfOk, IsTrue, [], map};
+ghost use Rattle.std.specs.Prelude.{◌≡◌, ◌≢◌, ◌↔◌, IfErr, IfOk, IsTrue, [], map};
 ghost use Rattle.std.specs.Io.KnownBytes.{Appends};
 ghost use Rattle.std.specs.List.{AllZip};
 ghost use Rattle.iam_matrix.specs.Workers.{IsUnlawful};
@@ -36,9 +36,10 @@ struct TurnedAnswer {
     some: bool,
 }
 
-/// What a word says, which is one of the four.
+/// What a word says; a text that is none of the four stands for what is not known.
 fn word(text: &str) -> Word
-    ensures { (said : Word) → text.now ≡ word_text said → result ≡ said }
+    ensures means { (said : Word) → text.now ≡ word_text said → result ≡ said }
+    ensures other { ((said : Word) → text.now ≢ word_text said) → result ≡ Word.Open }
 {
     match text {
         "always" => Word::Always,

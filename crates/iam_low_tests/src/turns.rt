@@ -54,18 +54,18 @@ fn turns_of_one_request(rt: HostRuntime) -> Result<(), Fail> {
         (none, a, "", "lost"),
         (a, b, "", "gained lost"),
         (a, a, r#""k":"a""#, "gained"),
-        (a, r#""StringEquals":{"k":["a","b"]}"#, "", "gained open"),
+        (a, r#""StringEquals":{"k":["a","b"]}"#, "", "gained"),
         (
             a,
             r#""StringEquals":{"k":"a"},"DateGreaterThan":{"aws:CurrentTime":"2030-01-01T00:00:00Z"}"#,
             "",
-            "lost open",
+            "lost",
         ),
         (
             r#""IpAddress":{"aws:SourceIp":"10.0.0.0/24"}"#,
             r#""IpAddress":{"aws:SourceIp":"10.0.0.0/8"}"#,
             "",
-            "gained open",
+            "gained",
         ),
     ];
     for (before, after, key, words) in rows {

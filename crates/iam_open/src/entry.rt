@@ -31,8 +31,8 @@ pub fn conditions_certain<'c>(
     Ok(certain)
 }
 
-/// Whether the entry does.
-fn entry_certain<'c>(
+/// Whether the entry holds in these contexts.
+pub fn entry_certain<'c>(
     alloc: Global,
     entry: &'c Entry,
     context: &Context<'c>,

@@ -1,9 +1,13 @@
 mod AddsLemmas
+mod AllLemmas
 mod CellsLemmas
 mod CertainLemmas
+mod ImpliedLemmas
 mod KeptLemmas
 mod LookLemmas
+mod NetworkLemmas
 mod PartLemmas
+mod ReachLemmas
 mod RequestLemmas
 mod RequesterLemmas
 mod SameLemmas

@@ -1,10 +1,8 @@
 -- What is compared of two worlds where they may decide a request by the same.
-use Rattle.std.proofs.Common.{◌≡◌, ◌∙◌, ◌≤◌, ◌<◌, ◌+◌, ℕ, zero, suc, List, [], ◌∷◌, ◌++◌, All, IsTrue, Some, ap, arith, codes, get_or, inl, inr, length, refl, subst, sym, take}
+use Rattle.std.proofs.Common.{◌≡◌, ◌∙◌, ◌≤◌, ◌<◌, ℕ, zero, suc, List, [], ◌∷◌, ◌++◌, All, IsTrue, Some, ap, arith, codes, get_or, inl, length, refl, subst, sym}
 use Rattle.std.proofs.lemmas.List.{append_cancel_left}
-use Rattle.std.proofs.lemmas.List.Elements.{Contains-push_cases}
-use Rattle.std.specs.List.{Contains, slice_get}
+use Rattle.std.specs.List.{slice_get}
 use Rattle.iam_context.specs.Context.{ContextValue}
-use Rattle.iam_decision.specs.Matched.{Placed}
 use Rattle.iam_layers.specs.Applicable.{applicable_of}
 use Rattle.iam_layers.specs.Cell.{IsAction, IsDerivedAt, IsPrincipal, IsResource}
 use Rattle.iam_layers.specs.Derived.{derived_of, key, moment_keys, requester_keys}
@@ -12,13 +10,14 @@ use Rattle.iam_layers.proofs.VerdictLemmas.{one_some}
 use Rattle.iam_match.specs.Requester.{RequesterValue}
 use Rattle.iam_open.specs.InQuestion.{MayBeGiven, at_moment, last_moment}
 use Rattle.iam_open.proofs.GivenLemmas.{IsSingle}
-use Rattle.iam_open.proofs.ListLemmas.{taken_more}
+use Rattle.iam_open_changes.specs.Code.Kept.{AreKept, KeptValue}
 use Rattle.iam_open_changes.specs.Code.Same.{AllowNoMore, Excludes, HaveSameDerived, HaveSameFrame, HaveSameKnown, HaveSameTexts, HaveSameWho}
 use Rattle.iam_open_changes.specs.Laws.{NoMoreIsNotTurned}
-use Rattle.iam_open_changes.specs.Same.{AreAmong, AreKept, AskSame, known_context}
+use Rattle.iam_open_changes.specs.Same.{AskSame, known_context}
+use Rattle.iam_open_changes.proofs.ReachLemmas.{reach_in}
 use Rattle.iam_open_changes.specs.declared.numbers.Numbers.{Numbers}
 use Rattle.iam_open_changes.specs.declared.same.Excluded.{Excluded}
-use Rattle.iam_policy.specs.declared.effect.Effect.{Effect}
+use Rattle.iam_policy.specs.declared.effect.Effect.TheVariants.{Allow, Deny}
 use Rattle.iam_world.specs.World.{PrincipalValue, ResourceValue, WorldValue}
 
 -- ---- the account of a resource, from the derived keys
@@ -125,7 +124,7 @@ ask_back before after was now same = record {
 }
 
 -- what is excluded by the statements that may match
-pub excludes : NoMoreIsNotTurned → (before after : WorldValue) (was now : Numbers) (excluded : Excluded) (ones others : List Placed)
+pub excludes : NoMoreIsNotTurned → (before after : WorldValue) (was now : Numbers) (excluded : Excluded) (ones others : List KeptValue)
     → AskSame before after was now → AreKept before was ones → AreKept after now others
     → (IsTrue excluded.gains → AllowNoMore others ones) → (IsTrue excluded.losses → AllowNoMore ones others)
     → Excludes before after (Some was) (Some now) excluded
@@ -134,23 +133,15 @@ excludes law before after was now excluded ones others same kept kept' gains los
       let (allows, denies) = gains t in
       (law before after was now).0 (record {
         same = ask_back before after was now same;
-        kept = others;
-        more = ones;
-        kept_one = kept';
-        kept_other = kept;
-        allows = allows;
-        denies = denies;
+        allows = reach_in Allow after before now was others ones kept' kept allows;
+        denies = reach_in Deny before after was now ones others kept kept' denies;
       });
   losses = λ t.
       let (allows, denies) = losses t in
       (law before after was now).1 (record {
         same = same;
-        kept = ones;
-        more = others;
-        kept_one = kept;
-        kept_other = kept';
-        allows = allows;
-        denies = denies;
+        allows = reach_in Allow before after was now ones others kept kept' allows;
+        denies = reach_in Deny after before now was others ones kept' kept denies;
       });
 }
 
@@ -169,17 +160,6 @@ texts_same before after was now text text' arn arn' does does' same (s, there, w
   action_after = subst (λ (z : List ℕ). IsAction after now.action z) (sym same) does';
   resource = (s, there, (s', there', sym what ∙ arns ∙ what'));
 }
-
--- ---- one more statement
-
-pub among_more : (effect : Effect) (xs others : List Placed) (i : ℕ) (x : Placed) → i < length xs → x ≡ get_or xs i x
-    → AreAmong effect (take i xs) others → (x.statement.effect ≡ effect → Contains others x) → AreAmong effect (take (i + 1) xs) others
-among_more effect xs others i x below at are kept s among has =
-    elim (Contains-push_cases (take i xs) x s (subst (λ (ys : List Placed). Contains ys s) (taken_more xs i x below at) among)) [
-      | inl inside ↦ are s inside has
-      | inr same ↦
-          subst (λ (y : Placed). Contains others y) same (kept (ap (λ (y : Placed). y.statement.effect) same ∙ has))
-    ]
 
 -- ---- derived keys that are found to be the same
 

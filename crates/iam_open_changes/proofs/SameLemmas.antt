@@ -1,5 +1,5 @@
 -- Requests of two worlds that are decided by the same.
-use Rattle.std.proofs.Common.{◌≡◌, ◌∙◌, ◌<◌, ◌≤◌, ℕ, pos, List, [], ◌∷◌, ◌++◌, Some, ap, append_assoc, refl, set, subst, sym}
+use Rattle.std.proofs.Common.{◌≡◌, ◌∙◌, ◌<◌, ◌≤◌, ℕ, arith, pos, List, [], ◌∷◌, ◌++◌, Some, ap, append_assoc, refl, set, subst, sym}
 use Rattle.std.proofs.lemmas.List.{append-nil, get_or-set_same, length-set}
 use Rattle.std.proofs.lemmas.Option.{slice_get-get_or, slice_get_within}
 use Rattle.std.specs.List.{Any, Contains, slice_get}
@@ -13,7 +13,7 @@ use Rattle.iam_decision.specs.declared.place.Layer.{Layer}
 use Rattle.iam_decision.specs.declared.verdict.Decision.{Decision}
 use Rattle.iam_decision.specs.declared.verdict.Decision.TheVariants.{Allowed, ExplicitDeny, ImplicitDeny}
 use Rattle.iam_layers.specs.Applicable.{applicable_of}
-use Rattle.iam_layers.specs.Cell.{IsAccessAt, IsApplicableAt}
+use Rattle.iam_layers.specs.Cell.{IsAccessAt, IsRequestAt}
 use Rattle.iam_layers.specs.Derived.{derived_of}
 use Rattle.iam_layers.specs.Own.{IsCleanAt, IsWorldWith}
 use Rattle.iam_layers.proofs.VerdictLemmas.{one_some}
@@ -27,7 +27,7 @@ use Rattle.iam_open.proofs.ListLemmas.{in_some, some_in}
 use Rattle.iam_open.proofs.TurnLemmas.{OneStamp}
 use Rattle.iam_open_changes.specs.InBoth.{IsNeverTurned}
 use Rattle.iam_open_changes.specs.Laws.{NoMoreIsAllowed, NoMoreIsNotTurned, SameAccess}
-use Rattle.iam_open_changes.specs.Same.{AllowsNoMore, AreKept, AskSame, at_level, known_context}
+use Rattle.iam_open_changes.specs.Same.{AllowsNoMore, AskSame, IsAskedInBoth, Reaches, SaysAsMuch, known_context}
 use Rattle.iam_open_changes.specs.declared.numbers.Numbers.{Numbers}
 use Rattle.iam_open_changes.specs.declared.turn.Turn.TheVariants.{Gained, Lost}
 use Rattle.iam_policy.specs.Reading.{StatementValue}
@@ -116,49 +116,30 @@ one_access one before after q q' s s' own moment applicable applicable' access a
 
 -- ---- the decision
 
--- whatever matches with the effect among the first statements stands among the second ones, at its level
-abbrev pub Reaches : Effect → RequestValue → List Placed → List Placed → Type 0
-Reaches effect q ones others =
-    (s : Placed) → Contains ones s → Says q effect s → (t : Placed) × Contains others t × (at_level t ≡ at_level s)
-
 moved : (effect : Effect) (q : RequestValue) (ones others : List Placed) (P : Placed → Type 0) → Reaches effect q ones others
-    → ((s : Placed) → P s → Says q effect s) → ((s t : Placed) → at_level t ≡ at_level s → P s → P t) → Any P ones → Any P others
+    → ((s : Placed) → P s → Says q effect s) → ((s t : Placed) → SaysAsMuch q s t → P s → P t) → Any P ones → Any P others
 moved effect q ones others P reaches says keeps some =
     let (s, among, p) = some_in P ones some in
-    let (t, there, same) = reaches s among (says s p) in
-    in_some P others t there (keeps s t same p)
+    let (t, there, much) = reaches s among (says s p) in
+    in_some P others t there (keeps s t much p)
 
-statement_same : (s t : Placed) → at_level t ≡ at_level s → s.statement ≡ t.statement
-statement_same s t same = sym (ap (λ (x : Placed). x.statement) same)
-
-layer_same : (s t : Placed) → at_level t ≡ at_level s → t.place.layer ≡ s.place.layer
-layer_same s t same = ap (λ (x : Placed). x.place.layer) same
-
-level_same : (s t : Placed) → at_level t ≡ at_level s → t.place.level ≡ s.place.level
-level_same s t same = ap (λ (x : Placed). x.place.level) same
-
-says_same : (effect : Effect) (q : RequestValue) (s t : Placed) → at_level t ≡ at_level s → Says q effect s → Says q effect t
-says_same effect q s t same p =
-    subst (λ (x : StatementValue). StatementMatches x q × (x.effect ≡ effect)) (statement_same s t same) p
+says_moved : (effect : Effect) (q : RequestValue) (s t : Placed) → SaysAsMuch q s t → Says q effect s → Says q effect t
+says_moved effect q s t much says = (much.matched, much.effect ∙ says.1)
 
 denies_moved : (q : RequestValue) (a b : ApplicableValue) → Reaches Deny q (placed a) (placed b) → Denies a q → Denies b q
-denies_moved q a b reaches some = moved Deny q (placed a) (placed b) (Says q Deny) reaches (λ s p. p) (says_same Deny q) some
+denies_moved q a b reaches some = moved Deny q (placed a) (placed b) (Says q Deny) reaches (λ s p. p) (says_moved Deny q) some
 
 allows_moved : (q : RequestValue) (a b : ApplicableValue) → Reaches Allow q (placed a) (placed b) → (layer : Layer) (level : ℕ)
     → Allows a q layer level → Allows b q layer level
 allows_moved q a b reaches layer level some =
     moved Allow q (placed a) (placed b) (AllowsAt q layer level) reaches (λ s p. p.0)
-    (λ s t same p. (says_same Allow q s t same p.0, layer_same s t same ∙ p.1, level_same s t same ∙ p.2)) some
+    (λ s t much p. (says_moved Allow q s t much p.0, much.layer ∙ p.1, much.level ∙ p.2)) some
 
 grants_moved : (q : RequestValue) (a b : ApplicableValue) → Reaches Allow q (placed a) (placed b) → (least : Grant) → Grants a q least
     → Grants b q least
 grants_moved q a b reaches least some =
     moved Allow q (placed a) (placed b) (GrantsAtLeast q least) reaches (λ s p. p.0)
-    (λ s t same p. (
-      says_same Allow q s t same p.0,
-      layer_same s t same ∙ p.1,
-      subst (λ (x : StatementValue). rank least ≤ rank (grant_of x.principal q.requester)) (statement_same s t same) p.2,
-    )) some
+    (λ s t much p. (says_moved Allow q s t much p.0, much.layer ∙ p.1, omega (arith, p.2, much.grant))) some
 
 allowed_moved : (q : RequestValue) (a b : ApplicableValue) (frame : Frame) → Reaches Allow q (placed a) (placed b)
     → IsAllowed (Allows a q) (Grants a q) frame → IsAllowed (Allows b q) (Grants b q) frame
@@ -181,10 +162,7 @@ pub record IsAlike (before after : WorldValue) (was now : Numbers) (decision oth
   pub a : ApplicableValue
   pub b : ApplicableValue
   pub frames : frame_of a ≡ frame_of b
-  pub applies_a : IsApplicableAt before was.principal was.resource a
-  pub applies_b : IsApplicableAt after now.principal now.resource b
-  pub found_a : (kept : List Placed) → AreKept before was kept → (s : Placed) → Contains (placed a) s → IsMatched q s → Contains kept (at_level s)
-  pub found_b : (kept : List Placed) → AreKept after now kept → (s : Placed) → Contains (placed b) s → IsMatched q s → Contains kept (at_level s)
+  pub asked : IsAskedInBoth before after was now a b q
   pub decided_a : IsDecision a q decision
   pub decided_b : IsDecision b q other
 
@@ -208,25 +186,42 @@ alike_of stamp before after was now own moment decision other same clean clean'
       a = a;
       b = b;
       frames = ap frame_of asked.applies ∙ same.frame ∙ sym (ap frame_of asks.applies);
-      applies_a = (same.asked, same.asked_at, (same.sought, same.sought_at, asked.applies));
-      applies_b = (same.asks, same.asks_at, (same.seeks, same.seeks_at, asks.applies));
-      found_a = λ kept are s among matched. are.matching own moment w a q s clean is_w (access, text, is_access, is_action, q_is) among matched;
-      found_b = λ kept are s among matched.
-          are.matching own moment w' b q' s clean' is_w' (access', text', is_access', is_action', q_is') among
-          (subst (λ (x : RequestValue). IsMatched x s) (sym requests) matched);
+      asked = record {
+        own = own;
+        moment = moment;
+        clean_one = clean;
+        clean_other = clean';
+        asked_one = (w, is_w, (access, text, is_access, is_action, q_is));
+        asked_other = (
+          w',
+          is_w',
+          subst (λ (x : RequestValue). IsRequestAt w' now.principal now.action now.resource b x) requests
+              (access', text', is_access', is_action', q_is'),
+        );
+      };
       decided_a = decided;
       decided_b = subst (λ (x : RequestValue). IsDecision b x other) requests decided';
     }
+
+other_way : (one other : WorldValue) (at to : Numbers) (a b : ApplicableValue) (q : RequestValue) → IsAskedInBoth one other at to a b q
+    → IsAskedInBoth other one to at b a q
+other_way one other at to a b q asked = record {
+  own = asked.own;
+  moment = asked.moment;
+  clean_one = asked.clean_other;
+  clean_other = asked.clean_one;
+  asked_one = asked.asked_other;
+  asked_other = asked.asked_one;
+}
 
 -- ---- the same access
 
 pub same_access : OneStamp → OneDecision → SameAccess
 same_access stamp one before after was now own moment decision other same clean clean' decided decided' =
     let it = alike_of stamp before after was now own moment decision other same.same clean clean' decided decided' in
-    let on : (effect : Effect) → Reaches effect it.q (placed it.a) (placed it.b) = λ effect s among says.
-    same.kept_after.applying it.b (at_level s) it.applies_b (it.found_a same.kept same.kept_before s among says.0) in
-    let back : (effect : Effect) → Reaches effect it.q (placed it.b) (placed it.a) = λ effect s among says.
-    same.kept_before.applying it.a (at_level s) it.applies_a (it.found_b same.kept same.kept_after s among says.0) in
+    let on : (effect : Effect) → Reaches effect it.q (placed it.a) (placed it.b) = λ effect. same.on effect it.a it.b it.q it.asked in
+    let back : (effect : Effect) → Reaches effect it.q (placed it.b) (placed it.a) = λ effect.
+    same.back effect it.b it.a it.q (other_way before after was now it.a it.b it.q it.asked) in
     let turned : IsDecision it.b it.q decision =
     subst (λ (f : Frame). IsDecided (Denies it.b it.q) (Allows it.b it.q) (Grants it.b it.q) f decision) it.frames
     (decided_moved it.q it.a it.b (frame_of it.a) on back decision it.decided_a) in
@@ -237,10 +232,9 @@ same_access stamp one before after was now own moment decision other same clean 
 pub no_more_is_allowed : OneStamp → OneDecision → NoMoreIsAllowed
 no_more_is_allowed stamp one first second at to own moment decision fewer clean clean' allowed decided =
     let it = alike_of stamp first second at to own moment Allowed decision fewer.same clean clean' allowed decided in
-    let on : Reaches Allow it.q (placed it.a) (placed it.b) = λ s among says.
-    fewer.kept_other.applying it.b (at_level s) it.applies_b (fewer.allows (at_level s) (it.found_a fewer.kept fewer.kept_one s among says.0) says.1) in
-    let back : Reaches Deny it.q (placed it.b) (placed it.a) = λ s among says.
-    fewer.kept_one.applying it.a (at_level s) it.applies_a (fewer.denies (at_level s) (it.found_b fewer.more fewer.kept_other s among says.0) says.1) in
+    let on : Reaches Allow it.q (placed it.a) (placed it.b) = fewer.allows it.a it.b it.q it.asked in
+    let back : Reaches Deny it.q (placed it.b) (placed it.a) =
+    fewer.denies it.b it.a it.q (other_way first second at to it.a it.b it.q it.asked) in
     let (free, granted) = it.decided_a in
     let turned : IsDecision it.b it.q Allowed =
     subst (λ (f : Frame). IsDecided (Denies it.b it.q) (Allows it.b it.q) (Grants it.b it.q) f Allowed) it.frames

@@ -1,12 +1,14 @@
 -- The same access: both worlds decide a request by the same, whatever the values of the keys are that nothing gives. LOGIC 11.10.
-use Rattle.std.specs.Prelude.{◌≡◌, ◌++◌, ℕ, List, Contains, Some}
+use Rattle.std.specs.Prelude.{◌≡◌, ◌++◌, ◌≤◌, ℕ, List, Contains, Some}
 use Rattle.std.specs.List.{slice_get}
 use Rattle.iam_context.specs.Context.{ContextValue}
 use Rattle.iam_decision.specs.Applicable.{ApplicableValue, frame_of}
+use Rattle.iam_decision.specs.Decision.{Says}
 use Rattle.iam_decision.specs.Matched.{IsMatched, Placed, placed}
 use Rattle.iam_layers.specs.Applicable.{applicable_of}
-use Rattle.iam_layers.specs.Cell.{IsApplicableAt, IsRequestAt}
+use Rattle.iam_layers.specs.Cell.{IsRequestAt}
 use Rattle.iam_layers.specs.Own.{IsCleanAt, IsWorldWith}
+use Rattle.iam_match.specs.Principal.{grant_of, rank}
 use Rattle.iam_match.specs.Statement.{RequestValue}
 use Rattle.iam_open.specs.InQuestion.{at_moment}
 use Rattle.iam_open_changes.specs.declared.numbers.Numbers.{Numbers}
@@ -14,20 +16,7 @@ use Rattle.iam_policy.specs.declared.effect.Effect.{Effect}
 use Rattle.iam_policy.specs.declared.effect.Effect.TheVariants.{Allow, Deny}
 use Rattle.iam_world.specs.World.{PrincipalValue, ResourceValue, WorldValue}
 
--- the statement at its layer and level, whatever the numbers of its policy and its own
-abbrev pub at_level : Placed → Placed
-at_level s =
-    record { place = record { layer = s.place.layer; level = s.place.level; policy = 0; statement = 0 }; statement = s.statement }
-
--- these are statements that apply to the request, at their levels, and among them are all that match it at some moment, with some keys of
--- its own
-pub record AreKept (world : WorldValue) (at : Numbers) (kept : List Placed) : Type 0 where
-  pub applying : (applicable : ApplicableValue) (s : Placed) → IsApplicableAt world at.principal at.resource applicable → Contains kept s
-      → (t : Placed) × Contains (placed applicable) t × (at_level t ≡ s)
-  pub matching : (own : ContextValue) (moment : ℕ) (other : WorldValue) (applicable : ApplicableValue) (request : RequestValue) (s : Placed)
-      → IsCleanAt world at.principal at.resource own → IsWorldWith (at_moment world moment) at.resource own other
-      → IsRequestAt other at.principal at.action at.resource applicable request → Contains (placed applicable) s → IsMatched request s
-      → Contains kept (at_level s)
+-- ---- what the requests of both worlds have in common
 
 -- the keys that a world, a principal and a resource give
 abbrev pub known_context : WorldValue → PrincipalValue → ResourceValue → ContextValue
@@ -53,23 +42,44 @@ pub record AskSame (before after : WorldValue) (was now : Numbers) : Type 0 wher
   pub known : known_context before asked sought ≡ known_context after asks seeks
   pub frame : frame_of (applicable_of before asked sought) ≡ frame_of (applicable_of after asks seeks)
 
--- so it is, and the statements that may match are the same
+-- ---- statements that say as much
+
+-- the second statement says of a request what the first one says: it matches, with the same effect at the same layer and level, and grants
+-- no less
+pub record SaysAsMuch (q : RequestValue) (one other : Placed) : Type 0 where
+  pub matched : IsMatched q other
+  pub effect : other.statement.effect ≡ one.statement.effect
+  pub layer : other.place.layer ≡ one.place.layer
+  pub level : other.place.level ≡ one.place.level
+  pub grant : rank (grant_of one.statement.principal q.requester) ≤ rank (grant_of other.statement.principal q.requester)
+
+-- whichever of the first statements matches with this effect, one of the second ones says as much
+abbrev pub Reaches : Effect → RequestValue → List Placed → List Placed → Type 0
+Reaches effect q ones others =
+    (s : Placed) → Contains ones s → Says q effect s → (t : Placed) × Contains others t × SaysAsMuch q s t
+
+-- the request in a context in question of both worlds, and the policies that apply to it in each
+pub record IsAskedInBoth (one other : WorldValue) (at to : Numbers) (a b : ApplicableValue) (q : RequestValue) : Type 0 where
+  pub own : ContextValue
+  pub moment : ℕ
+  pub clean_one : IsCleanAt one at.principal at.resource own
+  pub clean_other : IsCleanAt other to.principal to.resource own
+  pub asked_one : (w : WorldValue) × IsWorldWith (at_moment one moment) at.resource own w × IsRequestAt w at.principal at.action at.resource a q
+  pub asked_other : (w : WorldValue) × IsWorldWith (at_moment other moment) to.resource own w × IsRequestAt w to.principal to.action to.resource b q
+
+-- in each of these contexts, whichever statement of the first world matches with this effect, one of the second says as much
+abbrev pub ReachesIn : Effect → WorldValue → WorldValue → Numbers → Numbers → Type 0
+ReachesIn effect one other at to =
+    (a b : ApplicableValue) (q : RequestValue) → IsAskedInBoth one other at to a b q → Reaches effect q (placed a) (placed b)
+
+-- what is asked is the same, and what matches in the one world says as much in the other, both ways
 pub record HaveSame (before after : WorldValue) (was now : Numbers) : Type 0 where
   pub same : AskSame before after was now
-  pub kept : List Placed
-  pub kept_before : AreKept before was kept
-  pub kept_after : AreKept after now kept
+  pub on : (effect : Effect) → ReachesIn effect before after was now
+  pub back : (effect : Effect) → ReachesIn effect after before now was
 
--- those of the first statements that have the effect are among the second ones
-abbrev pub AreAmong : Effect → List Placed → List Placed → Type 0
-AreAmong effect ones others = (s : Placed) → Contains ones s → s.statement.effect ≡ effect → Contains others s
-
--- the first world has no allow that may match and that the second one lacks, and the second no deny that the first lacks
+-- what is asked is the same, the second world allows as much by its statements, and denies no more
 pub record AllowsNoMore (one other : WorldValue) (at to : Numbers) : Type 0 where
   pub same : AskSame one other at to
-  pub kept : List Placed
-  pub more : List Placed
-  pub kept_one : AreKept one at kept
-  pub kept_other : AreKept other to more
-  pub allows : AreAmong Allow kept more
-  pub denies : AreAmong Deny more kept
+  pub allows : ReachesIn Allow one other at to
+  pub denies : ReachesIn Deny other one to at

@@ -1,27 +1,59 @@
-// The statements of which it is not certain that they do not match a request.
-ghost use Rattle.std.specs.Prelude.{◌≡◌, [], IfOk, IsTrue, map};
+// The statements of which it is not certain that they do not match a request, and what of each is open.
+ghost use Rattle.std.specs.Prelude.{◌≡◌, [], All, IfOk, MatchOption, map};
+ghost use Rattle.iam_condition.specs.Entry.{EntryValue};
+ghost use Rattle.iam_context.specs.Context.{ContextValue};
 ghost use Rattle.iam_decision.specs.Code.Scan.{placed_value};
+ghost use Rattle.iam_decision.specs.Matched.{IsMatched};
 ghost use Rattle.iam_layers.specs.Own.{IsCleanAt};
+ghost use Rattle.iam_match.specs.Entry.{EntryHolds};
 ghost use Rattle.iam_match.specs.Request.{access_of};
-ghost use Rattle.iam_open.specs.Code.Known.{AgreeOn};
-ghost use Rattle.iam_open_changes.specs.Code.Kept.{AreKeptOf};
+ghost use Rattle.iam_open.specs.Code.Known.{AgreeOn, request_in};
+ghost use Rattle.iam_open_changes.specs.Code.Kept.{AreKept, AreKeptOf, IsKept, KeptValue};
 ghost use Rattle.iam_open_changes.specs.InBoth.{AreBelow};
-ghost use Rattle.iam_open_changes.specs.Same.{AreKept, at_level};
 
 use crate::numbers::Numbers;
-use iam_context::Part;
-use iam_decision::{Place, Standing};
+use iam_condition::Entry;
+use iam_context::{Context, Part};
+use iam_decision::Standing;
 use iam_layers::{OutOfMemory, World};
-use iam_match::Access;
-use iam_open::{Certain, Known, known_of, statement_certain, statements_at};
+use iam_match::{Access, Grant, action_matches, grant_kind, principal_matches};
+use iam_open::{Certain, Known, entry_certain, known_of, resource_certain, statements_at};
 use iam_value::one_stamp;
 use std::alloc::Global;
+use std::marker::Model;
 
-/// The statements that apply to the request, at their layers and levels, without those of which it is certain that they match in none of
-/// the contexts in question.
-pub fn kept_at(alloc: Global, world: &World, at: Numbers) -> Result<Vec<Standing<'_>>, OutOfMemory>
+/// A statement that may match a request in some of the contexts in question, and what of it is open: whatever else it asks holds in all of
+/// them.
+#[derive(Drop)]
+pub struct Kept<'a> {
+    pub standing: Standing<'a>,
+    /// What it grants the requester.
+    pub grant: Grant,
+    /// Whether it is open that its resource element matches.
+    pub is_resource_open: bool,
+    /// Those of its entries that are open.
+    pub entries: Vec<&'a Entry>,
+}
+
+impl<'a> Model for Kept<'a> {
+    ghost use Rattle.std.specs.Prelude.{map};
+    ghost use Rattle.iam_decision.specs.Code.Scan.{placed_value};
+    ghost use Rattle.iam_open_changes.specs.Code.Kept.{KeptValue};
+
+    ghost Value = { KeptValue };
+
+    ghost view = { λ kept. record {
+      standing = placed_value kept.standing;
+      grant = kept.grant;
+      resource = kept.is_resource_open;
+      entries = map (λ entry. entry.now) kept.entries.items;
+    } };
+}
+
+/// The statements that apply to the request, without those of which it is certain that they match in none of the contexts in question.
+pub fn kept_at(alloc: Global, world: &World, at: Numbers) -> Result<Vec<Kept<'_>>, OutOfMemory>
     requires { AreBelow world.now at }
-    ensures { IfOk result (λ kept. AreKept world.entry.now at (map placed_value kept.items)) }
+    ensures { IfOk result (λ kept. AreKept world.entry.now at kept.items) }
 {
     let none = Vec::new(alloc);
     // The parts of a world's contexts can be joined, so that nothing is refused but memory.
@@ -40,11 +72,11 @@ fn kept_with<'a>(
     world: &'a World,
     at: Numbers,
     none: &Part,
-) -> Result<Vec<Standing<'a>>, OutOfMemory>
+) -> Result<Vec<Kept<'a>>, OutOfMemory>
     requires below { AreBelow world.now at }
     requires clean { IsCleanAt world.now at.principal at.resource none.now.items }
     requires none { none.now.items ≡ [] }
-    ensures { IfOk result (λ kept. AreKept world.entry.now at (map placed_value kept.items)) }
+    ensures { IfOk result (λ kept. AreKept world.entry.now at kept.items) }
 {
     one_stamp();
     let (p, r) = (at.principal, at.resource);
@@ -70,39 +102,82 @@ fn kept_of<'a: 'c, 'c>(
     access: Access<'_, 'c>,
     action: &str,
     known: &Known<'_>,
-) -> Result<Vec<Standing<'a>>, OutOfMemory>
+) -> Result<Vec<Kept<'a>>, OutOfMemory>
     ensures { IfOk result (λ kept. AreKeptOf (access_of access.entry) action.now (AgreeOn known.now access.entry.context.now)
-        (map placed_value statements.now) (map placed_value kept.items)) }
+        (map placed_value statements.now) kept.items) }
 {
     let mut kept = Vec::new(alloc);
     for &standing in statements {
-        let certain = statement_certain(alloc, standing.statement, access, action, known)?;
-        if is_never(certain) {
+        let Some(it) = kept_if(alloc, standing, access, action, known)? else {
             continue;
-        }
-        kept.push(at_level(standing))?;
+        };
+        kept.push(it)?;
     }
     Ok(kept)
 }
 
-/// `true` only where it holds in none of the contexts.
-fn is_never(certain: Certain) -> bool
-    ensures { IsTrue result → certain ≡ Certain.Never }
+/// The statement with what of it is open; `None` only where it matches in none of these contexts.
+fn kept_if<'a: 'c, 'c>(
+    alloc: Global,
+    standing: Standing<'a>,
+    access: Access<'_, 'c>,
+    action: &str,
+    known: &Known<'_>,
+) -> Result<Option<Kept<'a>>, OutOfMemory>
+    ensures { IfOk result (λ found. MatchOption found
+        ((context : ContextValue) → AgreeOn known.now access.entry.context.now context
+        → ¬ IsMatched (request_in (access_of access.entry) action.now context) (placed_value standing.entry))
+        (λ it. (it.standing ≡ placed_value standing.entry)
+        × IsKept (access_of access.entry) action.now (AgreeOn known.now access.entry.context.now) it)) }
 {
-    certain == Certain::Never
+    let statement = standing.statement;
+    if !action_matches(statement.action(), action) {
+        return Ok(None);
+    }
+    if !principal_matches(statement, access.requester) {
+        return Ok(None);
+    }
+    let resource = resource_certain(
+        alloc,
+        statement.resource(),
+        access.resource,
+        access.context,
+        known,
+    )?;
+    if resource == Certain::Never {
+        return Ok(None);
+    }
+    let Some(entries) = open_entries(alloc, statement.conditions(), access.context, known)? else {
+        return Ok(None);
+    };
+    Ok(Some(Kept {
+        standing,
+        grant: grant_kind(statement, access.requester),
+        is_resource_open: resource == Certain::Open,
+        entries,
+    }))
 }
 
-/// The statement at its layer and level.
-fn at_level(standing: Standing<'_>) -> Standing<'_>
-    ensures { placed_value result ≡ at_level (placed_value standing.entry) }
+/// Those of the entries that are open; `None` only where some entry holds in none of these contexts.
+fn open_entries<'a: 'c, 'c>(
+    alloc: Global,
+    entries: &'a [Entry],
+    context: &Context<'c>,
+    known: &Known<'_>,
+) -> Result<Option<Vec<&'a Entry>>, OutOfMemory>
+    ensures { IfOk result (λ found. MatchOption found
+        ((other : ContextValue) → AgreeOn known.now context.now other → ¬ All (EntryHolds other) entries.now)
+        (λ left. (other : ContextValue) → AgreeOn known.now context.now other → All (EntryHolds other) (map (λ entry. entry.now) left.items)
+        → All (EntryHolds other) entries.now)) }
 {
-    Standing {
-        place: Place {
-            layer: standing.place.layer,
-            level: standing.place.level,
-            policy: 0,
-            statement: 0,
-        },
-        statement: standing.statement,
+    let mut left = Vec::new(alloc);
+    for entry in entries {
+        match entry_certain(alloc, entry, context, known)? {
+            Certain::Never => return Ok(None),
+            Certain::Always => continue,
+            Certain::Open => (),
+        }
+        left.push(entry)?;
     }
+    Ok(Some(left))
 }

@@ -15,8 +15,10 @@
 mod certain;
 mod change;
 mod example;
+mod implied;
 mod kept;
 mod laws;
+mod network;
 mod numbers;
 mod report;
 mod row;

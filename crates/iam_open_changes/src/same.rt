@@ -1,19 +1,23 @@
 // Whether the statements by which two worlds decide a request exclude that it is gained, or lost.
-ghost use Rattle.std.specs.Prelude.{◌≡◌, IfOk, IsTrue, Some, map, option_map};
-ghost use Rattle.std.specs.List.{Contains};
+ghost use Rattle.std.specs.Prelude.{◌≡◌, ◌≤◌, All, Any, IfOk, IsTrue, Some, map, option_map};
 ghost use Rattle.iam_decision.specs.Code.Scan.{placed_value};
+ghost use Rattle.iam_match.specs.Principal.{rank};
 ghost use Rattle.iam_match.specs.Requester.{requester_arn, requester_name};
-ghost use Rattle.iam_open_changes.specs.Code.Same.{AllowNoMore, AreOfOneKind, Excludes, HaveSameDerived, HaveSameFrame, HaveSameKnown, HaveSameTexts, HaveSameWho};
+ghost use Rattle.iam_open_changes.specs.Code.Implied.{Implies};
+ghost use Rattle.iam_open_changes.specs.Code.Same.{AllowNoMore, AreOfOneKind, Excludes, HaveSameDerived, HaveSameFrame, HaveSameKnown, HaveSameTexts, HaveSameWho, IsReached, ReachOthers, StandAlike};
 ghost use Rattle.iam_open_changes.specs.InBoth.{AreBelow};
-ghost use Rattle.iam_open_changes.specs.Same.{AreAmong, AskSame};
+ghost use Rattle.iam_open_changes.specs.Same.{AskSame};
 
-use crate::kept::kept_at;
+use crate::implied::implies;
+use crate::kept::{Kept, kept_at};
 use crate::laws::no_more_is_not_turned;
 use crate::numbers::{Both, Numbers};
+use iam_condition::Entry;
 use iam_context::{KeyName, Requester, Text, Values};
 use iam_decision::{Effect, Standing};
-use iam_equal::are_all_equal;
 use iam_layers::{OutOfMemory, World};
+use iam_match::Grant;
+use iam_policy::Statement;
 use std::alloc::Global;
 
 /// What does not come about in any of the contexts in question.
@@ -25,8 +29,8 @@ pub struct Excluded {
     pub losses: bool,
 }
 
-/// What is excluded since of the statements that may match the one world has no allow that the other lacks, and lacks no deny. It is not
-/// seen where a statement that may match has a text with variables or a range of addresses.
+/// What is excluded since wherever an allow of the one world matches, one of the other does too, and wherever a deny of the other does, one
+/// of the first.
 pub fn exclusions(alloc: Global, both: Both<'_>) -> Result<Excluded, OutOfMemory>
     ensures { IfOk result (Excludes both.entry.before.now both.entry.after.now both.entry.was both.entry.now) }
 {
@@ -67,49 +71,127 @@ fn excluded_of(
     })
 }
 
-/// `true` only where of these statements the first ones have no allow that the second lack, and the second no deny that the first lack.
-fn allow_no_more(ones: &[Standing<'_>], others: &[Standing<'_>]) -> bool
-    ensures { IsTrue result → AllowNoMore (map placed_value ones.now) (map placed_value others.now) }
+/// `true` only where the first of these statements allow no more than the second ones.
+fn allow_no_more(ones: &[Kept<'_>], others: &[Kept<'_>]) -> bool
+    ensures { IsTrue result → AllowNoMore ones.now others.now }
 {
-    are_among(Effect::Allow, ones, others) && are_among(Effect::Deny, others, ones)
+    reach_others(Effect::Allow, ones, others) && reach_others(Effect::Deny, others, ones)
 }
 
-/// `true` only where those of the first statements that have this effect are among the second ones.
-fn are_among(effect: Effect, ones: &[Standing<'_>], others: &[Standing<'_>]) -> bool
-    ensures { IsTrue result → AreAmong effect (map placed_value ones.now) (map placed_value others.now) }
+/// `true` only where each of the first statements that has this effect reaches one of the second ones.
+fn reach_others(effect: Effect, ones: &[Kept<'_>], others: &[Kept<'_>]) -> bool
+    ensures { IsTrue result → ReachOthers effect ones.now others.now }
 {
-    for &one in ones {
-        if !is_kept(effect, one, others) {
+    for one in ones {
+        if !reaches_if(effect, one, others) {
             return false;
         }
     }
     true
 }
 
-/// `true` only where the statement has another effect or is one of these.
-fn is_kept(effect: Effect, one: Standing<'_>, others: &[Standing<'_>]) -> bool
-    ensures { IsTrue result → one.entry.statement.now.effect ≡ effect → Contains (map placed_value others.now) (placed_value one.entry) }
+/// `true` only where the statement has another effect or reaches one of these.
+fn reaches_if(effect: Effect, one: &Kept<'_>, others: &[Kept<'_>]) -> bool
+    ensures { IsTrue result → one.now.standing.statement.effect ≡ effect → Any (IsReached one.now) others.now }
 {
-    one.statement.effect() != effect || is_among(one, others)
+    one.standing.statement.effect() != effect || reaches_one(one, others)
 }
 
-/// `true` only where the statement is one of these.
-fn is_among(one: Standing<'_>, others: &[Standing<'_>]) -> bool
-    ensures { IsTrue result → Contains (map placed_value others.now) (placed_value one.entry) }
+/// `true` only where the statement reaches one of these.
+fn reaches_one(one: &Kept<'_>, others: &[Kept<'_>]) -> bool
+    ensures { IsTrue result → Any (IsReached one.now) others.now }
 {
-    for &other in others {
-        if is_same(one, other) {
+    for other in others {
+        if is_reached(one, other) {
             return true;
         }
     }
     false
 }
 
-/// `true` only where both are the same statement at the same place.
-fn is_same(one: Standing<'_>, other: Standing<'_>) -> bool
-    ensures { IsTrue result → placed_value one.entry ≡ placed_value other.entry }
+/// `true` only where the second statement says as much as the first one, wherever that matches.
+fn is_reached(one: &Kept<'_>, other: &Kept<'_>) -> bool
+    ensures { IsTrue result → IsReached one.now other.now }
 {
-    are_all_equal(&[one], &[other])
+    if !stand_alike(one, other) {
+        return false;
+    }
+    if !grants_as_much(one, other) {
+        return false;
+    }
+    if !keeps_resource(one, other) {
+        return false;
+    }
+    keeps_entries(one, other)
+}
+
+/// Whether both statements have the same effect, and stand at the same level of the same layer.
+fn stand_alike(one: &Kept<'_>, other: &Kept<'_>) -> bool
+    ensures { IsTrue result → StandAlike one.now.standing other.now.standing }
+{
+    let (one, other) = (one.standing, other.standing);
+    one.statement.effect() == other.statement.effect()
+        && one.place.layer == other.place.layer
+        && one.place.level == other.place.level
+}
+
+/// Whether the second statement grants no less than the first one.
+fn grants_as_much(one: &Kept<'_>, other: &Kept<'_>) -> bool
+    ensures { IsTrue result → rank one.now.grant ≤ rank other.now.grant }
+{
+    one.grant <= other.grant
+}
+
+/// `true` only where the resource element of the second statement matches wherever that of the first one does.
+fn keeps_resource(one: &Kept<'_>, other: &Kept<'_>) -> bool
+    ensures { IsTrue result → IsTrue other.now.resource → one.now.standing.statement.resource ≡ other.now.standing.statement.resource }
+{
+    !other.is_resource_open || have_same_resource(one.standing.statement, other.standing.statement)
+}
+
+/// `true` only where the open entries of the second statement hold wherever the entries of the first one do.
+fn keeps_entries(one: &Kept<'_>, other: &Kept<'_>) -> bool
+    ensures { IsTrue result → All (λ entry. Any (λ it. Implies it entry) one.now.standing.statement.conditions) other.now.entries }
+{
+    are_implied(
+        one.standing.statement.conditions(),
+        other.entries.as_slice(),
+    )
+}
+
+/// `true` only where both have the same resource element, or neither has one.
+fn have_same_resource(one: &Statement, other: &Statement) -> bool
+    ensures { IsTrue result → one.now.resource ≡ other.now.resource }
+{
+    match (one.resource(), other.resource()) {
+        (None, None) => true,
+        (Some(one), Some(other)) => one.equals(other),
+        _ => false,
+    }
+}
+
+/// `true` only where each of these holds wherever all of the first entries do.
+fn are_implied(entries: &[Entry], others: &[&Entry]) -> bool
+    ensures { IsTrue result → All (λ entry. Any (λ it. Implies it entry) entries.now) (map (λ entry. entry.now) others.now) }
+{
+    for other in others {
+        if !is_implied(entries, other) {
+            return false;
+        }
+    }
+    true
+}
+
+/// `true` only where one of the entries implies this one.
+fn is_implied(entries: &[Entry], other: &Entry) -> bool
+    ensures { IsTrue result → Any (λ it. Implies it other.now) entries.now }
+{
+    for entry in entries {
+        if implies(entry, other) {
+            return true;
+        }
+    }
+    false
 }
 
 /// `true` only where the same is asked in both worlds.

@@ -2,11 +2,8 @@
 ghost use Rattle.iam_open_changes.specs.InBoth.{AreBelow, IsThere};
 
 use crate::numbers::{Both, Numbers};
-use iam_condition::Operand;
-use iam_decision::Standing;
 use iam_layers::{OutOfMemory, World};
 use iam_open::{known_of, moments_of, statements_at, trials_of};
-use iam_value::{Address, Range};
 use std::alloc::Global;
 
 /// A key that neither world gives, with the texts that are tried for it beside having none.
@@ -22,27 +19,6 @@ pub struct Tried {
     pub trials: Vec<Trial>,
     pub moments: Vec<u64>,
 }
-
-/// Addresses of private networks (RFC 1918) and of documents (RFC 5737), each by its number; those that differ from one of them in a bit
-/// are tried too.
-const ADDRESSES: [u32; 6] = [
-    0x0a00_0001,
-    0xac10_0001,
-    0xc0a8_0001,
-    0xc000_0201,
-    0xc633_6401,
-    0xcb00_7101,
-];
-
-/// Addresses of documents (RFC 3849), and one of a private network (RFC 4193).
-const LONG_ADDRESSES: [&str; 6] = [
-    "2001:db8::1",
-    "2001:db8::1:1",
-    "2001:db8:0:1::1",
-    "2001:db8:1::1",
-    "2001:db9::1",
-    "fd00::1",
-];
 
 /// So many keys are tried at most, and so many texts of one.
 const KEYS: usize = 8;
@@ -101,7 +77,6 @@ fn add_asked(
     for trial in trials.as_slice() {
         add_texts(alloc, tried, both, trial.key, trial.texts.as_slice())?;
     }
-    add_addresses(alloc, tried, both, statements.as_slice())?;
     let moments = moments_of(alloc, from, statements.as_slice())?;
     for &moment in moments.as_slice() {
         if moment >= from && !tried.moments.contains(&moment) {
@@ -182,93 +157,4 @@ impl Trial {
         }
         Ok(())
     }
-}
-
-// ---- addresses
-
-/// Adds addresses that the ranges of these statements tell apart, for each key that is asked to be in one.
-fn add_addresses(
-    alloc: Global,
-    tried: &mut Tried,
-    both: Both<'_>,
-    statements: &[Standing<'_>],
-) -> Result<(), OutOfMemory> {
-    let mut keys: Vec<&str> = Vec::new(alloc);
-    let mut ranges: Vec<&Range> = Vec::new(alloc);
-    for standing in statements {
-        for entry in standing.statement.conditions() {
-            for value in entry.values() {
-                if let Operand::Range(range) = value {
-                    ranges.push(range.get())?;
-                    keys.push(entry.key())?;
-                }
-            }
-        }
-    }
-    if ranges.is_empty() {
-        return Ok(());
-    }
-    let texts = told_apart(alloc, ranges.as_slice())?;
-    for &key in keys.as_slice() {
-        add_texts(alloc, tried, both, key, texts.as_slice())?;
-    }
-    Ok(())
-}
-
-/// Addresses of which no two are in the same of these ranges.
-fn told_apart(alloc: Global, ranges: &[&Range]) -> Result<Vec<String>, OutOfMemory> {
-    let mut texts = Vec::new(alloc);
-    let mut prints: Vec<u64> = Vec::new(alloc);
-    for base in ADDRESSES {
-        add_address(
-            alloc,
-            &mut texts,
-            &mut prints,
-            ranges,
-            address_text(alloc, base)?,
-        )?;
-        let mut bit: u32 = 1;
-        for _ in 0..32 {
-            let text = address_text(alloc, base ^ bit)?;
-            add_address(alloc, &mut texts, &mut prints, ranges, text)?;
-            bit = bit.rotate_left(1);
-        }
-    }
-    for text in LONG_ADDRESSES {
-        let text = String::from_str(alloc, text)?;
-        add_address(alloc, &mut texts, &mut prints, ranges, text)?;
-    }
-    Ok(texts)
-}
-
-fn add_address(
-    _alloc: Global,
-    texts: &mut Vec<String>,
-    prints: &mut Vec<u64>,
-    ranges: &[&Range],
-    text: String,
-) -> Result<(), OutOfMemory> {
-    let Some(address) = Address::read(text.as_str()) else {
-        return Ok(());
-    };
-    let mut print: u64 = 0;
-    for range in ranges {
-        print = print.rotate_left(1) ^ u64::from(range.holds(&address));
-    }
-    if !prints.contains(&print) {
-        prints.push(print)?;
-        texts.push(text)?;
-    }
-    Ok(())
-}
-
-/// The text of an address of 32 bits.
-fn address_text(alloc: Global, number: u32) -> Result<String, OutOfMemory> {
-    let (a, b, c, d) = (
-        number >> 24,
-        number >> 16 & 255,
-        number >> 8 & 255,
-        number & 255,
-    );
-    format!(in alloc; "{a}.{b}.{c}.{d}")
 }

@@ -1,15 +1,18 @@
 -- What is compared where two worlds may decide a request by the same.
-use Rattle.std.specs.Prelude.{◌≡◌, ⊤, ℕ, IsTrue, List, None, Option, Some}
+use Rattle.std.specs.Prelude.{◌≡◌, ◌≤◌, ⊤, ℕ, All, Any, Contains, IsTrue, List, None, Option, Some}
 use Rattle.iam_context.specs.Context.{ContextValue}
 use Rattle.iam_decision.specs.Applicable.{ApplicableValue, frame_of}
 use Rattle.iam_decision.specs.Matched.{Placed}
 use Rattle.iam_layers.specs.Cell.{IsAction, IsApplicableAt, IsDerivedAt, IsPrincipal, IsResource}
+use Rattle.iam_match.specs.Principal.{rank}
 use Rattle.iam_open.specs.InQuestion.{at_moment}
 use Rattle.iam_open_changes.specs.InBoth.{IsNeverTurned}
-use Rattle.iam_open_changes.specs.Same.{AreAmong}
+use Rattle.iam_open_changes.specs.Code.Implied.{Implies}
+use Rattle.iam_open_changes.specs.Code.Kept.{KeptValue}
 use Rattle.iam_open_changes.specs.declared.numbers.Numbers.{Numbers}
 use Rattle.iam_open_changes.specs.declared.same.Excluded.{Excluded}
 use Rattle.iam_open_changes.specs.declared.turn.Turn.TheVariants.{Gained, Lost}
+use Rattle.iam_policy.specs.declared.effect.Effect.{Effect}
 use Rattle.iam_policy.specs.declared.effect.Effect.TheVariants.{Allow, Deny}
 use Rattle.iam_world.specs.World.{WorldValue}
 
@@ -55,6 +58,24 @@ HaveSameDerived before after was now =
     (derived : ContextValue) × IsDerivedAt (at_moment before before.moment) was.principal was.resource derived
     × IsDerivedAt (at_moment after before.moment) now.principal now.resource derived
 
+-- both statements have the same effect, and stand at the same level of the same layer
+pub record StandAlike (one other : Placed) : Type 0 where
+  pub effect : other.statement.effect ≡ one.statement.effect
+  pub layer : other.place.layer ≡ one.place.layer
+  pub level : other.place.level ≡ one.place.level
+
+-- wherever the first statement matches, what is open of the second one holds; they stand alike, and the second grants no less
+pub record IsReached (one other : KeptValue) : Type 0 where
+  pub alike : StandAlike one.standing other.standing
+  pub grant : rank one.grant ≤ rank other.grant
+  pub resource : IsTrue other.resource → one.standing.statement.resource ≡ other.standing.statement.resource
+  pub entries : All (λ entry. Any (λ it. Implies it entry) one.standing.statement.conditions) other.entries
+
+-- each of the first statements that has the effect reaches one of the second ones
+abbrev pub ReachOthers : Effect → List KeptValue → List KeptValue → Type 0
+ReachOthers effect ones others =
+    (one : KeptValue) → Contains ones one → one.standing.statement.effect ≡ effect → (other : KeptValue) × Contains others other × IsReached one other
+
 -- of these statements the first allow no more
-abbrev pub AllowNoMore : List Placed → List Placed → Type 0
-AllowNoMore ones others = AreAmong Allow ones others × AreAmong Deny others ones
+abbrev pub AllowNoMore : List KeptValue → List KeptValue → Type 0
+AllowNoMore ones others = ReachOthers Allow ones others × ReachOthers Deny others ones

@@ -9,4 +9,4 @@ use Rattle.iam_open_changes.proofs.kept.kept_of.Given as goal
 abbrev pub invariant-loop-standing : goal.invariant-loop-standing
 invariant-loop-standing l =
     AreKeptOf (access_of l.access) l.action (AgreeOn l.known l.access.context.now) (take l.standing-index (map placed_value l.statements))
-    (map placed_value l.kept.items)
+    l.kept.items

@@ -1,0 +1,8 @@
+use Rattle.std.proofs.Common.{rules}
+use Rattle.iam_open_changes.proofs.ImpliedLemmas.{implied}
+use Rattle.iam_open_changes.proofs.implied.implies.Goals as goal
+
+pub returns : goal.returns
+returns c = λ yes.
+    implied c.args.one.now c.args.other.now (search rules) (search rules)
+    (rw (c.operator-3.ensures, c.values.ensures, c.values-2.ensures) at (c.are_within_by.ensures yes))
