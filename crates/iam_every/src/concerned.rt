@@ -26,7 +26,7 @@ pub fn concerned<'a: 'c, 'c>(
         (placed (value_of applicable.now)) (map placed_value found.items)) }
 {
     let statements = statements(alloc, applicable)?;
-    let mut found = Vec::new(alloc);
+    let mut found = Vec::with_capacity(alloc, statements.len())?;
     for &standing in statements.as_slice() {
         if concerns(alloc, standing.statement, access, action)? {
             found.push(standing)?;

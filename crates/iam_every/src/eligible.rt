@@ -26,7 +26,7 @@ pub fn eligible<'a: 'c, 'c>(
         (placed (value_of applicable.now)) (map placed_value found.items)) }
 {
     let statements = statements(alloc, applicable)?;
-    let mut found = Vec::new(alloc);
+    let mut found = Vec::with_capacity(alloc, statements.len())?;
     for &standing in statements.as_slice() {
         if is_eligible(alloc, standing.statement, access)? {
             found.push(standing)?;
@@ -83,7 +83,7 @@ pub fn picked<'a>(
 ) -> Result<Vec<Standing<'a>>, OutOfMemory>
     ensures { IfOk result (λ chosen. map placed_value chosen.items ≡ picked (map placed_value statements.now) bits.now) }
 {
-    let mut chosen = Vec::new(alloc);
+    let mut chosen = Vec::with_capacity(alloc, statements.len())?;
     for i in 0..statements.len() {
         if bit_at(bits, i) {
             chosen.push(statements[i])?;
@@ -110,7 +110,7 @@ pub fn found(
     ensures { IfOk result (λ found. found.items
         ≡ map (item_of requester.now) (picked (map placed_value statements.now) (both acts.now lives.now))) }
 {
-    let mut found = Vec::new(alloc);
+    let mut found = Vec::with_capacity(alloc, statements.len())?;
     for i in 0..statements.len() {
         if are_both(acts, lives, i) {
             found.push(matched(statements[i], requester))?;

@@ -119,7 +119,7 @@ fn side_group<'a: 'c, 'c>(
     ensures { IfOk result (λ group.
         IsSideGroup (access_of access.entry) (map placed_value statements.now) side (map signs_of group.items)) }
 {
-    let mut group = Vec::new(alloc);
+    let mut group = Vec::with_capacity(alloc, statements.len())?;
     for &standing in statements {
         if is_on(standing, side, access.requester) {
             add_texts(alloc, &mut group, standing.statement, access.context)?;

@@ -64,7 +64,7 @@ fn near_patterns<'a>(
 ) -> Result<Vec<Signs<'a>>, OutOfMemory>
     ensures { IfOk result (λ lent. map signs_in lent.items ≡ near (signs_in line.entry) (map signs_of patterns.entry.now)) }
 {
-    let mut lent = Vec::new(alloc);
+    let mut lent = Vec::with_capacity(alloc, patterns.len())?;
     for pattern in patterns {
         if !are_apart(pattern.signs(), line) {
             lent.push(pattern.signs())?;

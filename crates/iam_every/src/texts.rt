@@ -32,7 +32,8 @@ pub fn text_kinds<'a>(
     ensures found { AreFound walks.new }
     ensures named { names_of walks.new ≡ names_of walks.old }
 {
-    let mut lent = Vec::new(alloc);
+    let room = groups.len().saturating_add(apart.len());
+    let mut lent = Vec::with_capacity(alloc, room)?;
     add_groups(alloc, &mut lent, groups, line)?;
     add_alone(alloc, &mut lent, apart, line)?;
     walks.find(alloc, &[line, arn], lent.as_slice())

@@ -176,7 +176,7 @@ fn said_of_texts<'a: 'c, 'c>(
         → AreJoined (AreOfText (every_of given.entry.asked) given.entry.p action k line) (map string_bytes texts.now)
         (map (row_as action) said.items)) }
 {
-    let mut said = Vec::new(alloc);
+    let mut said = Vec::with_capacity(alloc, texts.len())?;
     for text in texts {
         let text = text.as_str();
         if is_first_line(given.asked.lines, text, k) {

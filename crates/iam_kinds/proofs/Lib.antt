@@ -9,6 +9,7 @@ pub mod GrammarLemmas
 pub mod FewerLemmas
 pub mod OrderLemmas
 pub mod ReachLemmas
+pub mod GoesLemmas
 pub mod NodeLemmas
 pub mod SetLemmas
 pub mod StateLemmas

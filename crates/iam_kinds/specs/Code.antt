@@ -105,6 +105,17 @@ moves_from p at (Any ∷ signs) c = place_at p at ∷ moves_from p (at + 1) sign
 abbrev pub moves_of : List Pattern → ℕ → Place → List Place
 moves_of patterns c k = moves_from k.pattern k.at (rest_at patterns k) c
 
+-- a character leads on from a place at which these signs are left
+abbrev pub goes_on : List Sign → ℕ → Bool
+goes_on [] c = false
+goes_on (Given d ∷ signs) c = d == c
+goes_on (One ∷ signs) c = true
+goes_on (Any ∷ signs) c = true
+
+-- it does from some place of the group
+abbrev pub group_goes_on : List Pattern → List Place → ℕ → ℕ → Bool
+group_goes_on patterns places c g = list_any (λ k. (group_at patterns k == g) && goes_on (rest_at patterns k) c) places
+
 -- the group has matched for good
 abbrev pub is_good : List Pattern → List Place → ℕ → Bool
 is_good patterns places g = list_any (λ k. is_last_any (rest_at patterns k) && (group_at patterns k == g)) places

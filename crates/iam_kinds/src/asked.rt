@@ -38,7 +38,8 @@ impl Node<'_> {
     pub fn key(&self, alloc: Global) -> Result<Vec<usize>, OutOfMemory>
         ensures { IfOk result (λ v. v.items ≡ key_of self.now) }
     {
-        let mut key = Vec::new(alloc);
+        let room = self.places.len().saturating_mul(2).saturating_add(1);
+        let mut key = Vec::with_capacity(alloc, room)?;
         key.push(self.stage.number())?;
         for place in &self.places {
             key.push(place.pattern)?;
@@ -103,11 +104,12 @@ impl<'a> Asked<'a> {
         let Some(stage) = node.stage.next(letter) else {
             return Ok(None);
         };
-        let places = self.table.step(alloc, &node.places, letter)?;
-        if !self.table.has_below(&places, self.within) {
+        if !self.table.goes_on_below(&node.places, letter, self.within) {
             return Ok(None);
         }
-        let mut text = Vec::from_slice(alloc, &node.text)?;
+        let places = self.table.step(alloc, &node.places, letter)?;
+        let mut text = Vec::with_capacity(alloc, node.text.len().saturating_add(1))?;
+        text.extend_from_slice(&node.text)?;
         text.push(letter)?;
         let tails = tails_behind(alloc, &node.tails, letter)?;
         Ok(Some(Node {

@@ -126,7 +126,8 @@ impl Behind<'_> {
             ↔ (Contains self.now.waited.now c ⊎ IsAdded self.now.stage self.now.waited.now (map (λ t. t.now) self.now.tails.now) c)) }
         ensures rising { IfOk result (λ v. IsStrictlyIncreasing v.items) }
     {
-        let mut letters = Vec::from_slice(alloc, self.waited)?;
+        let mut letters = Vec::with_capacity(alloc, self.waited.len().saturating_add(1))?;
+        letters.extend_from_slice(self.waited)?;
         self.add_unwaited(&mut letters)?;
         Ok(sorted_letters(letters))
     }
@@ -172,7 +173,7 @@ pub fn tails_behind<'a>(
 ) -> Result<Vec<&'a [char]>, OutOfMemory>
     ensures { IfOk result (λ v. map (λ t. t.now) v.items ≡ tails_of letter (map (λ t. t.now) tails.now)) }
 {
-    let mut behind = Vec::new(alloc);
+    let mut behind = Vec::with_capacity(alloc, tails.len())?;
     for &tail in tails {
         if begins_with(tail, letter) {
             behind.push(&tail[1..])?;

@@ -6,7 +6,7 @@ ghost use Rattle.iam_kinds.specs.declared.table.Pattern.{Pattern};
 ghost use Rattle.iam_kinds.specs.Places.{IsRising};
 ghost use Rattle.iam_kinds.specs.Spelled.{IsFirstPlace};
 ghost use Rattle.iam_kinds.specs.declared.table.Place.{Place};
-ghost use Rattle.iam_kinds.specs.Code.{AreGoals, AreIn, IsTable, SameElements, are_any, group_at, has_group, is_good, is_last_any, moves_from, moves_of, place_at, matched_groups, rest_at, settled_places, starts_from, stepped, waited_at, waits_for};
+ghost use Rattle.iam_kinds.specs.Code.{AreGoals, AreIn, IsTable, SameElements, are_any, goes_on, group_at, group_goes_on, is_good, is_last_any, moves_from, moves_of, place_at, matched_groups, rest_at, settled_places, starts_from, stepped, waited_at, waits_for};
 
 use crate::OutOfMemory;
 use iam_glob::Sign;
@@ -109,6 +109,17 @@ fn waits_for(signs: &[Sign]) -> Option<char>
     None
 }
 
+/// Whether the character leads on from a place at which these signs are left.
+fn goes_on(signs: &[Sign], letter: char) -> bool
+    ensures { result ≡ goes_on signs.now letter }
+{
+    match signs {
+        [] => false,
+        [Sign::Given(character), ..] => *character == letter,
+        [Sign::One | Sign::Any, ..] => true,
+    }
+}
+
 /// Adds the places to which a character leads from a place of a pattern, at which these signs are left.
 fn add_moves(
     moved: &mut Vec<Place>,
@@ -195,7 +206,7 @@ impl Table {
         ensures rising { IfOk result (λ v. IsStrictlyIncreasing v.items) }
         ensures matched { IfOk result (λ v. SameElements v.items (matched_groups self.now.patterns.items places.now)) }
     {
-        let mut groups = Vec::new(alloc);
+        let mut groups = Vec::with_capacity(alloc, places.len())?;
         for &place in places {
             if are_any(self.rest(place)) {
                 groups.push(self.group(place))?;
@@ -209,7 +220,7 @@ impl Table {
         requires { AreIn self.now.patterns.items places.now }
         ensures { IfOk result (λ v. v.items ≡ waited_at self.now.patterns.items places.now) }
     {
-        let mut waited = Vec::new(alloc);
+        let mut waited = Vec::with_capacity(alloc, places.len())?;
         for &place in places {
             if let Some(letter) = waits_for(self.rest(place)) {
                 waited.push(letter)?;
@@ -253,25 +264,25 @@ impl Table {
         None
     }
 
-    /// Whether each group below this number has a place.
-    pub fn has_below(&self, places: &[Place], count: usize) -> bool
+    /// Whether the character leads on from some place of each group below this number.
+    pub fn goes_on_below(&self, places: &[Place], letter: char, count: usize) -> bool
         requires { AreIn self.now.patterns.items places.now }
-        ensures { IsTrue result ↔ ((g : ℕ) → g < count → IsTrue (has_group self.now.patterns.items places.now g)) }
+        ensures { IsTrue result ↔ ((g : ℕ) → g < count → IsTrue (group_goes_on self.now.patterns.items places.now letter g)) }
     {
         for group in 0..count {
-            if !self.has_group(places, group) {
+            if !self.group_goes_on(places, letter, group) {
                 return false;
             }
         }
         true
     }
 
-    fn has_group(&self, places: &[Place], group: usize) -> bool
+    fn group_goes_on(&self, places: &[Place], letter: char, group: usize) -> bool
         requires { AreIn self.now.patterns.items places.now }
-        ensures { result ≡ has_group self.now.patterns.items places.now group }
+        ensures { result ≡ group_goes_on self.now.patterns.items places.now letter group }
     {
         for &place in places {
-            if self.group(place) == group {
+            if self.group(place) == group && goes_on(self.rest(place), letter) {
                 return true;
             }
         }
@@ -313,7 +324,7 @@ impl Table {
         requires { AreIn self.now.patterns.items places.now }
         ensures { IfOk result (λ v. v.items ≡ flat_map (moves_of self.now.patterns.items letter) places.now) }
     {
-        let mut moved = Vec::new(alloc);
+        let mut moved = Vec::with_capacity(alloc, places.len().saturating_mul(2))?;
         for &place in places {
             add_moves(&mut moved, place, self.rest(place), letter)?;
         }
@@ -326,7 +337,7 @@ impl Table {
         ensures rising { IfOk result (λ v. IsStrictlyIncreasing v.items) }
         ensures good { IfOk result (λ v. (g : ℕ) → list_any (λ n. n == g) v.items ≡ is_good self.now.patterns.items places.now g) }
     {
-        let mut groups = Vec::new(alloc);
+        let mut groups = Vec::with_capacity(alloc, places.len())?;
         for &place in places {
             if is_last_any(self.rest(place)) {
                 groups.push(self.group(place))?;

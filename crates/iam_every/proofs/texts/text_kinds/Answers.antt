@@ -22,7 +22,7 @@ returns-clause-answer c =
     let signs : List (Vec Signs) → List (List (List Sign)) = λ lent. map (λ g. map signs_in g.items) lent in
     let lent : signs c.as_slice.result.now ≡ telling line (groups ++ apart) =
     ap signs c.as_slice.ensures.value ∙ c.in_ok-add_alone.ensures ∙ ap (λ gs. gs ++ telling line apart) c.in_ok-add_groups.ensures
-    ∙ ap (λ lent. (signs lent ++ telling line groups) ++ telling line apart) c.new-lent.ensures.items ∙ sym (telling_both line groups apart) in
+    ∙ ap (λ lent. (signs lent ++ telling line groups) ++ telling line apart) c.in_ok-lent.ensures.items ∙ sym (telling_both line groups apart) in
     IfOk-weaker c.find.result _ _
     (λ kinds told named same.
     subst (λ (q : Question). IsAnswer q kinds)
