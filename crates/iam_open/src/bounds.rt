@@ -20,7 +20,7 @@ use std::alloc::Global;
 
 /// Statements that match at most, and at least, as far as they count for what is allowed.
 #[derive(Drop)]
-struct Bounds {
+pub struct Bounds {
     /// All allows that may match, and the denies that do.
     most: Vec<Matched>,
     /// The allows that match, and all denies that may.
@@ -90,8 +90,27 @@ impl Bounds {
     ghost use Rattle.iam_decision.specs.Living.{item_of};
     ghost use Rattle.std.specs.Prelude.{if◌then◌else◌};
 
+    /// Those of no statement.
+    pub fn new(alloc: Global) -> Bounds {
+        Bounds {
+            most: Vec::new(alloc),
+            least: Vec::new(alloc),
+        }
+    }
+
+    /// What follows from them where this is asked beside them. Nothing is claimed of it.
+    pub fn certain(&self, frame: Frame) -> Certain {
+        if !is_allowed(self.most.as_slice(), frame) {
+            return Certain::Never;
+        }
+        if is_allowed(self.least.as_slice(), frame) {
+            return Certain::Always;
+        }
+        Certain::Open
+    }
+
     /// Adds a statement of which this is known.
-    fn add(
+    pub fn add(
         &mut self,
         standing: Standing<'_>,
         certain: Certain,

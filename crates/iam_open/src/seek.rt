@@ -1,13 +1,22 @@
 // An example is sought: values of keys that nothing gives are tried, one key after the other, as long as they do not settle the request.
+//
+// Whether a statement matches where some keys are tried hangs on the keys that it asks for alone, so that what is known of it before any
+// is tried stays known, and no values are tried of a key that none of the other statements asks for: that it has none stands for all of
+// them, and the contexts of its values are counted as if they were looked at.
 ghost use Rattle.std.specs.Prelude.{◌<◌, ◌∷◌, [], IfOk, IfSome, length};
 ghost use Rattle.iam_open.specs.Turned.{IsShown};
 
+use crate::bounds::Bounds;
 use crate::certain::Certain;
 use crate::example::{Example, LAST_MOMENT, example_of};
-use crate::sure::{certainly_where, known_of, statements_at};
-use crate::trials::{Trial, moments_of, part_of, trials_of};
-use iam_context::{ContextFault, Part};
+use crate::known::Known;
+use crate::statement::statement_certain;
+use crate::sure::{known_of, statements_at};
+use crate::trials::{Trial, asks_for, asks_for_time, entry_of, moments_of, part_of, trials_of};
+use iam_context::{Context, ContextFault, Part};
+use iam_decision::{Frame, Standing};
 use iam_layers::{OutOfMemory, World};
+use iam_match::Access;
 use std::alloc::Global;
 
 /// So many contexts are looked at for a request at most.
@@ -23,6 +32,23 @@ struct Request<'a> {
     ghost principal: { p < length world.now.principals },
     ghost action: { a < length world.now.actions },
     ghost resource: { r < length world.now.resources },
+}
+
+/// The statements that may match a request, before any key is tried: those that do, and those of which it is open.
+#[derive(Drop)]
+struct Live<'a> {
+    frame: Frame,
+    sure: Vec<Standing<'a>>,
+    open: Vec<Standing<'a>>,
+}
+
+/// What is tried: the keys so far, the same as a part, the moment, and how many contexts may still be looked at.
+#[derive(Drop)]
+struct Tried<'s> {
+    chosen: Vec<(&'s str, Option<&'s str>)>,
+    own: Part,
+    moment: u64,
+    left: u32,
 }
 
 /// An example of a context in question in which the request of principal p for action a on resource r is allowed, each below the number of
@@ -43,96 +69,268 @@ pub fn example(
     let derived = world.derived(alloc, p, r)?;
     let context = world.context(alloc, p, r, &derived)?;
     let statements = statements_at(alloc, world, p, r)?;
+    let request = Request { world, p, a, r };
+    let timeless = known_of(world, p, r, &none, None);
+    let live = live_of(alloc, request, statements.as_slice(), &context, &timeless)?;
     let known = known_of(world, p, r, &none, Some(world.moment()));
     let resource = world.resource_text(r);
     let trials = trials_of(alloc, statements.as_slice(), resource, &context, &known)?;
     let moments = moments_of(alloc, world.moment(), statements.as_slice())?;
-    let request = Request { world, p, a, r };
-    let mut left = NODES;
-    for &moment in moments.as_slice() {
-        let mut chosen = Vec::new(alloc);
-        let found = seek(
-            alloc,
-            request,
-            moment,
-            trials.as_slice(),
-            0,
-            &mut chosen,
-            &mut left,
-        )?;
-        if found.is_some() {
-            return Ok(found);
-        }
-    }
-    Ok(None)
+    let matters = matters(alloc, trials.as_slice(), live.open.as_slice())?;
+    example_in(
+        alloc,
+        request,
+        &live,
+        trials.as_slice(),
+        matters.as_slice(),
+        moments.as_slice(),
+    )
 }
 
-/// An example in which the keys before number k are as chosen.
-fn seek<'a>(
+/// An example in which the time is one of these moments.
+fn example_in<'a>(
     alloc: Global,
-    request: Request<'_>,
-    moment: u64,
-    trials: &'a [Trial<'_>],
-    k: usize,
-    chosen: &mut Vec<(&'a str, Option<&'a str>)>,
-    left: &mut u32,
+    request: Request<'a>,
+    live: &Live<'a>,
+    trials: &[Trial<'_>],
+    matters: &[bool],
+    moments: &[u64],
 ) -> Result<Option<Example>, OutOfMemory>
     ensures { IfOk result (λ found. IfSome found
         (IsShown (request.entry.world.now ∷ []) request.entry.world.now request.entry.p request.entry.a request.entry.r)) }
 {
-    if *left == 0 {
-        return Ok(None);
-    }
-    *left -= 1;
-    let own = part_of(alloc, chosen.as_slice())?;
-    let certain = certain_at(alloc, request, &own, moment)?;
-    if certain == Certain::Never {
-        return Ok(None);
-    }
-    if certain == Certain::Always || k >= trials.len() {
-        return example_of(
-            alloc,
-            request.world,
-            request.p,
-            request.a,
-            request.r,
-            own,
+    let hangs_on_time = some_asks_for_time(live.open.as_slice());
+    let mut left = NODES;
+    for &moment in moments {
+        let mut tried = Tried {
+            chosen: Vec::new(alloc),
+            own: Vec::new(alloc),
             moment,
-        );
-    }
-    let trial = &trials[k];
-    for i in 0..trial.texts.len() + 1 {
-        chosen.push((trial.key, trial.text(i)))?;
-        let found = seek(alloc, request, moment, trials, k + 1, chosen, left)?;
-        let _last = chosen.pop();
-        if found.is_some() {
+            left,
+        };
+        let found = seek(alloc, request, live, trials, matters, 0, None, &mut tried)?;
+        // What hangs on no time is the same at each moment.
+        if found.is_some() || !hangs_on_time {
             return Ok(found);
         }
+        left = tried.left;
     }
     Ok(None)
 }
 
-/// Whether the request is allowed in the contexts in which these keys have these values at this moment; never, where they cannot.
-fn certain_at(
+/// Those of the statements that may match.
+fn live_of<'a: 'c, 'c>(
+    alloc: Global,
+    request: Request<'a>,
+    statements: &[Standing<'a>],
+    context: &Context<'c>,
+    known: &Known<'_>,
+) -> Result<Live<'a>, OutOfMemory> {
+    let (world, p, r) = (request.world, request.p, request.r);
+    let access = Access {
+        requester: world.requester(p),
+        resource: world.resource_text(r),
+        context,
+    };
+    let action = world.action_text(request.a);
+    let mut live = Live {
+        frame: world.frame_with(p, r, world.org_levels(p)),
+        sure: Vec::new(alloc),
+        open: Vec::new(alloc),
+    };
+    for &standing in statements {
+        match statement_certain(alloc, standing.statement, access, action, known)? {
+            Certain::Never => {}
+            Certain::Always => live.sure.push(standing)?,
+            Certain::Open => live.open.push(standing)?,
+        }
+    }
+    Ok(live)
+}
+
+/// Which of the keys one of the statements asks for.
+fn matters(
+    alloc: Global,
+    trials: &[Trial<'_>],
+    open: &[Standing<'_>],
+) -> Result<Vec<bool>, OutOfMemory> {
+    let mut matters = Vec::new(alloc);
+    for trial in trials {
+        matters.push(some_asks_for(open, trial.key))?;
+    }
+    Ok(matters)
+}
+
+fn some_asks_for(open: &[Standing<'_>], key: &str) -> bool {
+    for standing in open {
+        if asks_for(standing.statement, key) {
+            return true;
+        }
+    }
+    false
+}
+
+fn some_asks_for_time(open: &[Standing<'_>]) -> bool {
+    for standing in open {
+        if asks_for_time(standing.statement) {
+            return true;
+        }
+    }
+    false
+}
+
+/// An example in which the keys before number k are as tried. It may be known already what is certain there.
+fn seek<'s, 'a>(
+    alloc: Global,
+    request: Request<'a>,
+    live: &Live<'a>,
+    trials: &'s [Trial<'_>],
+    matters: &[bool],
+    k: usize,
+    same: Option<Certain>,
+    tried: &mut Tried<'s>,
+) -> Result<Option<Example>, OutOfMemory>
+    ensures { IfOk result (λ found. IfSome found
+        (IsShown (request.entry.world.now ∷ []) request.entry.world.now request.entry.p request.entry.a request.entry.r)) }
+{
+    if tried.left == 0 {
+        return Ok(None);
+    }
+    tried.left -= 1;
+    let certain = match same {
+        Some(certain) => certain,
+        None => certain_at(alloc, request, live, &tried.own, tried.moment)?,
+    };
+    if certain == Certain::Never {
+        return Ok(None);
+    }
+    if certain == Certain::Always || k >= trials.len() {
+        return shown(alloc, request, tried);
+    }
+    let trial = &trials[k];
+    let counts = does_matter(matters, k);
+    let before = tried.left;
+    for i in 0..tries_of(trial, counts) {
+        tried.push(alloc, trial.key, trial.text(i))?;
+        let same = if counts { None } else { Some(certain) };
+        let found = seek(alloc, request, live, trials, matters, k + 1, same, tried)?;
+        tried.pop();
+        if found.is_some() {
+            return Ok(found);
+        }
+    }
+    if !counts {
+        tried.pass(before, trial.texts.len());
+    }
+    Ok(None)
+}
+
+/// How often a key is tried: once where it does not matter.
+fn tries_of(trial: &Trial<'_>, does_matter: bool) -> usize {
+    if does_matter {
+        trial.texts.len().saturating_add(1)
+    } else {
+        1
+    }
+}
+
+/// Whether key number k matters.
+fn does_matter(matters: &[bool], k: usize) -> bool {
+    match matters.get(k) {
+        Some(does) => *does,
+        None => true,
+    }
+}
+
+impl<'s> Tried<'s> {
+    fn push(
+        &mut self,
+        alloc: Global,
+        key: &'s str,
+        text: Option<&'s str>,
+    ) -> Result<(), OutOfMemory> {
+        self.chosen.push((key, text))?;
+        self.own.push(entry_of(alloc, key, text)?)?;
+        Ok(())
+    }
+
+    fn pop(&mut self) {
+        let _chosen = self.chosen.pop();
+        let _own = self.own.pop();
+    }
+
+    /// Counts contexts that are not looked at: so many times as many as were looked at since so many were left.
+    fn pass(&mut self, before: u32, times: usize) {
+        let each = before.saturating_sub(self.left);
+        for _ in 0..times {
+            self.left = self.left.saturating_sub(each);
+        }
+    }
+}
+
+/// The example that the keys that are tried are.
+fn shown(
     alloc: Global,
     request: Request<'_>,
+    tried: &Tried<'_>,
+) -> Result<Option<Example>, OutOfMemory>
+    ensures { IfOk result (λ found. IfSome found
+        (IsShown (request.entry.world.now ∷ []) request.entry.world.now request.entry.p request.entry.a request.entry.r)) }
+{
+    let own = part_of(alloc, tried.chosen.as_slice())?;
+    example_of(
+        alloc,
+        request.world,
+        request.p,
+        request.a,
+        request.r,
+        own,
+        tried.moment,
+    )
+}
+
+/// Whether the request is allowed where these keys are tried at this moment, and no others are known; never, where they cannot be.
+fn certain_at<'a>(
+    alloc: Global,
+    request: Request<'a>,
+    live: &Live<'a>,
     own: &Part,
     moment: u64,
 ) -> Result<Certain, OutOfMemory> {
     if moment > LAST_MOMENT {
         return Ok(Certain::Never);
     }
-    match request.world.check_own(alloc, request.p, request.r, own) {
-        Ok(()) => certainly_where(
-            alloc,
-            request.world,
-            request.p,
-            request.a,
-            request.r,
-            own,
-            Some(moment),
-        ),
-        Err(ContextFault::OutOfMemory) => Err(OutOfMemory),
-        Err(_) => Ok(Certain::Never),
+    let (world, p, r) = (request.world, request.p, request.r);
+    let derived = world.derived_at(alloc, p, r, moment)?;
+    let context = match world.own_context(alloc, p, r, own, &derived) {
+        Ok(context) => context,
+        Err(ContextFault::OutOfMemory) => return Err(OutOfMemory),
+        Err(_) => return Ok(Certain::Never),
+    };
+    let access = Access {
+        requester: world.requester(p),
+        resource: world.resource_text(r),
+        context: &context,
+    };
+    let known = known_of(world, p, r, own, Some(moment));
+    certain_of(alloc, live, access, world.action_text(request.a), &known)
+}
+
+/// The same, as it follows from the statements that may match.
+fn certain_of<'a: 'c, 'c>(
+    alloc: Global,
+    live: &Live<'a>,
+    access: Access<'_, 'c>,
+    action: &str,
+    known: &Known<'_>,
+) -> Result<Certain, OutOfMemory> {
+    let mut bounds = Bounds::new(alloc);
+    for &standing in live.sure.as_slice() {
+        bounds.add(standing, Certain::Always, access.requester)?;
     }
+    for &standing in live.open.as_slice() {
+        let certain = statement_certain(alloc, standing.statement, access, action, known)?;
+        bounds.add(standing, certain, access.requester)?;
+    }
+    Ok(bounds.certain(live.frame))
 }

@@ -7,6 +7,7 @@ use iam_context::{Context, DerivedKey, Draft, KeyName, Part, Text, Values, resol
 use iam_decision::Standing;
 use iam_glob::{Glob, Sign};
 use iam_layers::OutOfMemory;
+use iam_match::Statement;
 use iam_text::{Form, TemplateForm};
 use iam_value::Range;
 use std::alloc::Global;
@@ -28,11 +29,11 @@ pub struct Trial<'a> {
 }
 
 /// What is tried of the keys that these statements ask for and that are not known, for a request on this resource.
-pub fn trials_of<'a>(
+pub fn trials_of<'a: 'c, 'c>(
     alloc: Global,
     statements: &[Standing<'a>],
     resource: &str,
-    context: &Context<'a>,
+    context: &Context<'c>,
     known: &Known<'_>,
 ) -> Result<Vec<Trial<'a>>, OutOfMemory> {
     let mut trials = Vec::new(alloc);
@@ -60,11 +61,11 @@ fn parts_of(alloc: Global, resource: &str) -> Result<Vec<&str>, OutOfMemory> {
 }
 
 /// Adds what an entry asks for.
-fn add_entry<'a>(
+fn add_entry<'a: 'c, 'c>(
     alloc: Global,
     trials: &mut Vec<Trial<'a>>,
     entry: &'a Entry,
-    context: &Context<'a>,
+    context: &Context<'c>,
     known: &Known<'_>,
 ) -> Result<(), OutOfMemory> {
     let mut given = Vec::new(alloc);
@@ -132,12 +133,12 @@ fn add_likely<'a>(
 }
 
 /// Adds texts that stand to the value of a policy as its operator tells them apart.
-fn add_value<'a>(
+fn add_value<'a: 'c, 'c>(
     alloc: Global,
     trials: &mut Vec<Trial<'a>>,
     key: &'a str,
     value: &'a Operand,
-    context: &Context<'a>,
+    context: &Context<'c>,
 ) -> Result<(), OutOfMemory> {
     match value {
         Operand::Text(text) => {
@@ -295,10 +296,19 @@ impl Trial<'_> {
 pub fn part_of(alloc: Global, chosen: &[(&str, Option<&str>)]) -> Result<Part, OutOfMemory> {
     let mut part = Vec::with_capacity(alloc, chosen.len())?;
     for &(key, text) in chosen {
-        let name = KeyName::given(Text::read(alloc, key)?);
-        part.push((name, values_of(alloc, text)?))?;
+        part.push(entry_of(alloc, key, text)?)?;
     }
     Ok(part)
+}
+
+/// The entry that gives the key this text alone, or says of it that it has none.
+pub fn entry_of(
+    alloc: Global,
+    key: &str,
+    text: Option<&str>,
+) -> Result<(KeyName, Values), OutOfMemory> {
+    let name = KeyName::given(Text::read(alloc, key)?);
+    Ok((name, values_of(alloc, text)?))
 }
 
 fn values_of(alloc: Global, text: Option<&str>) -> Result<Values, OutOfMemory> {
@@ -306,6 +316,76 @@ fn values_of(alloc: Global, text: Option<&str>) -> Result<Values, OutOfMemory> {
         Some(text) => Ok(Values::one(Text::read(alloc, text)?)),
         None => Ok(Values::from_vec(Vec::new(alloc))),
     }
+}
+
+/// Whether the statement asks for the key.
+pub fn asks_for(statement: &Statement, key: &str) -> bool {
+    if let Some(element) = statement.resource() {
+        if some_names(element.texts(), key) {
+            return true;
+        }
+    }
+    for entry in statement.conditions() {
+        if entry_asks_for(entry, key) {
+            return true;
+        }
+    }
+    false
+}
+
+/// Whether it asks for the time.
+pub fn asks_for_time(statement: &Statement) -> bool {
+    asks_for(statement, DerivedKey::CurrentTime.name())
+        || asks_for(statement, DerivedKey::EpochTime.name())
+}
+
+fn entry_asks_for(entry: &Entry, key: &str) -> bool {
+    if entry.key().eq_ignore_ascii_case(key) {
+        return true;
+    }
+    for value in entry.values() {
+        if value_names(value, key) {
+            return true;
+        }
+    }
+    false
+}
+
+fn value_names(value: &Operand, key: &str) -> bool {
+    match value {
+        Operand::Text(text) => text_names(text, key),
+        _ => false,
+    }
+}
+
+fn some_names(texts: &[Template], key: &str) -> bool {
+    for text in texts {
+        if text_names(text, key) {
+            return true;
+        }
+    }
+    false
+}
+
+/// Whether a variable of the text is that of the key.
+fn text_names(text: &Template, key: &str) -> bool {
+    match text.form() {
+        TemplateForm::Fixed(_) => false,
+        TemplateForm::Open(draft) => draft_names(draft, key),
+    }
+}
+
+fn draft_names(draft: &Draft, key: &str) -> bool {
+    let mut left = draft.stretches();
+    while let Some((_, form, behind)) = left.first_form() {
+        if let Form::Named(name, _) = form {
+            if name.eq_ignore_ascii_case(key) {
+                return true;
+            }
+        }
+        left = behind;
+    }
+    false
 }
 
 /// The moments that are tried: this one, and those behind it at which what these statements ask of the time turns.
