@@ -1,4 +1,4 @@
--- Entries of conditions that hold wherever others do.
+-- Entries of conditions that hold wherever others do. LOGIC 11.10.
 use Rattle.std.specs.Prelude.{◌≡◌, ◌⊎◌, ℕ, List, Bool, true, false, All, Any}
 use Rattle.iam_condition.specs.Entry.{EntryValue}
 use Rattle.iam_condition.specs.declared.operand.Operand.{Operand}

@@ -1,4 +1,4 @@
--- The statements that may match in some of several contexts, and what of each is open.
+-- The statements that may match in some of several contexts, and what of each is open. LOGIC 11.10.
 use Rattle.std.specs.Prelude.{◌≡◌, ℕ, List, Bool, IsTrue, All, Contains}
 use Rattle.iam_condition.specs.Entry.{EntryValue}
 use Rattle.iam_context.specs.Context.{ContextValue}

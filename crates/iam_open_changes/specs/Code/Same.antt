@@ -1,4 +1,4 @@
--- What is compared where two worlds may decide a request by the same.
+-- What is compared where two worlds may decide a request by the same. LOGIC 11.10.
 use Rattle.std.specs.Prelude.{◌≡◌, ◌≤◌, ⊤, ℕ, All, Any, Contains, IsTrue, List, None, Option, Some}
 use Rattle.iam_context.specs.Context.{ContextValue}
 use Rattle.iam_decision.specs.Applicable.{ApplicableValue, frame_of}
