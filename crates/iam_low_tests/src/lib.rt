@@ -1,5 +1,5 @@
-//! Tests of lower crates: calls of theirs that the program does not make; what keys that nothing gives can turn, in one world and from one to
-//! another; words of a command line; the lanes, work and crews of workers.
+//! Tests of lower crates: calls of theirs that the program does not make; what keys that nothing gives can turn; words of a command line; the
+//! lanes, work and crews of workers.
 #![tactic(auto)]
 
 #[cfg(test)]
@@ -12,8 +12,6 @@ mod keys;
 mod lanes;
 #[cfg(test)]
 mod rules;
-#[cfg(test)]
-mod turns;
 #[cfg(test)]
 mod words;
 #[cfg(test)]
