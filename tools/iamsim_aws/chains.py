@@ -5,8 +5,8 @@ from typing import Dict, List, NamedTuple, Sequence, Set
 from .arns import principal_arn, principal_text
 from .asking import ask
 from .documents import World
+from .examples import ask_any_key
 from .faults import tell
-from .hanging import is_too_much, turns
 from .reports import Answers
 from .roles import with_sessions
 from .sources import ASSUME, Source
@@ -34,13 +34,11 @@ Steps = Dict[str, List[Step]]
 
 
 def opened(answers: Answers) -> Dict[int, str]:
-    """The requests that are allowed with a key that they lack, each with the first such key."""
-    if is_too_much(answers.world):
-        tell("who may assume roles with keys that nothing gives was not asked, since it is too much")
-        return {}
-    found = turns(answers.world, answers)
-    first = {cell: next((it for it in of if it.decision == "allowed"), None) for cell, of in found.items()}
-    return {cell: it.words() for cell, it in first.items() if it}
+    """The requests that are allowed with keys that they lack, each with an example."""
+    [turned], flags = ask_any_key([answers.world]), answers.flags()
+    for it in turned.opens:
+        tell(f"{turned.open_words(it)}, so who may come by it was not asked")
+    return {cell: it.words() for cell, it in turned.examples.items() if not flags[cell]}
 
 
 def steps_of(source: Source, speaking: Sequence[World] = ()) -> Steps:

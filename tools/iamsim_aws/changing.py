@@ -1,18 +1,16 @@
 """What changes between two sources: requests that are lost, and those that are gained."""
 
-import functools
-from typing import Any, Dict, FrozenSet, Iterable, Iterator, List, NamedTuple, Optional, Sequence, Set, Tuple
+from typing import Any, Dict, Iterable, Iterator, List, NamedTuple, Optional, Sequence, Set, Tuple
 
-from . import hanging
-from .arns import account_of, is_access_point, owner_of, principal_arn, principal_text, service_of
+from .arns import account_of, is_access_point, owner_of, principal_text
 from .asking import ask_all, ask_changes
+from .any_key import texts_in, with_keys
 from .checking import NOTHING
 from .covering import tell_lacked
-from .documents import FOREIGN, MEMBERS, THROUGH, Place, Policy, World, mapped, places, statements_of
+from .differences import ANY, Difference, differing, name_of
+from .documents import THROUGH, Place, Policy, World, places, statements_of
 from .every import UNNAMED, WORLDS
 from .exports import ACCOUNT
-from .files import compact
-from .keys import CALLER, context_of, with_key
 from .names import (
     REQUEST,
     Found,
@@ -24,7 +22,6 @@ from .names import (
     alike,
     answers_of,
     cells_in,
-    controlled,
     everybody,
     groups,
     met_patterns,
@@ -35,7 +32,6 @@ from .names import (
     side_of,
     stands,
     unresolved,
-    untried,
     with_lines,
     with_people,
 )
@@ -47,12 +43,10 @@ from .reports import Answers, keys_of
 from .roles import with_linked, with_sessions
 from .sources import ASSUME, Source
 from .speaking import Origins, beside, shares, texts_of
-from .strangers import ASSUMED, is_stranger, strangers, with_strangers
+from .strangers import ASSUMED, strangers, with_strangers
 
-ANY = "*"
-# Patterns of actions of one service that are asked by themselves, and questions with keys that are asked at most.
-FEW, MOST = 8, 1000
-TOO_MUCH = "what changes with these keys alone was not asked, since it is too much: "
+# Patterns of actions of one service that are asked by themselves.
+FEW = 8
 BY_POINT = "it changes by the access point, and what its bucket says is not asked of all names"
 TO_ALL = {"Effect": "Allow", "Principal": "*", "Action": "*", "Resource": "*"}
 ANYBODY_MAY = Policy(ASSUMED, {"Version": "2012-10-17", "Statement": TO_ALL})
@@ -89,139 +83,7 @@ class Comparison(NamedTuple):
         return f"{self.people} principals and all names" if self.people else f"{self.requests} requests"
 
 
-def name_of(axis: str, it: Dict[str, Any]) -> str:
-    return principal_text(it) if axis == "principals" else str(it["id"] if axis == "accounts" else it["arn"])
-
-
-def holders(world: World) -> Dict[Tuple[str, str], List[str]]:
-    """The documents of each account, principal and resource."""
-    found: Dict[Tuple[str, str], List[str]] = {}
-    for it in places(world):
-        axis, n = it.path.split("/")[:2]
-        found.setdefault((axis, name_of(axis, world[axis][int(n)])), []).append(compact(it.policy.document))
-    return found
-
-
-def differing(before: World, after: World) -> Tuple[World, World]:
-    """The two worlds with those documents alone that their holders do not have in both."""
-    of_before, of_after = holders(before), holders(after)
-
-    def left(world: World, other: Dict[Tuple[str, str], List[str]]) -> World:
-        def keep(_kind: str, path: str, policy: Any) -> Any:
-            axis, n = path.split("/")[:2]
-            key = axis, name_of(axis, world[axis][int(n)])
-            return NOTHING if compact(policy.document) in other.get(key, []) else policy
-
-        return mapped(world, keep)
-
-    return left(before, of_after), left(after, of_before)
-
-
 # --- what is in question ----------------------------------------------------------------------------------------------
-
-
-def layer_of(it: Place) -> str:
-    """The layer and level of which a document is one."""
-    parts_of_path = it.path.split("/")[2:]
-    return "/".join(parts_of_path[:-1] if parts_of_path[-1].isdigit() else parts_of_path)
-
-
-def rules_in(axis: str, holder: Dict[str, Any]) -> Set[Tuple[str, str, str]]:
-    """What the documents of a holder say: (pattern of actions, layer, all else of its statement)."""
-    found: Set[Tuple[str, str, str]] = set()
-    for it in places({axis: [holder]}):
-        document = it.policy.document
-        version = document.get("Version") if isinstance(document, dict) else None
-        for one in statements_of(document):
-            texts = texts_of(one, "Action")
-            rest = {key: value for key, value in one.items() if key not in ("Action", "Sid")} if texts else one
-            said = layer_of(it), compact([version, rest])
-            found.update((text, *said) for text in texts or [ANY])
-    return found
-
-
-def frame_of(axis: str, holder: Dict[str, Any]) -> str:
-    """What a holder has besides documents, and how many limits of each kind bind it."""
-    own = {key: it for key, it in holder.items() if key not in (*MEMBERS[axis], THROUGH, FOREIGN, "context")}
-    # Who calls KMS follows from the principal, and stands there where a document asks for it.
-    context = {key: it for key, it in context_of(holder).items() if key.lower() != CALLER.lower()}
-    limits = [len(holder.get(it, [])) for it in ("org", "control")]
-    inside = frame_of(axis, holder[THROUGH]) if THROUGH in holder else ""
-    return compact([own, context, "boundary" in holder, bool(holder.get("sessionPolicies")), limits, inside])
-
-
-def spoken_between(axis: str, before: Dict[str, Any], after: Dict[str, Any]) -> Optional[Set[str]]:
-    """The patterns of the actions whose answers may change by a holder; None where any may."""
-    if frame_of(axis, before) != frame_of(axis, after):
-        return None
-    return {text for text, _, _ in rules_in(axis, before) ^ rules_in(axis, after)}
-
-
-def allows(axis: str, holder: Dict[str, Any]) -> Set[str]:
-    """The patterns of the actions that the documents of a holder allow."""
-    every = (one for it in places({axis: [holder]}) for one in statements_of(it.policy.document))
-    some = [it for it in every if isinstance(it, dict) and it.get("Effect") == "Allow"]
-    return {text for it in some for text in texts_of(it, "Action") or [ANY]}
-
-
-class Difference:
-    """What differs between two worlds: for whom, and for which resources, with the patterns of the actions in question."""
-
-    def __init__(self, sides: Sequence[Side]):
-        self.sides = sides
-        self.granted = {it for side in sides for one in side.world["resources"] for it in allows("resources", one)}
-        frames = [compact([it.world["moment"], context_of(it.world)]) for it in sides]
-        self.is_all = len(set(frames)) > 1
-        self.accounts = self.pairs("accounts", "id")
-
-    def pairs(self, axis: str, key: str) -> Dict[str, List[Dict[str, Any]]]:
-        found: Dict[str, List[Dict[str, Any]]] = {}
-        for side in self.sides:
-            for it in side.world[axis]:
-                found.setdefault(it[key], []).append(it)
-        return found
-
-    def of_account(self, account: str) -> Optional[Set[str]]:
-        some = self.accounts.get(account, [])
-        return spoken_between("accounts", *some) if len(some) == 2 else set()
-
-    def people(self) -> Iterator[Tuple[FrozenSet[str], List[Principal]]]:
-        """The principals by the patterns of the actions that are in question for them."""
-        found: Dict[FrozenSet[str], Dict[str, Principal]] = {}
-        known = [{principal_text(it): it for it in side.world["principals"]} for side in self.sides]
-        of_accounts = {it: self.of_account(it) for it in self.accounts}
-        for it in everybody(self.sides):
-            text = principal_text(it)
-            some = [of[text] for of in known if text in of]
-            limits = of_accounts.get(account_of(principal_arn(it)), set())
-            own = spoken_between("principals", *some) if len(some) == 2 and not self.is_all else None
-            spoken = own | limits if own is not None and limits is not None else self.granted | may(some)
-            if spoken:
-                found.setdefault(frozenset(spoken), {})[text] = it
-        yield from ((spoken, list(of.values())) for spoken, of in found.items())
-
-    def resources(self) -> Iterator[Tuple[FrozenSet[str], Set[str]]]:
-        """The ARNs of resources, and of those that stand for what is unnamed, by the patterns of the actions in question."""
-        ids = [it["id"] for side in self.sides for it in side.world["accounts"]]
-        owner = {of: it["account"] for side in self.sides for of, it in side.owners.items()}
-        every = {arn: it["account"] for side in self.sides for arn, it in side.named.items()}
-        every.update((f"{it}/{UNNAMED}", account) for it, account in owner.items() if service_of(it) == "s3")
-        services = [*controlled(self.sides[-1].scope.source.estate), ""]
-        every.update((f"arn:aws:{it}::{account}:{UNNAMED}", account) for account in ids for it in services)
-        found: Dict[FrozenSet[str], Set[str]] = {}
-        for arn, account in every.items():
-            some = [side.resource(arn, account, "-") for side in self.sides]
-            spoken = spoken_between("resources", *some)
-            if spoken is None:
-                spoken = {it for one in some for it in allows("resources", one)} | may(everybody(self.sides))
-            if spoken:
-                found.setdefault(frozenset(spoken), set()).add(arn)
-        yield from found.items()
-
-
-def may(people: Iterable[Principal]) -> Set[str]:
-    """The patterns of the actions that policies of principals allow; who is outside may do what policies of resources say."""
-    return {it for one in people if not is_stranger(one) for it in allows("principals", one)}
 
 
 class Chosen(NamedTuple):
@@ -370,7 +232,8 @@ def compare(before: Source, after: Source, asked: List[str], resource: str, acco
     first = with_buckets(scopes[1], [one for of in settled(scopes[1], names, len(names), []) for one in of])
     made = [changes_of(one, found, "") for one, found in first]
     keyed, more = with_keys(scopes[1], names, {it for one in made for it in one.told})
-    told = [it for it in [*made, *keyed] if not it.changes.given or it.changes.lost or it.changes.gained]
+    turned = [changes_of(*it) for it in keyed]
+    told = [it for it in [*made, *turned] if not it.changes.given or it.changes.lost or it.changes.gained]
     opens = list(dict.fromkeys([*opens, *more, *(line for it in told for line in it.opens)]))
     is_asked = of_names and is_had and (bool(names) or any(is_chosen(sides, asked) for _, sides in pairs))
     people = {principal_text(it) for _, sides in pairs for it in everybody(sides)} if is_asked else set()
@@ -432,7 +295,7 @@ class Told(NamedTuple):
 def changes_of(names: Names, found: Found, given: str) -> Told:
     """The changes that rows tell: of all that stand for the same patterns of policies the shortest."""
     rows, opens = by_points(names, found)
-    rows = rows + further(names, rows)
+    rows = rows + (further(names, rows) if not given else [])
     of, patterns = stands(names), met_patterns(names)
     origins = {id(it): of(it) for it in rows}
 
@@ -468,10 +331,6 @@ def further(names: Names, rows: List[Row]) -> List[Row]:
         pair.append({**side.world, **own, "principals": people})
     [found] = ask_changes([(pair[0], pair[1])])
     return [it for it in found if tuple(it[name] for name in REQUEST) in wanted - known]
-
-
-def texts_in(row: Row) -> Tuple[str, ...]:
-    return (row["change"], *(row[name] for name in REQUEST))
 
 
 def in_bucket_of(names: Names) -> Iterator[Tuple[Names, Dict[str, str]]]:
@@ -546,16 +405,15 @@ def row_of(texts: Tuple[str, ...], both: Changes) -> Row:
 
 
 def unsettled(names: Names) -> List[str]:
-    """The variables and keys that nothing gives on which it hangs what changes; where a limit or a tag changes, what else allows hangs
-    on them too."""
+    """The variables in resources that nothing gives, on which it hangs what changes; where a limit or a tag changes, what else allows
+    hangs on them too."""
     worlds = [it.world for it in names.sides]
     changed = differing(worlds[0], worlds[1])
     own = [it for one in changed for it in places(one) if is_there(it)]
     is_wide = not own or any(map(is_limit, own))
     asked = names.question.resource
-    elements = ("Resource", "NotResource")
     some = worlds if is_wide else changed
-    return [line for it in some for line in unresolved(it, asked, *elements) + untried(it, asked)]
+    return [line for it in some for line in unresolved(it, asked)]
 
 
 def is_there(it: Place) -> bool:
@@ -566,58 +424,6 @@ def is_limit(it: Place) -> bool:
     """Whether a document may keep from somebody what others allow."""
     is_deny = any(isinstance(one, dict) and one.get("Effect") == "Deny" for one in statements_of(it.policy.document))
     return it.path.split("/")[2] not in ("identity", "policy") or is_deny
-
-
-# --- keys that nothing gives ------------------------------------------------------------------------------------------
-
-
-def keys_in(worlds: Sequence[World]) -> List[Dict[str, str]]:
-    """The keys that requests lack and documents ask for, each with a value: one at a time, those of the changed documents first, and
-    behind these all of a statement that asks for several."""
-    every = [*differing(worlds[0], worlds[1]), *worlds]
-    asked: Dict[Tuple[str, str], str] = {}
-    for key, texts in (it for world in every for it in hanging.wanted(world).items()):
-        for text in texts:
-            asked.setdefault((key.lower(), text), key)
-    several = [it for world in every for it in hanging.together(world)]
-    return [{key: text} for (_, text), key in asked.items()] + [
-        it for n, it in enumerate(several) if it not in several[:n]
-    ]
-
-
-def with_all(world: World, keys: Dict[str, str]) -> World:
-    return functools.reduce(lambda made, it: with_key(made, *it), keys.items(), world)
-
-
-def key_words(keys: Dict[str, str]) -> str:
-    return " and ".join(f"`{key}` is `{text}`" for key, text in keys.items())
-
-
-def left_words(keys: List[Dict[str, str]]) -> str:
-    return TOO_MUCH + ", ".join(dict.fromkeys(key for it in keys for key in it))
-
-
-def with_keys(scope: Scope, some: List[Names], told: Set[Tuple[str, ...]]) -> Tuple[List[Told], List[str]]:
-    """What changes with keys alone that nothing gives; no more than can be asked."""
-    asked = [(names, it) for names in some for it in keys_in([side.world for side in names.sides])]
-    opens = [left_words([it for _, it in asked[MOST:]])] if asked[MOST:] else []
-    given = [(names, names.mapped(functools.partial(with_all, keys=keys)), keys) for names, keys in asked[:MOST]]
-    answers = settled(scope, (it for _, it, _ in given), len(given), [])
-    found = [(names, it, keys, rows) for (names, _, keys), of in zip(given, answers) for it, rows in of]
-    known, made = told | as_it_is([(names, rows) for names, _, _, rows in found]), []
-    for _, names, keys, rows in found:
-        new = rows._replace(rows=[it for it in rows.rows if texts_in(it) not in known])
-        made.append(changes_of(names, new, key_words(keys)))
-        known = known | made[-1].told
-    return made, opens
-
-
-def as_it_is(some: List[Tuple[Names, Found]]) -> Set[Tuple[str, ...]]:
-    """The texts of those rows that tell what changes without keys too."""
-    some = [(names, found) for names, found in some if found.rows]
-    pairs = [[it.world for it in answers_of(names, found.rows)] for names, found in some]
-    rows = ask_changes([(first, second) for first, second in pairs])
-    return {texts_in(it) for of in rows for it in of}
 
 
 # --- the matrix before and after --------------------------------------------------------------------------------------

@@ -37,7 +37,7 @@ def people_of(scope: Scope) -> List[Dict[str, Any]]:
 def open_to(scope: Scope, rule: Rule, as_given: bool) -> Finding:
     """The requests of a rule that are allowed to anybody, those that need no key first."""
     every = rule.question._replace(principal="*", exceptions=[])
-    [found] = findings(scope, [never(scope, every, as_given)], as_given)
+    [found] = findings(scope, [never(scope, every)], as_given)
     return found._replace(broken=sorted(found.broken, key=lambda it: (it.turn is not None, it.is_mixed())))
 
 

@@ -14,6 +14,8 @@ from .roles import LINKED, linked
 from .sources import Source
 from .strangers import NOT_ASKED, stand_in
 
+OF_MEMBERS = "grants to members of an organisation: of those that its file lacks"
+
 
 def tell_actions(source: Source, patterns: Iterable[str]) -> None:
     """Without the service reference no pattern of actions covers all that a service has."""
@@ -49,8 +51,7 @@ def unasked(
                 told = [f"{it['policy'].name} names {text}, {why}" for text, why in lines if why]
                 is_spoken_of = speaks_of(statement, tuple(world["actions"]))
                 if in_organization and is_spoken_of and named_by(statement) and asks_for_members(statement):
-                    what = f"grants to members of an organisation: of those that its file lacks {NOT_ASKED}"
-                    told.append(f"{it['policy'].name} {what}")
+                    told.append(f"{it['policy'].name} {OF_MEMBERS} {NOT_ASKED}")
                 for line in told:
                     found.setdefault(line, set()).add(it["arn"])
     return found

@@ -8,7 +8,7 @@ multiplied, over eighteen digits.
 """
 
 import re
-from typing import Any, Dict, Iterator, List, Tuple
+from typing import Any, Dict, Iterator, List, Sequence, Tuple
 
 from .documents import Policy, World, conditions_of, contexts, each, mapped, places, statements_of, with_contexts
 from .faults import Fault
@@ -71,21 +71,21 @@ def variables(world: World) -> List[str]:
     return [key.lower() for text in texts if "${" in text for key in variables_of(text)]
 
 
-def scales(world: World) -> Dict[str, int]:
+def scales(worlds: Sequence[World]) -> Dict[str, int]:
     """The number of places of each key that has to change."""
     values: Dict[str, List[Any]] = {}
     others: Dict[str, str] = {}
-    for operator, key, value in conditions(world):
+    for operator, key, value in (it for world in worlds for it in conditions(world)):
         if is_numeric(operator):
             values.setdefault(key, []).extend(each(value))
         elif operator != "Null":
             others.setdefault(key, operator)
-    for context in contexts(world):
+    for context in (it for world in worlds for it in contexts(world)):
         for key, value in context.items():
             if key.lower() in values:
                 values[key.lower()] += each(value)
     wanted = {key: of for key, of in sorted(values.items()) if any(map(is_decimal, of))}
-    named = set(variables(world)) if wanted else set()
+    named = {it for world in worlds for it in variables(world)} if wanted else set()
     return {key: scale_of(key, of, others.get(key), named) for key, of in wanted.items()}
 
 
@@ -133,8 +133,22 @@ def document_changed(document: Any, of: Dict[str, int]) -> Any:
 
 def whole(world: World) -> World:
     """The world without decimals, which has the same answers."""
-    of = scales(world)
+    return scaled(world, scales([world]))
+
+
+def scaled(world: World, of: Dict[str, int]) -> World:
+    """The world in which the values of each key are multiplied by so many tens."""
     if not of:
         return world
     made = mapped(world, lambda _kind, _path, it: Policy(it.name, document_changed(it.document, of)))
     return with_contexts(made, lambda context: keys_changed(context, of))
+
+
+def as_written(value: str, count: int) -> str:
+    """A value as it is without so many tens."""
+    found = NUMBER.fullmatch(value)
+    if not count or found is None:
+        return value
+    digits = found.group(2).rjust(count + 1, "0")
+    rest = digits[-count:].rstrip("0")
+    return found.group(1) + digits[:-count] + (f".{rest}" if rest else "")

@@ -90,6 +90,12 @@ def places(world: World) -> List[Place]:
     return found
 
 
+def layer_of(it: Place) -> str:
+    """The layer and level of which a document is one."""
+    parts_of_path = it.path.split("/")[2:]
+    return "/".join(parts_of_path[:-1] if parts_of_path[-1].isdigit() else parts_of_path)
+
+
 def dressed(world: World, names: Dict[str, str]) -> World:
     """The world with its policies' names; a policy without one is named by its path."""
     return mapped(world, lambda _, path, document: Policy(str(names.get(path, path)), document))

@@ -6,10 +6,12 @@ from typing import Any, Callable, Dict, FrozenSet, Iterable, Iterator, List, Nam
 from . import questions
 from .arns import account_of, is_access_point, names_of_resource, owner_of, principal_arn, principal_text, service_of
 from .asking import whole
-from .documents import World, cells_of, conditions_of, each
+from .bounds import spoken
+from .documents import FOREIGN, World, cells_of
 from .every import NOT_SHOWN, UNNAMED, WORLDS, Job, ask_every
 from .exports import ACCOUNT
-from .keys import givers, has_variables, lacks
+from .keys import asked as asked_keys
+from .keys import context_of
 from .making import bound
 from .patterns import (
     any_matches,
@@ -22,7 +24,6 @@ from .patterns import (
     overlap,
     pattern_of,
     plain,
-    resolved,
     shortest,
     variables_of,
 )
@@ -93,13 +94,15 @@ def side_of(scope: Scope, world: World) -> Side:
 class Names(NamedTuple):
     """Requests of principals of one account for all names that a question means: the sides where they are asked, which are one, or
     what was before and what is after; the lines that say what holds of texts that their worlds do not name, the pattern of the
-    actions (nothing where those of the world are asked for), and the services that are asked of elsewhere."""
+    actions (nothing where those of the world are asked for), the services that are asked of elsewhere, and what is asked in place
+    of the worlds, which bounds them."""
 
     sides: List[Side]
     lines: List[Line]
     question: Question
     pattern: str
     without: Tuple[str, ...]
+    bound: Optional[Callable[[List[World]], List[World]]] = None
 
     @property
     def world(self) -> World:
@@ -389,7 +392,8 @@ def texts_for(names: Names, here_is: Here) -> List[Dict[str, Any]]:
 
 def jobs_of(names: Names, words: List[str]) -> Iterator[Tuple[Job, Here]]:
     """What is asked of iamsim, in parts where a world is past the limits."""
-    worlds = [whole(it.world) for it in names.sides]
+    worlds = [it.world for it in names.sides]
+    worlds = list(map(whole, names.bound(worlds) if names.bound else worlds))
     if names.pattern:
         worlds = [{**it, "actions": [WORLDS[""]]} for it in worlds]
     action = ["--action", names.pattern] if names.pattern else []
@@ -567,6 +571,40 @@ def met_patterns(names: Names) -> Callable[[Row], Tuple[Origin, ...]]:
     return lambda row: tuple(patterns_for(causes(row, other[row["change"]]), "Resource", row["resource"]))
 
 
+def alike_in_keys(names: Names) -> List[Names]:
+    """The requests in lists by principals that give the same keys of those that policies ask for, and may have the same."""
+    asked = {key.lower() for side in names.sides for key, _, _ in asked_keys(side.world)}
+    found: Dict[Any, List[Any]] = {}
+    for it in names.people:
+        given = frozenset(key.lower() for key in context_of(it))
+        found.setdefault((it.get(FOREIGN), given & asked), []).append(it)
+    return [names.of(it) for it in found.values()]
+
+
+def naming(names: Names, rows: List[Row]) -> List[List[World]]:
+    """Worlds of each side that name what rows show, those together that ask the same of the same texts."""
+    texts: Dict[Tuple[str, str], Dict[str, None]] = {}
+    for it in rows if names.sides else ():
+        if not is_access_point(it["resource"]):
+            texts.setdefault((it["principal"], it["action"]), {})[it["resource"]] = None
+    alike_texts: Dict[Tuple[str, Tuple[str, ...]], List[str]] = {}
+    for (who, action), of in texts.items():
+        alike_texts.setdefault((who, tuple(of)), []).append(action)
+    groups_of: Dict[Tuple[Tuple[str, ...], Tuple[str, ...]], List[str]] = {}
+    for (who, some), actions in alike_texts.items():
+        groups_of.setdefault((tuple(actions), some), []).append(who)
+    shown, made = names.shown(), []
+    for (actions, some), people in groups_of.items():
+        own = [shown(it) for it in some]
+        made.append([named_world(it.world, people, actions, [of[n] for of in own]) for n, it in enumerate(names.sides)])
+    return made
+
+
+def named_world(world: World, people: List[str], actions: Sequence[str], resources: List[Resource]) -> World:
+    principals = [it for it in world["principals"] if principal_text(it) in people]
+    return {**world, "principals": principals, "actions": list(actions), "resources": resources}
+
+
 def ask_names(some: Iterable[Names], count: int, words: List[str]) -> Iterator[Tuple[Names, Found]]:
     """What is found of each of so many, where iamsim is asked with these words."""
     jobs: List[Tuple[Names, int, Here]] = []
@@ -587,41 +625,16 @@ def ask_names(some: Iterable[Names], count: int, words: List[str]) -> Iterator[T
             found = Found([], [])
 
 
-def unresolved(world: World, asked: str, *elements: str) -> List[str]:
-    """The variables in resources that nothing gives, where with one of them what is asked for may be allowed, or of some elements."""
+def unresolved(world: World, asked: str) -> List[str]:
+    """The variables in resources that nothing gives, where with one of them what is asked for may be meant."""
     found: Dict[str, None] = {}
-    given = givers(world)
-    for place, statement, is_new in statements(world, world["actions"]):
-        element = "Resource" if statement.get("Effect") == "Allow" else "NotResource"
-        for text in texts_of(statement, *(elements or [element])) if is_new else ():
-            lacking = [it for it in variables_of(text) if lacks(world, given, place.path, it)]
+    for of in spoken(world, world["actions"]):
+        for text in texts_of(of.statement, "Resource", "NotResource") if of.is_new else ():
+            lacking = [it for it in variables_of(text) if of.is_open(it)]
             known = {it.lower(): "" for it in variables_of(text) if it not in lacking}
-            if lacking and may_come(place, text, known, asked):
-                found[f"{', '.join(lacking)}: nothing gives it, and {place.policy.name} is for {text}"] = None
+            if lacking and may_come(of.place, text, known, asked):
+                found[f"{', '.join(lacking)}: nothing gives it, and {of.place.policy.name} is for {text}"] = None
     return list(found)
-
-
-def untried(world: World, asked: str) -> List[str]:
-    """The keys of which no value is tried, since statements compare them with variables that nothing gives, or only a request."""
-    found: Dict[str, None] = {}
-    given = givers(world)
-    for place, statement, is_new in statements(world, world["actions"]):
-        for operator, key, value in conditions_of(statement) if is_new and may_speak_of(statement, asked) else ():
-            for text in (it for it in each(value) if isinstance(it, str) and has_variables(operator)):
-                lacking = [it for it in variables_of(text) if lacks(world, given, place.path, it)]
-                is_open = variables_of(text) and lacks(world, given, place.path, key)
-                if is_open and resolved(text, values_of(world, place.path)[0]) is None:
-                    lacking.append(key)
-                if lacking:
-                    what = f"{place.policy.name} compares {key} with {text}"
-                    found[f"{', '.join(lacking)}: nothing gives it, and {what}"] = None
-    return list(found)
-
-
-def may_speak_of(statement: Any, asked: str) -> bool:
-    """Whether a statement may speak of a resource that is asked for."""
-    texts = [opened(it) for it in texts_of(statement, "Resource")]
-    return "Resource" not in statement or any(common(it, of) is not None for it in texts for of in patterns_of(asked))
 
 
 def is_met(scope: Scope, world: World, question: Question, chosen: List[str]) -> bool:

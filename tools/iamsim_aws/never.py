@@ -1,26 +1,29 @@
 """What must never be allowed: requests that are allowed all the same, as they are or with keys that nothing gives."""
 
 import functools
-from typing import Any, Callable, Dict, List, NamedTuple, Optional, Sequence, Tuple
+from typing import Any, Callable, Iterator, List, NamedTuple, Optional, Sequence, Tuple
 
 from .arns import is_access_point, principal_text
 from .asking import ask_all
+from .bounds import MOST as PROBES
+from .bounds import TOO_MANY, at_most, hanging_people, hangs, probes_of, told_apart
 from .chains import Way
 from .covering import unasked
 from .documents import World
-from .documents import cells_of as count_of
+from .examples import Example, ask_any_key
 from .faults import Fault
-from .hanging import MOST, Turn, is_too_much, together, turns, wanted
-from .keys import with_key
 from .names import (
+    REQUEST,
     Found,
     Names,
     Row,
+    alike_in_keys,
     answers_of,
     cells_in,
     groups,
     is_met,
     names_of,
+    naming,
     nearest,
     owners_lines,
     patterns_of,
@@ -28,7 +31,6 @@ from .names import (
     side_of,
     stands,
     unresolved,
-    untried,
 )
 from .patterns import common, is_pattern
 from .questions import Asked, Question, Scope, actions, asked_in, lacked, principals, worlds
@@ -50,7 +52,7 @@ class Break(NamedTuple):
 
     answers: Answers
     cell: int
-    turn: Optional[Turn]
+    turn: Optional[Example]
     stand: Callable[[], Origins]
     before: Optional[Tuple[Answers, int]] = None
     way: Optional[Way] = None
@@ -86,17 +88,17 @@ def spoken(scope: Scope, asked: str) -> List[str]:
     return actions(scope, asked) + [it for it in shared if it and not scope.source.references.has_file(it)]
 
 
-def never(scope: Scope, question: Question, as_given: bool) -> Never:
+def never(scope: Scope, question: Question) -> Never:
     """What must never be: nobody may, whoever is outside either."""
-    return asked_by(scope._replace(outside=True), question, as_given)
+    return asked_by(scope._replace(outside=True), question)
 
 
-def asked_by(scope: Scope, question: Question, as_given: bool) -> Never:
+def asked_by(scope: Scope, question: Question) -> Never:
     """What is asked: one request of each principal where no pattern is given, else each name that the patterns mean."""
     if not is_pattern(question.action) and not is_pattern(question.resource):
         asked = worlds(scope, question)
         people = [line for it in asked for line in people_of(scope, it.world, it.world["resources"], question)]
-        return Never(question, asked, [], bool(asked), opens_of(asked, question, as_given) + people)
+        return Never(question, asked, [], bool(asked), people)
     chosen = spoken(scope, question.action)
     found = Never(question, [], [], False, [])
     is_lacked = not chosen and scope.source.references.has_file(question.action)
@@ -115,9 +117,8 @@ def asked_by(scope: Scope, question: Question, as_given: bool) -> Never:
             names = names_of([side_of(scope, own)], question, pattern, pattern or action, without)
         if names:
             met = found.is_met or is_met(scope, {**world, "resources": own["resources"]}, question, chosen)
-            opens = found.opens + opens_of([asked_for], question, as_given)
             meant = {id(it.of): it.of for one in names for it in one.lines if not it.is_shut}
-            opens += people_of(scope, own, list(meant.values()), question)
+            opens = found.opens + people_of(scope, own, list(meant.values()), question)
             found = Never(question, [*found.asked, asked_for], found.names + names, met, opens)
     return found._replace(opens=list(dict.fromkeys(found.opens)))
 
@@ -141,18 +142,11 @@ def people_of(scope: Scope, world: World, resources: List[Any], question: Questi
     return [it for it in unasked(scope.source, meant) if NOT_ASKED in it]
 
 
-def opens_of(asked: List[Asked], question: Question, as_given: bool) -> List[str]:
-    """What is asked with no value of a key, though its requests hang on it."""
-    every = [it.world for it in asked] if not as_given else []
-    found = [line for it in every for line in unresolved(it, question.resource) + untried(it, question.resource)]
-    return list(dict.fromkeys(found))
-
-
 def findings(scope: Scope, some: Sequence[Never], as_given: bool) -> List[Finding]:
     """What is found of each, all asked side by side."""
     named = [it for of in some for it in of.names]
     every = settled(scope, named, len(named), ALLOWED)
-    given = dict(zip(map(id, named), (of_names(it, None) for it in every)))
+    given = dict(zip(map(id, named), map(of_names, every)))
     flat = [it for of in some for it in of.asked if not of.names]
     answers = dict(zip(map(id, flat), ask_all([it.world for it in flat])))
     found = []
@@ -161,7 +155,9 @@ def findings(scope: Scope, some: Sequence[Never], as_given: bool) -> List[Findin
         for it in of.names:
             own = joined(own, given[id(it)])
         for one in of.asked if not of.names else ():
-            own = joined(own, allowed(scope, of, one, answers[id(one)], as_given))
+            flags = answers[id(one)].flags()
+            cells = [cell for cell in cells_of(scope, answers[id(one)]) if flags[cell]]
+            own = joined(own, Finding([Break(answers[id(one)], it, None, dict) for it in cells], []))
         found.append(own)
     return found if as_given else with_keys(scope, some, found)
 
@@ -170,7 +166,7 @@ def joined(one: Finding, other: Finding) -> Finding:
     return Finding(one.broken + other.broken, list(dict.fromkeys(one.opens + other.opens)))
 
 
-def of_names(some: List[Tuple[Names, Found]], turn: Optional[Turn]) -> Finding:
+def of_names(some: List[Tuple[Names, Found]]) -> Finding:
     """The requests that are found to be allowed: of each principal and action those that a service is likely to have, if there are
     such; of texts of which the same holds the shortest."""
     made = Finding([], [])
@@ -180,8 +176,10 @@ def of_names(some: List[Tuple[Names, Found]], turn: Optional[Turn]) -> Finding:
         rest = [it for it in found.rows if not is_access_point(it["resource"])]
         rows = nearest(names, rest, functools.partial(kind_of_row, names))
         [answers], of = answers_of(names, rows), stands(names)
-        by_cell = dict(zip(cells_in(answers, rows), rows))
-        broken = [Break(answers, it, turn, functools.partial(of, by_cell[it])) for it in answers.allowed()]
+        broken = [
+            Break(answers, cell, row.get("example"), functools.partial(of, row))
+            for cell, row in zip(cells_in(answers, rows), rows)
+        ]
         made = joined(made, Finding(broken, found.opens + opens))
     return made
 
@@ -192,84 +190,76 @@ def kind_of_row(names: Names, row: Row) -> str:
     return str(text if text == "*" else names.line_of(text).of["arn"])
 
 
-def allowed(scope: Scope, of: Never, asked: Asked, answers: Answers, as_given: bool) -> Finding:
-    """The requests that are allowed, of those that some service has; each with the keys too that nothing gives."""
-    cells = cells_of(scope, answers)
-    flags = answers.flags()
-    found = [Break(answers, cell, None, dict) for cell in cells if flags[cell]]
-    if as_given or not cells:
-        return Finding(found, [])
-    if is_too_much(answers.world):
-        return Finding(found, ["what its answers hang on was not asked, since they are too many"])
-    turned = turns(answers.world, answers)
-    opened_by = [(cell, it) for cell in cells for it in turned.get(cell, []) if it.decision == "allowed"]
-    keys = list(dict.fromkeys((it.key, it.value) for _, it in opened_by))
-    given = dict(zip(keys, ask_all([with_key(answers.world, *it) for it in keys])))
-    found += [Break(given[it.key, it.value], cell, it, dict) for cell, it in opened_by]
-    done = {it.cell for it in found}
-    return joined(Finding(found, []), several_keys(answers.world, [it for it in cells if it not in done]))
-
-
-def several_keys(world: World, cells: List[int]) -> Finding:
-    """The requests that are allowed with all keys at once that one statement asks for and that nothing gives."""
-    several = together(world) if cells else []
-    if len(several) * count_of(world) > MOST:
-        return Finding([], ["what several keys at once allow was not asked, since they are too many"])
-    found: List[Break] = []
-    for of, answers in zip(several, ask_all([with_all(world, it) for it in several])):
-        turn, flags, done = turn_of(of), answers.flags(), {it.cell for it in found}
-        found += [Break(answers, it, turn, dict) for it in cells if flags[it] and it not in done]
-    return Finding(found, [])
-
-
-def with_all(world: World, keys: Dict[str, str]) -> World:
-    return functools.reduce(lambda made, it: with_key(made, *it), keys.items(), world)
-
-
-def with_given(names: Names, keys: Dict[str, str]) -> Names:
-    return names.mapped(lambda it: with_all(it, keys))
-
-
-def turn_of(keys: Dict[str, str]) -> Turn:
-    (key, value), *rest = keys.items()
-    return Turn(key, value, "allowed", (), tuple(rest))
-
-
-def keys_of(world: World) -> List[Dict[str, str]]:
-    """The keys that nothing gives, with the values that policies ask for: each by itself, and those of one statement at once."""
-    single = [{key: value} for key, values in wanted(world).items() for value in values]
-    return single + together(world)
+# --- keys that nothing gives ------------------------------------------------------------------------------------------
 
 
 def with_keys(scope: Scope, some: Sequence[Never], found: List[Finding]) -> List[Finding]:
-    """What is found, with what is allowed with keys that nothing gives to those who are not allowed it without them."""
-    asked: List[Tuple[int, Names, Dict[str, str]]] = []
-    made = list(found)
+    """What is found, with what values of keys that nothing gives allow to those who are not allowed it without them."""
+    named: List[Tuple[int, Names]] = []
+    flat: List[Tuple[int, World]] = []
     for n, of in enumerate(some):
         done = {principal_text(it.answers.world["principals"][it.answers.place(it.cell)[0]]) for it in found[n].broken}
-        for names in of.names:
-            rest = names.of([it for it in names.people if principal_text(it) not in done])
-            keys = keys_of(rest.world) if rest.people else []
-            if len(keys) * len(rest.people) * len(rest.lines) * len(rest.world["actions"]) > MOST:
-                line = "what its answers hang on was not asked, since they are too many"
-                made[n] = joined(made[n], Finding([], [line]))
-            else:
-                asked += [(n, rest, it) for it in keys]
-    given = (with_given(names, keys) for _, names, keys in asked)
-    for (n, _, keys), one in zip(asked, settled(scope, given, len(asked), ALLOWED)):
-        made[n] = joined(made[n], of_names(one, turn_of(keys)))
-    return [Finding(first_of(it.broken), it.opens) for it in made]
+        rest = [it.of([one for one in it.people if principal_text(one) not in done]) for it in of.names]
+        named += [(n, it) for it in rest if it.people]
+        for world in (it.world for it in of.asked if not of.names and hangs(it.world, it.world["actions"])):
+            people = [it for it in world["principals"] if principal_text(it) not in done]
+            flat.append((n, {**world, "principals": people}))
+    made = list(found)
+    for (n, _), one in zip(named, by_names(scope, [it for _, it in named])):
+        made[n] = joined(made[n], of_names(one))
+    for (n, _), turned in zip(flat, ask_any_key([it for _, it in flat])):
+        kept = set(cells_of(scope, turned.answers))
+        broken = [Break(turned.answers, it, turned.examples[it], dict) for it in turned.examples if it in kept]
+        opens = [turned.open_words(it) for it in turned.opens if it in kept]
+        made[n] = joined(made[n], Finding(broken, opens))
+    return made
 
 
-def first_of(broken: List[Break]) -> List[Break]:
-    """The requests, each once: with the first key that allows it, and all values of that key that do."""
-    found: Dict[Any, Break] = {}
-    for it in broken:
-        row = it.answers.row(it.cell)
-        one = found.setdefault((row.principal, row.action, row.resource), it)
-        if one.turn and it.turn and one is not it and one.turn.key == it.turn.key and not it.turn.besides:
-            found[row[:3]] = one._replace(turn=one.turn._replace(others=(*one.turn.others, it.turn.value)))
-    return list(found.values())
+def by_names(scope: Scope, some: List[Names]) -> List[List[Tuple[Names, Found]]]:
+    """What each allows of all names with keys that nothing gives. Of those who are allowed anything with the most that any values may do,
+    the names are asked that are told apart by what hangs on keys, and of these which are allowed with some values."""
+    parts = [(n, one) for n, it in enumerate(some) for one in alike_in_keys(it)]
+    hung = [(n, it.of(hanging_people(it.world))) for n, it in parts]
+    asked = [(n, it) for n, it in hung if it.people]
+    most = settled(scope, (with_bound(it, at_most) for _, it in asked), len(asked), ALLOWED)
+    made: List[List[Tuple[Names, Found]]] = [[] for _ in some]
+    further: List[Tuple[int, Names]] = []
+    for (n, names), found in zip(asked, most):
+        made[n] += [(it, of._replace(rows=[])) for it, of in found]
+        who = {row["principal"] for _, it in found for row in it.rows}
+        few = names.of([it for it in names.people if principal_text(it) in who])
+        is_too_much = bool(who) and len(probes_of(few.world)) > PROBES
+        made[n] += [(few, Found([], [TOO_MANY]))] if is_too_much else []
+        further += [(n, few)] if who and not is_too_much else []
+    apart = settled(scope, (with_bound(it, told_apart) for _, it in further), len(further), ALLOWED)
+    for (n, _), one in zip(further, by_examples(list(zip((it for _, it in further), apart)))):
+        made[n] += one
+    return made
+
+
+def with_bound(names: Names, bound: Callable[[World], World]) -> Names:
+    return names._replace(bound=lambda worlds: list(map(bound, worlds)))
+
+
+def by_examples(asked: List[Tuple[Names, List[Tuple[Names, Found]]]]) -> Iterator[List[Tuple[Names, Found]]]:
+    """What is allowed with some values of keys, of the requests that are allowed at most."""
+    worlds = [[naming(names, it.rows) for names, it in of] for _, of in asked]
+    answers = iter(ask_any_key([one for [one] in (world for of in worlds for some in of for world in some)]))
+    for (every, of), several in zip(asked, worlds):
+        made, shown = [], set()
+        for (names, found), some in zip(of, several):
+            opens, wanted = list(found.opens), {tuple(it[name] for name in REQUEST) for it in found.rows}
+            rows: List[Row] = [it for it in found.rows if is_access_point(it["resource"])]
+            for turned in (next(answers) for _ in some):
+                texts = turned.answers.texts
+                rows += [turned.row(it) for it in turned.answers.allowed() if texts(it) in wanted]
+                opens += [turned.open_words(it) for it in turned.opens if texts(it) in wanted]
+            shown.update(it["principal"] for it in rows)
+            made.append((names, found._replace(rows=rows, opens=opens)))
+        # A text of which a variable is a part that nothing gives may be of another kind with each value.
+        rest = [it for it in every.people if principal_text(it) not in shown]
+        lines = unresolved(every.of(rest).world, every.question.resource) if rest else []
+        yield [*made, (every, Found([], lines))]
 
 
 def cells_of(scope: Scope, answers: Answers) -> List[int]:
@@ -281,32 +271,27 @@ def cells_of(scope: Scope, answers: Answers) -> List[int]:
 def worlds_of_kinds(scope: Scope, question: Question) -> List[Asked]:
     """The worlds of a question's requests, with the names that show all that is allowed of every name that its patterns mean, as it is
     or with keys that nothing gives, and what of each is not."""
-    of = asked_by(scope, question, False)
+    of = asked_by(scope, question)
     if not of.names:
         return worlds(scope, question)
-    asked = [(names, keys) for names in of.names for keys in [{}, *keys_of(names.world)]]
-    every = settled(scope, (with_given(names, keys) for names, keys in asked), len(asked), [])
+    every = settled(scope, of.names, len(of.names), [])
+    keyed = by_names(scope, of.names)
     made: List[Asked] = []
     for one in of.asked:
-        of_world = [(keys, it) for (names, keys), some in zip(asked, every) for it in some if is_of(names, one)]
         found = one._replace(world={**one.world, "actions": [], "resources": []}, opens=list(of.opens))
-        for keys, (names, rows) in of_world:
-            found = with_rows(found, names, rows, bool(keys))
+        for names, as_given, with_values in zip(of.names, every, keyed):
+            if names.world["actions"] == one.world["actions"]:
+                for it, rows in [*as_given, *with_values]:
+                    found = with_rows(found, it, rows)
         is_told = bool(found.world["actions"] or found.opens)
         made += [found] if is_told and found.world["principals"] else []
     return made
 
 
-def is_of(names: Names, asked: Asked) -> bool:
-    """Whether names are asked in a world: it has their actions."""
-    return names.world["actions"] == asked.world["actions"]
-
-
-def with_rows(asked: Asked, names: Names, found: Found, is_keyed: bool) -> Asked:
-    """The world with what rows show; of those with a key what is allowed."""
+def with_rows(asked: Asked, names: Names, found: Found) -> Asked:
+    """The world with what rows show."""
     of, shown = stands(names), names.shown()
-    rows = [it for it in found.rows if not is_keyed or it["decision"] == "allowed"]
-    rows = nearest(names, rows, lambda it: of(it).get(it["resource"]), True)
+    rows = nearest(names, found.rows, lambda it: of(it).get(it["resource"]), True)
     world, stand = asked.world, dict(asked.stand)
     resources = {(it["arn"], it["account"]): it for it in world["resources"]}
     for row in rows:

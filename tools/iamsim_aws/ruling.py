@@ -7,10 +7,10 @@ from typing import Dict, List, NamedTuple, Optional
 from . import files
 from .arns import principal_arn, principal_text
 from .asking import ask_all
+from .dates import later
 from .documents import World
 from .documents import cells_of as count_of
 from .faults import Fault, tell
-from .hanging import later, together
 from .names import answers_of, cells_in, is_named, nearest, settled
 from .never import Break, Finding, Never, asked_by, cells_of, findings, joined, kind_of_row, never
 from .patterns import is_pattern, near, of_given
@@ -20,7 +20,7 @@ from .reports import Answers
 from .roles import with_named
 from .slips import is_unnamed, unnamed
 from .sources import ASSUME
-from .strangers import is_excepted, strangers
+from .strangers import is_excepted, is_stranger, shown, strangers
 
 # Texts of broken rules for which it is asked what allowed them before a draft.
 MOST = 100
@@ -46,7 +46,8 @@ class Rule(NamedTuple):
 
 class Outcome(NamedTuple):
     """How a rule fares: how many requests it meets, or principals that it means with every name; those that break it, what its
-    answer hangs on that was not asked, why it meets none, and what gives keys."""
+    answer hangs on that was not asked, why it meets none, what gives keys, which stand-ins were asked, and whether with every value
+    of the keys that nothing gives."""
 
     rule: Rule
     requests: int
@@ -56,6 +57,8 @@ class Outcome(NamedTuple):
     asked: List[Asked]
     empty: str
     giver: str
+    outside: List[str]
+    has_values: bool
 
     @property
     def state(self) -> str:
@@ -64,12 +67,15 @@ class Outcome(NamedTuple):
     @property
     def scope(self) -> str:
         """What the answer is for, in words."""
-        if not self.is_of_names:
-            return f"{self.requests} requests"
         question = self.rule.question
         both = (("action", question.action), ("resource", question.resource))
-        open_names = [name for name, it in both if is_pattern(it)]
-        return f"{self.requests} principals, every name of {' and '.join(open_names)}"
+        names = " and ".join(name for name, it in both if is_pattern(it))
+        stand_ins = f"{len(self.outside)} stand-ins for who is outside" if self.outside else ""
+        found = [f"{self.requests} principals{stand_ins and f' and {stand_ins}'}"]
+        if not self.is_of_names:
+            found = [f"{self.requests} requests{stand_ins and f', also of {stand_ins}'}"]
+        found += [f"every name of {names}"] if self.is_of_names else []
+        return ", ".join(found + (["every value of each key"] if self.has_values else []))
 
 
 def words_of(line: str) -> List[str]:
@@ -117,28 +123,27 @@ def exceptions(scope: Scope, rule: Rule) -> Dict[str, List[str]]:
     return found
 
 
-def of_rule(scope: Scope, rule: Rule, as_given: bool) -> Never:
+def of_rule(scope: Scope, rule: Rule) -> Never:
     """What a rule asks: what must never be is asked of who is outside too, and of every name that its patterns mean."""
     for it, people in exceptions(scope, rule).items():
         if not people:
             names = map(principal_arn, scope.source.world([ASSUME])["principals"])
             tell(f"{rule.name}: the exception {it} matches no principal{near(it, names)}")
     try:
-        return never(scope, rule.question, as_given) if rule.kind == "never" else asked_by(scope, rule.question, True)
+        return never(scope, rule.question) if rule.kind == "never" else asked_by(scope, rule.question)
     except Fault as fault:
         raise Fault(f"{rule.name}: {fault}") from None
 
 
 def check(scope: Scope, rules: List[Rule], as_given: bool = False, before: Optional[Scope] = None) -> List[Outcome]:
     """The outcome of each rule, all asked side by side; over a draft with what was allowed before it."""
-    some = [of_rule(scope, rule, as_given) for rule in rules]
+    some = [of_rule(scope, rule) for rule in rules]
     of_never = [it for rule, it in zip(rules, some) if rule.kind == "never"]
     found = {id(it): one for it, one in zip(of_never, findings(scope, of_never, as_given))}
-    tell_later([it.world for of in some for it in of.asked])
-    if not as_given:
-        tell_several([it.world for of in of_never for it in of.asked])
+    tell_later([it.world for rule, of in zip(rules, some) for it in of.asked if as_given or rule.kind == "always"])
     return [
-        outcome(scope, rule, of, found.get(id(of)) or lacking(scope, rule, of, before)) for rule, of in zip(rules, some)
+        outcome(scope, rule, of, found.get(id(of)) or lacking(scope, rule, of, before), as_given)
+        for rule, of in zip(rules, some)
     ]
 
 
@@ -147,7 +152,7 @@ def in_doubt(scope: Scope, rule: Rule, broken: List[Break]) -> List[str]:
     if scope.source.narrow is None:
         return []
     narrow, known = scope._replace(source=scope.source.narrow), {it.answers.row(it.cell)[:3] for it in broken}
-    rows = [it.answers.row(it.cell)[:3] for it in refused(narrow, asked_by(narrow, rule.question, True)).broken]
+    rows = [it.answers.row(it.cell)[:3] for it in refused(narrow, asked_by(narrow, rule.question)).broken]
     return [f"{' '.join(it)} may be refused by what is known only after the apply" for it in rows if it not in known]
 
 
@@ -158,10 +163,12 @@ def reason(scope: Scope, question: Question, of: Never) -> str:
     return missing(scope, question) if is_absent or not of.asked else NOTHING_SPEAKS
 
 
-def outcome(scope: Scope, rule: Rule, of: Never, found: Finding) -> Outcome:
+def outcome(scope: Scope, rule: Rule, of: Never, found: Finding, as_given: bool) -> Outcome:
     """How a rule fares by what is found."""
     why = "" if of.is_met else reason(scope, rule.question, of)
-    requests = len({principal_text(it) for one in of.names for it in one.people})
+    asked = [it for one in of.names for it in one.people] or [it for one in of.asked for it in one.world["principals"]]
+    outside = list(dict.fromkeys(shown(it) for it in asked if is_stranger(it)))
+    requests = len({principal_text(it) for it in asked if not is_stranger(it)})
     if not of.names:
         requests = sum(len(cells_of(scope, Answers(it.world, count_of(it.world)))) for it in of.asked)
         why = why or ("" if requests else NOTHING_SPEAKS)
@@ -171,7 +178,9 @@ def outcome(scope: Scope, rule: Rule, of: Never, found: Finding) -> Outcome:
     if rule.kind == "always" and any(is_half_known(one) for it in of.asked for one in it.world["resources"]):
         opens.append(HALF_KNOWN)
     broken = sorted(found.broken, key=Break.is_mixed)
-    return Outcome(rule, requests, bool(of.names), broken, opens, of.asked, why, scope.source.giver)
+    has_values = rule.kind == "never" and not as_given
+    giver = scope.source.giver
+    return Outcome(rule, requests, bool(of.names), broken, opens, of.asked, why, giver, outside, has_values)
 
 
 def lacking(scope: Scope, rule: Rule, of: Never, before: Optional[Scope]) -> Finding:
@@ -195,13 +204,6 @@ def refused(scope: Scope, of: Never) -> Finding:
         cells = [cell for cell in cells_of(scope, answers) if not flags[cell]]
         found = joined(found, Finding([Break(answers, it, None, dict) for it in cells], []))
     return found
-
-
-def tell_several(some: List[World]) -> None:
-    """Says that statements ask for several keys that nothing gives: those of several statements are not given at once."""
-    keys = sorted({key for world in some for it in together(world) for key in it})
-    if keys:
-        tell(f"keys were given one at a time, and those of one statement at once: {', '.join(keys)}")
 
 
 def tell_later(some: List[World]) -> None:

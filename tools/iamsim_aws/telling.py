@@ -70,15 +70,20 @@ def policies_of(world: World, p: int, r: int, layer: str) -> Any:
     return principal["identity" if layer == "identity" else "sessionPolicies"]
 
 
-def cause_of(world: World, p: int, r: int, place: str) -> Cause:
-    """The statement at a place of a report."""
+def document_at(world: World, p: int, r: int, place: str) -> Tuple[Policy, int]:
+    """The policy at a place of a report, and the number of the statement there."""
     layer, *numbers = place.split("/")
     *ways, statement = map(int, numbers)
     found: Any = policies_of(world, p, r, layer)
     for n in ways:
         found = found[n]
-    policy: Policy = found
-    return Cause(place, layer, policy.name, statement, statements_of(policy.document)[statement])
+    return found, statement
+
+
+def cause_of(world: World, p: int, r: int, place: str) -> Cause:
+    """The statement at a place of a report."""
+    policy, statement = document_at(world, p, r, place)
+    return Cause(place, place.partition("/")[0], policy.name, statement, statements_of(policy.document)[statement])
 
 
 def causes(answers: Answers, cell: int) -> List[Cause]:
@@ -172,6 +177,15 @@ def told(answers: Answers, cell: int, turns: List[Turn], is_long: bool, is_verbo
     return [line_of(it) for it in lines]
 
 
+def hangs_on(turn: Turn) -> Dict[str, Any]:
+    """What an answer hangs on; further keys that it wants at once stand under `besides`, each with its values."""
+    besides: Dict[str, List[str]] = {}
+    for key, value in turn.besides:
+        besides.setdefault(key, []).append(value)
+    own = {"key": turn.key, "value": turn.value, "decision": turn.decision, "values": turn.values}
+    return {**own, **({"besides": besides} if besides else {})}
+
+
 def as_json(answers: Answers, cell: int, turns: List[Turn], made_up: Origins) -> Dict[str, Any]:
     """An answer, with what its texts stand for that are made up."""
     row = answers.row(cell)
@@ -187,7 +201,7 @@ def as_json(answers: Answers, cell: int, turns: List[Turn], made_up: Origins) ->
         "decision": row.answer.decision,
         "statements": statements,
         "lacks": list(row.answer.lacks),
-        "hangsOn": [{"key": it.key, "value": it.value, "decision": it.decision, "values": it.values} for it in turns],
+        "hangsOn": [hangs_on(it) for it in turns],
         "standsFor": [{"text": it, **made_up[it]._asdict()} for it in (row.action, row.resource) if it in made_up],
     }
 

@@ -4,9 +4,8 @@ What is gained is worked out by hand; `can` confirms each example over the draft
 import csv
 import io
 import json
-import os
 
-from harness import AWS, aws, document, file, same, small_world, statement
+from harness import answer, aws, document, file, load, same, small_world, statement
 
 OWN, OTHER = "111122223333", "999988887777"
 ACCOUNT = f"arn:aws:iam::{OWN}:"
@@ -203,13 +202,16 @@ def test_what_a_boundary_and_a_deny_leave():
 
 
 def test_tags_in_a_draft():
-    """Case 11: gained where the tag is known, and open where nothing gives it."""
+    """Case 11: gained where the tag is known, and with that tag where nothing gives it."""
     secrets = on("secrets/${aws:PrincipalTag/team}/*")
     nothing = statement(action="sqs:*")
     put(export(nothing, tags={"team": "red"}), nothing, secrets, wanted={(GET.lower(), f"{S3}secrets/red/")})
-    found, said = changed(export(nothing), "--put", f"Own={file(document(nothing, secrets))}", status=5)
-    same(found, set())
+    draft = f"Own={file(document(nothing, secrets))}"
+    found, said = changed(export(nothing), "--put", draft, status=3)
+    same({it[1:] for it in found}, {(GET.lower(), f"{S3}secrets//")})
+    # The tag is a part of the name: of the others the key is told.
     assert "open: aws:PrincipalTag/team: nothing gives it" in said, said
+    assert ", if `aws:PrincipalTag/team` is ``" in aws("changes", export(nothing), "--put", draft)[0]
     # What a user's session never has.
     green(export(nothing), nothing, on("secrets/x", effect="Deny"))
 
@@ -250,6 +252,74 @@ def test_an_account_that_a_deny_excepts():
         assert f"allowed: anyone outside: account {OTHER} " in who, who
 
 
+def gains_of_outsiders(given, before, after, words, wanted, name="homes"):
+    """What a draft of a policy lets in who is outside; twins are without."""
+    found, _ = changed(given, *words(before), "--put", f"{name}={file(document(*after))}", status=3 if wanted else 0)
+    same({it[0] for it in found if it[0] != ALICE}, {wanted} if wanted else set())
+
+
+def test_whom_a_deny_does_not_mean():
+    """Case 24, by `NotPrincipal`: who is named beside his account is let in; the twin names the account alone."""
+    given, allow, of_other = export(statement(action="sqs:*")), to("*", "homes/*"), f"arn:aws:iam::{OTHER}:user/u"
+    deny = lambda *who: {**on("homes/*", effect="Deny"), "NotPrincipal": {"AWS": list(who)}}
+    words = lambda some: ["--resources", bucket(*some)]
+    own, both = [allow, deny(OWN)], [allow, deny(OWN, OTHER, of_other)]
+    gains_of_outsiders(given, own, both, words, f"outside: {of_other}")
+    gains_of_outsiders(given, own, [allow, deny(OWN, OTHER)], words, "")
+    text = f"never * {GET} {S3}homes/* except {ACCOUNT}*"
+    assert f"outside: {of_other} may {GET}" in rule(text, given, 3, *words(both))
+    rule(text, given, 0, *words(own))
+    assert f"allowed: outside: {of_other} " in aws("who-can", GET, f"{S3}homes/x", given, *words(both))[0]
+    assert "allowed: outside" not in aws("who-can", GET, f"{S3}homes/x", given, *words(own))[0]
+
+
+def test_whom_a_resource_control_policy_excepts():
+    """Case 24, by a resource control policy."""
+    given, open_to_all = export(statement(action="sqs:*")), bucket(to("*", "homes/*"))
+    excepts = lambda *who: [{**to("*", effect="Deny", Condition={"StringNotEquals": {"aws:PrincipalAccount": list(who)}}), "Resource": "*"}]
+
+    def words(some):
+        made = load(organization(FULL))
+        control = {"PolicySummary": {"Id": "p-Rcp", "Name": "Rcp", "Type": "RESOURCE_CONTROL_POLICY"}, "Content": document(*some)}
+        every = {"PolicySummary": {"Id": "p-All", "Name": "All", "Type": "RESOURCE_CONTROL_POLICY"}}
+        every["Content"] = document({**statement(), "Principal": "*"})
+        made["policies"] += [control, every]
+        for of in made["targets"].values():
+            of.append({"Id": "p-All", "Type": "RESOURCE_CONTROL_POLICY"})
+        made["targets"][OWN].append({"Id": "p-Rcp", "Type": "RESOURCE_CONTROL_POLICY"})
+        return ["--resources", open_to_all, "--organization", file({**made, "controlled": ["s3"]})]
+
+    wanted = f"anyone outside: account {OTHER}"
+    gains_of_outsiders(given, excepts(OWN), excepts(OWN, OTHER), words, wanted, "Rcp")
+    gains_of_outsiders(given, excepts(OWN), [*excepts(OWN), *excepts(OWN, "444455556666")], words, "", "Rcp")
+    text = f"never * {GET} {S3}homes/* except {ACCOUNT}*"
+    assert f"{wanted} may {GET}" in rule(text, given, 3, *words(excepts(OWN, OTHER)))
+    rule(text, given, 0, *words(excepts(OWN)))
+    assert f"allowed: {wanted} " in aws("who-can", GET, f"{S3}homes/x", given, *words(excepts(OWN, OTHER)))[0]
+
+
+def test_who_is_federated_and_services():
+    """Case 20: for them nobody is asked, so what lets them in newly is open; in the twin it was there before."""
+    github = f"{ACCOUNT}oidc-provider/token.actions.githubusercontent.com"
+
+    def trust(who, subject="repo:ours/app:*"):
+        condition = {"StringLike": {"token.actions.githubusercontent.com:sub": subject}}
+        return {"Effect": "Allow", "Principal": who, "Action": "sts:AssumeRoleWithWebIdentity", "Condition": condition}
+
+    own = trust({"Federated": github})
+    role = {"RoleName": "app", "RoleId": "AROA0", "Arn": f"{ACCOUNT}role/app", "AssumeRolePolicyDocument": document(own)}
+    given = file({**json.load(open(export(on("c/*")))), "RoleDetailList": [role]})
+    service = {"Effect": "Allow", "Principal": {"Service": "ec2.amazonaws.com"}, "Action": "sts:AssumeRole"}
+    for some, named in (
+        ([trust({"Federated": github}, "repo:*")], "Federated"),
+        ([own, trust({"Federated": "accounts.google.com"})], "Federated"),
+        ([own, service], "Service"),
+    ):
+        _, said = changed(given, "--put", f"role/app={file(document(*some))}", status=5)
+        assert f"role/app trust policy names {named} " in said and "for whom nobody is asked" in said, said
+    green(given, own, {**service, "Effect": "Deny"}, name="role/app")
+
+
 def test_a_plan_asks_the_same_outsiders():
     """Case 25: with and without a choice of actions and resources."""
     given = export(statement(action="sqs:*"))
@@ -263,6 +333,16 @@ def test_a_plan_asks_the_same_outsiders():
 
 
 # --- asking nothing -------------------------------------------------------------------------------------------------------
+
+
+def test_a_role_whose_sessions_have_another_text():
+    """Case 28, of the program itself: a pattern that means no principal asks nothing, which is no answer."""
+    role = {"role": f"{ACCOUNT}role/deploy", "session": "s"}
+    before, after = ({**small_world(document(*some)), "principals": [{**role, "identity": [document(*some)]}]} for some in ([], [on("b/*")]))
+    asked = ["changes", file(before), file(after), "--fail-on", "gained", "--principal"]
+    same(answer([*asked, role["role"]])[0], 4)
+    same(answer([*asked, "*:assumed-role/deploy/*"])[0], 3)
+    same(answer([*asked[:1], asked[2], *asked[2:], "*:assumed-role/deploy/*"])[0], 0)
 
 
 def test_two_policies_of_one_name():

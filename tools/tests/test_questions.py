@@ -322,13 +322,12 @@ CASES = [
     ({"StringLike": {"aws:SourceVpc": "vpc-*"}}, "aws:SourceVpc", "vpc-x"),
     ({"IpAddress": {"aws:SourceIp": "203.0.113.0/24"}}, "aws:SourceIp", "203.0.113.0"),
     ({"NumericLessThan": {"s3:max-keys": "10"}}, "s3:max-keys", "9"),
-    ({"NumericGreaterThan": {"s3:TlsVersion": "1.2"}}, None, None),
+    ({"NumericGreaterThan": {"s3:TlsVersion": "1.2"}}, "s3:TlsVersion", "1.3"),
     ({"DateGreaterThan": {"aws:TokenIssueTime": "2026-01-01T00:00:00Z"}}, "aws:TokenIssueTime", "9999-12-31T23:59:59Z"),
     ({"Null": {"aws:TokenIssueTime": "false"}}, "aws:TokenIssueTime", "x"),
     ({"StringEquals": {"aws:RequestTag/owner": "${aws:username}"}}, "aws:RequestTag/owner", "ann"),
     ({"ForAnyValue:StringEquals": {"aws:TagKeys": ["team", "unit"]}}, "aws:TagKeys", "team"),
-    # Two keys at once: no single one turns it.
-    ({"Bool": {"aws:MultiFactorAuthPresent": "true", "aws:SecureTransport": "true"}}, None, None),
+    ({"Bool": {"aws:MultiFactorAuthPresent": "true"}, "StringEquals": {"aws:PrincipalArn": "x"}}, None, None),
 ]
 
 
@@ -339,9 +338,28 @@ def test_each_kind_of_condition_turns():
         values = ["team", "unit"] if value == "team" else [value]
         wanted = [{"key": key, "value": value, "decision": "allowed", "values": values}] if key else []
         same(found["hangsOn"], wanted, str(condition))
-    two = file(small_world(document(statement(Condition=CASES[-1][0]))))
+    none = file(small_world(document(statement(Condition=CASES[-1][0]))))
+    out, _ = aws("can", "ann", "s3:GetObject", "*", "--world", none, status=3)
+    assert "turns an answer: aws:MultiFactorAuthPresent" in out, out
+
+
+def test_several_keys_at_once():
+    """Where no single value turns an answer an example has all keys that it wants, or a later moment; what is not shown is open."""
+    both = {"Bool": {"aws:MultiFactorAuthPresent": "true", "aws:SecureTransport": "true"}}
+    two = file(small_world(document(statement(Condition=both))))
+    [found] = rows("can", "ann", "s3:GetObject", "*", "--world", two, status=3)
+    one = {"key": "aws:MultiFactorAuthPresent", "value": "true", "decision": "allowed", "values": ["true"]}
+    same(found["hangsOn"], [{**one, "besides": {"aws:SecureTransport": ["true"]}}])
     out, _ = aws("can", "ann", "s3:GetObject", "*", "--world", two, status=3)
-    assert "turns an answer: aws:MultiFactorAuthPresent, aws:SecureTransport" in out, out
+    assert "  allowed if `aws:MultiFactorAuthPresent` is `true` and `aws:SecureTransport` is `true`\n" in out, out
+    assert "turns an answer" not in out, out
+    later = {"DateGreaterThan": {"aws:CurrentTime": "2030-01-01T00:00:00Z"}}
+    out, _ = aws("who-can", "s3:GetObject", "*", "--world", file(small_world(document(statement(Condition=later)))))
+    assert "  allowed if `aws:CurrentTime` is `2030-01-01T00:00:01Z`\n" in out, out
+    same_value = {"StringEquals": {"k": "a"}}
+    made = small_world(document(statement(Condition=same_value), statement("Deny", Condition=same_value)))
+    out, _ = aws("who-can", "s3:GetObject", "*", "--world", file(made), status=5)
+    assert out.endswith("s3:GetObject arn:aws:s3:::b/k: which values of k allow it is not shown\n"), out
 
 
 def test_all_values_of_a_key_are_told():
@@ -357,11 +375,12 @@ def test_all_values_of_a_key_are_told():
     out, _ = aws("can", "ann", "s3:GetObject", "*", "--world", made, "--format", "csv", status=3)
     assert f",allowed if {told}\n" in out, out
     out, _ = aws("rules", file("never ann s3:GetObject *\n"), "--world", made, status=3)
-    assert f"ann may s3:GetObject arn:aws:s3:::b/k if {told}, which nothing gives" in out, out
+    assert "ann may s3:GetObject arn:aws:s3:::b/k if `sts:ExternalId` is `e-1`, which nothing gives" in out, out
 
 
 def test_what_answers_hang_on_is_asked_in_one_run():
-    """Two keys with ten values each, for two users: beside the answers themselves one run, with a request for each value."""
+    """Two keys with ten values each, for two users: beside the answers themselves one run with a request for each value, and one for
+    all values at once."""
     words = [f"v{n}" for n in range(10)]
     allowed = [statement(Condition={"StringEquals": {key: words}}) for key in ("k", "m")]
     made = small_world(document(*allowed))
@@ -376,7 +395,7 @@ def test_what_answers_hang_on_is_asked_in_one_run():
         os.environ["IAMSIM"] = IAMSIM
     same([[(it["key"], it["values"]) for it in row["hangsOn"]] for row in found], [[("k", words), ("m", words)]] * 2)
     with open(ran) as it:
-        same(it.read().split(), ["matrix", "ask"])
+        same(it.read().split(), ["matrix", "ask", "matrix"])
 
 
 def test_an_allow_may_hang_on_a_key_too():

@@ -32,7 +32,7 @@ def test_rules_that_are_kept():
     text = "# what we keep\nalways *:role/app/deploy s3:GetObject arn:aws:s3:::releases/app.zip\n\nnever * iam:* *   # not at all\n"
     out, said = rules(text)
     same(states(out), ["kept", "kept"])
-    assert out.splitlines()[1].endswith(" (8 principals, every name of action and resource)"), out
+    assert out.splitlines()[1].endswith(" (8 principals, every name of action and resource, every value of each key)"), out
     same(out.splitlines()[-1], "2 rules: 2 kept, 0 broken, 0 empty, 0 open")
     assert "without --services" not in said, said
     # An always means every name too.
@@ -68,7 +68,7 @@ def test_rules_that_are_broken():
 def test_exceptions():
     out, _ = rules("never * s3:GetObject arn:aws:s3:::releases/app.zip except alice *:user/ops/* *:role/app/deploy\n")
     same(states(out), ["kept"])
-    assert "(5 requests)" in out, out
+    assert "(5 requests, every value of each key)" in out, out
     out, _ = rules("never * s3:GetObject arn:aws:s3:::releases/app.zip except alice *:user/ops/*\n", status=3)
     assert "deploy" in out and "ops/bob may" not in out, out
 
@@ -132,36 +132,36 @@ def test_never_holds_with_a_key_too():
     rules_of(unless, "always ann s3:GetObject arn:aws:s3:::b/k\n")
 
 
-def test_keys_that_a_never_was_not_asked_with_are_told():
+def test_a_never_wants_all_keys_at_once():
+    """An example has all keys that a statement wants; of values that no statement allows there is none."""
     both = {"IpAddress": {"aws:SourceIp": "203.0.113.0/24"}, "Bool": {"aws:MultiFactorAuthPresent": "true"}}
-    line = "iamsim-aws: keys were given one at a time, and those of one statement at once: "
-    line += "aws:MultiFactorAuthPresent, aws:SourceIp\n"
-    asks, none = (small_world(document(it)) for it in (statement(Condition=both), statement(action="sqs:*")))
+    asks = small_world(document(statement(Condition=both)))
     rule = "never * s3:GetObject arn:aws:s3:::b/k\n"
-    for made, words, said in ((asks, [], line), (asks, ["--as-given"], ""), (none, [], "")):
-        out, told = rules_of(made, rule, *words, status=3 if said else 0)
-        same(told, said, str(words))
-        with_both = (
-            " if `aws:SourceIp` is `203.0.113.0` and `aws:MultiFactorAuthPresent` is `true`, which nothing gives"
-        )
-        same(with_both in out, bool(said))
+    out, _ = rules_of(asks, rule, status=3)
+    assert " if `aws:MultiFactorAuthPresent` is `true` and `aws:SourceIp` is `203.0.113." in out, out
+    rules_of(asks, rule, "--as-given")
     # With a deny in the way all keys at once allow nothing either.
     rules_of(small_world(document(statement(Condition=both), statement("Deny"))), rule)
 
 
-def test_dates_that_come_later_are_told():
-    """What a grant or a deny says from a later moment on; of another action, or of a moment that is past, nothing."""
-    future = {"DateGreaterThan": {"aws:CurrentTime": ["2026-01-02T01:00+01:00", "1970-01-01"]}}
+def test_a_never_means_each_later_moment():
+    """What a grant or a deny says from a later moment on; what is past is past. An always is asked at its moment, and dates are told."""
+    future = {"DateGreaterThan": {"aws:CurrentTime": ["2026-01-02T01:00+01:00"]}}
     ends = statement("Deny", Condition={"NumericLessThan": {"aws:EpochTime": "1767312001"}})
-    made = small_world(document(statement(Condition=future), ends, statement(action="sqs:*", Condition=future)))
-    said = "iamsim-aws: policies ask for dates after the moment of the requests: "
-    dates = ["1767312001 (principals/0/identity/0, statement 1)"]
-    dates.append("2026-01-02T01:00+01:00 (principals/0/identity/0, statement 0)")
-    for moment, wanted in ((0, dates), (1767312000, dates[:1]), (1767312001, [])):
-        ended = rules_of(
-            {**made, "moment": moment}, "never * s3:GetObject arn:aws:s3:::b/k\n", status=0 if wanted else 3
-        )
-        same(ended[1], f"{said}{', '.join(wanted)}\n" if wanted else "", str(moment))
+    made = small_world(document(statement(Condition=future), ends))
+    never, always = (f"{it} ann s3:GetObject arn:aws:s3:::b/k\n" for it in ("never", "always"))
+    out, said = rules_of(made, never, status=3)
+    same(said, "")
+    # The grant begins behind 2026-01-02T00:00:00Z, which is 1767312000, and the deny ends with the second behind it.
+    assert " if the moment is 2026-01-02T00:00:01Z, which comes later: allowed by" in out, out
+    rules_of(made, never, "--as-given")
+    over = small_world(document(statement(Condition={"DateLessThan": {"aws:CurrentTime": "2026-01-02T00:00:00Z"}})))
+    rules_of({**over, "moment": 1767312000}, never)
+    rules_of({**over, "moment": 1767311999}, never, status=3)
+    told = "iamsim-aws: policies ask for dates after the moment of the requests: "
+    told += "1767312001 (principals/0/identity/0, statement 1)"
+    same(rules_of({**made, "moment": 1767312000}, always, status=3)[1], f"{told}\n")
+    same(rules_of({**made, "moment": 1767312001}, always)[1], "")
 
 
 def test_rules_that_meet_nothing():
@@ -212,7 +212,7 @@ def test_rules_over_a_service_reference():
     out, _ = rules("never alice s3:ListB* arn:aws:s3:::releases/app.zip\n", *services, status=4)
     assert "nothing that is named, and no pattern of a policy, is meant by it" in out, out
     out, _ = rules("always *:role/app/deploy s3:Get* *\n", *services)
-    assert "(1 principals, every name of action and resource)" in out, out
+    assert "(1 principals, every name of action and resource" in out, out
     out, _ = rules("never alice s3:Delete* *\n", *services, status=4)
     assert "no action matches s3:Delete*" in out, out
 
@@ -438,7 +438,7 @@ def test_wildcards_that_are_given():
     lines = [f"never ann s3:GetObject arn:aws:s3:::b/{it}" for it in ("\\*", "\\\\k", "\\k", "*")]
     out, _ = rules_of(made, "\n".join(lines), status=3)
     same(states(out), ["kept", "kept", "kept", "broken"])
-    same([line.count("(1 requests)") for line in out.splitlines() if line.startswith(("kept", "broken"))], [1, 1, 1, 0])
+    same([line.count("(1 requests, every value of each key)") for line in out.splitlines() if line.startswith(("kept", "broken"))], [1, 1, 1, 0])
 
 
 APP = "arn:aws:s3:::releases/app.zip"

@@ -5,8 +5,9 @@ from typing import Any, List, Tuple
 
 from .. import drafts, files, reviews
 from ..asking import ask_all
-from ..changing import Comparison, compare, compared, differing, paged
-from ..covering import tell_actions, tell_strangers
+from ..changing import Comparison, compare, compared, paged
+from ..covering import OF_MEMBERS, tell_actions, tell_strangers, unasked
+from ..differences import differing, said_newly
 from ..documents import World, bare
 from ..faults import TOLD, Fault, tell
 from ..joining import joined
@@ -15,6 +16,7 @@ from ..paging import data, page, request_of
 from ..questions import Question, Scope
 from ..slips import slips
 from ..sources import ASSUME, Source, add_outside, add_source
+from ..strangers import NOT_ASKED
 from .parsers import add, add_verbose
 
 
@@ -65,18 +67,30 @@ def run(options: argparse.Namespace) -> int:
         return 0
     if any(asked in ("any", it.change) for it in lines):
         return 3
-    if found.opens or after.left:
+    if found.opens or after.left or is_unasked(before, after, options, asked):
         return 5
     is_choice = bool(options.action) or options.resource != "*"
     return 4 if is_nothing and is_choice and is_different(before, after) else 0
 
 
-def changed(before: Source, after: Source, patterns: List[str], resource: str) -> List[World]:
-    """The worlds, for what is chosen, with the documents alone that differ; those of after first."""
+def is_unasked(before: Source, after: Source, options: argparse.Namespace, asked: str) -> bool:
+    """Whether a statement that comes, or goes, lets in somebody for whom nobody is asked, as who is federated or a service."""
+    worlds = chosen(before, after, options.action or ["*"], options.resource)
+    ways = {"gained": [worlds], "lost": [worlds[::-1]]}.get(asked, [worlds, worlds[::-1]])
+    lines = (line for of in ways for line in unasked(after, [said_newly(*of)], True))
+    return any(NOT_ASKED in it and OF_MEMBERS not in it for it in lines)
+
+
+def chosen(before: Source, after: Source, patterns: List[str], resource: str) -> List[World]:
+    """Both worlds, with what is chosen."""
     worlds = ({**it.world([ASSUME]), "actions": list(patterns)} for it in (before, after))
     asked = Question("*", "*", resource)
-    some = [{**it, "resources": [one for one in it["resources"] if is_named(asked, one["arn"])]} for it in worlds]
-    return list(differing(*some))[::-1]
+    return [{**it, "resources": [one for one in it["resources"] if is_named(asked, one["arn"])]} for it in worlds]
+
+
+def changed(before: Source, after: Source, patterns: List[str], resource: str) -> List[World]:
+    """The worlds, for what is chosen, with the documents alone that differ; those of after first."""
+    return list(differing(*chosen(before, after, patterns, resource)))[::-1]
 
 
 def is_different(before: Source, after: Source) -> bool:

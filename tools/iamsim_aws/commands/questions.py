@@ -7,6 +7,7 @@ from .. import chains, drafts, files, hanging
 from ..asking import ask
 from ..covering import tell_lacked, tell_strangers
 from ..everything import is_meant
+from ..examples import ask_any_key
 from ..exports import policy
 from ..faults import Fault, line_of, tell
 from ..hanging import Turn
@@ -83,8 +84,22 @@ def answered(scope: Scope, question: Question) -> List[Found]:
     tell_lacked(lacked(scope.source, dict.fromkeys(action for it in asked for action in it.world["actions"])))
     for it in asked:
         answers = ask(it.world)
-        found.append(Found(it, answers, hanging.turns(it.world, answers)))
+        turns = hanging.turns(it.world, answers)
+        opens = add_examples(answers, turns)
+        found.append(Found(it._replace(opens=list(dict.fromkeys([*it.opens, *opens]))), answers, turns))
     return found
+
+
+def add_examples(answers: Answers, turns: Dict[int, List[Turn]]) -> List[str]:
+    """Adds what allows a request of which no single value of a key does, by an example of all keys that it wants; and of which request
+    it is not shown, in words."""
+    [turned], flags = ask_any_key([answers.world]), answers.flags()
+    known = {cell for cell, of in turns.items() if any(it.decision == "allowed" for it in of)}
+    for cell, example in turned.examples.items():
+        if not flags[cell] and cell not in known:
+            (key, value), *more = example.pairs
+            turns.setdefault(cell, []).append(Turn(key, value, "allowed", (), tuple(more)))
+    return [turned.open_words(it) for it in turned.opens if it not in known]
 
 
 def notes(found: List[Found]) -> List[str]:
@@ -111,7 +126,7 @@ def stand_lines(asked: Asked, answers: Answers, turns: Dict[int, List[Turn]]) ->
 
 def key_notes(asked: Asked, turns: Dict[int, List[Turn]]) -> List[str]:
     """The keys that nothing gives, and with which no answer turned."""
-    turned = {it.key for of in turns.values() for it in of}
+    turned = {key for of in turns.values() for it in of for key in (it.key, *dict(it.besides))}
     silent = [it for it in hanging.wanted(asked.world) if it not in turned]
     if not silent:
         return []
@@ -184,7 +199,7 @@ def is_open(found: List[Found]) -> bool:
 
 
 def who_lines(found: Found, is_verbose: bool) -> List[str]:
-    """Who is allowed, and who would be with one key more; then the same of who is outside."""
+    """Who is allowed, and who would be with keys that nothing gives; then the same of who is outside."""
     answers = found.answers
     outside = [is_stranger(it) for it in answers.world["principals"]]
     people = len(outside) - sum(outside)

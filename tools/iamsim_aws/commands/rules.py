@@ -32,7 +32,7 @@ def add_all(commands: Any) -> None:
     parser.add_argument("--allow-empty", action="store_true", help="let a rule pass that meets no request")
     help_of_open = "let a rule pass of which something could not be asked"
     parser.add_argument("--allow-open", action="store_true", help=help_of_open)
-    help_of_given = "take keys that nothing gives as absent; without it 'never' means with any one of them too"
+    help_of_given = "take keys that nothing gives as absent; without it 'never' means with any values of them too"
     parser.add_argument("--as-given", action="store_true", help=help_of_given)
     parser.add_argument(
         "--most", type=whole, default=20, metavar="N", help="tell so many requests of a broken rule (default: 20)"
@@ -128,7 +128,8 @@ def message(broken: Break, giver: str, is_verbose: bool) -> str:
     why += [f"was {BY['allowed']} {it.words()}" for it in before]
     why += stand_words(broken.stand(), row.action, row.resource)
     may = "may" if row.answer.decision == "allowed" else "may not"
-    given = f" if {turn.words()}, which nothing gives ({giver} gives it)" if turn else ""
+    what = f"which nothing gives ({giver} gives it)" if turn and turn.keys else "which comes later"
+    given = f" if {turn.words()}, {what}" if turn else ""
     because = "; ".join(why) or "no statement speaks of it"
     if broken.way:
         who, way = broken.way.steps[0].principal, broken.way.words()
@@ -145,6 +146,9 @@ def lines_of(outcome: Outcome, options: argparse.Namespace) -> List[str]:
     if outcome.state == "empty":
         return [f"empty: {rule.name}: {rule.text}: {outcome.empty}"]
     lines = [f"{outcome.state}: {rule.name}: {rule.text} ({outcome.scope})"]
+    outside, more = outcome.outside[: options.most], len(outcome.outside) - options.most
+    stand_ins = ", ".join(outside) + (f" and {more} more" if more > 0 else "")
+    lines += [f"  for who is outside: {stand_ins}"] if outside and not outcome.broken else []
     lines += [f"  {it}" for it in messages(outcome, options)]
     more = len(outcome.broken) - options.most
     lines += [f"  and {more} more"] if more > 0 else []

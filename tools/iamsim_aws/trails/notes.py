@@ -3,7 +3,7 @@
 from typing import Iterable, Iterator, List
 
 from .. import keys
-from ..changing import differing
+from ..differences import differing
 from ..documents import World
 from . import tables
 from .counting import counted
