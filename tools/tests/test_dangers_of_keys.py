@@ -30,7 +30,7 @@ def breaks(text, given, *wanted):
 
 
 def test_numbers_beside_what_is_asked():
-    """Case 16: the least that is greater, as policies write it."""
+    """The least that is greater, as policies write it."""
     newer = lambda operator, than, **more: export(on("b/*", **when(**{operator: {"s3:TlsVersion": than}}), **more))
     for text in (KEY, ALL):
         breaks(text, newer("NumericGreaterThan", "1.1"), "if `s3:TlsVersion` is `1.2`, which nothing gives")
@@ -41,7 +41,7 @@ def test_numbers_beside_what_is_asked():
 
 
 def test_two_keys_of_two_statements():
-    """Case 17: of one statement, and of an allow and a deny."""
+    """Of one statement, and of an allow and a deny."""
     wants = {"aws:SourceVpc": "vpc-1"}, {"aws:PrincipalTag/team": "red"}
     both = on("b/*", **when(StringEquals=wants[0], StringLike=wants[1]))
     apart = [on("b/*", **when(StringEquals=wants[0])), on("b/*", effect="Deny", **when(StringNotEquals=wants[1]))]
@@ -53,7 +53,7 @@ def test_two_keys_of_two_statements():
 
 
 def test_keys_that_are_compared_with_variables():
-    """Case 18: where nothing gives either side, both may be the same; a variable in a resource may be any text."""
+    """Where nothing gives either side, both may be the same; a variable in a resource may be any text."""
     owned = on("b/*", **when(StringEquals={"s3:ExistingObjectTag/team": "${aws:PrincipalTag/team}"}))
     for text in (KEY, ALL):
         breaks(text, export(owned), "`aws:PrincipalTag/team` is", "`s3:ExistingObjectTag/team` is")
@@ -82,7 +82,7 @@ def test_names_that_keys_alone_tell_apart():
 
 
 def test_many_people_and_many_values():
-    """Case 19: what is asked is no sample of the people, of the resources or of the values."""
+    """What is asked is no sample of the people, of the resources or of the values."""
     count = 600 // int(os.environ.get("SLOWER", "1"))
     wide = on("b/*", **when(IpAddress={"aws:SourceIp": [f"198.51.{n // 200}.{n % 200}/32" for n in range(400)]}))
     made = load(export(HINT))
@@ -103,7 +103,7 @@ def test_many_people_and_many_values():
 
 
 def test_who_cannot_be_of_the_organisation():
-    """Case 26: an account outside has no id of the organisation; where another one is let in, it may be of that."""
+    """An account outside has no id of the organisation; where another one is let in, it may be of that."""
     given, made = export(statement(action="sqs:*")), load(organization(document(statement())))
     made["parents"][made["management"]] = made["parents"][OWN]
     given_by = ["--organization", file(made)]
@@ -160,7 +160,7 @@ def lone(found):
 
 
 def test_networks_that_widen():
-    """Case 13: the first address of a network is in the one before too."""
+    """The first address of a network is in the one before too."""
     within = lambda network, **more: on("b/*", **when(IpAddress={"aws:SourceIp": network}), **more)
     outside = lambda network: [on("b/*"), on("b/*", effect="Deny", **when(NotIpAddress={"aws:SourceIp": network}))]
     for narrow, wide in (("10.0.0.0/24", "10.0.0.0/8"), ("2001:db8::/64", "2001:db8::/32")):
@@ -172,7 +172,7 @@ def test_networks_that_widen():
 
 
 def test_lists_that_grow():
-    """Case 14: behind another key, in a trust policy, and where the key may be absent."""
+    """Behind another key, in a trust policy, and where the key may be absent."""
     mfa = {"aws:MultiFactorAuthPresent": "true"}
     behind = lambda *vpcs: on("b/*", **when(Bool=mfa, StringEquals={"aws:SourceVpc": list(vpcs)}))
     same(lone(gained(export(behind("vpc-1")), *put(behind("vpc-1", "vpc-2")))), {**mfa, "aws:SourceVpc": "vpc-2"})
@@ -188,7 +188,7 @@ def test_lists_that_grow():
 
 
 def test_a_trust_policy_with_another_external_id():
-    """Case 14: of a role that another account may assume behind a second factor."""
+    """Of a role that another account may assume behind a second factor."""
     mfa = {"aws:MultiFactorAuthPresent": "true"}
     trust = lambda *ids: {"Effect": "Allow", "Principal": {"AWS": OTHER}, "Action": "sts:AssumeRole", **when(Bool=mfa, StringEquals={"sts:ExternalId": list(ids)})}
     role = {"RoleName": "app", "RoleId": "AROA0", "Arn": f"{ACCOUNT}role/app", "AssumeRolePolicyDocument": document(trust("x"))}
@@ -199,7 +199,7 @@ def test_a_trust_policy_with_another_external_id():
 
 
 def test_what_begins_and_what_ends():
-    """Case 15: an allow from a date on, an expiry that moves, and a coming deny that goes."""
+    """An allow from a date on, an expiry that moves, and a coming deny that goes."""
     dated = lambda operator, day, effect="Allow": on("b/*", effect=effect, **when(**{operator: {"aws:CurrentTime": f"{day}T00:00:00Z"}}))
     nothing, later = on("c/*"), dated("DateGreaterThan", "2030-01-01")
     same(lone(gained(export(nothing), *put(nothing, later))), {"moment": "2030-01-01T00:00:01Z"})
@@ -214,7 +214,7 @@ def test_what_begins_and_what_ends():
 
 
 def test_gains_with_two_keys_and_with_variables():
-    """Cases 17 and 18: of two statements, and of a variable that nothing gives."""
+    """Of two statements, and of a variable that nothing gives."""
     denied = on("b/*", effect="Deny", **when(StringNotEquals={"aws:PrincipalTag/team": "red"}))
     allowed = on("b/*", **when(StringEquals={"aws:SourceVpc": "vpc-1"}))
     wanted = {"aws:SourceVpc": "vpc-1", "aws:PrincipalTag/team": "red"}

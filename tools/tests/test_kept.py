@@ -45,7 +45,7 @@ def bounded(boundary, *statements):
 
 
 def test_a_deny_on_one_name():
-    """Case 2: the deny meets just the text that would be made up for the pattern."""
+    """The deny meets just the text that would be made up for the pattern."""
     rule = f"never * s3:GetObject {S3}secrets/*"
     some = on("secrets/*")
     broken(small_world(document(some, on("secrets/x", effect="Deny"))), rule, ("s3:GetObject", f"{S3}secrets/"))
@@ -54,7 +54,6 @@ def test_a_deny_on_one_name():
 
 
 def test_a_deny_on_one_action():
-    """Case 3."""
     rule = "never * iam:* *"
     may = [statement(action="iam:*"), statement("Deny", "iam:x")]
     made = small_world(document(*may), actions=["iam:PassRole"])
@@ -65,18 +64,17 @@ def test_a_deny_on_one_action():
 
 
 def test_two_patterns_that_meet():
-    """Case 9: what identity and boundary allow together is none of their texts."""
+    """What identity and boundary allow together is none of their texts."""
     rule = "never * s3:GetObject *"
     broken(bounded(on("prod-*"), on("*-logs/*")), rule, ("s3:GetObject", f"{S3}prod-logs/"))
     kept(bounded(on("prod-*"), on("logs-*/*")), rule)
-    # Case 8, as a rule over the draft.
+    # As a rule over the draft.
     but = statement("Deny", "s3:GetObject", resource=None, NotResource=f"{S3}b/*")
     broken(bounded(on("b/*"), statement(action="s3:GetObject"), {k: v for k, v in but.items() if v}), rule, ("s3:GetObject", f"{S3}b/k"), ("s3:GetObject", f"{S3}b/"))
     kept(bounded(on("c/*"), statement(action="s3:GetObject"), {k: v for k, v in but.items() if v}), rule)
 
 
 def test_two_patterns_of_actions_that_meet():
-    """Case 10."""
     rule = "never * s3:* *"
     made = bounded(statement(action="s3:Get*"), on("b/*", action="s3:*Object"))
     state, found, out = asked(made, rule, status=3)
@@ -85,7 +83,7 @@ def test_two_patterns_of_actions_that_meet():
 
 
 def test_what_goes_and_comes():
-    """Cases 1, 4, 5 and 6, as rules over what would be."""
+    """As rules over what would be."""
     deletes = "s3:DeleteObject"
     made = small_world(document(on("homes/*", action=deletes), on("homes/x*", action=deletes, effect="Deny")))
     broken(made, f"never * {deletes} {S3}homes/*", (deletes, f"{S3}homes/"))
@@ -149,7 +147,7 @@ def test_kinds_that_are_not_shown():
 
 
 def test_variables_that_nothing_gives():
-    """Case 18: a key with which it is allowed is found where a variable in a resource, or a value that it is compared with, has it."""
+    """A key with which it is allowed is found where a variable in a resource, or a value that it is compared with, has it."""
     tag = "${aws:PrincipalTag/team}"
     rule = f"never * s3:GetObject {S3}homes/*"
     made = small_world(document(on(f"homes/{tag}/*")))
@@ -185,7 +183,7 @@ def test_keys_that_nothing_gives():
 
 
 def test_whom_nobody_asks():
-    """Case 21: whom a policy lets in by other words than those of a principal. A rule that means none of them is not open by it."""
+    """Whom a policy lets in by other words than those of a principal. A rule that means none of them is not open by it."""
     who = {"CanonicalUser": "79a59df900b949e55d96a1e698fbacedfd6e09d98eacf8f8d5218e7cd47ef2be"}
     grants = document({"Effect": "Allow", "Principal": who, "Action": "s3:*", "Resource": f"{S3}b/*"})
     bucket = {"arn": f"{S3}b", "account": ACCOUNT, "policy": grants}
