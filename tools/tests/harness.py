@@ -116,6 +116,18 @@ def answer(words, given=b"", seconds=60, program=IAMSIM, **more):
     return ran.returncode, ran.stdout, ran.stderr
 
 
+def streams_fail(words, world):
+    """A report of this world that cannot be written, and a world that cannot be read, end with their faults."""
+
+    def shell(command):
+        return answer(["-c", command, IAMSIM, *words], b"", program="bash")
+
+    for streams in (">&-", "> /dev/full"):
+        same(shell(f'exec "$0" "$@" {world} {streams}'), (1, b"", b"fault 4 Write\n"), streams)
+    for streams in ("<&-", "< /"):
+        same(shell(f'exec "$0" "$@" {streams}'), (1, b"", b"fault 1 Read\n"), streams)
+
+
 def patience(seconds):
     """So many seconds of a machine that has nothing else to do: more where more is to run than it has processors."""
     return seconds * max(1, 2 * os.getloadavg()[0] / (os.cpu_count() or 1))

@@ -5,7 +5,7 @@ import itertools
 import json
 import os
 
-from harness import EXAMPLES, IAMSIM, answer, file, row_world, same
+from harness import EXAMPLES, IAMSIM, answer, file, row_world, same, streams_fail
 from test_refused import FORMS, refused, tell
 
 SMALLEST, COMPANY, ROLES, SHARED = (
@@ -94,13 +94,7 @@ def test_files_that_cannot_be_read():
 
 
 def test_streams_that_fail():
-    def shell(command):
-        return answer(["-c", command, IAMSIM, "matrix", "--any-key"], b"", program="bash")
-
-    for streams in (">&-", "> /dev/full"):
-        same(shell(f'exec "$0" "$@" {SMALLEST} {streams}'), (1, b"", b"fault 4 Write\n"), streams)
-    for streams in ("<&-", "< /"):
-        same(shell(f'exec "$0" "$@" {streams}'), (1, b"", b"fault 1 Read\n"), streams)
+    streams_fail(["matrix", "--any-key"], SMALLEST)
 
 
 def jobs(kind, path):

@@ -5,7 +5,7 @@ import itertools
 import json
 import os
 
-from harness import EXAMPLES, IAMSIM, answer, file, same
+from harness import EXAMPLES, IAMSIM, answer, file, same, streams_fail
 from test_every_changes import AFTER, BEFORE, changed
 from test_refused import FORMS, refused, tell
 
@@ -112,13 +112,7 @@ def test_any_number_of_workers():
 
 
 def test_streams_that_fail():
-    def shell(command):
-        return answer(["-c", command, IAMSIM, "changes", "--any-key", file(BEFORE)], b"", program="bash")
-
-    for streams in (">&-", "> /dev/full"):
-        same(shell(f'exec "$0" "$@" {SMALLEST} {streams}'), (1, b"", b"fault 4 Write\n"), streams)
-    for streams in ("<&-", "< /"):
-        same(shell(f'exec "$0" "$@" {streams}'), (1, b"", b"fault 1 Read\n"), streams)
+    streams_fail(["changes", "--any-key", file(BEFORE)], SMALLEST)
 
 
 def jobs(kind, path):
