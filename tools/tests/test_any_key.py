@@ -13,7 +13,7 @@ SMALLEST, COMPANY, ROLES, SHARED = (
 )
 ROW = "0,arn:aws:iam::111122223333:user/ann,S3:getobject,arn:aws:s3:::b/k,always"
 BRIEF = (0, f"cell,principal,action,resource,decision\n{ROW}\n".encode(), b"")
-FULL = (0, f"cell,principal,action,resource,decision,statements,lacks,example\n{ROW},identity/0/0,,\n".encode(), b"")
+FULL = (0, f"cell,principal,action,resource,decision,statements,lacks,hangs_on,keys,example\n{ROW},identity/0/0,,,,\n".encode(), b"")
 
 
 def any_key(*words, given=b"", **more):
@@ -43,6 +43,7 @@ def test_rows_beside_the_matrix():
             same(row[name], cell[name])
         words = {"always", "possible"} if cell["decision"] == "allowed" else {"never", "possible", "open"}
         assert row["decision"] in words, row
+        same({bool(row["hangs_on"]), bool(row["keys"])}, {row["decision"] in ("possible", "open")}, row)
         if row["decision"] == "possible":
             same(set(row["example"]), {"context", "moment"})
         else:

@@ -33,14 +33,14 @@ front_has [] ys key is = absurd (let wrong : ⊥ = cc in wrong)
 front_has (entry ∷ xs) ys key is = front_more entry xs ys key (front_has xs ys key) is
 
 -- where it has not, those behind it have them
-front_has_not : (xs ys : ContextValue) (key : List ℕ) → has_key (keys_of xs) key ≡ false → values_of (xs ++ ys) key ≡ values_of ys key
+pub front_has_not : (xs ys : ContextValue) (key : List ℕ) → has_key (keys_of xs) key ≡ false → values_of (xs ++ ys) key ≡ values_of ys key
 front_has_not [] ys key free = refl
 front_has_not (entry ∷ xs) ys key free =
     let each = neither (is_same_key entry.0 key) (has_key (keys_of xs) key) free in
     ap (λ b. valued (cond b (Some entry) (find (λ (e : Entry). is_same_key e.0 key) (xs ++ ys)))) each.0 ∙ front_has_not xs ys key each.1
 
 -- and where these have none, the first part has all
-back_has_none : (xs ys : ContextValue) (key : List ℕ) → values_of ys key ≡ [] → values_of (xs ++ ys) key ≡ values_of xs key
+pub back_has_none : (xs ys : ContextValue) (key : List ℕ) → values_of ys key ≡ [] → values_of (xs ++ ys) key ≡ values_of xs key
 back_has_none xs ys key none = go (has_key (keys_of xs) key) refl
   where
     go : (b : Bool) → has_key (keys_of xs) key ≡ b → values_of (xs ++ ys) key ≡ values_of xs key
@@ -98,15 +98,15 @@ are_not_of (k ∷ keys) others told key is =
     let each = neither (has_key others k) (list_any (has_key others) keys) told in
     not_of_more k keys others key each.0 (are_not_of keys others each.1 key) is
 
-has_of : (xs ys : List (List ℕ)) (key : List ℕ) → has_key (xs ++ ys) key ≡ (has_key xs key || has_key ys key)
+pub has_of : (xs ys : List (List ℕ)) (key : List ℕ) → has_key (xs ++ ys) key ≡ (has_key xs key || has_key ys key)
 has_of xs ys key = list_any-append (λ k. is_same_key k key) xs ys
 
-second : (a b : Bool) → (a || b) ≡ true → a ≡ false → b ≡ true
+pub second : (a b : Bool) → (a || b) ≡ true → a ≡ false → b ≡ true
 second true b either none = absurd (let wrong : ⊥ = cc in wrong)
 second false b either none = either
 
 -- derived keys have no values of a key that is not derived
-none_derived : (part : ContextValue) (key : List ℕ) → AreOf (keys_of part) derived_names → has_key derived_names key ≡ false → values_of part key ≡ []
+pub none_derived : (part : ContextValue) (key : List ℕ) → AreOf (keys_of part) derived_names → has_key derived_names key ≡ false → values_of part key ≡ []
 none_derived part key are free = go (has_key (keys_of part) key) refl
   where
     go : (b : Bool) → has_key (keys_of part) key ≡ b → values_of part key ≡ []
@@ -114,7 +114,7 @@ none_derived part key are free = go (has_key (keys_of part) key) refl
     go true there = absurd (let wrong : true ≡ false = sym (are key there) ∙ free in let bad : ⊥ = cc in bad)
 
 -- and a part without derived keys has none that is derived
-not_derived : (part : ContextValue) (key : List ℕ) → AreNotOf (keys_of part) derived_names → has_key derived_names key ≡ true
+pub not_derived : (part : ContextValue) (key : List ℕ) → AreNotOf (keys_of part) derived_names → has_key derived_names key ≡ true
     → has_key (keys_of part) key ≡ false
 not_derived part key are is = go (has_key (keys_of part) key) refl
   where

@@ -1,3 +1,4 @@
+mod AddLemmas
 mod AgreeLemmas
 mod AskedLemmas
 pub mod BoundLemmas
@@ -8,6 +9,7 @@ mod FirstLemmas
 mod FitLemmas
 mod FormLemmas
 pub mod GivenLemmas
+mod HangLemmas
 pub mod ListLemmas
 mod PartLemmas
 mod RowLemmas

@@ -41,7 +41,7 @@ unfolding derived_with
 named_are (Some name) a b c d e f = are_of (keys_of (derived_with (Some name) a b c d e f)) derived_names refl
 named_are None a b c d e f = are_of (keys_of (derived_with None a b c d e f)) derived_names refl
 
-derived_are : (r : RequesterValue) (account : List ℕ) (moment : ℕ) (stamp : List ℕ) → AreOf (keys_of (derived_of r account moment stamp)) derived_names
+pub derived_are : (r : RequesterValue) (account : List ℕ) (moment : ℕ) (stamp : List ℕ) → AreOf (keys_of (derived_of r account moment stamp)) derived_names
 unfolding derived_with
 derived_are r account moment stamp =
     named_are (username_of r) (requester_arn r) (word_of (username_of r)) r.account account stamp (decimal moment)
@@ -68,7 +68,7 @@ known_are (Some moment) = all_are
 known_are None = timeless_are
 
 -- those that are known have the same values in each of the contexts
-known_same : OneStamp → (r : RequesterValue) (account : List ℕ) (at : Option ℕ) (now moment : ℕ) (stamp other : List ℕ)
+pub known_same : OneStamp → (r : RequesterValue) (account : List ℕ) (at : Option ℕ) (now moment : ℕ) (stamp other : List ℕ)
     → IfSome at (λ tried. now ≡ tried) → IfSome at (λ tried. moment ≡ tried) → IsStamp (pos now) stamp → IsStamp (pos moment) other
     → (k : List ℕ) → has_key (derived_known at) k ≡ true
     → values_of (derived_of r account now stamp) k ≡ values_of (derived_of r account moment other) k
@@ -86,7 +86,7 @@ parted test a b free =
     neither (list_any test (keys_of a)) (list_any test (keys_of b))
     (sym (ap (list_any test) (map-append (λ (e : List ℕ × List (List ℕ)). e.0) a b) ∙ list_any-append test (keys_of a) (keys_of b)) ∙ free)
 
-own_free : (world : WorldValue) (p r : ℕ) (own : ContextValue) → IsCleanAt world p r own → AreNotOf (keys_of own) derived_names
+pub own_free : (world : WorldValue) (p r : ℕ) (own : ContextValue) → IsCleanAt world p r own → AreNotOf (keys_of own) derived_names
 own_free world p r own (principal, at, (resource, there, clean)) =
     let test = has_key derived_names in
     let whole = clean DerivedKeyGiven in
@@ -97,13 +97,13 @@ own_free world p r own (principal, at, (resource, there, clean)) =
 
 -- ---- the contexts
 
-abbrev given_of : WorldValue → PrincipalValue → ResourceValue → ContextValue
+abbrev pub given_of : WorldValue → PrincipalValue → ResourceValue → ContextValue
 given_of world principal resource = world.context ++ (principal.context ++ resource.context)
 
 looked_at : (w p r own d : ContextValue) → joined (w ∷ (p ∷ (r ∷ (own ∷ [])))) d ≡ (w ++ (p ++ r)) ++ (own ++ d)
 looked_at w p r own d = simp (append-nil, append_assoc) refl
 
-in_question : (w p r own d : ContextValue) → joined (w ∷ (p ∷ ((r ++ own) ∷ []))) d ≡ (w ++ (p ++ r)) ++ (own ++ d)
+pub in_question : (w p r own d : ContextValue) → joined (w ∷ (p ∷ ((r ++ own) ∷ []))) d ≡ (w ++ (p ++ r)) ++ (own ++ d)
 in_question w p r own d = simp (append-nil, append_assoc) refl
 
 pub keys_of_given : (w p r : ContextValue) (rest : List (List ℕ))
@@ -111,7 +111,7 @@ pub keys_of_given : (w p r : ContextValue) (rest : List (List ℕ))
 keys_of_given w p r rest = simp (map-append, append_assoc) refl
 
 -- what is put at a place stands there
-put_there : {A : Type 0} (xs : List A) (i : ℕ) (x y z : A) → slice_get xs i ≡ Some x → slice_get (set xs i y) i ≡ Some z → z ≡ y
+pub put_there : {A : Type 0} (xs : List A) (i : ℕ) (x y z : A) → slice_get xs i ≡ Some x → slice_get (set xs i y) i ≡ Some z → z ≡ y
 put_there xs i x y z at there =
     let within = slice_get_within xs i x at in
     let long = subst (λ n. i < n) (sym (length-set xs i y)) within in

@@ -1,8 +1,10 @@
 -- The report on the requests of a world that are asked for, whatever values the keys have that nothing gives. It names no worker. LOGIC 13.11.
 use Rattle.std.specs.Prelude.{◌≡◌, ◌⊎◌, ℕ, List, [], ◌∷◌, Bool, true, false, Option, Some, None, ⊤, length}
+use Rattle.iam_decision.specs.declared.place.Place.{Place}
 use Rattle.iam_decision.specs.declared.verdict.Verdict.{Verdict}
 use Rattle.iam_layers.specs.Cell.{IsCell, IsVerdictAt}
 use Rattle.iam_open.specs.Asked.{AskedValue, IsSelected, IsWanted}
+use Rattle.iam_open.specs.Hangs.{ArePlacesOf, HangsOn}
 use Rattle.iam_open.specs.Rows.{TurnedRow, report_text, word_of}
 use Rattle.iam_open.specs.Turned.{IsTurned}
 use Rattle.iam_open.specs.declared.answer.Turned.{Turned}
@@ -17,15 +19,21 @@ IsSaid true world p a r turned verdict = ⊤
 IsSaid false world p a r (Possible example) verdict = verdict ≡ example.verdict
 IsSaid false world p a r turned verdict = IsVerdictAt world p a r verdict
 
+-- it hangs on these keys whether the request is allowed, and on the statements at these places. In brief they play no part
+abbrev pub IsHung : Bool → WorldValue → ℕ → ℕ → ℕ → Turned → List Place → List (List ℕ) → Type 0
+IsHung true world p a r turned places keys = ⊤
+IsHung false world p a r turned places keys = HangsOn (world ∷ []) world p a r keys × ArePlacesOf (world ∷ []) world p a r turned places
+
 -- this is said of the request of the cell
 abbrev pub IsTurnedOf : WorldValue → ℕ → Turned → Type 0
 IsTurnedOf world cell turned = (p : ℕ) × (a : ℕ) × (r : ℕ) × IsCell world cell p a r × IsTurned (world ∷ []) world p a r turned
 
--- the row of a cell: its texts, and what is said of its request
+-- the row of a cell: its texts, what is said of its request, and what this hangs on
 abbrev pub IsRow : Bool → WorldValue → ℕ → TurnedRow → Type 0
 IsRow brief world cell row =
     (p : ℕ) × (a : ℕ) × (r : ℕ) × IsCell world cell p a r × HasTexts world p a r row.texts
     × IsTurned (world ∷ []) world p a r row.turned × IsSaid brief world p a r row.turned row.verdict
+    × IsHung brief world p a r row.turned row.places row.keys
 
 -- a cell has its row where its request is selected and the word is wanted; it has none where it is not selected, or a word that is said of
 -- it is not wanted

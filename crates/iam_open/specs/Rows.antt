@@ -2,6 +2,7 @@
 use Rattle.std.specs.Prelude.{◌+◌, ℕ, List, [], ◌∷◌, ◌++◌, Bool, true, false, Option, Some, None, codes, decimal}
 use Rattle.std.specs.List.{join_by}
 use Rattle.iam_context.specs.Context.{ContextValue}
+use Rattle.iam_decision.specs.declared.place.Place.{Place}
 use Rattle.iam_decision.specs.declared.verdict.Verdict.{Verdict}
 use Rattle.iam_open.specs.declared.answer.Turned.{Turned}
 use Rattle.iam_open.specs.declared.answer.Turned.TheVariants.{Always, Never, Possible, Open}
@@ -13,11 +14,13 @@ use Rattle.iam_row.specs.Words.{layer_word, marked, place_text}
 use Rattle.iam_row.specs.declared.quoted.Format.{Format}
 use Rattle.iam_row.specs.declared.quoted.Format.TheVariants.{Csv, Json}
 
--- the texts of a request, what is said of it, and a verdict on it
+-- the texts of a request, what is said of it, and a verdict on it; and the places of statements and the keys that it hangs on
 pub record TurnedRow : Type 0 where
   pub texts : CellTexts
   pub turned : Turned
   pub verdict : Verdict
+  pub places : List Place
+  pub keys : List (List ℕ)
 
 -- what is said, as a word
 abbrev pub word_of : Turned → Word
@@ -59,14 +62,20 @@ shown_text Json turned = codes "null"
 
 -- ---- rows
 
--- the statements and the lacks of a verdict: joined by one space in a field of CSV, strings of a list in JSON
-abbrev pub statements_in : Format → Verdict → List ℕ
-statements_in Csv verdict = marked place_text (codes "") (codes " ") verdict.statements
-statements_in Json verdict = marked place_text (codes "\"") (codes ",") verdict.statements
+-- places, and the lacks of a verdict: joined by one space in a field of CSV, strings of a list in JSON
+abbrev pub places_in : Format → List Place → List ℕ
+places_in Csv places = marked place_text (codes "") (codes " ") places
+places_in Json places = marked place_text (codes "\"") (codes ",") places
 
 abbrev pub lacks_in : Format → Verdict → List ℕ
 lacks_in Csv verdict = marked layer_word (codes "") (codes " ") verdict.lacks
 lacks_in Json verdict = marked layer_word (codes "\"") (codes ",") verdict.lacks
+
+-- keys: the strings of a list of JSON, which is a field of CSV, empty where there are none
+abbrev pub keys_in : Format → List (List ℕ) → List ℕ
+keys_in Csv [] = []
+keys_in Csv (key ∷ keys) = quote_of Csv (codes "[" ++ (join_by json_of (codes ",") (key ∷ keys) ++ codes "]"))
+keys_in Json keys = join_by json_of (codes ",") keys
 
 -- how the texts of a request stand in a row
 abbrev pub quoted_texts : Format → CellTexts → CellTexts
@@ -86,26 +95,34 @@ brief_text Csv cell texts word = front_text Csv cell texts word ++ codes "\n"
 brief_text Json cell texts word =
     front_text Json cell texts word ++ (codes ",\"principal\":" ++ (texts.principal ++ (codes ",\"resource\":" ++ (texts.resource ++ codes "}"))))
 
-abbrev pub full_text : Format → ℕ → CellTexts → List ℕ → List ℕ → List ℕ → List ℕ → List ℕ
-full_text Csv cell texts word statements lacks example =
-    front_text Csv cell texts word ++ (codes "," ++ (statements ++ (codes "," ++ (lacks ++ (codes "," ++ (example ++ codes "\n"))))))
-full_text Json cell texts word statements lacks example =
-    front_text Json cell texts word ++ (codes ",\"example\":" ++ (example ++ (codes ",\"lacks\":[" ++ (lacks ++ (codes "],\"principal\":"
-    ++ (texts.principal ++ (codes ",\"resource\":" ++ (texts.resource ++ (codes ",\"statements\":[" ++ (statements ++ codes "]}"))))))))))
+-- how a row of JSON in full ends, behind the lacks
+abbrev pub back_text : List ℕ → List ℕ → List ℕ → List ℕ
+back_text principal resource statements =
+    codes ",\"principal\":" ++ (principal ++ (codes ",\"resource\":" ++ (resource ++ (codes ",\"statements\":[" ++ (statements ++ codes "]}")))))
+
+abbrev pub full_text : Format → ℕ → CellTexts → List ℕ → List ℕ → List ℕ → List ℕ → List ℕ → List ℕ → List ℕ
+full_text Csv cell texts word statements lacks places keys example =
+    front_text Csv cell texts word ++ (codes "," ++ (statements ++ (codes "," ++ (lacks ++ (codes "," ++ (places ++ (codes "," ++ (keys
+    ++ (codes "," ++ (example ++ codes "\n"))))))))))
+full_text Json cell texts word statements lacks places keys example =
+    front_text Json cell texts word ++ (codes ",\"example\":" ++ (example ++ (codes ",\"hangs_on\":[" ++ (places ++ (codes "],\"keys\":["
+    ++ (keys ++ (codes "],\"lacks\":[" ++ (lacks ++ (codes "]" ++ back_text texts.principal texts.resource statements)))))))))
 
 -- the row of a cell, of texts that stand so
-abbrev pub joined_row : Format → Bool → ℕ → CellTexts → Turned → Verdict → List ℕ
-joined_row format true cell texts turned verdict = brief_text format cell texts (turned_word turned)
-joined_row format false cell texts turned verdict =
-    full_text format cell texts (turned_word turned) (statements_in format verdict) (lacks_in format verdict) (shown_text format turned)
+abbrev pub joined_row : Format → Bool → ℕ → CellTexts → Turned → Verdict → List Place → List (List ℕ) → List ℕ
+joined_row format true cell texts turned verdict places keys = brief_text format cell texts (turned_word turned)
+joined_row format false cell texts turned verdict places keys =
+    full_text format cell texts (turned_word turned) (places_in format verdict.statements) (lacks_in format verdict) (places_in format places)
+    (keys_in format keys) (shown_text format turned)
 
 abbrev pub row_text : Format → Bool → ℕ → TurnedRow → List ℕ
-row_text format brief cell row = joined_row format brief cell (quoted_texts format row.texts) row.turned row.verdict
+row_text format brief cell row =
+    joined_row format brief cell (quoted_texts format row.texts) row.turned row.verdict row.places row.keys
 
 -- what stands before all rows: the header's line, or a bracket
 abbrev pub opening_text : Format → Bool → List ℕ
 opening_text Csv true = codes "cell,principal,action,resource,decision\n"
-opening_text Csv false = codes "cell,principal,action,resource,decision,statements,lacks,example\n"
+opening_text Csv false = codes "cell,principal,action,resource,decision,statements,lacks,hangs_on,keys,example\n"
 opening_text Json brief = codes "["
 
 -- texts of rows one behind the other: in JSON with a comma between them, where neither is empty

@@ -65,7 +65,7 @@ fn is_one_of(derived: &[DerivedKey], key: &str) -> bool
 }
 
 /// Whether the keys differ in the case of ASCII letters alone.
-fn is_same(one: &str, other: &str) -> bool
+pub fn is_same(one: &str, other: &str) -> bool
     ensures { result ≡ is_same_key one.now other.now }
 {
     one.eq_ignore_ascii_case(other)

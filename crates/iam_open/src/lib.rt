@@ -20,6 +20,7 @@ mod decide;
 mod entry;
 mod example;
 mod first;
+mod hangs;
 mod known;
 mod report;
 mod resource;

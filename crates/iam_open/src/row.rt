@@ -4,13 +4,16 @@ ghost use Rattle.std.specs.List.{join_by};
 ghost use Rattle.iam_layers.specs.Cell.{IsCell};
 ghost use Rattle.iam_open.specs.Asked.{asked_of};
 ghost use Rattle.iam_open.specs.Report.{IsRow, IsTold};
-ghost use Rattle.iam_open.specs.Rows.{TurnedRow, brief_text, entry_text, example_text, front_text, full_text, joined_row, json_of, lacks_in, opening_text, row_text, shown_text, statements_in, told_text, turned_word};
+ghost use Rattle.iam_open.specs.Rows.{TurnedRow, back_text, brief_text, entry_text, example_text, front_text, full_text, joined_row, json_of, keys_in, lacks_in, opening_text, places_in, row_text, shown_text, told_text, turned_word};
 ghost use Rattle.iam_open.specs.Turned.{IsTurned};
 ghost use Rattle.iam_decision.specs.declared.verdict.Verdict.{Verdict};
+ghost use Rattle.iam_row.specs.Piece.{quote_of};
 
 use crate::answer::{Turned, turned_of};
 use crate::asked::{Asked, is_selected, is_wanted, word_of, word_text};
+use crate::hangs::{Hangs, hangs_of};
 use iam_context::{KeyName, Part, Values};
+use iam_decision::Place;
 use iam_layers::{OutOfMemory, Verdict, World};
 use iam_row::{Format, Layers, Places, Position, quote};
 use iam_text::Text;
@@ -23,7 +26,7 @@ pub fn opening(format: Format, brief: bool) -> &'static str
     match (format, brief) {
         (Format::Csv, true) => "cell,principal,action,resource,decision\n",
         (Format::Csv, false) =>
-            "cell,principal,action,resource,decision,statements,lacks,example\n",
+            "cell,principal,action,resource,decision,statements,lacks,hangs_on,keys,example\n",
         (Format::Json, _) => "[",
     }
 }
@@ -151,6 +154,20 @@ fn brief_text(
     }
 }
 
+/// How a row of JSON ends: behind the lacks.
+fn back_text(
+    alloc: Global,
+    principal: &str,
+    resource: &str,
+    statements: &str,
+) -> Result<String, OutOfMemory>
+    ensures { IfOk result (λ text. string_bytes text ≡ back_text principal.now resource.now statements.now) }
+{
+    format!(in alloc;
+        ",\"principal\":{principal},\"resource\":{resource},\"statements\":[{statements}]}}"
+    )
+}
+
 /// A row in full, of texts as they stand in it.
 fn full_text(
     alloc: Global,
@@ -162,32 +179,58 @@ fn full_text(
     word: &str,
     statements: &str,
     lacks: &str,
+    hangs_on: &str,
+    keys: &str,
     example: &str,
 ) -> Result<String, OutOfMemory>
     ensures { IfOk result (λ text. string_bytes text
-        ≡ full_text format cell (record { principal = principal.now; action = action.now; resource = resource.now }) word.now statements.now lacks.now example.now) }
+        ≡ full_text format cell (record { principal = principal.now; action = action.now; resource = resource.now }) word.now statements.now lacks.now hangs_on.now keys.now example.now) }
 {
     let front = front_text(alloc, format, cell, principal, action, resource, word)?;
     match format {
-        Format::Csv => format!(in alloc; "{front},{statements},{lacks},{example}\n"),
+        Format::Csv => format!(in alloc;
+            "{front},{statements},{lacks},{hangs_on},{keys},{example}\n"
+        ),
         Format::Json => {
+            let back = back_text(alloc, principal, resource, statements)?;
             format!(in alloc;
-                "{front},\"example\":{example},\"lacks\":[{lacks}],\"principal\":{principal},\"resource\":{resource},\"statements\":[{statements}]}}"
+                "{front},\"example\":{example},\"hangs_on\":[{hangs_on}],\"keys\":[{keys}],\"lacks\":[{lacks}]{back}"
             )
         }
     }
 }
 
-/// The statements of a verdict as they stand in a row.
-fn statements(alloc: Global, format: Format, verdict: &Verdict) -> Result<String, OutOfMemory>
-    ensures { IfOk result (λ text. string_bytes text ≡ statements_in format verdict.now) }
+/// Places as they stand in a row.
+fn places(alloc: Global, format: Format, places: &[Place]) -> Result<String, OutOfMemory>
+    ensures { IfOk result (λ text. string_bytes text ≡ places_in format places.now) }
 {
     let (mark, between) = match format {
         Format::Csv => ("", " "),
         Format::Json => ("\"", ","),
     };
-    let statements = Places::of(verdict.statements.as_slice(), mark, between);
-    format!(in alloc; "{statements}")
+    let places = Places::of(places, mark, between);
+    format!(in alloc; "{places}")
+}
+
+/// Keys as they stand in a row.
+fn keys(alloc: Global, format: Format, keys: &[Text]) -> Result<String, OutOfMemory>
+    ensures { IfOk result (λ text. string_bytes text ≡ keys_in format keys.now) }
+{
+    let mut texts = String::new(alloc);
+    put_values(alloc, &mut texts, keys)?;
+    match (format, keys) {
+        (Format::Json, _) => Ok(texts),
+        (Format::Csv, []) => Ok(texts),
+        (Format::Csv, _) => listed(alloc, texts.as_str()),
+    }
+}
+
+/// A list of these texts as a field of CSV.
+fn listed(alloc: Global, texts: &str) -> Result<String, OutOfMemory>
+    ensures { IfOk result (λ text. string_bytes text ≡ quote_of Format.Csv (codes "[" ++ (texts.now ++ codes "]"))) }
+{
+    let list = format!(in alloc; "[{texts}]")?;
+    quote(alloc, Format::Csv, list.as_str())
 }
 
 /// The lacks of a verdict as they stand in a row.
@@ -212,13 +255,17 @@ fn full_row(
     resource: &str,
     turned: &Turned,
     verdict: &Verdict,
+    hangs: &Hangs,
 ) -> Result<String, OutOfMemory>
     ensures { IfOk result (λ text. string_bytes text
-        ≡ joined_row format false cell (record { principal = principal.now; action = action.now; resource = resource.now }) turned.now verdict.now) }
+        ≡ joined_row format false cell (record { principal = principal.now; action = action.now; resource = resource.now }) turned.now verdict.now
+        hangs.now.places.items hangs.now.keys.items) }
 {
     let shown = shown(alloc, format, turned)?;
-    let statements = statements(alloc, format, verdict)?;
+    let statements = places(alloc, format, verdict.statements.as_slice())?;
     let lacks = lacks(alloc, format, verdict)?;
+    let hangs_on = places(alloc, format, hangs.places.as_slice())?;
+    let keys = keys(alloc, format, hangs.keys.as_slice())?;
     full_text(
         alloc,
         format,
@@ -229,6 +276,8 @@ fn full_row(
         word(turned),
         statements.as_str(),
         lacks.as_str(),
+        hangs_on.as_str(),
+        keys.as_str(),
         shown.as_str(),
     )
 }
@@ -262,6 +311,7 @@ pub fn row(
             word(turned),
         );
     }
+    let hangs = hangs_of(alloc, world, p, a, r, turned)?;
     match turned {
         Turned::Possible(it) => full_row(
             alloc,
@@ -272,6 +322,7 @@ pub fn row(
             resource.as_str(),
             turned,
             &it.verdict,
+            &hangs,
         ),
         _ => {
             let verdict = world.decide_plain(alloc, p, a, r)?;
@@ -284,6 +335,7 @@ pub fn row(
                 resource.as_str(),
                 turned,
                 &verdict,
+                &hangs,
             )
         }
     }

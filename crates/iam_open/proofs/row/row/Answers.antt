@@ -1,4 +1,4 @@
-use Rattle.std.proofs.Common.{◌≡◌, ◌∙◌, ap, false, refl, subst, sym, true}
+use Rattle.std.proofs.Common.{◌≡◌, ◌∙◌, [], ap, false, refl, subst, sym, true}
 use Rattle.std.proofs.lemmas.Result.{MatchResult-weaker}
 use Rattle.iam_decision.specs.declared.verdict.Decision.TheVariants.{ImplicitDeny}
 use Rattle.iam_layers.specs.Cell.{IsCell}
@@ -16,7 +16,7 @@ returns-then-brief c =
     let has : HasTexts c.args.world.now c.args.at.principal c.args.at.action c.args.at.resource texts =
     record { principal = c.principal_text.ensures; action = c.action_text.ensures; resource = c.resource_text.ensures } in
     let turned = c.args.turned.now in
-    let row : TurnedRow = record { texts = texts; turned = turned; verdict = bare ImplicitDeny } in
+    let row : TurnedRow = record { texts = texts; turned = turned; verdict = bare ImplicitDeny; places = []; keys = [] } in
     let quoted : CellTexts = record { principal = c.as_str.result.now; action = c.as_str-then-brief.result.now; resource = c.as_str-then-brief-2.result.now } in
     let made =
     row_made c.args.format true c.args.at.cell row quoted (c.as_str.ensures.value ∙ c.in_ok-principal.ensures) (c.as_str-then-brief.ensures.value ∙ c.in_ok-action.ensures)
@@ -26,7 +26,7 @@ returns-then-brief c =
     λ text is. (
       row,
       subst (λ b. IsRow b c.args.world.now c.args.at.cell row) (sym c.if-brief.true)
-          (c.args.at.principal, c.args.at.action, c.args.at.resource, c.requires.cell, has, c.requires.turned, tt),
+          (c.args.at.principal, c.args.at.action, c.args.at.resource, c.requires.cell, has, c.requires.turned, tt, tt),
       refl,
       is ∙ ap (brief_text c.args.format c.args.at.cell quoted) c.word.ensures ∙ made ∙ ap (λ b. row_text c.args.format b c.args.at.cell row) (sym c.if-brief.true),
     )
@@ -39,7 +39,7 @@ returns-in-Possible c =
     let has : HasTexts c.args.world.now c.args.at.principal c.args.at.action c.args.at.resource texts =
     record { principal = c.principal_text.ensures; action = c.action_text.ensures; resource = c.resource_text.ensures } in
     let turned = c.args.turned.now in
-    let row : TurnedRow = record { texts = texts; turned = turned; verdict = c.in-Possible.it.verdict } in
+    let row : TurnedRow = record { texts = texts; turned = turned; verdict = c.in-Possible.it.verdict; places = c.in_ok-hangs.hangs.places.items; keys = c.in_ok-hangs.hangs.keys.items } in
     let quoted : CellTexts = record { principal = c.as_str-in-Possible.result.now; action = c.as_str-in-Possible-2.result.now; resource = c.as_str-in-Possible-3.result.now } in
     let made =
     row_made c.args.format false c.args.at.cell row quoted (c.as_str-in-Possible.ensures.value ∙ c.in_ok-principal.ensures) (c.as_str-in-Possible-2.ensures.value ∙ c.in_ok-action.ensures)
@@ -49,7 +49,7 @@ returns-in-Possible c =
     λ text is. (
       row,
       subst (λ b. IsRow b c.args.world.now c.args.at.cell row) (sym c.if-brief.false)
-          (c.args.at.principal, c.args.at.action, c.args.at.resource, c.requires.cell, has, c.requires.turned, subst (λ (t : Turned). IsSaid false c.args.world.now c.args.at.principal c.args.at.action c.args.at.resource t c.in-Possible.it.verdict) (sym c.in-Possible.is) refl),
+          (c.args.at.principal, c.args.at.action, c.args.at.resource, c.requires.cell, has, c.requires.turned, subst (λ (t : Turned). IsSaid false c.args.world.now c.args.at.principal c.args.at.action c.args.at.resource t c.in-Possible.it.verdict) (sym c.in-Possible.is) refl, (c.in_ok-hangs.ensures.keys, c.in_ok-hangs.ensures.places)),
       refl,
       is ∙ made ∙ ap (λ b. row_text c.args.format b c.args.at.cell row) (sym c.if-brief.false),
     )
@@ -62,7 +62,7 @@ returns c =
     let has : HasTexts c.args.world.now c.args.at.principal c.args.at.action c.args.at.resource texts =
     record { principal = c.principal_text.ensures; action = c.action_text.ensures; resource = c.resource_text.ensures } in
     let turned = c.args.turned.now in
-    let row : TurnedRow = record { texts = texts; turned = turned; verdict = c.in_ok-verdict-in_default.verdict } in
+    let row : TurnedRow = record { texts = texts; turned = turned; verdict = c.in_ok-verdict-in_default.verdict; places = c.in_ok-hangs.hangs.places.items; keys = c.in_ok-hangs.hangs.keys.items } in
     let quoted : CellTexts = record { principal = c.as_str-in_default.result.now; action = c.as_str-in_default-2.result.now; resource = c.as_str-in_default-3.result.now } in
     let made =
     row_made c.args.format false c.args.at.cell row quoted (c.as_str-in_default.ensures.value ∙ c.in_ok-principal.ensures) (c.as_str-in_default-2.ensures.value ∙ c.in_ok-action.ensures)
@@ -72,7 +72,7 @@ returns c =
     λ text is. (
       row,
       subst (λ b. IsRow b c.args.world.now c.args.at.cell row) (sym c.if-brief.false)
-          (c.args.at.principal, c.args.at.action, c.args.at.resource, c.requires.cell, has, c.requires.turned, said_plain c.args.world.now c.args.at.principal c.args.at.action c.args.at.resource turned c.in_ok-verdict-in_default.verdict c.in_default.not-Possible c.in_ok-verdict-in_default.ensures),
+          (c.args.at.principal, c.args.at.action, c.args.at.resource, c.requires.cell, has, c.requires.turned, said_plain c.args.world.now c.args.at.principal c.args.at.action c.args.at.resource turned c.in_ok-verdict-in_default.verdict c.in_default.not-Possible c.in_ok-verdict-in_default.ensures, (c.in_ok-hangs.ensures.keys, c.in_ok-hangs.ensures.places)),
       refl,
       is ∙ made ∙ ap (λ b. row_text c.args.format b c.args.at.cell row) (sym c.if-brief.false),
     )

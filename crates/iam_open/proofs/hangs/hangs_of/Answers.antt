@@ -1,0 +1,45 @@
+use Rattle.std.proofs.Common.{◌∷◌, [], subst, sym}
+use Rattle.std.specs.Prelude.{IfOk}
+use Rattle.iam_open.specs.Hangs.{ArePlacesOf}
+use Rattle.iam_open.specs.Turned.{IsTurned}
+use Rattle.iam_open.specs.declared.answer.Turned.{Turned}
+use Rattle.iam_open.proofs.HangLemmas.{always_hangs, never_hangs}
+use Rattle.iam_open.proofs.hangs.hangs_of.Goals as goal
+
+pub returns-in-Always : goal.returns-in-Always
+returns-in-Always c =
+    let world = c.args.world.now in
+    record {
+      keys = always_hangs (world ∷ []) world c.args.p c.args.a c.args.r c.on_nothing.result.keys.items
+          (subst (λ (t : Turned). IsTurned (world ∷ []) world c.args.p c.args.a c.args.r t) c.in-Always.is c.requires.turned);
+      places = subst (λ (t : Turned). ArePlacesOf (world ∷ []) world c.args.p c.args.a c.args.r t c.on_nothing.result.places.items)
+          (sym c.in-Always.is) c.on_nothing.ensures.places;
+    }
+
+pub returns-in-Never : goal.returns-in-Never
+returns-in-Never c =
+    let world = c.args.world.now in
+    record {
+      keys = never_hangs (world ∷ []) world c.args.p c.args.a c.args.r c.on_nothing-in-Never.result.keys.items
+          (subst (λ (t : Turned). IsTurned (world ∷ []) world c.args.p c.args.a c.args.r t) c.in-Never.is c.requires.turned);
+      places = subst (λ (t : Turned). ArePlacesOf (world ∷ []) world c.args.p c.args.a c.args.r t c.on_nothing-in-Never.result.places.items)
+          (sym c.in-Never.is) c.on_nothing-in-Never.ensures.places;
+    }
+
+pub returns-in-Possible : goal.returns-in-Possible
+returns-in-Possible c =
+    let worlds = c.args.world.now ∷ [] in
+    record {
+      keys = c.hangs_at.ensures.keys worlds;
+      places = subst (λ (t : Turned). IfOk c.hangs_at.result (λ hangs. ArePlacesOf worlds c.args.world.now c.args.p c.args.a c.args.r t hangs.places.items))
+          (sym c.in-Possible.is) (c.hangs_at.ensures.places worlds);
+    }
+
+pub returns-in-Open : goal.returns-in-Open
+returns-in-Open c =
+    let worlds = c.args.world.now ∷ [] in
+    record {
+      keys = c.hangs_at-in-Open.ensures.keys worlds;
+      places = subst (λ (t : Turned). IfOk c.hangs_at-in-Open.result (λ hangs. ArePlacesOf worlds c.args.world.now c.args.p c.args.a c.args.r t hangs.places.items))
+          (sym c.in-Open.is) (c.hangs_at-in-Open.ensures.places worlds);
+    }

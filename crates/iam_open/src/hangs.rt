@@ -1,0 +1,357 @@
+// What an answer hangs on: the statements of which it is open whether they match, and the keys that these ask for and that are not known.
+//
+// Of two contexts in question in which these keys have the same values, each statement matches both or neither: one that is not open tells
+// the same in all of them, and an open one asks for no other key.
+ghost use Rattle.std.specs.Prelude.{◌≡◌, ◌⊎◌, ◌++◌, ◌<◌, ◌∷◌, [], ℕ, All, IfOk, List, OnOk, false, length, map, option_copied, true};
+ghost use Rattle.std.specs.List.{Contains};
+ghost use Rattle.iam_context.specs.Context.{has_key};
+ghost use Rattle.iam_decision.specs.Code.Scan.{placed_value};
+ghost use Rattle.iam_decision.specs.Matched.{IsMatched};
+ghost use Rattle.iam_layers.specs.Own.{IsCleanAt};
+ghost use Rattle.iam_match.specs.Entry.{EntryHolds};
+ghost use Rattle.iam_match.specs.Request.{access_of};
+ghost use Rattle.iam_match.specs.Statement.{AccessValue, ResourceMatches, StatementMatches};
+ghost use Rattle.iam_open.specs.Code.Added.{Adds, AddsPlace, IsCertain, IsSameFrom, IsSameOn};
+ghost use Rattle.iam_open.specs.Code.Known.{AgreeOn, operand_beyond, piece_beyond, request_in, text_beyond};
+ghost use Rattle.iam_open.specs.Hangs.{AreOpenAt, ArePlacesOf, HangsOn};
+ghost use Rattle.iam_open.specs.Turned.{IsTurned};
+ghost use Rattle.iam_text.specs.Stretches.{piece_of};
+ghost use Rattle.iam_world.specs.World.{WorldValue};
+
+use crate::answer::Turned;
+use crate::certain::Certain;
+use crate::known::{Known, is_same};
+use crate::statement::statement_certain;
+use crate::sure::{known_of, statements_at};
+use iam_condition::{Entry, Operand};
+use iam_context::{Draft, Part, Text};
+use iam_decision::{Place, Standing, one_decision};
+use iam_layers::{OutOfMemory, World};
+use iam_match::{Access, Statement};
+use iam_policy::Resources;
+use iam_text::{Form, Template, TemplateForm};
+use iam_unasked::unasked_keys;
+use iam_value::one_stamp;
+use std::alloc::Global;
+
+/// What an answer hangs on.
+#[derive(Drop)]
+pub struct Hangs {
+    /// Where the statements stand of which it is open whether they match, in place order.
+    pub places: Vec<Place>,
+    /// The keys that these ask for and that are not known, each once, as the first of them writes it.
+    pub keys: Vec<Text>,
+}
+
+/// What it hangs on what is said of the request of principal p for action a on resource r, each below the number of its kind: nothing, where
+/// it is allowed in all contexts in question or in none.
+pub fn hangs_of(
+    alloc: Global,
+    world: &World,
+    p: u64,
+    a: u64,
+    r: u64,
+    turned: &Turned,
+) -> Result<Hangs, OutOfMemory>
+    requires principal { p < length world.now.principals }
+    requires action { a < length world.now.actions }
+    requires resource { r < length world.now.resources }
+    requires turned { IsTurned (world.now ∷ []) world.now p a r turned.now }
+    ensures keys { IfOk result (λ hangs. HangsOn (world.now ∷ []) world.now p a r hangs.keys.items) }
+    ensures places { IfOk result (λ hangs. ArePlacesOf (world.now ∷ []) world.now p a r turned.now hangs.places.items) }
+{
+    match turned {
+        Turned::Always => Ok(Hangs::on_nothing(alloc)),
+        Turned::Never => Ok(Hangs::on_nothing(alloc)),
+        Turned::Possible(_) => hangs_at(alloc, world, p, a, r),
+        Turned::Open => hangs_at(alloc, world, p, a, r),
+    }
+}
+
+/// What it hangs on whether the request is allowed.
+fn hangs_at(alloc: Global, world: &World, p: u64, a: u64, r: u64) -> Result<Hangs, OutOfMemory>
+    requires principal { p < length world.now.principals }
+    requires action { a < length world.now.actions }
+    requires resource { r < length world.now.resources }
+    ensures keys { (worlds : List WorldValue) → IfOk result (λ hangs. HangsOn worlds world.now p a r hangs.keys.items) }
+    ensures places { (worlds : List WorldValue) → IfOk result (λ hangs. AreOpenAt worlds world.now p a r hangs.places.items) }
+{
+    let none = Vec::new(alloc);
+    // The parts of a world's contexts can be joined, so that nothing is refused but memory.
+    if world.check_own(alloc, p, r, &none).is_err() {
+        return Err(OutOfMemory);
+    }
+    hangs_where(alloc, world, p, a, r, &none)
+}
+
+/// The same, with no keys of the request's own.
+fn hangs_where(
+    alloc: Global,
+    world: &World,
+    p: u64,
+    a: u64,
+    r: u64,
+    none: &Part,
+) -> Result<Hangs, OutOfMemory>
+    requires principal { p < length world.now.principals }
+    requires action { a < length world.now.actions }
+    requires resource { r < length world.now.resources }
+    requires clean { IsCleanAt world.now p r none.now.items }
+    requires empty { none.now.items ≡ [] }
+    ensures keys { (worlds : List WorldValue) → IfOk result (λ hangs. HangsOn worlds world.now p a r hangs.keys.items) }
+    ensures places { (worlds : List WorldValue) → IfOk result (λ hangs. AreOpenAt worlds world.now p a r hangs.places.items) }
+{
+    one_stamp();
+    one_decision();
+    let derived = world.derived_at(alloc, p, r, world.moment())?;
+    let Ok(context) = world.own_context(alloc, p, r, none, &derived) else {
+        return Err(OutOfMemory);
+    };
+    let access = Access {
+        requester: world.requester(p),
+        resource: world.resource_text(r),
+        context: &context,
+    };
+    let known = known_of(world, p, r, none, None);
+    let statements = statements_at(alloc, world, p, r)?;
+    open_of(
+        alloc,
+        statements.as_slice(),
+        access,
+        world.action_text(a),
+        &known,
+    )
+}
+
+/// Those of the statements of which it is open whether they match this request, and the keys that they ask for.
+fn open_of<'c>(
+    alloc: Global,
+    statements: &[Standing<'c>],
+    access: Access<'_, 'c>,
+    action: &str,
+    known: &Known<'_>,
+) -> Result<Hangs, OutOfMemory>
+    ensures keys { IfOk result (λ hangs. All (λ s. IsSameFrom known.now access.entry.context.now hangs.keys.items
+        (λ other. IsMatched (request_in (access_of access.entry) action.now other) s)) (map placed_value statements.now)) }
+    ensures places { IfOk result (λ hangs. All (λ s. Contains hangs.places.items s.place ⊎ IsCertain (AgreeOn known.now access.entry.context.now)
+        (λ other. IsMatched (request_in (access_of access.entry) action.now other) s)) (map placed_value statements.now)) }
+{
+    let mut hangs = Hangs::on_nothing(alloc);
+    for &standing in statements {
+        hangs.add(alloc, standing, access, action, known)?;
+    }
+    Ok(hangs)
+}
+
+impl Hangs {
+    fn on_nothing(alloc: Global) -> Hangs
+        ensures keys { result.keys.items ≡ [] }
+        ensures places { result.places.items ≡ [] }
+    {
+        Hangs {
+            places: Vec::new(alloc),
+            keys: Vec::new(alloc),
+        }
+    }
+
+    /// Adds a statement, if it is open whether it matches.
+    fn add<'c>(
+        &mut self,
+        alloc: Global,
+        standing: Standing<'c>,
+        access: Access<'_, 'c>,
+        action: &str,
+        known: &Known<'_>,
+    ) -> Result<(), OutOfMemory>
+        ensures keys { OnOk result (Adds self.old.keys.items self.new.keys.items (λ more. IsSameFrom known.now access.entry.context.now more
+            (λ other. IsMatched (request_in (access_of access.entry) action.now other) (placed_value standing.entry)))) }
+        ensures places { OnOk result (AddsPlace self.old.places.items self.new.places.items standing.entry.place
+            (AgreeOn known.now access.entry.context.now)
+            (λ other. IsMatched (request_in (access_of access.entry) action.now other) (placed_value standing.entry))) }
+    {
+        match statement_certain(alloc, standing.statement, access, action, known)? {
+            Certain::Always => Ok(()),
+            Certain::Never => Ok(()),
+            Certain::Open => {
+                self.places.push(standing.place)?;
+                add_statement(alloc, &mut self.keys, standing.statement, known)
+            }
+        }
+    }
+}
+
+/// Adds the keys that a statement asks for, of those that are not known.
+fn add_statement(
+    alloc: Global,
+    keys: &mut Vec<Text>,
+    statement: &Statement,
+    known: &Known<'_>,
+) -> Result<(), OutOfMemory>
+    ensures { OnOk result (Adds keys.old.items keys.new.items (λ more. (access : AccessValue) (action : List ℕ)
+        → IsSameOn known.now more (λ other. StatementMatches statement.now (request_in access action other)))) }
+{
+    add_element(alloc, keys, statement.resource(), known)?;
+    add_conditions(alloc, keys, statement.conditions(), known)
+}
+
+fn add_element(
+    alloc: Global,
+    keys: &mut Vec<Text>,
+    element: Option<&Resources>,
+    known: &Known<'_>,
+) -> Result<(), OutOfMemory>
+    ensures { OnOk result (Adds keys.old.items keys.new.items (λ more. (resource : List ℕ)
+        → IsSameOn known.now more (λ other. ResourceMatches (option_copied element.entry) resource other))) }
+{
+    match element {
+        None => Ok(()),
+        Some(element) => add_texts(alloc, keys, element.texts(), known),
+    }
+}
+
+fn add_texts(
+    alloc: Global,
+    keys: &mut Vec<Text>,
+    texts: &[Template],
+    known: &Known<'_>,
+) -> Result<(), OutOfMemory>
+    ensures { OnOk result (Adds keys.old.items keys.new.items (λ more. All (λ text. text_beyond (known.now ++ more) text ≡ false) texts.now)) }
+{
+    for text in texts {
+        add_text(alloc, keys, text, known)?;
+    }
+    Ok(())
+}
+
+fn add_conditions(
+    alloc: Global,
+    keys: &mut Vec<Text>,
+    entries: &[Entry],
+    known: &Known<'_>,
+) -> Result<(), OutOfMemory>
+    ensures { OnOk result (Adds keys.old.items keys.new.items
+        (λ more. All (λ entry. IsSameOn known.now more (λ other. EntryHolds other entry)) entries.now)) }
+{
+    for entry in entries {
+        add_entry(alloc, keys, entry, known)?;
+    }
+    Ok(())
+}
+
+/// Adds the key of an entry, and those of the variables in its values.
+fn add_entry(
+    alloc: Global,
+    keys: &mut Vec<Text>,
+    entry: &Entry,
+    known: &Known<'_>,
+) -> Result<(), OutOfMemory>
+    ensures { OnOk result (Adds keys.old.items keys.new.items (λ more. IsSameOn known.now more (λ other. EntryHolds other entry.now))) }
+{
+    unasked_keys();
+    add_key(alloc, keys, entry.key(), known)?;
+    add_values(alloc, keys, entry.values(), known)
+}
+
+fn add_values(
+    alloc: Global,
+    keys: &mut Vec<Text>,
+    values: &[Operand],
+    known: &Known<'_>,
+) -> Result<(), OutOfMemory>
+    ensures { OnOk result (Adds keys.old.items keys.new.items (λ more. All (λ value. operand_beyond (known.now ++ more) value ≡ false) values.now)) }
+{
+    for value in values {
+        add_value(alloc, keys, value, known)?;
+    }
+    Ok(())
+}
+
+fn add_value(
+    alloc: Global,
+    keys: &mut Vec<Text>,
+    value: &Operand,
+    known: &Known<'_>,
+) -> Result<(), OutOfMemory>
+    ensures { OnOk result (Adds keys.old.items keys.new.items (λ more. operand_beyond (known.now ++ more) value.now ≡ false)) }
+{
+    match value {
+        Operand::Text(text) => add_text(alloc, keys, text, known),
+        _ => Ok(()),
+    }
+}
+
+/// Adds the keys of the variables of a text.
+fn add_text(
+    alloc: Global,
+    keys: &mut Vec<Text>,
+    text: &Template,
+    known: &Known<'_>,
+) -> Result<(), OutOfMemory>
+    ensures { OnOk result (Adds keys.old.items keys.new.items (λ more. text_beyond (known.now ++ more) text.now ≡ false)) }
+{
+    match text.form() {
+        TemplateForm::Fixed(_) => Ok(()),
+        TemplateForm::Open(draft) => add_draft(alloc, keys, draft, known),
+    }
+}
+
+fn add_draft(
+    alloc: Global,
+    keys: &mut Vec<Text>,
+    draft: &Draft,
+    known: &Known<'_>,
+) -> Result<(), OutOfMemory>
+    ensures { OnOk result (Adds keys.old.items keys.new.items (λ more. text_beyond (known.now ++ more) draft.now ≡ false)) }
+{
+    let mut left = draft.stretches();
+    while let Some((_, form, behind)) = left.first_form() {
+        add_form(alloc, keys, form, known)?;
+        left = behind;
+    }
+    Ok(())
+}
+
+fn add_form(
+    alloc: Global,
+    keys: &mut Vec<Text>,
+    form: Form<'_>,
+    known: &Known<'_>,
+) -> Result<(), OutOfMemory>
+    ensures { OnOk result (Adds keys.old.items keys.new.items (λ more. piece_beyond (known.now ++ more) (piece_of form.entry) ≡ false)) }
+{
+    match form {
+        Form::Literal(_) => Ok(()),
+        Form::Named(key, _) => add_key(alloc, keys, key, known),
+    }
+}
+
+/// Adds a key, unless it is known or stands there.
+fn add_key(
+    alloc: Global,
+    keys: &mut Vec<Text>,
+    key: &str,
+    known: &Known<'_>,
+) -> Result<(), OutOfMemory>
+    ensures { OnOk result (Adds keys.old.items keys.new.items (λ more. has_key (known.now ++ more) key.now ≡ true)) }
+{
+    if known.has(key) {
+        return Ok(());
+    }
+    if has_key(keys.as_slice(), key) {
+        return Ok(());
+    }
+    keys.push(Text::read(alloc, key)?)?;
+    Ok(())
+}
+
+/// Whether the key is one of these.
+fn has_key(keys: &[Text], key: &str) -> bool
+    ensures { result ≡ has_key keys.now key.now }
+{
+    for it in keys {
+        if is_same(it.as_str(), key) {
+            return true;
+        }
+    }
+    false
+}
