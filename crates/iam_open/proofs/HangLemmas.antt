@@ -1,5 +1,5 @@
 -- What it hangs on whether a request is allowed.
-use Rattle.std.proofs.Common.{◌≡◌, ◌∙◌, ◌⊎◌, ◌+◌, ◌<◌, ◌≤◌, ℕ, inl, inr, List, [], ◌∷◌, ◌++◌, All, Bool, true, false, ◌||◌, Option, Some, None, ap, arith, codes, get_or, length, pos, refl, set, subst, sym, take}
+use Rattle.std.proofs.Common.{◌≡◌, ◌∙◌, ◌⊎◌, ◌+◌, ◌<◌, ◌≤◌, ℕ, inl, inr, List, [], ◌∷◌, ◌++◌, All, Bool, true, false, ◌||◌, Some, None, ap, arith, codes, get_or, length, pos, refl, set, subst, sym, take}
 use Rattle.std.proofs.lemmas.List.{take_all}
 use Rattle.std.specs.List.{Contains, slice_get}
 use Rattle.iam_context.specs.Context.{ContextValue, derived_names, has_key, is_same_key, joined, keys_of, values_of}
@@ -8,7 +8,6 @@ use Rattle.iam_decision.specs.Decision.{Allows, AllowsAt, Grants, GrantsAtLeast,
 use Rattle.iam_decision.specs.Laws.{OneDecision}
 use Rattle.iam_decision.specs.Matched.{IsMatched, Placed, placed}
 use Rattle.iam_decision.specs.declared.place.Place.{Place}
-use Rattle.iam_decision.specs.declared.verdict.Decision.{Decision}
 use Rattle.iam_decision.specs.declared.verdict.Decision.TheVariants.{Allowed}
 use Rattle.iam_layers.specs.Applicable.{applicable_of}
 use Rattle.iam_layers.specs.Cell.{IsAccessAt, IsApplicableAt}
@@ -30,7 +29,7 @@ use Rattle.iam_open.proofs.TriedLemmas.{all_are_tried}
 use Rattle.iam_open.proofs.TurnLemmas.{OneStamp, derived_are, given_of, in_question, known_same, own_free, put_there}
 use Rattle.iam_open.proofs.WhereLemmas.{IsLookedAt, asked, in_turn}
 use Rattle.iam_policy.specs.Reading.{StatementValue}
-use Rattle.iam_policy.specs.declared.effect.Effect.TheVariants.{Allow, Deny}
+use Rattle.iam_policy.specs.declared.effect.Effect.TheVariants.{Deny}
 use Rattle.iam_value.specs.Moment.{IsStamp}
 use Rattle.iam_world.specs.World.{PrincipalValue, ResourceValue, WorldValue}
 

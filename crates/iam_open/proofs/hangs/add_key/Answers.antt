@@ -1,4 +1,4 @@
-use Rattle.std.proofs.Common.{◌∙◌, List, ap, sym}
+use Rattle.std.proofs.Common.{◌∙◌, ap, sym}
 use Rattle.iam_context.specs.Context.{has_key}
 use Rattle.iam_open.proofs.AddLemmas.{adds_known, adds_new, adds_there}
 use Rattle.iam_open.proofs.hangs.add_key.Goals as goal

@@ -1,4 +1,4 @@
-use Rattle.std.proofs.Common.{◌≡◌, ◌++◌, List, arith, false}
+use Rattle.std.proofs.Common.{◌≡◌, ◌++◌, arith, false}
 use Rattle.iam_open.specs.Code.Known.{text_beyond}
 use Rattle.iam_open.proofs.AddLemmas.{adds_more, adds_none, adds_taken}
 use Rattle.iam_open.proofs.hangs.add_texts.Goals as goal
