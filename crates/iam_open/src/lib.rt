@@ -9,6 +9,9 @@
 //! much is allowed as in any of the contexts, and the other way round at most as much (`bounds.rt`, `sure.rt`). Where that settles
 //! nothing, values are tried (`trials.rt`, `seek.rt`), of which nothing is claimed: an example is one since the decision is made again in
 //! that very context (`decide.rt`, `example.rt`).
+//!
+//! What is neither always nor never allowed hangs on the statements of which it is not known whether they match, and on the keys that these
+//! ask for (`hangs.rt`).
 #![tactic(auto)]
 
 mod answer;
