@@ -15,7 +15,7 @@ use Rattle.iam_match.specs.Entry.{EntryHolds}
 use Rattle.iam_match.specs.Statement.{AccessValue, ResourceMatches, StatementMatches, TextMatches}
 use Rattle.iam_open.specs.Code.Added.{Adds, AreAmong, IsSameFrom, IsSameOn, OfKeys}
 use Rattle.iam_open.specs.Code.Certain.{Contexts, Tells}
-use Rattle.iam_open.specs.Code.Known.{AgreeOn, entry_beyond, has_some, operand_beyond, piece_beyond, request_in, text_beyond}
+use Rattle.iam_open.specs.Code.Known.{AgreeOn, Follows, entry_beyond, has_some, operand_beyond, piece_beyond, request_in, text_beyond}
 use Rattle.iam_open.specs.declared.certain.Certain.TheVariants.{Always, Never}
 use Rattle.iam_open.proofs.AgreeLemmas.{UnaskedKeys, entry_same}
 use Rattle.iam_open.proofs.ContextLemmas.{has_of, second}
@@ -270,12 +270,12 @@ adds_statement known start middle after s element entries element_is entries_are
 -- ---- where both agree with a context on what is known
 
 pub from_same : (known : List (List ℕ)) (base : ContextValue) (more : List (List ℕ)) (P : Contexts) → IsSameOn known more P → IsSameFrom known base more P
-from_same known base more P same one other a b both = same one other (λ key is. sym (a key is) ∙ b key is) both
+from_same known base more P same one other a b both = same one other (λ key is. sym (a.agree key is) ∙ b.agree key is) both
 
-pub from_always : (known : List (List ℕ)) (base : ContextValue) (more : List (List ℕ)) (P : Contexts) → Tells Always (AgreeOn known base) P
+pub from_always : (known : List (List ℕ)) (base : ContextValue) (more : List (List ℕ)) (P : Contexts) → Tells Always (Follows known base) P
     → IsSameFrom known base more P
 from_always known base more P told one other a b both held = told other b
 
-pub from_never : (known : List (List ℕ)) (base : ContextValue) (more : List (List ℕ)) (P : Contexts) → Tells Never (AgreeOn known base) P
+pub from_never : (known : List (List ℕ)) (base : ContextValue) (more : List (List ℕ)) (P : Contexts) → Tells Never (Follows known base) P
     → IsSameFrom known base more P
 from_never known base more P told one other a b both held = absurd (told one a held)

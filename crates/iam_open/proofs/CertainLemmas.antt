@@ -42,6 +42,12 @@ pub tells_seen : (certain : Certain) (Are P : Contexts) → (certain ≡ Open) �
 tells_seen certain Are P (inl open') = subst (λ (x : Certain). Tells x Are P) (sym open') tt
 tells_seen certain Are P (inr (never, none)) = subst (λ (x : Certain). Tells x Are P) (sym never) (λ context is. none context)
 
+-- and in fewer contexts
+pub tells_fewer : (a : Certain) (Are These P : Contexts) → ((context : ContextValue) → These context → Are context) → Tells a Are P → Tells a These P
+tells_fewer Always Are These P fewer told = λ context is. told context (fewer context is)
+tells_fewer Never Are These P fewer told = λ context is. told context (fewer context is)
+tells_fewer Open Are These P fewer told = tt
+
 -- ---- of all of a list, and of some
 
 abbrev Each : Type 0 → Type 1

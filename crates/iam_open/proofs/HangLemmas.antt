@@ -17,15 +17,15 @@ use Rattle.iam_layers.proofs.VerdictLemmas.{one_some}
 use Rattle.iam_match.specs.Requester.{RequesterValue}
 use Rattle.iam_match.specs.Statement.{AccessValue, RequestValue, StatementMatches}
 use Rattle.iam_open.specs.Code.Added.{Adds, AddsPlace, IsCertain, IsSameFrom, IsSameOn}
-use Rattle.iam_open.specs.Code.Known.{AgreeOn, request_in}
+use Rattle.iam_open.specs.Code.Known.{AgreeOn, Follows, request_in}
 use Rattle.iam_open.specs.Hangs.{AreAlikeOn, AreOpenAt, HangsOn, HasTime, IsAskedIn}
-use Rattle.iam_open.specs.InQuestion.{IsAlways, IsNever, at_moment}
+use Rattle.iam_open.specs.InQuestion.{IsAlways, IsNever, MayBeGiven, at_moment}
 use Rattle.iam_open.proofs.AddLemmas.{among_self, any_on, from_same}
 use Rattle.iam_open.proofs.AgreeLemmas.{same_in}
 use Rattle.iam_open.proofs.BoundLemmas.{more_allowed}
 use Rattle.iam_open.proofs.ContextLemmas.{AreNotOf, AreOf, back_has_none, front_has_not, front_same, has_of, none_derived, not_derived, second}
 use Rattle.iam_open.proofs.ListLemmas.{push_all, taken_more}
-use Rattle.iam_open.proofs.TriedLemmas.{all_are_tried}
+use Rattle.iam_open.proofs.TriedLemmas.{all_are_tried, since_world}
 use Rattle.iam_open.proofs.TurnLemmas.{OneStamp, derived_are, given_of, in_question, known_same, own_free, put_there}
 use Rattle.iam_open.proofs.WhereLemmas.{IsLookedAt, asked, in_turn}
 use Rattle.iam_policy.specs.Reading.{StatementValue}
@@ -167,11 +167,11 @@ same_more known base before after access action xs i x below at so_far adds =
 -- the statement stands at one of these places, or it is certain whether it matches
 abbrev pub IsPlaced : List (List ℕ) → ContextValue → AccessValue → List ℕ → List Place → Placed → Type 0
 IsPlaced known base access action places s =
-    Contains places s.place ⊎ IsCertain (AgreeOn known base) (λ other. IsMatched (request_in access action other) s)
+    Contains places s.place ⊎ IsCertain (Follows known base) (λ other. IsMatched (request_in access action other) s)
 
 pub placed_more : (known : List (List ℕ)) (base : ContextValue) (before after : List Place) (access : AccessValue) (action : List ℕ)
     (xs : List Placed) (i : ℕ) (x : Placed) → i < length xs → x ≡ get_or xs i x → All (IsPlaced known base access action before) (take i xs)
-    → AddsPlace before after x.place (AgreeOn known base) (λ other. IsMatched (request_in access action other) x)
+    → AddsPlace before after x.place (Follows known base) (λ other. IsMatched (request_in access action other) x)
     → All (IsPlaced known base access action after) (take (i + 1) xs)
 placed_more known base before after access action xs i x below at so_far adds =
     subst (λ (l : List Placed). All (IsPlaced known base access action after) l) (sym (taken_more xs i x below at))
@@ -223,17 +223,23 @@ AreSameHere world p r requester arn action known base keys =
     (a : ApplicableValue) → IsApplicableAt world p r a
     → All (λ s. IsSameFrom known base keys (λ other. IsMatched (asked requester arn action other) s)) (placed a)
 
+-- what is looked at is not later than a moment in question
+since : (worlds : List WorldValue) (world : WorldValue) (now : ℕ) (own : ContextValue) (moment : ℕ) → now ≡ world.moment
+    → MayBeGiven worlds own moment → Contains worlds world → now ≤ moment
+since worlds world now own moment first given among =
+    subst (λ (n : ℕ). n ≤ moment) (sym first) (since_world worlds world own moment given among)
+
 pub hangs_on : OneStamp → OneDecision → (worlds : List WorldValue) (world : WorldValue) (p a r : ℕ) (none base derived : ContextValue) (now : ℕ)
     (known : List (List ℕ)) (requester : RequesterValue) (arn action : List ℕ) (keys : List (List ℕ))
-    → IsLookedAt world p a r none base derived None now known requester arn action → none ≡ []
+    → IsLookedAt world p a r none base derived None now known requester arn action → now ≡ world.moment → Contains worlds world → none ≡ []
     → AreSameHere world p r requester arn action known base keys → HangsOn worlds world p a r keys
-hangs_on stamps unique worlds world p a r none base derived now known requester arn action keys looked empty same one other early late decision here
+hangs_on stamps unique worlds world p a r none base derived now known requester arn action keys looked first among empty same one other early late decision here
     there alike (w, is_w, (applies, request, (access, text, is_access, is_action, request_is), decided))
     (w', is_w', (applies', request', (access', text', is_access', is_action', request_is'), decided')) =
-    let (agree, at, is) =
+    let (agree, later, at, is) =
     in_turn stamps world p a r none base derived None now known requester arn action looked one early here.clean (all_are_tried none one early empty) w
     is_w applies request access text is_access is_action request_is in
-    let (agree', at', is') =
+    let (agree', later', at', is') =
     in_turn stamps world p a r none base derived None now known requester arn action looked other late there.clean (all_are_tried none other late empty)
     w' is_w' applies' request' access' text' is_access' is_action' request_is' in
     let context = access.context in
@@ -242,9 +248,11 @@ hangs_on stamps unique worlds world p a r none base derived now known requester 
     alike_agree stamps world p r keys one other early late here.clean there.clean alike context context'
     (context_in world p r one early w is_w applies access is_access) (context_in world p r other late w' is_w' applies' access' is_access') in
     let all = same applies at in
+    let here_follows : Follows known base context = record { agree = agree; later = later (since worlds world now one early first here.given among) } in
+    let there_follows : Follows known base context' = record { agree = agree'; later = later' (since worlds world now other late first there.given among) } in
     let allowed : IsDecision applies (asked requester arn action context') Allowed =
-    allowed_alike applies requester arn action context context' (λ k d below. all k d below context context' agree agree' both)
-    (λ k d below. all k d below context' context agree' agree (λ key is_key. sym (both key is_key)))
+    allowed_alike applies requester arn action context context' (λ k d below. all k d below context context' here_follows there_follows both)
+    (λ k d below. all k d below context' context there_follows here_follows (λ key is_key. sym (both key is_key)))
     (subst (λ (q : RequestValue). IsDecision applies q Allowed) is decided) in
     let decided_there : IsDecision applies (asked requester arn action context') decision =
     subst (λ (x : ApplicableValue). IsDecision x (asked requester arn action context') decision)
@@ -255,39 +263,39 @@ hangs_on stamps unique worlds world p a r none base derived now known requester 
 -- a request in a context in question is the one that is looked at but for its context
 asked_in : OneStamp → (worlds : List WorldValue) (world : WorldValue) (p a r : ℕ) (none base derived : ContextValue) (now : ℕ)
     (known : List (List ℕ)) (requester : RequesterValue) (arn action : List ℕ)
-    → IsLookedAt world p a r none base derived None now known requester arn action → none ≡ [] → (request : RequestValue)
+    → IsLookedAt world p a r none base derived None now known requester arn action → now ≡ world.moment → Contains worlds world → none ≡ [] → (request : RequestValue)
     → IsAskedIn worlds world p a r request
-    → (context : ContextValue) × AgreeOn known base context × (request ≡ asked requester arn action context)
-asked_in stamps worlds world p a r none base derived now known requester arn action looked empty request it =
+    → (context : ContextValue) × Follows known base context × (request ≡ asked requester arn action context)
+asked_in stamps worlds world p a r none base derived now known requester arn action looked first among empty request it =
     let (access, text, is_access, is_action, request_is) = it.is in
-    let (agree, at, same) =
+    let (agree, later, at, same) =
     in_turn stamps world p a r none base derived None now known requester arn action looked it.own it.moment it.question.clean
     (all_are_tried none it.own it.moment empty) it.other it.there it.applicable request access text is_access is_action request_is in
-    (access.context, agree, same)
+    (access.context, record { agree = agree; later = later (since worlds world now it.own it.moment first it.question.given among) }, same)
 
 -- each statement that applies is at one of these places, or it is certain whether it matches
 abbrev pub ArePlacedHere : WorldValue → ℕ → ℕ → RequesterValue → List ℕ → List ℕ → List (List ℕ) → ContextValue → List Place → Type 0
 ArePlacedHere world p r requester arn action known base places =
     (a : ApplicableValue) → IsApplicableAt world p r a
-    → All (λ s. Contains places s.place ⊎ IsCertain (AgreeOn known base) (λ other. IsMatched (asked requester arn action other) s)) (placed a)
+    → All (λ s. Contains places s.place ⊎ IsCertain (Follows known base) (λ other. IsMatched (asked requester arn action other) s)) (placed a)
 
 pub open_at : OneStamp → (worlds : List WorldValue) (world : WorldValue) (p a r : ℕ) (none base derived : ContextValue) (now : ℕ)
     (known : List (List ℕ)) (requester : RequesterValue) (arn action : List ℕ) (places : List Place)
-    → IsLookedAt world p a r none base derived None now known requester arn action → none ≡ []
+    → IsLookedAt world p a r none base derived None now known requester arn action → now ≡ world.moment → Contains worlds world → none ≡ []
     → ArePlacedHere world p r requester arn action known base places → AreOpenAt worlds world p a r places
-open_at stamps worlds world p a r none base derived now known requester arn action places looked empty told applicable s applies (k, below, at) =
-    let IsTold : Placed → Type 0 = λ x. Contains places x.place ⊎ IsCertain (AgreeOn known base) (λ other. IsMatched (asked requester arn action other) x) in
+open_at stamps worlds world p a r none base derived now known requester arn action places looked first among empty told applicable s applies (k, below, at) =
+    let IsTold : Placed → Type 0 = λ x. Contains places x.place ⊎ IsCertain (Follows known base) (λ other. IsMatched (asked requester arn action other) x) in
     let found : IsTold s = subst IsTold at (told applicable applies k s below) in
     elim found [
       | inl there ↦ inl there
       | inr certain ↦ inr (elim certain [
         | inl always ↦ inl (λ request it.
             let (context, agree, same) =
-            asked_in stamps worlds world p a r none base derived now known requester arn action looked empty request it in
+            asked_in stamps worlds world p a r none base derived now known requester arn action looked first among empty request it in
             subst (λ (q : RequestValue). IsMatched q s) (sym same) (always context agree))
         | inr never ↦ inr (λ request it matches.
             let (context, agree, same) =
-            asked_in stamps worlds world p a r none base derived now known requester arn action looked empty request it in
+            asked_in stamps worlds world p a r none base derived now known requester arn action looked first among empty request it in
             never context agree (subst (λ (q : RequestValue). IsMatched q s) same matches))
       ])
     ]

@@ -2,6 +2,7 @@ mod AddLemmas
 mod AgreeLemmas
 mod AskedLemmas
 pub mod BoundLemmas
+mod BriefLemmas
 mod CertainLemmas
 mod ContextLemmas
 mod DecideLemmas
@@ -11,8 +12,10 @@ mod FormLemmas
 pub mod GivenLemmas
 mod HangLemmas
 pub mod ListLemmas
+mod PairLemmas
 mod PartLemmas
 mod RowLemmas
+mod TimeLemmas
 pub mod TriedLemmas
 pub mod TurnLemmas
 pub mod WhereLemmas

@@ -108,6 +108,15 @@ parts_join format brief asked world from mid to one other a b = record {
       ∙ sym (rows_behind format brief from a.told b.told);
 }
 
+-- a part, and what is told of the cell behind it
+pub part_more : (format : Format) (brief : Bool) (asked : AskedValue) (world : WorldValue) (from cell : ℕ) (one other : List ℕ) (told : Option TurnedRow)
+    → IsPart format brief asked world from cell one → IsTold brief asked world cell told
+    → other ≡ together format one (told_text format brief cell told) → IsPart format brief asked world from (cell + 1) other
+part_more format brief asked world from cell one other told before is made =
+    subst (λ (text : List ℕ). IsPart format brief asked world from (cell + 1) text) (sym made)
+    (parts_join format brief asked world from cell (cell + 1) one (told_text format brief cell told) before
+    (part_one format brief asked world cell told (told_text format brief cell told) is refl))
+
 -- ---- the parts of tiles
 
 next_tile : (cells each product : ℕ) → min (product + each) cells ≡ min (min product cells + each) cells

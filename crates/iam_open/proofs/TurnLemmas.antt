@@ -1,5 +1,5 @@
 -- Requests in contexts in question, and what they have in common with the one that is looked at.
-use Rattle.std.proofs.Common.{◌≡◌, ◌∙◌, ◌<◌, ℕ, ℤ, pos, List, [], ◌∷◌, ◌++◌, Bool, true, false, Option, Some, None, IfSome, ap, codes, decimal, refl, set, sym, subst, take, append_assoc}
+use Rattle.std.proofs.Common.{◌≡◌, ◌∙◌, ◌<◌, ◌≤◌, inr, ℕ, ℤ, pos, List, [], ◌∷◌, ◌++◌, Bool, true, false, Option, Some, None, IfSome, ap, codes, decimal, refl, set, sym, subst, take, append_assoc}
 use Rattle.std.proofs.lemmas.List.{append-nil, get_or-set_same, length-set, map-append}
 use Rattle.std.proofs.lemmas.List.Folds.{list_any-append}
 use Rattle.std.proofs.lemmas.Option.{slice_get-get_or, slice_get_within}
@@ -16,10 +16,11 @@ use Rattle.iam_match.specs.Requester.{RequesterValue, requester_arn, username_of
 use Rattle.iam_match.specs.Statement.{AccessValue}
 use Rattle.iam_open.specs.InQuestion.{at_moment}
 use Rattle.iam_open.specs.Code.Known.{AgreeOn}
+use Rattle.iam_open.specs.Code.Time.{IsAtMoment, IsNoEarlier, time_key}
 use Rattle.iam_open.specs.Code.Tried.{AreKnownAt, IsTried, derived_known}
-use Rattle.iam_open.proofs.ContextLemmas.{AreNotOf, AreOf, are_not_of, are_of, front_same, turns_agree}
+use Rattle.iam_open.proofs.ContextLemmas.{AreNotOf, AreOf, are_not_of, are_of, front_has_not, front_same, not_derived, turns_agree}
 use Rattle.iam_open.proofs.AgreeLemmas.{no_values}
-use Rattle.iam_open.proofs.ListLemmas.{neither}
+use Rattle.iam_open.proofs.ListLemmas.{neither, neither_is}
 use Rattle.iam_value.specs.Moment.{IsStamp}
 use Rattle.iam_world.specs.World.{PrincipalValue, ResourceValue, WorldValue}
 
@@ -45,6 +46,18 @@ pub derived_are : (r : RequesterValue) (account : List ℕ) (moment : ℕ) (stam
 unfolding derived_with
 derived_are r account moment stamp =
     named_are (username_of r) (requester_arn r) (word_of (username_of r)) r.account account stamp (decimal moment)
+
+-- the time is that of the moment
+time_with : (username : Option (List ℕ)) (a b c d e f : List ℕ) → values_of (derived_with username a b c d e f) time_key ≡ e ∷ []
+unfolding derived_with
+time_with (Some name) a b c d e f = refl
+time_with None a b c d e f = refl
+
+time_derived : (r : RequesterValue) (account : List ℕ) (moment : ℕ) (stamp : List ℕ)
+    → values_of (derived_of r account moment stamp) time_key ≡ stamp ∷ []
+unfolding derived_with
+time_derived r account moment stamp =
+    time_with (username_of r) (requester_arn r) (word_of (username_of r)) r.account account stamp (decimal moment)
 
 -- those that do not follow from the moment are the same at another
 timeless_same : (r : RequesterValue) (account : List ℕ) (moment later : ℕ) (stamp other k : List ℕ) → has_key (take 5 derived_names) k ≡ true
@@ -86,6 +99,12 @@ parted test a b free =
     neither (list_any test (keys_of a)) (list_any test (keys_of b))
     (sym (ap (list_any test) (map-append (λ (e : List ℕ × List (List ℕ)). e.0) a b) ∙ list_any-append test (keys_of a) (keys_of b)) ∙ free)
 
+together : (test : List ℕ → Bool) (a b : ContextValue) → list_any test (keys_of a) ≡ false → list_any test (keys_of b) ≡ false
+    → list_any test (keys_of (a ++ b)) ≡ false
+together test a b one other =
+    ap (list_any test) (map-append (λ (e : List ℕ × List (List ℕ)). e.0) a b) ∙ list_any-append test (keys_of a) (keys_of b)
+    ∙ neither_is (list_any test (keys_of a)) (list_any test (keys_of b)) one other
+
 pub own_free : (world : WorldValue) (p r : ℕ) (own : ContextValue) → IsCleanAt world p r own → AreNotOf (keys_of own) derived_names
 own_free world p r own (principal, at, (resource, there, clean)) =
     let test = has_key derived_names in
@@ -99,6 +118,33 @@ own_free world p r own (principal, at, (resource, there, clean)) =
 
 abbrev pub given_of : WorldValue → PrincipalValue → ResourceValue → ContextValue
 given_of world principal resource = world.context ++ (principal.context ++ resource.context)
+
+given_free : (world : WorldValue) (p r : ℕ) (own : ContextValue) (q : PrincipalValue) (s : ResourceValue) → slice_get world.principals p ≡ Some q
+    → slice_get world.resources r ≡ Some s → IsCleanAt world p r own → AreNotOf (keys_of (given_of world q s)) derived_names
+given_free world p r own q s at_q at_s (principal, at, (resource, there, clean)) =
+    let test = has_key derived_names in
+    let whole = clean DerivedKeyGiven in
+    let by_world = parted test world.context (principal.context ++ (resource.context ++ (own ++ []))) whole in
+    let by_principal = parted test principal.context (resource.context ++ (own ++ [])) by_world.1 in
+    let by_resource = parted test resource.context (own ++ []) by_principal.1 in
+    let free = together test world.context (principal.context ++ resource.context) by_world.0
+    (together test principal.context resource.context by_principal.0 by_resource.0) in
+    let q_is : principal ≡ q = one_some (slice_get world.principals p) principal q at at_q in
+    let s_is : resource ≡ s = one_some (slice_get world.resources r) resource s there at_s in
+    let here = subst (λ (y : PrincipalValue). list_any test (keys_of (given_of world y resource)) ≡ false) q_is free in
+    are_not_of (keys_of (given_of world q s)) derived_names
+    (subst (λ (y : ResourceValue). list_any test (keys_of (given_of world q y)) ≡ false) s_is here)
+
+-- a context whose other parts have no derived key is at the moment of these
+at_this : (given own : ContextValue) (r : RequesterValue) (account : List ℕ) (moment : ℕ) (stamp : List ℕ) → AreNotOf (keys_of given) derived_names
+    → AreNotOf (keys_of own) derived_names → IsStamp (pos moment) stamp → IsAtMoment (given ++ (own ++ derived_of r account moment stamp)) moment
+at_this given own r account moment stamp given_free own_free is = (
+  stamp,
+  front_has_not given (own ++ derived_of r account moment stamp) time_key (not_derived given time_key given_free refl)
+      ∙ front_has_not own (derived_of r account moment stamp) time_key (not_derived own time_key own_free refl)
+      ∙ time_derived r account moment stamp,
+  inr (inr is.1),
+)
 
 looked_at : (w p r own d : ContextValue) → joined (w ∷ (p ∷ (r ∷ (own ∷ [])))) d ≡ (w ++ (p ++ r)) ++ (own ++ d)
 looked_at w p r own d = simp (append-nil, append_assoc) refl
@@ -123,7 +169,7 @@ pub turn_agrees : OneStamp → (world : WorldValue) (p r : ℕ) (tried base deri
     → (own : ContextValue) (moment : ℕ) → IsCleanAt world p r own → IsTried tried at own moment
     → (other : WorldValue) → IsWorldWith (at_moment world moment) r own other
     → (applicable : ApplicableValue) (access : AccessValue) → IsAccessAt other p r applicable access
-    → AgreeOn known base access.context × IsApplicableAt world p r applicable
+    → AgreeOn known base access.context × (now ≤ moment → IsNoEarlier base access.context) × IsApplicableAt world p r applicable
     × IsPrincipal world p (λ principal. access.requester ≡ principal.requester) × IsResource world r (λ resource. access.resource ≡ resource.arn)
 turn_agrees one world p r tried base derived at now known from clean (q, at_q, (s, at_s, (stamp, stamped, derived_is)))
     (q2, a2, (s2, b2, base_is)) (q3, a3, (s3, b3, known_is)) own moment own_clean was_tried other (x, there, other_is) applicable access is_access =
@@ -162,6 +208,9 @@ turn_agrees one world p r tried base derived at now known from clean (q, at_q, (
     ∙ ap (λ (y : PrincipalValue). keys_of world.context ++ (keys_of y.context ++ (keys_of s3.context ++ rest))) q3_is
     ∙ ap (λ (y : ResourceValue). keys_of world.context ++ (keys_of q.context ++ (keys_of y.context ++ rest))) s3_is
     ∙ keys_of_given world.context q.context s.context rest in
+    let free = given_free world p r tried q s at_q at_s clean in
+    let here_at = at_this given tried q.requester s.account now stamp free (own_free world p r tried clean) stamped in
+    let there_at = at_this given own q.requester s.account moment stamp' free (own_free world p r own own_clean) stamped' in
     let agree : AgreeOn (keys_of given ++ rest) (given ++ (tried ++ first)) (given ++ (own ++ later)) =
     turns_agree given tried own first later (derived_known at) (own_free world p r tried clean) (own_free world p r own own_clean)
     (derived_are q.requester s.account now stamp) (derived_are q.requester s.account moment stamp') was_tried.keys (known_are at)
@@ -169,6 +218,13 @@ turn_agrees one world p r tried base derived at now known from clean (q, at_q, (
       subst (λ (k : List (List ℕ)). AgreeOn k base access.context) (sym keys_are)
           (subst (λ (c : ContextValue). AgreeOn (keys_of given ++ rest) c access.context) (sym here_is)
           (subst (λ (c : ContextValue). AgreeOn (keys_of given ++ rest) (given ++ (tried ++ first)) c) (sym there_is) agree)),
+      (λ since. (
+        now,
+        moment,
+        since,
+        subst (λ (c : ContextValue). IsAtMoment c now) (sym here_is) here_at,
+        subst (λ (c : ContextValue). IsAtMoment c moment) (sym there_is) there_at,
+      )),
       (
         q,
         at_q,

@@ -2,18 +2,19 @@
 ghost use Rattle.std.specs.Prelude.{All, IfOk};
 ghost use Rattle.iam_match.specs.Entry.{EntryHolds};
 ghost use Rattle.iam_open.specs.Code.Certain.{Tells};
-ghost use Rattle.iam_open.specs.Code.Known.{AgreeOn};
+ghost use Rattle.iam_open.specs.Code.Known.{AgreeOn, Follows};
 
 use crate::beyond::entry_beyond;
 use crate::certain::Certain;
 use crate::known::Known;
+use crate::time::time_certain;
 use iam_condition::Entry;
 use iam_context::Context;
 use iam_match::{OutOfMemory, holds};
 use iam_unasked::unasked_keys;
 use std::alloc::Global;
 
-/// Whether every entry holds in the contexts that agree with this one on the keys that are known.
+/// Whether every entry holds in the contexts that agree with this one on the keys that are known, and are at no earlier moment.
 ///
 /// AWS IAM User Guide, "IAM JSON policy elements: Condition".
 pub fn conditions_certain<'c>(
@@ -22,16 +23,31 @@ pub fn conditions_certain<'c>(
     context: &Context<'c>,
     known: &Known<'_>,
 ) -> Result<Certain, OutOfMemory>
-    ensures { IfOk result (λ certain. Tells certain (AgreeOn known.now context.now) (λ other. All (EntryHolds other) entries.now)) }
+    ensures { IfOk result (λ certain. Tells certain (Follows known.now context.now) (λ other. All (EntryHolds other) entries.now)) }
 {
     let mut certain = Certain::Always;
     for entry in entries {
-        certain = certain.and(entry_certain(alloc, entry, context, known)?);
+        certain = certain.and(entry_from(alloc, entry, context, known)?);
     }
     Ok(certain)
 }
 
-/// Whether the entry holds in these contexts.
+/// Whether the entry holds in these contexts: a date that is past stays so.
+fn entry_from<'c>(
+    alloc: Global,
+    entry: &'c Entry,
+    context: &Context<'c>,
+    known: &Known<'_>,
+) -> Result<Certain, OutOfMemory>
+    ensures { IfOk result (λ certain. Tells certain (Follows known.now context.now) (λ other. EntryHolds other entry.now)) }
+{
+    match entry_certain(alloc, entry, context, known)? {
+        Certain::Open => Ok(time_certain(entry, context)),
+        certain => Ok(certain),
+    }
+}
+
+/// Whether the entry holds in the contexts that agree with this one on the keys that are known.
 pub fn entry_certain<'c>(
     alloc: Global,
     entry: &'c Entry,

@@ -12,7 +12,7 @@ ghost use Rattle.iam_match.specs.Entry.{EntryHolds};
 ghost use Rattle.iam_match.specs.Request.{access_of};
 ghost use Rattle.iam_match.specs.Statement.{AccessValue, ResourceMatches, StatementMatches};
 ghost use Rattle.iam_open.specs.Code.Added.{Adds, AddsPlace, IsCertain, IsSameFrom, IsSameOn};
-ghost use Rattle.iam_open.specs.Code.Known.{AgreeOn, operand_beyond, piece_beyond, request_in, text_beyond};
+ghost use Rattle.iam_open.specs.Code.Known.{Follows, operand_beyond, piece_beyond, request_in, text_beyond};
 ghost use Rattle.iam_open.specs.Hangs.{AreOpenAt, ArePlacesOf, HangsOn};
 ghost use Rattle.iam_open.specs.Turned.{IsTurned};
 ghost use Rattle.iam_text.specs.Stretches.{piece_of};
@@ -73,8 +73,8 @@ fn hangs_at(alloc: Global, world: &World, p: u64, a: u64, r: u64) -> Result<Hang
     requires principal { p < length world.now.principals }
     requires action { a < length world.now.actions }
     requires resource { r < length world.now.resources }
-    ensures keys { (worlds : List WorldValue) → IfOk result (λ hangs. HangsOn worlds world.now p a r hangs.keys.items) }
-    ensures places { (worlds : List WorldValue) → IfOk result (λ hangs. AreOpenAt worlds world.now p a r hangs.places.items) }
+    ensures keys { (worlds : List WorldValue) → Contains worlds world.now → IfOk result (λ hangs. HangsOn worlds world.now p a r hangs.keys.items) }
+    ensures places { (worlds : List WorldValue) → Contains worlds world.now → IfOk result (λ hangs. AreOpenAt worlds world.now p a r hangs.places.items) }
 {
     let none = Vec::new(alloc);
     // The parts of a world's contexts can be joined, so that nothing is refused but memory.
@@ -98,8 +98,8 @@ fn hangs_where(
     requires resource { r < length world.now.resources }
     requires clean { IsCleanAt world.now p r none.now.items }
     requires empty { none.now.items ≡ [] }
-    ensures keys { (worlds : List WorldValue) → IfOk result (λ hangs. HangsOn worlds world.now p a r hangs.keys.items) }
-    ensures places { (worlds : List WorldValue) → IfOk result (λ hangs. AreOpenAt worlds world.now p a r hangs.places.items) }
+    ensures keys { (worlds : List WorldValue) → Contains worlds world.now → IfOk result (λ hangs. HangsOn worlds world.now p a r hangs.keys.items) }
+    ensures places { (worlds : List WorldValue) → Contains worlds world.now → IfOk result (λ hangs. AreOpenAt worlds world.now p a r hangs.places.items) }
 {
     one_stamp();
     one_decision();
@@ -133,7 +133,7 @@ fn open_of<'c>(
 ) -> Result<Hangs, OutOfMemory>
     ensures keys { IfOk result (λ hangs. All (λ s. IsSameFrom known.now access.entry.context.now hangs.keys.items
         (λ other. IsMatched (request_in (access_of access.entry) action.now other) s)) (map placed_value statements.now)) }
-    ensures places { IfOk result (λ hangs. All (λ s. Contains hangs.places.items s.place ⊎ IsCertain (AgreeOn known.now access.entry.context.now)
+    ensures places { IfOk result (λ hangs. All (λ s. Contains hangs.places.items s.place ⊎ IsCertain (Follows known.now access.entry.context.now)
         (λ other. IsMatched (request_in (access_of access.entry) action.now other) s)) (map placed_value statements.now)) }
 {
     let mut hangs = Hangs::on_nothing(alloc);
@@ -166,7 +166,7 @@ impl Hangs {
         ensures keys { OnOk result (Adds self.old.keys.items self.new.keys.items (λ more. IsSameFrom known.now access.entry.context.now more
             (λ other. IsMatched (request_in (access_of access.entry) action.now other) (placed_value standing.entry)))) }
         ensures places { OnOk result (AddsPlace self.old.places.items self.new.places.items standing.entry.place
-            (AgreeOn known.now access.entry.context.now)
+            (Follows known.now access.entry.context.now)
             (λ other. IsMatched (request_in (access_of access.entry) action.now other) (placed_value standing.entry))) }
     {
         match statement_certain(alloc, standing.statement, access, action, known)? {

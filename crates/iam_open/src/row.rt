@@ -1,16 +1,15 @@
 // The rows of requests: what is said of each, and an example.
-ghost use Rattle.std.specs.Prelude.{◌≡◌, ◌++◌, ◌∷◌, [], IfOk, Option, OnOk, codes, false, string_bytes, true};
+ghost use Rattle.std.specs.Prelude.{◌≡◌, ◌++◌, ◌∷◌, [], IfOk, OnOk, codes, false, string_bytes, true};
 ghost use Rattle.std.specs.List.{join_by};
 ghost use Rattle.iam_layers.specs.Cell.{IsCell};
-ghost use Rattle.iam_open.specs.Asked.{asked_of};
-ghost use Rattle.iam_open.specs.Report.{IsRow, IsTold};
-ghost use Rattle.iam_open.specs.Rows.{TurnedRow, back_text, brief_text, entry_text, example_text, front_text, full_text, joined_row, json_of, keys_in, lacks_in, opening_text, places_in, row_text, shown_text, told_text, turned_word};
+ghost use Rattle.iam_open.specs.Report.{IsRow};
+ghost use Rattle.iam_open.specs.Rows.{TurnedRow, back_text, brief_text, entry_text, example_text, front_text, full_text, joined_row, json_of, keys_in, lacks_in, opening_text, places_in, row_text, shown_text, turned_word};
 ghost use Rattle.iam_open.specs.Turned.{IsTurned};
 ghost use Rattle.iam_decision.specs.declared.verdict.Verdict.{Verdict};
 ghost use Rattle.iam_row.specs.Piece.{quote_of};
 
-use crate::answer::{Turned, turned_of};
-use crate::asked::{Asked, is_selected, is_wanted, word_of, word_text};
+use crate::answer::Turned;
+use crate::asked::{word_of, word_text};
 use crate::hangs::{Hangs, hangs_of};
 use iam_context::{KeyName, Part, Values};
 use iam_decision::Place;
@@ -339,33 +338,4 @@ pub fn row(
             )
         }
     }
-}
-
-fn nothing(alloc: Global) -> String
-    ensures { string_bytes result ≡ [] }
-{
-    String::new(alloc)
-}
-
-/// The row of a cell, where it is asked for; else nothing.
-pub fn told(
-    alloc: Global,
-    world: &World,
-    asked: Asked<'_>,
-    format: Format,
-    brief: bool,
-    at: Position,
-) -> Result<String, OutOfMemory>
-    requires { IsCell world.now at.cell at.principal at.action at.resource }
-    ensures { IfOk result (λ text. (told : Option TurnedRow) × IsTold brief (asked_of asked.entry) world.now at.cell told
-        × (string_bytes text ≡ told_text format brief at.cell told)) }
-{
-    if !is_selected(asked, world, at) {
-        return Ok(nothing(alloc));
-    }
-    let turned = turned_of(alloc, world, at.principal, at.action, at.resource)?;
-    if !is_wanted(asked, word_of(&turned)) {
-        return Ok(nothing(alloc));
-    }
-    row(alloc, world, format, brief, at, &turned)
 }

@@ -6,7 +6,7 @@
 ghost use Rattle.std.specs.Prelude.{◌<◌, ◌∷◌, [], IfOk, IfSome, length};
 ghost use Rattle.iam_open.specs.Turned.{IsShown};
 
-use crate::bounds::Bounds;
+use crate::bounds::{Bounds, matched_of};
 use crate::certain::Certain;
 use crate::example::{Example, LAST_MOMENT, example_of};
 use crate::known::Known;
@@ -326,11 +326,11 @@ fn certain_of<'a: 'c, 'c>(
 ) -> Result<Certain, OutOfMemory> {
     let mut bounds = Bounds::new(alloc);
     for &standing in live.sure.as_slice() {
-        bounds.add(standing, Certain::Always, access.requester)?;
+        bounds.add(matched_of(standing, access.requester), Certain::Always)?;
     }
     for &standing in live.open.as_slice() {
         let certain = statement_certain(alloc, standing.statement, access, action, known)?;
-        bounds.add(standing, certain, access.requester)?;
+        bounds.add(matched_of(standing, access.requester), certain)?;
     }
     Ok(bounds.certain(live.frame))
 }

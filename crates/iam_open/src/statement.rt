@@ -2,9 +2,9 @@
 ghost use Rattle.std.specs.Prelude.{All, IfOk};
 ghost use Rattle.iam_match.specs.Entry.{EntryHolds};
 ghost use Rattle.iam_match.specs.Request.{access_of};
-ghost use Rattle.iam_match.specs.Statement.{ResourceMatches, StatementMatches};
+ghost use Rattle.iam_match.specs.Statement.{ResourceMatches, RestMatches, StatementMatches};
 ghost use Rattle.iam_open.specs.Code.Certain.{Tells};
-ghost use Rattle.iam_open.specs.Code.Known.{AgreeOn, request_in};
+ghost use Rattle.iam_open.specs.Code.Known.{Follows, access_at, request_in};
 
 use crate::certain::Certain;
 use crate::entry::conditions_certain;
@@ -24,26 +24,39 @@ pub fn statement_certain<'c>(
     action: &str,
     known: &Known<'_>,
 ) -> Result<Certain, OutOfMemory>
-    ensures { IfOk result (λ certain. Tells certain (AgreeOn known.now access.entry.context.now)
+    ensures { IfOk result (λ certain. Tells certain (Follows known.now access.entry.context.now)
         (λ other. StatementMatches statement.now (request_in (access_of access.entry) action.now other))) }
 {
     if !action_matches(statement.action(), action) {
         return Ok(Certain::Never);
     }
-    if !principal_matches(statement, access.requester) {
-        return Ok(Certain::Never);
-    }
     rest_certain(alloc, statement, access, known)
 }
 
-/// Whether its resource element matches, and its conditions hold.
-fn rest_certain<'c>(
+/// Whether all its elements match but its action element, which alone sees the action.
+pub fn rest_certain<'c>(
     alloc: Global,
     statement: &'c Statement,
     access: Access<'_, 'c>,
     known: &Known<'_>,
 ) -> Result<Certain, OutOfMemory>
-    ensures { IfOk result (λ certain. Tells certain (AgreeOn known.now access.entry.context.now)
+    ensures { IfOk result (λ certain. Tells certain (Follows known.now access.entry.context.now)
+        (λ other. RestMatches statement.now (access_at (access_of access.entry) other))) }
+{
+    if !principal_matches(statement, access.requester) {
+        return Ok(Certain::Never);
+    }
+    elements_certain(alloc, statement, access, known)
+}
+
+/// Whether its resource element matches, and its conditions hold.
+fn elements_certain<'c>(
+    alloc: Global,
+    statement: &'c Statement,
+    access: Access<'_, 'c>,
+    known: &Known<'_>,
+) -> Result<Certain, OutOfMemory>
+    ensures { IfOk result (λ certain. Tells certain (Follows known.now access.entry.context.now)
         (λ other. ResourceMatches statement.now.resource access.entry.resource.now other
         × All (EntryHolds other) statement.now.conditions)) }
 {

@@ -1,5 +1,6 @@
 -- What follows from what is certain of a request in each of two worlds.
-use Rattle.std.proofs.Common.{◌≡◌, inl, inr, ℕ, List, [], ◌∷◌, Err, IfOk, IfSome, MatchOption, None, Ok, Option, Result, Some}
+use Rattle.std.proofs.Common.{◌≡◌, inl, inr, ℕ, List, [], ◌∷◌, arith, refl, Err, IfOk, IfSome, MatchOption, None, Ok, Option, Result, Some}
+use Rattle.std.specs.List.{Contains}
 use Rattle.iam_context.specs.Context.{ContextValue}
 use Rattle.iam_open.specs.InQuestion.{IsAlways, IsNever, MayBeGiven}
 use Rattle.iam_open.specs.declared.certain.Certain.{Certain}
@@ -12,39 +13,46 @@ use Rattle.iam_open_changes.specs.declared.turn.Turn.TheVariants.{Gained, Lost}
 use Rattle.iam_world.specs.World.{WorldValue}
 
 abbrev AlwaysIn : WorldValue → Option Numbers → Type 0
-AlwaysIn world at = MatchOption at ⊥ (λ it. (worlds : List WorldValue) → IsAlways worlds world it.principal it.action it.resource)
+AlwaysIn world at = MatchOption at ⊥ (λ it. (worlds : List WorldValue) → Contains worlds world → IsAlways worlds world it.principal it.action it.resource)
 
 abbrev NeverIn : WorldValue → Option Numbers → Type 0
-NeverIn world at = IfSome at (λ it. (worlds : List WorldValue) → IsNever worlds world it.principal it.action it.resource)
+NeverIn world at = IfSome at (λ it. (worlds : List WorldValue) → Contains worlds world → IsNever worlds world it.principal it.action it.resource)
 
 not_refused : (worlds : List WorldValue) (world : WorldValue) (at : Option Numbers) (own : ContextValue) (moment : ℕ) → AlwaysIn world at
-    → MayBeGiven worlds own moment → IsCleanIn world at own → ¬ IsRefusedIn world at own moment
-not_refused worlds world None own moment always given clean refused = always
-not_refused worlds world (Some it) own moment always given clean (decision, decided, unlike) =
-    unlike (always worlds own moment decision (record { given = given; clean = clean }) decided)
+    → Contains worlds world → MayBeGiven worlds own moment → IsCleanIn world at own → ¬ IsRefusedIn world at own moment
+not_refused worlds world None own moment always among given clean refused = always
+not_refused worlds world (Some it) own moment always among given clean (decision, decided, unlike) =
+    unlike (always worlds among own moment decision (record { given = given; clean = clean }) decided)
 
 not_allowed : (worlds : List WorldValue) (world : WorldValue) (at : Option Numbers) (own : ContextValue) (moment : ℕ) → NeverIn world at
-    → MayBeGiven worlds own moment → IsCleanIn world at own → ¬ IsAllowedIn world at own moment
-not_allowed worlds world None own moment never given clean allowed = allowed
-not_allowed worlds world (Some it) own moment never given clean allowed = never worlds own moment (record { given = given; clean = clean }) allowed
+    → Contains worlds world → MayBeGiven worlds own moment → IsCleanIn world at own → ¬ IsAllowedIn world at own moment
+not_allowed worlds world None own moment never among given clean allowed = allowed
+not_allowed worlds world (Some it) own moment never among given clean allowed =
+    never worlds among own moment (record { given = given; clean = clean }) allowed
+
+first : (before after : WorldValue) → Contains (before ∷ (after ∷ [])) before
+first before after = (0, omega arith, refl)
+
+second : (before after : WorldValue) → Contains (before ∷ (after ∷ [])) after
+second before after = (1, omega arith, refl)
 
 pub never_turned : (turn : Turn) (before after : WorldValue) (was now : Option Numbers) (one other : Certain) → IsCertainIn before was one
     → IsCertainIn after now other → CannotTurn turn one other → IsNeverTurned turn before after was now
 never_turned Gained before after was now one other is is' (inl always) own moment question (refused, allowed) =
-    not_refused (before ∷ (after ∷ [])) before was own moment (is.always always) question.given question.clean_before refused
+    not_refused (before ∷ (after ∷ [])) before was own moment (is.always always) (first before after) question.given question.clean_before refused
 never_turned Gained before after was now one other is is' (inr never) own moment question (refused, allowed) =
-    not_allowed (before ∷ (after ∷ [])) after now own moment (is'.never never) question.given question.clean_after allowed
+    not_allowed (before ∷ (after ∷ [])) after now own moment (is'.never never) (second before after) question.given question.clean_after allowed
 never_turned Lost before after was now one other is is' (inl never) own moment question (allowed, refused) =
-    not_allowed (before ∷ (after ∷ [])) before was own moment (is.never never) question.given question.clean_before allowed
+    not_allowed (before ∷ (after ∷ [])) before was own moment (is.never never) (first before after) question.given question.clean_before allowed
 never_turned Lost before after was now one other is is' (inr always) own moment question (allowed, refused) =
-    not_refused (before ∷ (after ∷ [])) after now own moment (is'.always always) question.given question.clean_after refused
+    not_refused (before ∷ (after ∷ [])) after now own moment (is'.always always) (second before after) question.given question.clean_after refused
 
 -- what is certain of a request that the world has, and of one that it does not have
 pub certain_some : {E : Type 0} (world : WorldValue) (it : Numbers) (result : Result Certain E)
-    → ((worlds : List WorldValue) → IfOk result (λ certain. certain ≡ Always → IsAlways worlds world it.principal it.action it.resource))
-    → ((worlds : List WorldValue) → IfOk result (λ certain. certain ≡ Never → IsNever worlds world it.principal it.action it.resource))
+    → ((worlds : List WorldValue) → Contains worlds world → IfOk result (λ certain. certain ≡ Always → IsAlways worlds world it.principal it.action it.resource))
+    → ((worlds : List WorldValue) → Contains worlds world → IfOk result (λ certain. certain ≡ Never → IsNever worlds world it.principal it.action it.resource))
     → IfOk result (IsCertainIn world (Some it))
-certain_some world it (Ok certain) always never = record { always = λ is worlds. always worlds is; never = λ is worlds. never worlds is }
+certain_some world it (Ok certain) always never = record { always = λ is worlds among. always worlds among is; never = λ is worlds among. never worlds among is }
 certain_some world it (Err e) always never = tt
 
 pub certain_none : (world : WorldValue) → IsCertainIn world None Never

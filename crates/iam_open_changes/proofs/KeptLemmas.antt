@@ -102,13 +102,13 @@ pub kept_at : OneStamp → (world : WorldValue) (at : Numbers) (tried base deriv
     → AreKept world at kept
 kept_at one world at tried base derived now known requester arn action statements kept looked none placed_are are = record {
   matching = λ own moment other applicable request s clean is_other (access, text, is_access, is_action, request_is) among matched.
-      let (agree, applies, is) =
+      let (agree, later, applies, is) =
       in_turn one world at.principal at.action at.resource tried base derived None now known requester arn action looked own moment clean
       (all_are_tried tried own moment none) other is_other applicable request access text is_access is_action request_is in
       are.matching access.context s agree (subst (λ (xs : List Placed). Contains xs s) (sym (placed_are applicable applies)) among)
       (subst (λ (q : RequestValue). IsMatched q s) is matched);
   stands = λ own moment other applicable request it clean is_other (access, text, is_access, is_action, request_is) among.
-      let (agree, applies, is) =
+      let (agree, later, applies, is) =
       in_turn one world at.principal at.action at.resource tried base derived None now known requester arn action looked own moment clean
       (all_are_tried tried own moment none) other is_other applicable request access text is_access is_action request_is in
       let (there, is_kept) = are.applying it among in

@@ -4,7 +4,7 @@ use Rattle.std.specs.List.{Contains}
 use Rattle.iam_context.specs.Context.{ContextValue, has_key}
 use Rattle.iam_decision.specs.declared.place.Place.{Place}
 use Rattle.iam_open.specs.Code.Certain.{Contexts, Tells}
-use Rattle.iam_open.specs.Code.Known.{AgreeOn}
+use Rattle.iam_open.specs.Code.Known.{AgreeOn, Follows}
 use Rattle.iam_open.specs.declared.certain.Certain.TheVariants.{Always, Never}
 
 -- what is said of keys
@@ -23,10 +23,10 @@ Adds before after P = AreAmong before after × ((more : List (List ℕ)) → Are
 abbrev pub IsSameOn : List (List ℕ) → List (List ℕ) → Contexts → Type 0
 IsSameOn known keys holds = (one other : ContextValue) → AgreeOn known one other → AgreeOn keys one other → holds one → holds other
 
--- where both agree with this one on what is known
+-- where both agree with this one on what is known, and are at no earlier moment
 abbrev pub IsSameFrom : List (List ℕ) → ContextValue → List (List ℕ) → Contexts → Type 0
 IsSameFrom known base keys holds =
-    (one other : ContextValue) → AgreeOn known base one → AgreeOn known base other → AgreeOn keys one other → holds one → holds other
+    (one other : ContextValue) → Follows known base one → Follows known base other → AgreeOn keys one other → holds one → holds other
 
 -- it holds in each of these contexts, or in none of them
 abbrev pub IsCertain : Contexts → Contexts → Type 0

@@ -3,10 +3,13 @@
 use Rattle.std.specs.Prelude.{◌≡◌, ℕ, Bool, true, false, List}
 use Rattle.std.specs.List.{Any, Contains}
 use Rattle.iam_context.specs.Context.{ContextValue}
-use Rattle.iam_decision.specs.Decision.{Says}
+use Rattle.iam_decision.specs.Code.Found.{AllowsIn, DeniesIn, GrantsIn}
+use Rattle.iam_decision.specs.Decision.{IsDecided, Says}
 use Rattle.iam_decision.specs.Living.{item_of}
 use Rattle.iam_decision.specs.Matched.{Placed}
+use Rattle.iam_decision.specs.declared.frame.Frame.{Frame}
 use Rattle.iam_decision.specs.declared.living.Matched.{Matched}
+use Rattle.iam_decision.specs.declared.verdict.Decision.TheVariants.{Allowed}
 use Rattle.iam_match.specs.Statement.{AccessValue}
 use Rattle.iam_open.specs.Code.Certain.{Contexts}
 use Rattle.iam_open.specs.Code.Known.{request_in}
@@ -41,6 +44,10 @@ pub record AreLeast (access : AccessValue) (action : List ℕ) (Are : Contexts) 
 pub record AreBounds (access : AccessValue) (action : List ℕ) (Are : Contexts) (statements : List Placed) (bounds : Bounds) : Type 0 where
   pub most : AreMost access action Are statements bounds.most.items
   pub least : AreLeast access action Are statements bounds.least.items
+
+-- with these statements, and what is asked beside them, the decision is that it is allowed
+abbrev pub Decides : List Matched → Frame → Type 0
+Decides found frame = IsDecided (DeniesIn found) (AllowsIn found) (GrantsIn found) frame Allowed
 
 -- a statement of which this is known counts where as much is allowed as may be
 abbrev pub counts_at_most : Certain → Effect → Bool

@@ -8,6 +8,7 @@ use Rattle.iam_context.specs.Code.Entries.{derived_name}
 use Rattle.iam_context.specs.declared.values.DerivedKey.{DerivedKey}
 use Rattle.iam_context.specs.Context.{ContextValue, has_key, keys_of, values_of}
 use Rattle.iam_match.specs.Statement.{AccessValue, RequestValue}
+use Rattle.iam_open.specs.Code.Time.{IsNoEarlier}
 use Rattle.iam_text.specs.declared.draft.Piece.{Piece}
 use Rattle.iam_text.specs.declared.draft.Piece.TheVariants.{Plain, Escaped, Variable}
 
@@ -48,6 +49,15 @@ entry_beyond known context entry =
 -- the contexts give the same values to each of the keys
 abbrev pub AgreeOn : List (List ℕ) → ContextValue → ContextValue → Type 0
 AgreeOn known one other = (key : List ℕ) → has_key known key ≡ true → values_of one key ≡ values_of other key
+
+-- and the other is at no earlier moment
+pub record Follows (known : List (List ℕ)) (one other : ContextValue) : Type 0 where
+  pub agree : AgreeOn known one other
+  pub later : IsNoEarlier one other
+
+-- who asks for which resource, in another context
+abbrev pub access_at : AccessValue → ContextValue → AccessValue
+access_at access context = record { requester = access.requester; resource = access.resource; context = context }
 
 -- the request for this action, in another context
 abbrev pub request_in : AccessValue → List ℕ → ContextValue → RequestValue

@@ -1,15 +1,16 @@
 -- The report as it is made: the rows of some cells each.
-use Rattle.std.specs.Prelude.{◌≡◌, ◌++◌, ◌+◌, ◌*◌, ◌<◌, ◌≤◌, ◌≢◌, ℕ, Bool, true, List, [], ◌∷◌, Option, Some, None, String, length, min, string_bytes}
+use Rattle.std.specs.Prelude.{◌≡◌, ◌++◌, ◌+◌, ◌*◌, ◌<◌, ◌≤◌, ◌≢◌, ℕ, Bool, true, List, [], ◌∷◌, Option, Some, None, String, codes, decimal, length, min, string_bytes}
 use Rattle.std.specs.Global.{Global}
 use Rattle.iam_open.specs.Asked.{AskedValue, IsSelected}
 use Rattle.iam_open.specs.First.{IsNeverAt}
 use Rattle.iam_open.specs.Report.{IsRow, IsTold}
-use Rattle.iam_open.specs.Rows.{TurnedRow, opening_text, row_text, rows_text, together, word_of}
+use Rattle.iam_open.specs.Rows.{TurnedRow, opening_text, row_text, rows_text, together, word_of, word_text}
+use Rattle.iam_open.specs.declared.asked.Word.{Word}
 use Rattle.iam_open.specs.declared.asked.Word.TheVariants.{Never}
 use Rattle.iam_open.specs.declared.first.Found.{Found}
-use Rattle.iam_row.specs.Report.{AreEntriesFrom}
+use Rattle.iam_row.specs.Report.{AreEntriesFrom, CellTexts}
 use Rattle.iam_row.specs.declared.quoted.Format.{Format}
-use Rattle.iam_row.specs.declared.quoted.Format.TheVariants.{Csv}
+use Rattle.iam_row.specs.declared.quoted.Format.TheVariants.{Csv, Json}
 use Rattle.iam_world.specs.World.{WorldValue, world_cells}
 
 -- the cells of a tile, where each has so many but the last
@@ -65,3 +66,21 @@ IsFirstIn asked world from to (Some found) = IsFoundIn asked world from to found
 abbrev pub found_report : Option Found → List ℕ
 found_report None = opening_text Csv true
 found_report (Some found) = opening_text Csv true ++ string_bytes found.text
+
+-- what stands in a brief row of JSON before the principal, and in one of CSV behind the resource
+abbrev pub middle_text : Word → List ℕ
+middle_text word = codes ",\"decision\":\"" ++ (word_text word ++ codes "\",\"principal\":")
+
+abbrev pub back_text : Word → List ℕ
+back_text word = codes "," ++ (word_text word ++ codes "\n")
+
+-- a brief row, from texts with what stands beside them in each row
+abbrev pub pieces_text : Format → ℕ → CellTexts → Word → List ℕ
+pieces_text Csv cell pieces word = decimal cell ++ (pieces.principal ++ (pieces.action ++ (pieces.resource ++ back_text word)))
+pieces_text Json cell pieces word =
+    pieces.action ++ (decimal cell ++ (middle_text word ++ (pieces.principal ++ (pieces.resource ++ codes "}"))))
+
+-- a comma behind rows, where there are some
+abbrev pub comma_behind : List ℕ → List ℕ
+comma_behind [] = []
+comma_behind (c ∷ text) = codes ","

@@ -1,5 +1,5 @@
 -- Contexts in which some of the open keys have the values that are tried, and what is said of a request in them.
-use Rattle.std.specs.Prelude.{◌≡◌, ◌++◌, ℕ, List, Option, Some, None, IfSome, take, true}
+use Rattle.std.specs.Prelude.{◌≡◌, ◌≤◌, ◌++◌, ℕ, List, Option, Some, None, IfSome, take, true}
 use Rattle.iam_context.specs.Context.{ContextValue, derived_names, has_key, keys_of, values_of}
 use Rattle.iam_decision.specs.declared.verdict.Decision.{Decision}
 use Rattle.iam_decision.specs.declared.verdict.Decision.TheVariants.{Allowed}
@@ -13,14 +13,15 @@ pub record IsTried (part : ContextValue) (at : Option ℕ) (own : ContextValue) 
   pub keys : (key : List ℕ) → has_key (keys_of part) key ≡ true → values_of own key ≡ values_of part key
   pub tried : IfSome at (λ then. moment ≡ then)
 
--- in none of those contexts is it allowed, and in each of them
+-- in none of those contexts from the world's moment on is it allowed, and in each of them
 abbrev pub IsNeverWhere : WorldValue → ℕ → ℕ → ℕ → ContextValue → Option ℕ → Type 0
 IsNeverWhere world p a r part at =
-    (own : ContextValue) (moment : ℕ) → IsCleanAt world p r own → IsTried part at own moment → ¬ IsDecisionIn world p a r own moment Allowed
+    (own : ContextValue) (moment : ℕ) → IsCleanAt world p r own → IsTried part at own moment → world.moment ≤ moment
+    → ¬ IsDecisionIn world p a r own moment Allowed
 
 abbrev pub IsAlwaysWhere : WorldValue → ℕ → ℕ → ℕ → ContextValue → Option ℕ → Type 0
 IsAlwaysWhere world p a r part at =
-    (own : ContextValue) (moment : ℕ) (decision : Decision) → IsCleanAt world p r own → IsTried part at own moment
+    (own : ContextValue) (moment : ℕ) (decision : Decision) → IsCleanAt world p r own → IsTried part at own moment → world.moment ≤ moment
     → IsDecisionIn world p a r own moment decision → decision ≡ Allowed
 
 -- the derived keys whose values are known: all, where the moment is; else those that do not follow from it

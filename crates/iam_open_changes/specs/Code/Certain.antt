@@ -1,5 +1,5 @@
 -- What is certain of a request in each of two worlds, and what follows from it.
-use Rattle.std.specs.Prelude.{◌≡◌, ◌⊎◌, List, MatchOption, IfSome, Option}
+use Rattle.std.specs.Prelude.{◌≡◌, ◌⊎◌, List, Contains, MatchOption, IfSome, Option}
 use Rattle.iam_open.specs.InQuestion.{IsAlways, IsNever}
 use Rattle.iam_open.specs.declared.certain.Certain.{Certain}
 use Rattle.iam_open.specs.declared.certain.Certain.TheVariants.{Always, Never}
@@ -11,8 +11,8 @@ use Rattle.iam_world.specs.World.{WorldValue}
 -- what is certain holds: of a world without the request it is that nothing is allowed
 pub record IsCertainIn (world : WorldValue) (at : Option Numbers) (certain : Certain) : Type 0 where
   pub always : certain ≡ Always
-      → MatchOption at ⊥ (λ it. (worlds : List WorldValue) → IsAlways worlds world it.principal it.action it.resource)
-  pub never : certain ≡ Never → IfSome at (λ it. (worlds : List WorldValue) → IsNever worlds world it.principal it.action it.resource)
+      → MatchOption at ⊥ (λ it. (worlds : List WorldValue) → Contains worlds world → IsAlways worlds world it.principal it.action it.resource)
+  pub never : certain ≡ Never → IfSome at (λ it. (worlds : List WorldValue) → Contains worlds world → IsNever worlds world it.principal it.action it.resource)
 
 -- what is allowed in any case before, or in none after, is not gained; and what is so the other way round is not lost
 abbrev pub CannotTurn : Turn → Certain → Certain → Type 0

@@ -1,4 +1,4 @@
-use Rattle.std.proofs.Common.{◌∷◌, [], subst, sym}
+use Rattle.std.proofs.Common.{◌∷◌, [], arith, refl, subst, sym}
 use Rattle.std.specs.Prelude.{IfOk}
 use Rattle.iam_open.specs.Hangs.{ArePlacesOf}
 use Rattle.iam_open.specs.Turned.{IsTurned}
@@ -30,16 +30,16 @@ pub returns-in-Possible : goal.returns-in-Possible
 returns-in-Possible c =
     let worlds = c.args.world.now ∷ [] in
     record {
-      keys = c.hangs_at.ensures.keys worlds;
+      keys = c.hangs_at.ensures.keys worlds (0, omega arith, refl);
       places = subst (λ (t : Turned). IfOk c.hangs_at.result (λ hangs. ArePlacesOf worlds c.args.world.now c.args.p c.args.a c.args.r t hangs.places.items))
-          (sym c.in-Possible.is) (c.hangs_at.ensures.places worlds);
+          (sym c.in-Possible.is) (c.hangs_at.ensures.places worlds (0, omega arith, refl));
     }
 
 pub returns-in-Open : goal.returns-in-Open
 returns-in-Open c =
     let worlds = c.args.world.now ∷ [] in
     record {
-      keys = c.hangs_at-in-Open.ensures.keys worlds;
+      keys = c.hangs_at-in-Open.ensures.keys worlds (0, omega arith, refl);
       places = subst (λ (t : Turned). IfOk c.hangs_at-in-Open.result (λ hangs. ArePlacesOf worlds c.args.world.now c.args.p c.args.a c.args.r t hangs.places.items))
-          (sym c.in-Open.is) (c.hangs_at-in-Open.ensures.places worlds);
+          (sym c.in-Open.is) (c.hangs_at-in-Open.ensures.places worlds (0, omega arith, refl));
     }

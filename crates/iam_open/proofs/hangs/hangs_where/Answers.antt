@@ -3,7 +3,7 @@ use Rattle.std.proofs.lemmas.Result.{IfOk-weaker}
 use Rattle.std.specs.List.{All, Contains}
 use Rattle.iam_decision.specs.Matched.{IsMatched, Placed}
 use Rattle.iam_open.specs.Code.Added.{IsCertain, IsSameFrom}
-use Rattle.iam_open.specs.Code.Known.{AgreeOn}
+use Rattle.iam_open.specs.Code.Known.{Follows}
 use Rattle.iam_open.proofs.HangLemmas.{hangs_on, open_at}
 use Rattle.iam_open.proofs.WhereLemmas.{IsLookedAt, asked}
 use Rattle.iam_open.proofs.hangs.hangs_where.Goals as goal
@@ -29,24 +29,24 @@ returns c =
       does = c.action_text.ensures;
     } in
     record {
-      keys = λ worlds.
+      keys = λ worlds among.
           IfOk-weaker c.open_of.result _ _
           (λ hangs same.
           hangs_on c.one_stamp.ensures c.one_decision.ensures worlds world c.args.p c.args.a c.args.r none base derived c.moment.result known who what
-          does hangs.keys.items looked c.requires.empty
+          does hangs.keys.items looked c.moment.ensures.value among c.requires.empty
           (λ a applies.
           subst (λ (xs : List Placed). All (λ s. IsSameFrom known base hangs.keys.items (λ other. IsMatched (asked who what does other) s)) xs)
           (c.in_ok-statements.ensures a applies) (rw c.as_slice.ensures.value at same)))
           c.open_of.ensures.keys;
-      places = λ worlds.
+      places = λ worlds among.
           IfOk-weaker c.open_of.result _ _
           (λ hangs told.
           open_at c.one_stamp.ensures worlds world c.args.p c.args.a c.args.r none base derived c.moment.result known who what does
-          hangs.places.items looked c.requires.empty
+          hangs.places.items looked c.moment.ensures.value among c.requires.empty
           (λ a applies.
           subst
           (λ (xs : List Placed). All
-          (λ s. Contains hangs.places.items s.place ⊎ IsCertain (AgreeOn known base) (λ other. IsMatched (asked who what does other) s)) xs)
+          (λ s. Contains hangs.places.items s.place ⊎ IsCertain (Follows known base) (λ other. IsMatched (asked who what does other) s)) xs)
           (c.in_ok-statements.ensures a applies) (rw c.as_slice.ensures.value at told)))
           c.open_of.ensures.places;
     }

@@ -7,6 +7,7 @@ use Rattle.iam_open.specs.Asked.{asked_of}
 use Rattle.iam_open.specs.Code.Parts.{IsPart, all_together, from_of, to_of}
 use Rattle.iam_open.specs.Rows.{opening_text}
 use Rattle.iam_row.specs.Piece.{closing_text}
+use Rattle.iam_row.specs.declared.quoted.Format.{Format}
 use Rattle.iam_open.proofs.PartLemmas.{all_parts, part_none}
 use Rattle.iam_open.proofs.report.turned_report.Goals as goal
 
@@ -14,6 +15,7 @@ pub returns : goal.returns
 returns g c =
     let world = c.args.world.now in
     let format = c.args.format in
+    let made = c.in_ok-quoted.ensures.format in
     let brief = c.args.brief in
     let asked = asked_of c.args.asked in
     let outputs : List (String Global) = c.in_ok-gathered.gathered.outputs.items in
@@ -26,7 +28,7 @@ returns g c =
     let all = all_parts format brief asked world each 0 outputs [] (subst (λ n. F n []) start (part_none format brief asked world 0)) (
     λ i part at.
     let place : i ≡ 0 + i = omega arith in
-    subst (λ n. IsPart format brief asked world (from_of world each n) (to_of world each n) (string_bytes part)) place (c.in_ok-gathered.ensures.given i part at)
+    subst (λ n. IsPart format brief asked world (from_of world each n) (to_of world each n) (string_bytes part)) place (subst (λ (f : Format). IsPart f brief asked world (from_of world each i) (to_of world each i) (string_bytes part)) made (c.in_ok-gathered.ensures.given i part at))
     ) in
     let count : 0 + length outputs ≡ c.cells-2.result / each + 1 = omega (arith, c.in_ok-gathered.ensures.count) in
     let end : from_of world each (0 + length outputs) ≡ world_cells world =

@@ -4,7 +4,7 @@ use Rattle.iam_decision.specs.Code.Scan.{placed_value}
 use Rattle.iam_decision.specs.Matched.{IsMatched}
 use Rattle.iam_match.specs.Request.{access_of}
 use Rattle.iam_open.specs.Code.Certain.{Contexts, Tells}
-use Rattle.iam_open.specs.Code.Known.{AgreeOn, request_in}
+use Rattle.iam_open.specs.Code.Known.{Follows, request_in}
 use Rattle.iam_open.specs.declared.certain.Certain.{Certain}
 use Rattle.iam_open.proofs.AddLemmas.{among_self, from_always, from_never}
 use Rattle.iam_open.proofs.HangLemmas.{adds_matched}
@@ -15,7 +15,7 @@ returns-in-Always c =
     let known = c.args.known.now in
     let base = c.args.access.context.now in
     let P : Contexts = λ other. IsMatched (request_in (access_of c.args.access) c.args.action.now other) (placed_value c.args.standing) in
-    let always = subst (λ (x : Certain). Tells x (AgreeOn known base) P) c.in-Always.is c.in_ok-statement_certain.ensures in
+    let always = subst (λ (x : Certain). Tells x (Follows known base) P) c.in-Always.is c.in_ok-statement_certain.ensures in
     record {
       keys = (among_self c.args.self.now.keys.items, λ more among. from_always known base more P always);
       places = (λ it there. there, inr (inl always));
@@ -26,7 +26,7 @@ returns-in-Never c =
     let known = c.args.known.now in
     let base = c.args.access.context.now in
     let P : Contexts = λ other. IsMatched (request_in (access_of c.args.access) c.args.action.now other) (placed_value c.args.standing) in
-    let never = subst (λ (x : Certain). Tells x (AgreeOn known base) P) c.in-Never.is c.in_ok-statement_certain.ensures in
+    let never = subst (λ (x : Certain). Tells x (Follows known base) P) c.in-Never.is c.in_ok-statement_certain.ensures in
     record {
       keys = (among_self c.args.self.now.keys.items, λ more among. from_never known base more P never);
       places = (λ it there. there, inr (inr never));
