@@ -43,7 +43,7 @@ from .reports import Answers, keys_of
 from .roles import with_linked, with_sessions
 from .sources import ASSUME, Source
 from .speaking import Origins, beside, shares, texts_of
-from .strangers import ASSUMED, strangers, with_strangers
+from .strangers import ASSUMED, everyone_outside, with_strangers
 
 # Patterns of actions of one service that are asked by themselves.
 FEW = 8
@@ -166,7 +166,7 @@ def prepared(sources: List[Source], pair: Sequence[World], every: List[World]) -
     """Both worlds with whom their policies name besides, and with who is outside. All policies on resources tell these apart."""
     linked = [with_linked(source, world, [*pair, *every]) for source, world in zip(sources, pair)]
     linked = with_sessions(linked, every)
-    some = strangers(sources[1], linked, speaking=every)
+    some = everyone_outside(sources[1], linked, speaking=every)
     return [with_strangers(source, world, some) for source, world in zip(sources, linked)]
 
 

@@ -172,14 +172,17 @@ def said_in(axis: str, holder: Dict[str, Any]) -> Dict[Tuple[str, bool, str], Sa
 
 
 def said_newly(before: World, after: World) -> World:
-    """The world after, with those statements of resources' policies alone that these do not have before."""
-    known = {it["arn"]: said_in("resources", it) for it in before["resources"]}
+    """The world after, with those statements of resources' policies alone that these do not have before; with all of them where a deny
+    goes."""
+    known, there = ({it["arn"]: said_in("resources", it) for it in of["resources"]} for of in (before, after))
 
     def keep(kind: str, path: str, policy: Any) -> Any:
-        if kind != "resource":
+        arn = after["resources"][int(path.split("/")[1])]["arn"] if kind == "resource" else ""
+        of = known.get(arn, {})
+        gone = [it.statement for key, it in of.items() if key not in there.get(arn, {})]
+        if kind != "resource" or any(isinstance(it, dict) and it.get("Effect") == "Deny" for it in gone):
             return policy
-        arn = after["resources"][int(path.split("/")[1])]["arn"]
-        of, some = known.get(arn, {}), said_in("resources", {"arn": arn, "policy": policy})
+        some = said_in("resources", {"arn": arn, "policy": policy})
         left = [it.statement for key, it in some.items() if key not in of]
         return policy._replace(document={**policy.document, "Statement": left})
 

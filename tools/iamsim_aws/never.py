@@ -39,7 +39,7 @@ from .reports import Answers
 from .roles import with_named
 from .sources import ASSUME
 from .speaking import Origins, patterns_of_actions
-from .strangers import NOT_ASKED, strangers, with_strangers
+from .strangers import NOT_ASKED, everyone_outside, with_strangers
 
 
 ALLOWED = ["--decision", "allowed"]
@@ -129,7 +129,7 @@ def asked_of(scope: Scope, world: World, question: Question) -> Asked:
     further = owners_lines([side_of(scope, world)], patterns_of(question.resource), "")
     meant = asked.world["resources"] + [it.of for it in further if not it.is_shut]
     spoken_of = with_named(scope.source, {**world, "resources": meant})
-    some = strangers(scope.source, [spoken_of], question.principal) if scope.outside else []
+    some = everyone_outside(scope.source, [spoken_of], question.principal) if scope.outside else []
     resources = world["resources"] if is_pattern(question.resource) else asked.world["resources"]
     own = {**asked.world, "principals": principals(spoken_of["principals"], question), "resources": resources}
     return asked._replace(world=with_strangers(scope.source, own, principals(some, question)))

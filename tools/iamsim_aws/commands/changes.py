@@ -48,7 +48,8 @@ def run(options: argparse.Namespace) -> int:
     found = compare(before, after, patterns, options.resource, options.account)
     if found.worlds:
         tell_actions(after, patterns)
-    tell_strangers(after, changed(before, after, patterns, options.resource), True)
+    both = chosen(before, after, patterns, options.resource)
+    tell_strangers(after, list(differing(*both))[::-1], every=both)
     lines = [line for it in found.changes for line in reviews.lines_of(it, options.verbose)]
     if found.left:
         tell(f"{found.left} requests that change are left out, since no service has them (--services)")
@@ -74,10 +75,10 @@ def run(options: argparse.Namespace) -> int:
 
 
 def is_unasked(before: Source, after: Source, options: argparse.Namespace, asked: str) -> bool:
-    """Whether a statement that comes, or goes, lets in somebody for whom nobody is asked, as who is federated or a service."""
+    """Whether a statement that comes, or goes, lets in somebody for whom nobody is asked."""
     worlds = chosen(before, after, options.action or ["*"], options.resource)
     ways = {"gained": [worlds], "lost": [worlds[::-1]]}.get(asked, [worlds, worlds[::-1]])
-    lines = (line for of in ways for line in unasked(after, [said_newly(*of)], True))
+    lines = (line for of in ways for line in unasked(after, [said_newly(*of)], every=worlds))
     return any(NOT_ASKED in it and OF_MEMBERS not in it for it in lines)
 
 
@@ -86,11 +87,6 @@ def chosen(before: Source, after: Source, patterns: List[str], resource: str) ->
     worlds = ({**it.world([ASSUME]), "actions": list(patterns)} for it in (before, after))
     asked = Question("*", "*", resource)
     return [{**it, "resources": [one for one in it["resources"] if is_named(asked, one["arn"])]} for it in worlds]
-
-
-def changed(before: Source, after: Source, patterns: List[str], resource: str) -> List[World]:
-    """The worlds, for what is chosen, with the documents alone that differ; those of after first."""
-    return list(differing(*chosen(before, after, patterns, resource)))[::-1]
 
 
 def is_different(before: Source, after: Source) -> bool:

@@ -5,7 +5,7 @@ from typing import Any, Dict, List, NamedTuple, Set
 
 from .. import chains, drafts, files, hanging
 from ..asking import ask
-from ..covering import tell_lacked, tell_strangers
+from ..covering import tell_lacked, tell_strangers, unasked
 from ..everything import is_meant
 from ..examples import ask_any_key
 from ..exports import policy
@@ -17,7 +17,7 @@ from ..never import worlds_of_kinds
 from ..questions import Asked, Question, Scope, account_words, lacked, missing, worlds
 from ..reports import Answers, csv_text
 from ..sources import add_outside, add_source, source_of
-from ..strangers import is_stranger
+from ..strangers import NOT_ASKED, is_stranger
 from ..telling import HEADER, as_fields, as_json, told
 from . import databases, everything
 from .parsers import add, add_chains, add_verbose
@@ -190,8 +190,9 @@ def who_can(options: argparse.Namespace) -> int:
     if options.chains:
         lines += chain_lines(scope, found, options.depth)
     write(options, found, lines)
-    tell_strangers(scope.source, [it.asked.world for it in found])
-    return 5 if is_open(found) else 0
+    asked = [it.asked.world for it in found]
+    tell_strangers(scope.source, asked)
+    return 5 if is_open(found) or any(NOT_ASKED in it for it in unasked(scope.source, asked)) else 0
 
 
 def is_open(found: List[Found]) -> bool:

@@ -121,7 +121,7 @@ class Search:
     def let_in(self, arrived: List[Node]) -> List[str]:
         """Who is outside, is let into one of these, and is not asked for."""
         arns = {self.people.called(it) for it in arrived}
-        told = unasked(self.things.source, [self.things.trusting], asks_linked=False)
+        told = unasked(self.things.source, [self.things.trusting], asks_all=False)
         return [line for line, roles in told.items() if NOT_ASKED in line and arns & roles]
 
     def ways(self, ends: List[Node]) -> Dict[Node, List[Step]]:
