@@ -39,6 +39,11 @@ def tell_strangers(
         tell(line)
 
 
+def is_open(line: str) -> bool:
+    """Whether a line says that somebody is not asked; of further members of an organisation it is said alone."""
+    return NOT_ASKED in line and OF_MEMBERS not in line
+
+
 def unasked(
     source: Source, worlds: List[World], asks_all: bool = True, every: Sequence[World] = ()
 ) -> Dict[str, Set[str]]:

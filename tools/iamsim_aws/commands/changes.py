@@ -6,7 +6,7 @@ from typing import Any, List, Tuple
 from .. import drafts, files, reviews
 from ..asking import ask_all
 from ..changing import Comparison, compare, compared, paged
-from ..covering import OF_MEMBERS, tell_actions, tell_strangers, unasked
+from ..covering import is_open, tell_actions, tell_strangers, unasked
 from ..differences import differing, said_newly
 from ..documents import World, bare
 from ..faults import TOLD, Fault, tell
@@ -16,7 +16,6 @@ from ..paging import data, page, request_of
 from ..questions import Question, Scope
 from ..slips import slips
 from ..sources import ASSUME, Source, add_outside, add_source
-from ..strangers import NOT_ASKED
 from .parsers import add, add_verbose
 
 
@@ -79,7 +78,7 @@ def is_unasked(before: Source, after: Source, options: argparse.Namespace, asked
     worlds = chosen(before, after, options.action or ["*"], options.resource)
     ways = {"gained": [worlds], "lost": [worlds[::-1]]}.get(asked, [worlds, worlds[::-1]])
     lines = (line for of in ways for line in unasked(after, [said_newly(*of)], every=worlds))
-    return any(NOT_ASKED in it and OF_MEMBERS not in it for it in lines)
+    return any(map(is_open, lines))
 
 
 def chosen(before: Source, after: Source, patterns: List[str], resource: str) -> List[World]:

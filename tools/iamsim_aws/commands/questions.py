@@ -5,7 +5,7 @@ from typing import Any, Dict, List, NamedTuple, Set
 
 from .. import chains, drafts, files, hanging
 from ..asking import ask
-from ..covering import tell_lacked, tell_strangers, unasked
+from ..covering import is_open, tell_lacked, tell_strangers, unasked
 from ..everything import is_meant
 from ..examples import ask_any_key
 from ..exports import policy
@@ -17,7 +17,7 @@ from ..never import worlds_of_kinds
 from ..questions import Asked, Question, Scope, account_words, lacked, missing, worlds
 from ..reports import Answers, csv_text
 from ..sources import add_outside, add_source, source_of
-from ..strangers import NOT_ASKED, is_stranger
+from ..strangers import is_stranger
 from ..telling import HEADER, as_fields, as_json, told
 from . import databases, everything
 from .parsers import add, add_chains, add_verbose
@@ -174,7 +174,7 @@ def can(options: argparse.Namespace) -> int:
     write(options, found, lines)
     if not all(it.decision == "allowed" for of in found for it in of.answers.table):
         return 3
-    if is_open(found):
+    if has_opens(found):
         return 5
     return 6 if any(is_half_known(it) for of in found for it in of.answers.world["resources"]) else 0
 
@@ -192,10 +192,10 @@ def who_can(options: argparse.Namespace) -> int:
     write(options, found, lines)
     asked = [it.asked.world for it in found]
     tell_strangers(scope.source, asked)
-    return 5 if is_open(found) or any(NOT_ASKED in it for it in unasked(scope.source, asked)) else 0
+    return 5 if has_opens(found) or any(map(is_open, unasked(scope.source, asked))) else 0
 
 
-def is_open(found: List[Found]) -> bool:
+def has_opens(found: List[Found]) -> bool:
     return any(it.asked.opens for it in found)
 
 
