@@ -2,12 +2,12 @@
 
 from typing import Any, Dict, Iterable, Iterator, List, NamedTuple, Optional, Sequence, Set, Tuple
 
-from .arns import account_of, is_access_point, owner_of, principal_text
+from .arns import account_of, is_access_point, name_of, owner_of, principal_text
 from .asking import ask_all, ask_changes
 from .any_key import texts_in, with_keys
 from .checking import NOTHING
 from .covering import tell_lacked
-from .differences import ANY, Difference, differing, name_of
+from .differences import ANY, Difference, differing
 from .documents import THROUGH, Place, Policy, World, places, statements_of
 from .every import UNNAMED, WORLDS
 from .exports import ACCOUNT

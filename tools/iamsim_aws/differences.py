@@ -2,7 +2,7 @@
 
 from typing import Any, Callable, Dict, FrozenSet, Iterable, Iterator, List, NamedTuple, Optional, Sequence, Set, Tuple
 
-from .arns import account_of, is_access_point, principal_arn, principal_text, service_of
+from .arns import account_of, is_access_point, name_of, principal_arn, principal_text, service_of
 from .checking import NOTHING
 from .documents import FOREIGN, MEMBERS, THROUGH, World, layer_of, mapped, places, statements_of
 from .every import UNNAMED
@@ -15,10 +15,6 @@ from .strangers import is_stranger
 
 ANY = "*"
 Principal = Dict[str, Any]
-
-
-def name_of(axis: str, it: Dict[str, Any]) -> str:
-    return principal_text(it) if axis == "principals" else str(it["id"] if axis == "accounts" else it["arn"])
 
 
 def holders(world: World) -> Dict[Tuple[str, str], List[str]]:

@@ -583,21 +583,25 @@ def alike_in_keys(names: Names) -> List[Names]:
 
 def naming(names: Names, rows: List[Row]) -> List[List[World]]:
     """Worlds of each side that name what rows show, those together that ask the same of the same texts."""
+    shown, made = names.shown(), []
+    for people, actions, some in asking_alike([it for it in rows if not is_access_point(it["resource"])]):
+        own = [shown(it) for it in some]
+        made.append([named_world(it.world, people, actions, [of[n] for of in own]) for n, it in enumerate(names.sides)])
+    return made
+
+
+def asking_alike(rows: List[Row]) -> Iterator[Tuple[List[str], Tuple[str, ...], Tuple[str, ...]]]:
+    """(principals, actions, texts of resources) that have a row each, one with another, of all rows."""
     texts: Dict[Tuple[str, str], Dict[str, None]] = {}
-    for it in rows if names.sides else ():
-        if not is_access_point(it["resource"]):
-            texts.setdefault((it["principal"], it["action"]), {})[it["resource"]] = None
+    for it in rows:
+        texts.setdefault((it["principal"], it["action"]), {})[it["resource"]] = None
     alike_texts: Dict[Tuple[str, Tuple[str, ...]], List[str]] = {}
     for (who, action), of in texts.items():
         alike_texts.setdefault((who, tuple(of)), []).append(action)
     groups_of: Dict[Tuple[Tuple[str, ...], Tuple[str, ...]], List[str]] = {}
     for (who, some), actions in alike_texts.items():
         groups_of.setdefault((tuple(actions), some), []).append(who)
-    shown, made = names.shown(), []
-    for (actions, some), people in groups_of.items():
-        own = [shown(it) for it in some]
-        made.append([named_world(it.world, people, actions, [of[n] for of in own]) for n, it in enumerate(names.sides)])
-    return made
+    yield from ((people, actions, some) for (actions, some), people in groups_of.items())
 
 
 def named_world(world: World, people: List[str], actions: Sequence[str], resources: List[Resource]) -> World:
