@@ -31,9 +31,7 @@ def tell_lacked(actions: List[str]) -> None:
         tell(f"the service reference lacks these actions, which are asked for all the same: {', '.join(actions)}")
 
 
-def tell_strangers(
-    source: Source, worlds: List[World], asks_all: bool = True, every: Sequence[World] = ()
-) -> None:
+def tell_strangers(source: Source, worlds: List[World], asks_all: bool = True, every: Sequence[World] = ()) -> None:
     """Tells those to whom policies grant and for whom nobody is asked, each once."""
     for line in unasked(source, worlds, asks_all, every):
         tell(line)

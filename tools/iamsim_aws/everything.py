@@ -263,22 +263,29 @@ def apart(run: Run) -> Run:
     return run._replace(lines=run.lines._replace(world={**told_apart(world), "actions": run.lines.world["actions"]}))
 
 
-def turned(found: Found) -> Tuple[List[Turned], List[str], List[str]]:
-    """What of everything hangs on keys that nothing gives; what is not shown of what may be allowed, and what is told besides."""
+def hung_in(found: Found) -> Tuple[List[Tuple[Run, World]], List[str]]:
+    """Worlds with all that may be allowed of the runs that hang on keys that nothing gives, and what was not asked, in words."""
     hung = [it for it, _ in found.asked if hangs(it.lines.world, [it.pattern])]
     asked = [it for it in hung if len(probes_of({**it.lines.world, "actions": [it.pattern]})) <= PROBES]
     opens = [f"{it.pattern}: {TOO_MANY}" for it in hung if it not in asked]
     # A text of which a variable is a part that nothing gives may be of another kind with each value.
     opens += [line for it in asked for line in unresolved({**it.lines.world, "actions": [it.pattern]}, "*")]
     worlds: List[Tuple[Run, World]] = []
-    for run, rows in zip(asked, answered(list(map(apart, asked)), [it.service for it, _ in found.asked if it.service != REST])):
+    services = [it.service for it, _ in found.asked if it.service != REST]
+    for run, rows in zip(asked, answered(list(map(apart, asked)), services)):
+        hidden = [it for it in rows if it["decision"] == NOT_SHOWN]
+        opens += [f"{it['principal']} {it['action']} {it['resource']}: {TOO_MANY}" for it in hidden]
         some = [it for it in rows if it["decision"] == "allowed" and is_told(run.lines, it)]
-        opens += [f"{it['principal']} {it['action']} {it['resource']}: {TOO_MANY}" for it in rows if it["decision"] == NOT_SHOWN]
         for people, actions, texts in asking_alike(some):
             resources = list(map(run.lines.resource, texts))
             worlds.append((run, named_world(run.lines.world, people, actions, resources)))
+    return worlds, opens
+
+
+def turned(found: Found) -> Tuple[List[Turned], List[str], List[str]]:
+    """What of everything hangs on keys that nothing gives; what is not shown of what may be allowed, and what is told besides."""
+    (worlds, opens), notes = hung_in(found), []  # type: Any, List[str]
     made: Dict[Any, Turned] = {}
-    notes: List[str] = []
     every = ask_all([world for _, world in worlds])
     for (run, _), answers, of in zip(worlds, every, hanging(every)):
         opens, notes = opens + of.opens, notes + of.notes

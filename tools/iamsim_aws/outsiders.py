@@ -48,7 +48,10 @@ class Outsider(NamedTuple):
         """The user that stands for it, in an account that no text names. It asks for nothing but these resources."""
         texts = [it for one in resources for it in (one, *([f"{one}/*"] if service_of(one) == "s3" else []))]
         some = [texts[n : n + MOST] for n in range(0, len(texts), MOST)]
-        document = {"Version": "2012-10-17", "Statement": [{"Effect": "Allow", "Action": "*", "Resource": it} for it in some]}
+        document = {
+            "Version": "2012-10-17",
+            "Statement": [{"Effect": "Allow", "Action": "*", "Resource": it} for it in some],
+        }
         return {"user": self.arn(account), "identity": [Policy(BY_ITSELF, document)]}
 
     def arn(self, account: str) -> str:
@@ -68,8 +71,9 @@ def outsider_of(principal: Dict[str, Any]) -> Optional[Outsider]:
 
 def named_by(statement: Any) -> Iterator[Outsider]:
     """Whom a statement of a resource's policy names that is of no account."""
-    given = statement.get("Principal") if isinstance(statement, dict) else None
-    for kind in KINDS if isinstance(given, dict) else ():
+    element: Any = statement.get("Principal") if isinstance(statement, dict) else None
+    given: Dict[str, Any] = element if isinstance(element, dict) else {}
+    for kind in KINDS:
         yield from (Outsider(kind, it) for it in each(given.get(kind)) if isinstance(it, str))
 
 
@@ -147,7 +151,9 @@ def renamed(statement: Any, arns: Dict[Outsider, str]) -> Any:
     if not own:
         return statement
     given = statement["Principal"]
-    left: Dict[str, Sequence[str]] = {"AWS": [*(each(given["AWS"]) if "AWS" in given else []), *map(arns.__getitem__, own)]}
+    left: Dict[str, Sequence[str]] = {
+        "AWS": [*(each(given["AWS"]) if "AWS" in given else []), *map(arns.__getitem__, own)]
+    }
     for kind in (it for it in given if it != "AWS"):
         rest = [it for it in each(given[kind]) if Outsider(kind, it) not in arns]
         left.update({kind: rest} if rest else {})

@@ -16,7 +16,14 @@ from .yamls import Unclear
 
 INDEX = re.compile(r"\[[^\]]*\]")
 # What of the settings of a provider says as whom it signs in.
-SIGN_IN = ("assume_role", "assume_role_with_web_identity", "profile", "access_key", "shared_credentials_files", "shared_config_files")
+SIGN_IN = (
+    "assume_role",
+    "assume_role_with_web_identity",
+    "profile",
+    "access_key",
+    "shared_credentials_files",
+    "shared_config_files",
+)
 DATA_DOCUMENT = "aws_iam_policy_document"
 # Attributes that are documents, which a document may be taken from as a whole.
 DOCUMENTS = ("policy", "json", "assume_role_policy", "content", "inline_policy")

@@ -159,7 +159,9 @@ def in_doubt(scope: Scope, rule: Rule, broken: List[Break]) -> List[str]:
 def reason(scope: Scope, question: Question, of: Never) -> str:
     """Why a rule meets no request. A role that is not there is asked for by none."""
     resources = [it for one in of.asked for it in one.world["resources"]]
-    is_absent = question.action.lower().startswith("sts:") and not any(is_named(question, it["arn"]) for it in resources)
+    is_absent = question.action.lower().startswith("sts:") and not any(
+        is_named(question, it["arn"]) for it in resources
+    )
     return missing(scope, question) if is_absent or not of.asked else NOTHING_SPEAKS
 
 

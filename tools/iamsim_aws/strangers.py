@@ -91,16 +91,22 @@ def stand_in(text: str, partition: str, session: str) -> Optional[Principal]:
     return own.get(kind) if parts else None
 
 
-def everyone_outside(source: Source, worlds: List[World], asked: str = "", speaking: Sequence[World] = ()) -> List[Principal]:
-    """The stand-ins for whom policies of the worlds' resources let in: of accounts, and who is of none."""
-    nobody = nobody_in(source, worlds, said_in([*worlds, *speaking]))
-    return [*strangers(source, worlds, asked, speaking), *outsiders(worlds, nobody)]
-
-
-def strangers(source: Source, worlds: List[World], asked: str = "", speaking: Sequence[World] = ()) -> List[Principal]:
+def everyone_outside(
+    source: Source, worlds: List[World], asked: str = "", speaking: Sequence[World] = ()
+) -> List[Principal]:
     """The stand-ins for whom policies of the worlds' resources let in, of each kind that policies on these tell apart, and on
     those of further worlds; and for whom a question names, or `--outside`."""
-    known, said, name = source.accounts(), said_in([*worlds, *speaking]), plain(asked)
+    said = said_in([*worlds, *speaking])
+    return [*of_accounts(source, worlds, asked, said), *outsiders(worlds, nobody_in(source, worlds, said))]
+
+
+def strangers(source: Source, worlds: List[World]) -> List[Principal]:
+    """Those stand-ins alone that are users and roles of accounts."""
+    return of_accounts(source, worlds, "", said_in(worlds))
+
+
+def of_accounts(source: Source, worlds: List[World], asked: str, said: Said) -> List[Principal]:
+    known, name = source.accounts(), plain(asked)
     grants = said_in(worlds).grants
     session = source.estate.session if source.estate else "session"
     of_question = name if PARTY.fullmatch(name) else account_of(name)

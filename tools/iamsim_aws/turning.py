@@ -146,7 +146,9 @@ def allowing_all(world: World) -> World:
     """The world in which everything is allowed."""
     kept = ("user", "role", "session", "context", FOREIGN)
     people = [{name: one for name, one in it.items() if name in kept} for it in world["principals"]]
-    things = [{name: one for name, one in it.items() if name in ("arn", "account", "context")} for it in world["resources"]]
+    things = [
+        {name: one for name, one in it.items() if name in ("arn", "account", "context")} for it in world["resources"]
+    ]
     return {
         **world,
         "accounts": [{"id": it["id"]} for it in world["accounts"]],

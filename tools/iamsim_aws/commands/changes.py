@@ -37,7 +37,9 @@ def add_all(commands: Any) -> None:
     add_verbose(parser)
     help_of_status = "as --fail-on any"
     parser.add_argument("--exit-status", action="store_true", help=help_of_status)
-    help_of_fail_on = "status 3 where such a request is told, 5 where something is open, 4 where nothing is of the choice"
+    help_of_fail_on = (
+        "status 3 where such a request is told, 5 where something is open, 4 where nothing is of the choice"
+    )
     parser.add_argument("--fail-on", choices=["gained", "lost", "any"], help=help_of_fail_on)
 
 

@@ -39,7 +39,7 @@ def text(found: Found, hangs: List[Turned]) -> List[str]:
         own = [it for it in found.kinds if it.principal == who]
         some = [it for it in hangs if it.principal == who]
         lines.append(f"{who} may" if own else f"{who} may do nothing of this")
-        services = {it.service for it in [*own, *some]}
+        services = {it.service for it in own} | {it.service for it in some}
         for service in sorted(services, key=lambda it: (it == REST, it)):
             lines.append(
                 "  of any other service, for which the first letters stand" if service == REST else f"  of {service}"

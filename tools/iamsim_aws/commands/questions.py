@@ -54,9 +54,7 @@ def add_question(parser: argparse.ArgumentParser) -> None:
     parser.add_argument("action", metavar="ACTION", help="as s3:GetObject, or a pattern")
     parser.add_argument("resource", metavar="RESOURCE", help="an ARN, a name, or a pattern of what the world has")
     add_source(parser)
-    parser.add_argument(
-        "--kinds", action="store_true", help="a pattern means every name, and not only what is named"
-    )
+    parser.add_argument("--kinds", action="store_true", help="a pattern means every name, and not only what is named")
     parser.add_argument("--policy", metavar="FILE", help="the policy of the resource, as a bucket's")
     parser.add_argument(
         "--sealed", action="store_true", help="that policy must grant in the same account too, as a KMS key's"
