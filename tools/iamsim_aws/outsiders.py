@@ -8,7 +8,7 @@ import re
 from typing import Any, Dict, Iterable, Iterator, List, NamedTuple, Optional, Sequence
 
 from .arns import owner_of, principal_arn, resource_part, service_of
-from .documents import Policy, World, each, mapped, places, statements_of
+from .documents import THROUGH, Policy, World, each, mapped, places, statements_of
 from .keys import CALLER, DERIVED, asked_by
 from .parties import EVERYBODY, PARTY, texts_in
 from .speaking import shares, texts_of
@@ -91,7 +91,8 @@ def outsiders(worlds: Iterable[World], account: str) -> List[Dict[str, Any]]:
     for owner, some in by_owner(worlds).items():
         for who in dict.fromkeys(who for one in some for who, _ in let_in_by(one)):
             if who.can_stand() and not doubt(who, some):
-                found.setdefault(who, {})[owner] = None
+                inside = (owner_of(it[THROUGH]["arn"]) for it in some if THROUGH in it)
+                found.setdefault(who, {}).update(dict.fromkeys([owner, *inside]))
     return [who.principal(account, list(of)) for who, of in found.items()]
 
 
