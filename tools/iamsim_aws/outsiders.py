@@ -48,10 +48,9 @@ class Outsider(NamedTuple):
         """The user that stands for it, in an account that no text names. It asks for nothing but these resources."""
         texts = [it for one in resources for it in (one, *([f"{one}/*"] if service_of(one) == "s3" else []))]
         some = [texts[n : n + MOST] for n in range(0, len(texts), MOST)]
-        document = {
-            "Version": "2012-10-17",
-            "Statement": [{"Effect": "Allow", "Action": "*", "Resource": it} for it in some],
-        }
+        statements = [{"Effect": "Allow", "Action": "*", "Resource": it} for it in some]
+        # In a document of this version a text of a resource has no variables.
+        document = {"Version": "2008-10-17", "Statement": statements}
         return {"user": self.arn(account), "identity": [Policy(BY_ITSELF, document)]}
 
     def arn(self, account: str) -> str:
@@ -143,7 +142,7 @@ def standing(world: World) -> World:
             return policy
         return policy._replace(document={**policy.document, "Statement": [renamed(it, arns) for it in some]})
 
-    return mapped(world, change) if arns else world
+    return {**world, **mapped({"resources": world["resources"]}, change)} if arns else world
 
 
 def renamed(statement: Any, arns: Dict[Outsider, str]) -> Any:

@@ -3,6 +3,7 @@
 import csv
 import io
 import json
+import re
 
 from harness import aws, data, document, file, load, same, small_world, statement
 
@@ -396,6 +397,23 @@ def test_an_allow_may_hang_on_a_key_too():
     # What a context gives, nothing hangs on.
     given = file(small_world(document(statement(Condition={"Bool": {"k": "true"}})), context={"K": "false"}))
     same(rows("can", "ann", "s3:GetObject", "*", "--world", given, status=3)[0]["hangsOn"], [])
+
+
+def test_what_denies_later_or_is_not_shown():
+    """An allow that ends, a deny that begins; and a deny that no value meets, of which that is not seen."""
+    date = {"aws:CurrentTime": "2030-01-01T00:00:00Z"}
+    until = [statement(Condition={"DateLessThan": date})]
+    begins = [statement(), statement("Deny", Condition={"DateGreaterThanEquals": date})]
+    for some in (until, begins):
+        out, _ = aws("can", "ann", "s3:GetObject", "*", "--world", file(small_world(document(*some))))
+        [moment] = re.findall("denied if the moment is (\\S+)", out)
+        assert moment >= date["aws:CurrentTime"], moment
+    never = statement("Deny", Condition={"StringEquals": {"k": "a"}, "StringNotEquals": {"k": "a"}})
+    out, _ = aws("can", "ann", "s3:GetObject", "*", "--world", file(small_world(document(statement(), never))))
+    assert "denied if" not in out and out.endswith("b/k: whether any values of k deny it is not shown\n"), out
+    # Of an answer that nothing turns nothing is told.
+    out, _ = aws("can", "ann", "s3:GetObject", "*", "--world", file(small_world(document(statement()))))
+    assert " if " not in out and "values of" not in out, out
 
 
 def test_texts_that_stand_for_patterns():
