@@ -245,7 +245,7 @@ def compare(before: Source, after: Source, asked: List[str], resource: str, acco
 
 def is_had_by_services(source: Source, asked: List[str], resource: str) -> bool:
     """Whether some service has a request that is chosen, where no pattern chooses it."""
-    world = {"actions": list(map(plain, asked)), "resources": [{"arn": plain(resource)}]}
+    world: World = {"actions": list(map(plain, asked)), "resources": [{"arn": plain(resource)}]}
     is_open = any(map(is_pattern, [*asked, resource]))
     return is_open or any(source.references.pairs(world, lacked(source, world["actions"])))
 
@@ -326,7 +326,7 @@ def further(names: Names, rows: List[Row]) -> List[Row]:
     pair = []
     for n, side in enumerate(names.sides):
         actions = list(dict.fromkeys(it["action"] for it in asked))
-        own = {"actions": actions, "resources": [shown(it)[n] for it in texts]}
+        own: World = {"actions": actions, "resources": [shown(it)[n] for it in texts]}
         people = [it for it in side.world["principals"] if principal_text(it) in {one["principal"] for one in asked}]
         pair.append({**side.world, **own, "principals": people})
     [found] = ask_changes([(pair[0], pair[1])])
@@ -385,7 +385,8 @@ def by_points(names: Names, found: Found) -> Tuple[List[Row], List[str]]:
         resources = [side.resource(it, account_of(it), shut) for it in arns]
         accounts = with_account(side.scope, side.world, resources)
         worlds.append({**side.world, **own, "resources": resources, "accounts": accounts})
-    both = compared(*ask_all(worlds))
+    first, second = ask_all(worlds)
+    both = compared(first, second)
     sides = (("lost", both.before, both.lost), ("gained", both.after, both.gained))
     told = {(change, *answers.texts(cell)): (answers, cell) for change, answers, cells in sides for cell in cells}
     asked = dict.fromkeys(texts_in(it)[1:] for it in some)

@@ -284,7 +284,8 @@ def hung_in(found: Found) -> Tuple[List[Tuple[Run, World]], List[str]]:
 
 def turned(found: Found) -> Tuple[List[Turned], List[str], List[str]]:
     """What of everything hangs on keys that nothing gives; what is not shown of what may be allowed, and what is told besides."""
-    (worlds, opens), notes = hung_in(found), []  # type: Any, List[str]
+    worlds, opens = hung_in(found)
+    notes: List[str] = []
     made: Dict[Any, Turned] = {}
     every = ask_all([world for _, world in worlds])
     for (run, _), answers, of in zip(worlds, every, hanging(every)):

@@ -238,7 +238,7 @@ def account_lines(
 
 def elsewhere(world: World, account: str, lines: List[Line]) -> Iterator[str]:
     """Patterns of what is not of an account, though a line for it may match: those of policies that name another one."""
-    texts = set()
+    texts: Set[Tuple[str, bool]] = set()
     for _, statement, is_new in statements(world, world["actions"]):
         texts.update((it, is_new) for it in texts_of(statement, "Resource", "NotResource"))
     for text, is_new in sorted(texts):
@@ -459,8 +459,8 @@ def nearest(names: Names, rows: List[Row], kind_of: Callable[[Row], object], kee
         far = max(0 if text in named else names.line_of(text).far, int(is_mixed(action, text)))
         far = NAMED if text in named and keeps_named else far
         answer = row.get("change", row.get("decision") == "allowed")
-        of = by_far.setdefault((row["principal"], action, answer), {}).setdefault(far, {})
-        of.setdefault(text if text in named else kind_of(row), row)
+        by_kind = by_far.setdefault((row["principal"], action, answer), {}).setdefault(far, {})
+        by_kind.setdefault(text if text in named else kind_of(row), row)
     found: List[Row] = []
     for of in by_far.values():
         found += of.pop(NAMED, {}).values()
@@ -540,7 +540,7 @@ def stands(names: Names) -> Callable[[Row], Origins]:
 
 def alike(names: Names, rows: List[Row]) -> List[Dict[str, str]]:
     """Requests by the other patterns of the policies that speak of what rows show, each of a shortest text."""
-    shown, found = names.shown(), {}
+    shown, found = names.shown(), {}  # type: Any, Dict[Tuple[str, str, str], None]
     people = [{principal_text(it): it for it in side.world["principals"]} for side in names.sides]
     for row in rows:
         things = shown(row["resource"])
@@ -554,7 +554,7 @@ def alike(names: Names, rows: List[Row]) -> List[Dict[str, str]]:
 
 def shortest_in(world: World, action: str, names: Names) -> Set[str]:
     """A shortest text for each pattern of resources in a world's statements on an action, where names mean it and do not name it."""
-    found = set()
+    found: Set[Optional[str]] = set()
     for place, statement, is_new in statements(world, [action]):
         values = values_of(world, place.path)[0]
         for it in texts_of(statement, "Resource"):

@@ -1,7 +1,7 @@
 """What must never be allowed: requests that are allowed all the same, as they are or with keys that nothing gives."""
 
 import functools
-from typing import Any, Callable, Iterator, List, NamedTuple, Optional, Sequence, Tuple
+from typing import Any, Callable, Iterator, List, NamedTuple, Optional, Sequence, Set, Tuple
 
 from .arns import is_access_point, principal_text
 from .asking import ask_all
@@ -246,7 +246,7 @@ def by_examples(asked: List[Tuple[Names, List[Tuple[Names, Found]]]]) -> Iterato
     worlds = [[naming(names, it.rows) for names, it in of] for _, of in asked]
     answers = iter(ask_any_key([one for [one] in (world for of in worlds for some in of for world in some)]))
     for (every, of), several in zip(asked, worlds):
-        made, shown = [], set()
+        made, shown = [], set()  # type: List[Tuple[Names, Found]], Set[str]
         for (names, found), some in zip(of, several):
             opens, wanted = list(found.opens), {tuple(it[name] for name in REQUEST) for it in found.rows}
             rows: List[Row] = [it for it in found.rows if is_access_point(it["resource"])]

@@ -5,7 +5,7 @@ from typing import Any, List, Tuple
 
 from .. import drafts, files, reviews
 from ..asking import ask_all
-from ..changing import Comparison, compare, compared, paged
+from ..changing import Changes, Comparison, compare, compared, paged
 from ..covering import is_open, tell_actions, tell_strangers, unasked
 from ..differences import differing, said_newly
 from ..documents import World, bare
@@ -85,7 +85,7 @@ def is_unasked(before: Source, after: Source, options: argparse.Namespace, asked
 
 def chosen(before: Source, after: Source, patterns: List[str], resource: str) -> List[World]:
     """Both worlds, with what is chosen."""
-    worlds = ({**it.world([ASSUME]), "actions": list(patterns)} for it in (before, after))
+    worlds: List[World] = [{**it.world([ASSUME]), "actions": list(patterns)} for it in (before, after)]
     asked = Question("*", "*", resource)
     return [{**it, "resources": [one for one in it["resources"] if is_named(asked, one["arn"])]} for it in worlds]
 
@@ -105,11 +105,17 @@ def tell_slips(sources: Tuple[Source, Source], patterns: List[str], resource: st
                 tell(line)
 
 
+def assuming(first: Source, second: Source) -> Changes:
+    """Who may assume which role before and after."""
+    before, after = ask_all([it.world([ASSUME]) for it in (first, second)])
+    return compared(before, after)
+
+
 def page_of(found: Comparison, first: Source, second: Source) -> str:
     """The page of the matrix before and after, with what changes with a key alone; where nothing changes of who may assume what."""
     if not found.people and not found.requests:
         raise Fault("the two sides differ in no policy, so there is no page")
-    whole = paged(found) or [compared(*ask_all([it.world([ASSUME]) for it in (first, second)]))]
+    whole = paged(found) or [assuming(first, second)]
     sides = [[it.before for it in whole], [it.after for it in whole]]
     actions = list(dict.fromkeys(action for it in whole for action in it.after.world["actions"]))
     before, after = (joined(of, actions) if of[1:] else of[0] for of in sides)
