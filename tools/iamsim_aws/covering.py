@@ -1,13 +1,13 @@
 """What an answer does not cover, in lines on standard error."""
 
 import re
-from typing import Any, Dict, Iterable, Iterator, List, Optional, Sequence, Set, Tuple
+from typing import Any, Callable, Dict, Iterable, Iterator, List, Optional, Sequence, Set, Tuple
 
 from .arns import account_of, owner_of, principal_arn
 from .documents import World, conditions_of, statements_of
 from .exports import ACCOUNT
 from .faults import tell
-from .outsiders import by_owner, doubt
+from .outsiders import Outsider, by_owner, doubt
 from .outsiders import named_by as outsiders_in
 from .speaking import speaks_of
 from .parties import EVERYBODY, named_by
@@ -43,11 +43,16 @@ def is_open(line: str) -> bool:
 
 
 def unasked(
-    source: Source, worlds: List[World], asks_all: bool = True, every: Sequence[World] = ()
+    source: Source,
+    worlds: List[World],
+    asks_all: bool = True,
+    every: Sequence[World] = (),
+    means: Callable[[Outsider], bool] = lambda _: True,
 ) -> Dict[str, Set[str]]:
     """Those to whom policies of the worlds' resources grant and for whom nobody is asked: a line each, with the resources'
     ARNs. `every` has the worlds that are asked, where these have a part of their statements. Who asks users, roles and accounts alone
-    asks neither roles that are linked to a service nor who is of no account."""
+    asks neither roles that are linked to a service nor who is of no account; of these a question may mean some alone.
+    """
     known, asked = source.accounts(), {principal_arn(it) for it in linked(source, worlds) if asks_all}
     owned = by_owner(every or worlds)
     in_organization = source.estate is not None and source.estate.organization.is_there
@@ -56,7 +61,10 @@ def unasked(
         for it in world["resources"]:
             for statement in statements_of(it["policy"].document) if "policy" in it else ():
                 lines = [(text, why_nobody(text, known, asked)) for text in named_by(statement)]
-                lines += others(statement, world, owned.get(owner_of(it["arn"]), []) if asks_all else None)
+                of_owner = owned.get(owner_of(it["arn"]), []) if asks_all else None
+                lines += (
+                    (f"{who.kind} {who.text}", why) for who, why in others(statement, world, of_owner) if means(who)
+                )
                 told = [f"{it['policy'].name} names {text}, {why}" for text, why in lines if why]
                 is_spoken_of = speaks_of(statement, tuple(world["actions"]))
                 if in_organization and is_spoken_of and named_by(statement) and asks_for_members(statement):
@@ -66,7 +74,7 @@ def unasked(
     return found
 
 
-def others(statement: Any, world: World, asked: Optional[List[Dict[str, Any]]]) -> Iterator[Tuple[str, str]]:
+def others(statement: Any, world: World, asked: Optional[List[Dict[str, Any]]]) -> Iterator[Tuple[Outsider, str]]:
     """Whom a statement on the world's actions lets in that is of no account and for whom nobody is asked, and why: where those are asked,
     by what these resources say."""
     is_grant = isinstance(statement, dict) and statement.get("Effect") == "Allow"
@@ -74,7 +82,7 @@ def others(statement: Any, world: World, asked: Optional[List[Dict[str, Any]]]) 
         why = doubt(it, asked) if asked is not None and it.can_stand() else ""
         # Most roles trust a service.
         if why or (it.kind != "Service" if asked is None else not it.can_stand()):
-            yield f"{it.kind} {it.text}", f"for whom {NOT_ASKED}" + (f": {why}" if why else "")
+            yield it, f"for whom {NOT_ASKED}" + (f": {why}" if why else "")
 
 
 def why_nobody(text: str, known: Set[str], asked: Set[str]) -> str:

@@ -32,7 +32,8 @@ from .names import (
     stands,
     unresolved,
 )
-from .patterns import common, is_pattern
+from .outsiders import Outsider
+from .patterns import any_matches, common, is_pattern
 from .questions import Asked, Question, Scope, actions, asked_in, lacked, principals, worlds
 from .references import is_mixed
 from .reports import Answers
@@ -136,10 +137,15 @@ def asked_of(scope: Scope, world: World, question: Question) -> Asked:
 
 
 def people_of(scope: Scope, world: World, resources: List[Any], question: Question) -> List[str]:
-    """For whom nobody is asked, though policies let them in, where a question means everybody."""
-    is_meant = scope.outside and not question.principal.strip("*")
-    meant = [{**world, "resources": resources}] if is_meant else []
-    return [it for it in unasked(scope.source, meant) if NOT_ASKED in it]
+    """For whom nobody is asked, though policies let them in, where a question means everybody, or who is of no account by name."""
+    meant = [{**world, "resources": resources}] if scope.outside else []
+
+    def means(who: Outsider) -> bool:
+        return any_matches([question.principal], who.names) and not any_matches(question.exceptions, who.names)
+
+    told = unasked(scope.source, meant, means=means)
+    rest = unasked(scope.source, meant, means=lambda _: False) if question.principal.strip("*") else {}
+    return [it for it in told if NOT_ASKED in it and it not in rest]
 
 
 def findings(scope: Scope, some: Sequence[Never], as_given: bool) -> List[Finding]:

@@ -44,6 +44,11 @@ class Outsider(NamedTuple):
         is_saml = self.name.startswith("saml-provider/")
         return f"SAML identity: {self.name[len('saml-provider/') :]}" if is_saml else f"web identity: {self.name}"
 
+    @property
+    def names(self) -> List[str]:
+        """The texts that patterns are compared with."""
+        return [self.words(), self.name]
+
     def principal(self, account: str, resources: List[str]) -> Dict[str, Any]:
         """The user that stands for it, in an account that no text names. It asks for nothing but these resources."""
         texts = [it for one in resources for it in (one, *([f"{one}/*"] if service_of(one) == "s3" else []))]

@@ -56,7 +56,7 @@ def forms(principal: Principal) -> List[List[str]]:
     """The texts that patterns are compared with; who stands for a whole account is a user and a role of it."""
     outsider = outsider_of(principal)
     if outsider:
-        return [[outsider.words(), outsider.name]]
+        return [outsider.names]
     names, arn = names_of_principal(principal), principal_arn(principal)
     if not is_stranger(principal) or not arn.endswith((f"/{ANYONE}", f"/{ANYBODY}")):
         return [names]
