@@ -10,15 +10,15 @@ from . import points
 from .arns import principal_text
 from .asking import ask_all
 from .bounds import hanging_keys, hangs
-from .documents import FOREIGN, Policy, World, conditions_of, each
+from .documents import FOREIGN, Policy, World, cells_of, conditions_of, each
 from .examples import Example, ask_any_key, ask_pairs
 from .patterns import is_pattern, variables_of
 from .reports import Answers
 from .requests import occurrences
 from .speaking import statements
 
-# Values of keys that are asked besides those of examples at most.
-MOST = 100
+# Values of keys that are asked besides those of examples at most, and requests with them.
+MOST, MOST_REQUESTS = 100, 20_000_000
 ALL = {"Effect": "Allow", "Action": "*", "Resource": "*"}
 TO_ALL = Policy("", {"Version": "2012-10-17", "Statement": {**ALL, "Principal": "*"}})
 MAY_ALL = Policy("", {"Version": "2012-10-17", "Statement": ALL})
@@ -74,8 +74,9 @@ def with_others(answers: Answers, turns: Dict[int, Turn]) -> Dict[int, Turn]:
     named = values_in(answers.world) if lone else {}
     keys = dict.fromkeys(key for it in lone.values() for key, _ in it.example.pairs)
     asked = [(key, value) for key in keys for value in named.get(key.lower(), ())]
+    asked = asked[: min(MOST, MOST_REQUESTS // max(1, cells_of(answers.world)))]
     made = dict(turns)
-    given = (Example(((key, (value,)),), None).given_to(answers.world) for key, value in asked[:MOST])
+    given = (Example(((key, (value,)),), None).given_to(answers.world) for key, value in asked)
     for (key, value), other in zip(asked, ask_all(list(given), True)):
         for cell, it in lone.items():
             is_so = (other.at(cell).decision == "allowed") == (it.decision == "allowed")
