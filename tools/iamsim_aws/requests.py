@@ -71,14 +71,3 @@ def fill(found: List[Answer], job: Job, text: str, is_full: bool) -> None:
         found[n] = known[key]
     if count != len(job.numbers) or any(True for _ in heads) or any(True for _ in tails):
         raise Fault("iamsim has not answered each request")
-
-
-def occurrences(texts: List[str]) -> List[List[int]]:
-    """The numbers of texts, in lists in which none stands twice."""
-    found: List[List[int]] = []
-    seen: Dict[str, int] = {}
-    for n, it in enumerate(texts):
-        seen[it] = seen.get(it, -1) + 1
-        found += [[]] if seen[it] == len(found) else []
-        found[seen[it]].append(n)
-    return found

@@ -14,7 +14,6 @@ from .documents import FOREIGN, Policy, World, cells_of, conditions_of, each
 from .examples import Example, ask_any_key, ask_pairs
 from .patterns import is_pattern, variables_of
 from .reports import Answers
-from .requests import occurrences
 from .speaking import statements
 
 # Values of keys that are asked besides those of examples at most, and requests with them.
@@ -89,7 +88,7 @@ def values_in(world: World) -> Dict[str, Dict[str, None]]:
     """The values for which statements on the world's actions ask of each key, by its lower case; no patterns and no variables."""
     found: Dict[str, Dict[str, None]] = {}
     for _, statement, _ in statements(world, world["actions"]):
-        for _, key, values in conditions_of(statement):
+        for _, key, values in (it for it in conditions_of(statement) if it[0] != "Null"):
             texts = (str(it).lower() if isinstance(it, bool) else str(it) for it in each(values))
             some = (it for it in texts if not is_pattern(it) and not variables_of(it))
             found.setdefault(key.lower(), {}).update(dict.fromkeys(some))
@@ -141,6 +140,17 @@ def allowed_in(answers: Answers) -> Iterator[Tuple[Dict[Tuple[str, str, str], in
                 }
                 if cells:
                     yield cells, {**it, **own}
+
+
+def occurrences(texts: List[str]) -> List[List[int]]:
+    """The numbers of texts, in lists in which none stands twice."""
+    found: List[List[int]] = []
+    seen: Dict[str, int] = {}
+    for n, it in enumerate(texts):
+        seen[it] = seen.get(it, -1) + 1
+        found += [[]] if seen[it] == len(found) else []
+        found[seen[it]].append(n)
+    return found
 
 
 def allowing_all(world: World) -> World:
