@@ -343,6 +343,22 @@ def test_a_trust_of_web_identities_that_widens():
         assert (f"  {WEB} may {BY_TOKEN} {ACCOUNT}role/app if `{SUBJECT}` is `repo:ours/app:" in out) == (status == 3), out
 
 
+def test_lists_of_subjects_and_of_accounts_that_grow():
+    """Of web identities, beside another key, and of what a service works for; the twins go the other way."""
+    first, second = (f"repo:ours/{it}:ref:refs/heads/main" for it in ("a", "b"))
+    audience = {f"{GITHUB}:aud": "sts.amazonaws.com"}
+    subjects = lambda *some: trust({"Federated": PROVIDER}, BY_TOKEN, Condition={"StringEquals": {SUBJECT: list(some), **audience}})
+    accounts = lambda *some: trust({"Service": "lambda.amazonaws.com"}, Condition={"StringEquals": {"aws:SourceAccount": list(some)}})
+    for of, one, more, wanted in (
+        (subjects, first, second, {(WEB, BY_TOKEN): {SUBJECT: second, **audience}}),
+        (accounts, OWN, OTHER, {(LAMBDA, "sts:AssumeRole"): {"aws:SourceAccount": OTHER}}),
+    ):
+        same(gained_by(trusting(of(one)), "role/app", of(one, more)), wanted)
+        green(trusting(of(one, more)), of(one), name="role/app")
+    # Without its condition it needs no key.
+    same(gained_by(trusting(subjects(first)), "role/app", trust({"Federated": PROVIDER}, BY_TOKEN)), {(WEB, BY_TOKEN): {}})
+
+
 def test_who_is_of_no_account():
     """A further provider, a service, and a canonical user; the twin denies to the same."""
     own = of_github("repo:ours/app:*")
