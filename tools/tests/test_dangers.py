@@ -400,8 +400,9 @@ def test_what_is_not_known_of_who_is_of_no_account():
             ([granted, denied(GET)], [granted, denied(GET), denied(DELETE)], 0),
         ):
             words, *draft = put_in(before, after)
-            found, said = changed(given, *words, *draft, status=status)
-            same((found, "for whom nobody is asked" in said), (set(), True), said)
+            for chosen in ([], ["--resource", f"{S3}homes/k"], ["--resource", f"{S3}homes/*"]):
+                found, said = changed(given, *words, *draft, *chosen, status=status)
+                same((found, "for whom nobody is asked" in said), (set(), True), said)
         same(gained_by(given, "homes", granted, denied(DELETE), words=["--resources", bucket()]), {(LAMBDA, GET): {}})
         out = rule(f"never * {GET} {S3}homes/*", given, 5, "--resources", bucket(granted, denied(GET)))
         assert f"  open: {line}" in out, out

@@ -4,6 +4,7 @@ import argparse
 from typing import Any, List, Tuple
 
 from .. import drafts, files, reviews
+from ..arns import owner_of, service_of
 from ..asking import ask_all
 from ..changing import Changes, Comparison, compare, compared, paged
 from ..covering import is_open, tell_actions, tell_strangers, unasked
@@ -11,8 +12,9 @@ from ..differences import differing, said_newly
 from ..documents import World, bare
 from ..faults import TOLD, Fault, tell
 from ..joining import joined
-from ..names import is_named
+from ..names import is_named, patterns_of
 from ..paging import data, page, request_of
+from ..patterns import common, of_given
 from ..questions import Question, Scope
 from ..slips import slips
 from ..sources import ASSUME, Source, add_outside, add_source
@@ -84,10 +86,15 @@ def is_unasked(before: Source, after: Source, options: argparse.Namespace, asked
 
 
 def chosen(before: Source, after: Source, patterns: List[str], resource: str) -> List[World]:
-    """Both worlds, with what is chosen."""
+    """Both worlds, with what is chosen, and with what has the policy of it."""
     worlds: List[World] = [{**it.world([ASSUME]), "actions": list(patterns)} for it in (before, after)]
-    asked = Question("*", "*", resource)
-    return [{**it, "resources": [one for one in it["resources"] if is_named(asked, one["arn"])]} for it in worlds]
+    return [{**it, "resources": [one for one in it["resources"] if is_chosen(resource, one["arn"])]} for it in worlds]
+
+
+def is_chosen(resource: str, arn: str) -> bool:
+    """Whether a pattern of resources means one, or something that has its policy."""
+    inside = f"{of_given(owner_of(arn))}/*" if service_of(arn) == "s3" else ""
+    return is_named(Question("*", "*", resource), arn) or any(common(it, inside) for it in patterns_of(resource))
 
 
 def is_different(before: Source, after: Source) -> bool:
