@@ -7,7 +7,7 @@ from .arns import account_of, owner_of, principal_arn
 from .documents import World, conditions_of, statements_of
 from .exports import ACCOUNT
 from .faults import tell
-from .outsiders import Outsider, by_owner, doubt
+from .outsiders import Outsider, by_owner, concerns, doubts
 from .outsiders import named_by as outsiders_in
 from .speaking import speaks_of
 from .parties import EVERYBODY, named_by
@@ -54,14 +54,14 @@ def unasked(
     asks neither roles that are linked to a service nor who is of no account; of these a question may mean some alone.
     """
     known, asked = source.accounts(), {principal_arn(it) for it in linked(source, worlds) if asks_all}
-    owned = by_owner(every or worlds)
+    owned = {owner: doubts(some) for owner, some in by_owner(every or worlds).items()} if asks_all else {}
     in_organization = source.estate is not None and source.estate.organization.is_there
     found: Dict[str, Set[str]] = {}
     for world in worlds:
         for it in world["resources"]:
             for statement in statements_of(it["policy"].document) if "policy" in it else ():
                 lines = [(text, why_nobody(text, known, asked)) for text in named_by(statement)]
-                of_owner = owned.get(owner_of(it["arn"]), []) if asks_all else None
+                of_owner = owned.get(owner_of(it["arn"]), {}) if asks_all else None
                 lines += (
                     (f"{who.kind} {who.text}", why) for who, why in others(statement, world, of_owner) if means(who)
                 )
@@ -74,14 +74,20 @@ def unasked(
     return found
 
 
-def others(statement: Any, world: World, asked: Optional[List[Dict[str, Any]]]) -> Iterator[Tuple[Outsider, str]]:
-    """Whom a statement on the world's actions lets in that is of no account and for whom nobody is asked, and why: where those are asked,
-    by what these resources say."""
+def others(
+    statement: Any, world: World, asked: Optional[Dict[Outsider, Optional[str]]]
+) -> Iterator[Tuple[Outsider, str]]:
+    """Whom a statement on the world's actions lets in that is of no account and for whom nobody is asked, and why; `asked` says it of those
+    whom the resource lets in, where they are asked at all."""
     is_grant = isinstance(statement, dict) and statement.get("Effect") == "Allow"
-    for it in outsiders_in(statement) if is_grant and speaks_of(statement, tuple(world["actions"])) else ():
-        why = doubt(it, asked) if asked is not None and it.can_stand() else ""
+    if not is_grant or not speaks_of(statement, tuple(world["actions"])):
+        return
+    if asked is None:
         # Most roles trust a service.
-        if why or (it.kind != "Service" if asked is None else not it.can_stand()):
+        yield from ((it, f"for whom {NOT_ASKED}") for it in outsiders_in(statement) if it.kind != "Service")
+        return
+    for it, why in asked.items():
+        if why is not None and concerns(statement, it):
             yield it, f"for whom {NOT_ASKED}" + (f": {why}" if why else "")
 
 

@@ -93,10 +93,10 @@ def outsiders(worlds: Iterable[World], account: str) -> List[Dict[str, Any]]:
     """Who stands for those whom policies of the worlds' resources let in, each for what these let it do."""
     found: Dict[Outsider, Dict[str, None]] = {}
     for owner, some in by_owner(worlds).items():
-        for who in dict.fromkeys(who for one in some for who, _ in let_in_by(one)):
-            if who.can_stand() and not doubt(who, some):
-                inside = (owner_of(it[THROUGH]["arn"]) for it in some if THROUGH in it)
-                found.setdefault(who, {}).update(dict.fromkeys([owner, *inside]))
+        inside = (owner_of(it[THROUGH]["arn"]) for it in some if THROUGH in it)
+        arns = dict.fromkeys([owner, *inside])
+        for who in (who for who, why in doubts(some).items() if why is None):
+            found.setdefault(who, {}).update(arns)
     return [who.principal(account, list(of)) for who, of in found.items()]
 
 
@@ -106,6 +106,13 @@ def by_owner(worlds: Iterable[World]) -> Dict[str, List[Resource]]:
     for it in (one for world in worlds for one in world["resources"]):
         found.setdefault(owner_of(it["arn"]), []).append(it)
     return found
+
+
+def doubts(resources: List[Resource]) -> Dict[Outsider, Optional[str]]:
+    """Whom policies of resources let in that is of no account: nothing where somebody stands for it, else why nobody does, which may go
+    without saying."""
+    found = dict.fromkeys(who for it in resources for who, _ in let_in_by(it))
+    return {who: (doubt(who, resources) or None) if who.can_stand() else "" for who in found}
 
 
 def doubt(who: Outsider, resources: List[Resource]) -> str:

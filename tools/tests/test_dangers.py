@@ -396,6 +396,7 @@ def test_what_is_not_known_of_who_is_of_no_account():
             ([], [granted, denied(GET)], 5),
             ([granted, denied(GET)], [granted], 5),
             ([denied(GET)], [granted], 5),
+            ([granted], [granted, to("*", "homes/*", Condition={"Null": {"aws:PrincipalArn": "true"}})], 5),
             ([granted], [granted, denied(GET)], 0),
             ([granted, denied(GET)], [granted, denied(GET), denied(DELETE)], 0),
         ):
