@@ -48,8 +48,8 @@ def with_keys(scope: Scope, some: List[Names], told: Set[Texts]) -> Tuple[List[T
         new = [with_own_places(pair, it) for it in of if texts_in(it) not in known]
         opens += [open_words(pair, it) for it in new if it["change"] == "open"]
         examples: Dict[Example, List[Row]] = {}
-        for it in (it for it in new if it["example"]):
-            examples.setdefault(it["example"], []).append(it)
+        for row in (it for it in new if it["example"]):
+            examples.setdefault(row["example"], []).append(row)
         made += [(names, Found(own, []), example.words()) for example, own in examples.items()]
     return made, opens
 

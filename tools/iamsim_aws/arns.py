@@ -73,3 +73,8 @@ def names_of_principal(principal: Dict[str, Any]) -> List[str]:
 
 def names_of_resource(arn: str) -> List[str]:
     return [arn, resource_part(arn), resource_part(arn).split("/")[-1]]
+
+
+def name_of(axis: str, it: Dict[str, Any]) -> str:
+    """The text of an account, a principal or a resource."""
+    return principal_text(it) if axis == "principals" else str(it["id"] if axis == "accounts" else it["arn"])

@@ -129,7 +129,7 @@ def most_of(of: Spoken) -> Statement:
         made["Resource"] = [with_runs(it, of.is_open) if of.is_new else it for it in some]
     if "NotResource" in of.statement:
         some = [it for it in texts_of(of.statement, "NotResource") if not is_open_text(it, of)]
-        made.update({"NotResource": some} if some else {"Resource": "*"})
+        made.update({"NotResource": some} if some else {"Resource": ["*"]})
     return made
 
 

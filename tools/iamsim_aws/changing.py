@@ -2,12 +2,12 @@
 
 from typing import Any, Dict, Iterable, Iterator, List, NamedTuple, Optional, Sequence, Set, Tuple
 
-from .arns import account_of, is_access_point, owner_of, principal_text
+from .arns import account_of, is_access_point, name_of, owner_of, principal_text
 from .asking import ask_all, ask_changes
 from .any_key import texts_in, with_keys
 from .checking import NOTHING
 from .covering import tell_lacked
-from .differences import ANY, Difference, differing, name_of
+from .differences import ANY, Difference, differing
 from .documents import THROUGH, Place, Policy, World, places, statements_of
 from .every import UNNAMED, WORLDS
 from .exports import ACCOUNT
@@ -43,7 +43,7 @@ from .reports import Answers, keys_of
 from .roles import with_linked, with_sessions
 from .sources import ASSUME, Source
 from .speaking import Origins, beside, shares, texts_of
-from .strangers import ASSUMED, strangers, with_strangers
+from .strangers import ASSUMED, everyone_outside, with_strangers
 
 # Patterns of actions of one service that are asked by themselves.
 FEW = 8
@@ -166,7 +166,7 @@ def prepared(sources: List[Source], pair: Sequence[World], every: List[World]) -
     """Both worlds with whom their policies name besides, and with who is outside. All policies on resources tell these apart."""
     linked = [with_linked(source, world, [*pair, *every]) for source, world in zip(sources, pair)]
     linked = with_sessions(linked, every)
-    some = strangers(sources[1], linked, speaking=every)
+    some = everyone_outside(sources[1], linked, speaking=every)
     return [with_strangers(source, world, some) for source, world in zip(sources, linked)]
 
 
@@ -245,7 +245,7 @@ def compare(before: Source, after: Source, asked: List[str], resource: str, acco
 
 def is_had_by_services(source: Source, asked: List[str], resource: str) -> bool:
     """Whether some service has a request that is chosen, where no pattern chooses it."""
-    world = {"actions": list(map(plain, asked)), "resources": [{"arn": plain(resource)}]}
+    world: World = {"actions": list(map(plain, asked)), "resources": [{"arn": plain(resource)}]}
     is_open = any(map(is_pattern, [*asked, resource]))
     return is_open or any(source.references.pairs(world, lacked(source, world["actions"])))
 
@@ -326,7 +326,7 @@ def further(names: Names, rows: List[Row]) -> List[Row]:
     pair = []
     for n, side in enumerate(names.sides):
         actions = list(dict.fromkeys(it["action"] for it in asked))
-        own = {"actions": actions, "resources": [shown(it)[n] for it in texts]}
+        own: World = {"actions": actions, "resources": [shown(it)[n] for it in texts]}
         people = [it for it in side.world["principals"] if principal_text(it) in {one["principal"] for one in asked}]
         pair.append({**side.world, **own, "principals": people})
     [found] = ask_changes([(pair[0], pair[1])])
@@ -385,7 +385,8 @@ def by_points(names: Names, found: Found) -> Tuple[List[Row], List[str]]:
         resources = [side.resource(it, account_of(it), shut) for it in arns]
         accounts = with_account(side.scope, side.world, resources)
         worlds.append({**side.world, **own, "resources": resources, "accounts": accounts})
-    both = compared(*ask_all(worlds))
+    first, second = ask_all(worlds)
+    both = compared(first, second)
     sides = (("lost", both.before, both.lost), ("gained", both.after, both.gained))
     told = {(change, *answers.texts(cell)): (answers, cell) for change, answers, cells in sides for cell in cells}
     asked = dict.fromkeys(texts_in(it)[1:] for it in some)

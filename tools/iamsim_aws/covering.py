@@ -1,12 +1,14 @@
 """What an answer does not cover, in lines on standard error."""
 
 import re
-from typing import Any, Dict, Iterable, Iterator, List, Set
+from typing import Any, Callable, Dict, Iterable, Iterator, List, Optional, Sequence, Set, Tuple
 
-from .arns import account_of, principal_arn
-from .documents import World, conditions_of, each, statements_of
+from .arns import account_of, owner_of, principal_arn
+from .documents import World, conditions_of, statements_of
 from .exports import ACCOUNT
 from .faults import tell
+from .outsiders import Outsider, by_owner, concerns, doubts
+from .outsiders import named_by as outsiders_in
 from .speaking import speaks_of
 from .parties import EVERYBODY, named_by
 from .patterns import is_pattern
@@ -29,25 +31,40 @@ def tell_lacked(actions: List[str]) -> None:
         tell(f"the service reference lacks these actions, which are asked for all the same: {', '.join(actions)}")
 
 
-def tell_strangers(source: Source, worlds: List[World], has_services: bool = False, asks_linked: bool = True) -> None:
+def tell_strangers(source: Source, worlds: List[World], asks_all: bool = True, every: Sequence[World] = ()) -> None:
     """Tells those to whom policies grant and for whom nobody is asked, each once."""
-    for line in unasked(source, worlds, has_services, asks_linked):
+    for line in unasked(source, worlds, asks_all, every):
         tell(line)
 
 
+def is_open(line: str) -> bool:
+    """Whether a line says that somebody is not asked; of further members of an organisation it is said alone."""
+    return NOT_ASKED in line and OF_MEMBERS not in line
+
+
 def unasked(
-    source: Source, worlds: List[World], has_services: bool = False, asks_linked: bool = True
+    source: Source,
+    worlds: List[World],
+    asks_all: bool = True,
+    every: Sequence[World] = (),
+    means: Callable[[Outsider], bool] = lambda _: True,
 ) -> Dict[str, Set[str]]:
     """Those to whom policies of the worlds' resources grant and for whom nobody is asked: a line each, with the resources'
-    ARNs; services where they are wanted, since most roles trust one."""
-    known, asked = source.accounts(), {principal_arn(it) for it in linked(source, worlds) if asks_linked}
+    ARNs. `every` has the worlds that are asked, where these have a part of their statements. Who asks users, roles and accounts alone
+    asks neither roles that are linked to a service nor who is of no account; of these a question may mean some alone.
+    """
+    known, asked = source.accounts(), {principal_arn(it) for it in linked(source, worlds) if asks_all}
+    owned = {owner: doubts(some) for owner, some in by_owner(every or worlds).items()} if asks_all else {}
     in_organization = source.estate is not None and source.estate.organization.is_there
     found: Dict[str, Set[str]] = {}
     for world in worlds:
         for it in world["resources"]:
             for statement in statements_of(it["policy"].document) if "policy" in it else ():
                 lines = [(text, why_nobody(text, known, asked)) for text in named_by(statement)]
-                lines += [(text, f"for whom {NOT_ASKED}") for text in others(statement, world, has_services)]
+                of_owner = owned.get(owner_of(it["arn"]), {}) if asks_all else None
+                lines += (
+                    (f"{who.kind} {who.text}", why) for who, why in others(statement, world, of_owner) if means(who)
+                )
                 told = [f"{it['policy'].name} names {text}, {why}" for text, why in lines if why]
                 is_spoken_of = speaks_of(statement, tuple(world["actions"]))
                 if in_organization and is_spoken_of and named_by(statement) and asks_for_members(statement):
@@ -57,13 +74,21 @@ def unasked(
     return found
 
 
-def others(statement: Any, world: World, has_services: bool) -> Iterator[str]:
-    """Whom a statement on the world's actions names that is no principal of an account."""
-    given = statement.get("Principal") if isinstance(statement, dict) and statement.get("Effect") == "Allow" else None
-    if not isinstance(given, dict) or not speaks_of(statement, tuple(world["actions"])):
+def others(
+    statement: Any, world: World, asked: Optional[Dict[Outsider, Optional[str]]]
+) -> Iterator[Tuple[Outsider, str]]:
+    """Whom a statement on the world's actions lets in that is of no account and for whom nobody is asked, and why; `asked` says it of those
+    whom the resource lets in, where they are asked at all."""
+    is_grant = isinstance(statement, dict) and statement.get("Effect") == "Allow"
+    if not is_grant or not speaks_of(statement, tuple(world["actions"])):
         return
-    for kind in ("Federated", "CanonicalUser", *(["Service"] if has_services else [])):
-        yield from (f"{kind} {it}" for it in each(given.get(kind)) if isinstance(it, str))
+    if asked is None:
+        # Most roles trust a service.
+        yield from ((it, f"for whom {NOT_ASKED}") for it in outsiders_in(statement) if it.kind != "Service")
+        return
+    for it, why in asked.items():
+        if why is not None and concerns(statement, it):
+            yield it, f"for whom {NOT_ASKED}" + (f": {why}" if why else "")
 
 
 def why_nobody(text: str, known: Set[str], asked: Set[str]) -> str:

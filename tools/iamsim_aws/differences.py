@@ -2,7 +2,7 @@
 
 from typing import Any, Callable, Dict, FrozenSet, Iterable, Iterator, List, NamedTuple, Optional, Sequence, Set, Tuple
 
-from .arns import account_of, is_access_point, principal_arn, principal_text, service_of
+from .arns import account_of, is_access_point, name_of, principal_arn, principal_text, service_of
 from .checking import NOTHING
 from .documents import FOREIGN, MEMBERS, THROUGH, World, layer_of, mapped, places, statements_of
 from .every import UNNAMED
@@ -15,10 +15,6 @@ from .strangers import is_stranger
 
 ANY = "*"
 Principal = Dict[str, Any]
-
-
-def name_of(axis: str, it: Dict[str, Any]) -> str:
-    return principal_text(it) if axis == "principals" else str(it["id"] if axis == "accounts" else it["arn"])
 
 
 def holders(world: World) -> Dict[Tuple[str, str], List[str]]:
@@ -172,14 +168,17 @@ def said_in(axis: str, holder: Dict[str, Any]) -> Dict[Tuple[str, bool, str], Sa
 
 
 def said_newly(before: World, after: World) -> World:
-    """The world after, with those statements of resources' policies alone that these do not have before."""
-    known = {it["arn"]: said_in("resources", it) for it in before["resources"]}
+    """The world after, with those statements of resources' policies alone that these do not have before; with all of them where a deny
+    goes."""
+    known, there = ({it["arn"]: said_in("resources", it) for it in of["resources"]} for of in (before, after))
 
     def keep(kind: str, path: str, policy: Any) -> Any:
-        if kind != "resource":
+        arn = after["resources"][int(path.split("/")[1])]["arn"] if kind == "resource" else ""
+        of = known.get(arn, {})
+        gone = [it.statement for key, it in of.items() if key not in there.get(arn, {})]
+        if kind != "resource" or any(isinstance(it, dict) and it.get("Effect") == "Deny" for it in gone):
             return policy
-        arn = after["resources"][int(path.split("/")[1])]["arn"]
-        of, some = known.get(arn, {}), said_in("resources", {"arn": arn, "policy": policy})
+        some = said_in("resources", {"arn": arn, "policy": policy})
         left = [it.statement for key, it in some.items() if key not in of]
         return policy._replace(document={**policy.document, "Statement": left})
 

@@ -4,12 +4,15 @@ import re
 from typing import Any, Dict, Iterator, List, NamedTuple, Set, Tuple
 
 from .arns import account_of, owner_of, principal_arn, principal_text, service_of
-from .asking import whole
-from .documents import World, places, statements_of
+from .asking import ask_all, whole
+from .bounds import MOST as PROBES
+from .bounds import TOO_MANY, hangs, probes_of, told_apart
+from .documents import THROUGH, World, places, statements_of
 from .every import NOT_SHOWN, UNNAMED, WORLDS, Job, ask_every
 from .faults import Fault, tell
 from .speaking import owners, patterns_of_actions, speaks_of, texts_of
 from .making import bound
+from .names import asking_alike, named_world, unresolved
 from .patterns import common, is_pattern, matcher, of_given
 from .points import tell_points
 from .questions import Question, Scope, missing, principals
@@ -17,6 +20,7 @@ from .references import is_mixed
 from .slips import is_wide
 from .sources import ASSUME
 from .telling import Cause, cause_of
+from .turning import Turn, hanging
 
 ACCOUNT = re.compile(r"arn:[^:]*:[^:]*:[^:]*:([0-9]{12}):")
 # The services that no run of their own is of.
@@ -59,6 +63,13 @@ class Lines(NamedTuple):
     texts: List[Dict[str, Any]]
     number_of: Dict[str, int]
     others: List[str]
+
+    def resource(self, text: str) -> Dict[str, Any]:
+        """What is said of a text."""
+        named = [it for it in self.world["resources"] if it["arn"] == text]
+        said = {"account": ""} if named else next(it for it in self.texts if matcher(it["pattern"])(text))
+        of = named[0] if named else self.world["resources"][said["like"]] if "like" in said else said
+        return {"arn": text, **{name: one for name, one in of.items() if name not in ("arn", "pattern", THROUGH)}}
 
     def is_asked(self, text: str) -> bool:
         """Whether a row is told of a resource."""
@@ -234,6 +245,57 @@ def everything(scope: Scope, question: Question) -> Found:
     if not people:
         raise Fault(missing(scope, question._replace(action=WORLDS[""])))
     return Found(list(people), sorted(kinds, key=lambda it: (it.service == REST, it.service)), hidden, asked)
+
+
+class Turned(NamedTuple):
+    """Kinds of requests of a service that become allowed, or no longer are, by the same keys."""
+
+    principal: str
+    service: str
+    turn: Turn
+    actions: List[str]
+    resources: List[str]
+
+
+def apart(run: Run) -> Run:
+    """A run in which names are told apart by what hangs on keys."""
+    world = {**run.lines.world, "actions": [run.pattern]}
+    return run._replace(lines=run.lines._replace(world={**told_apart(world), "actions": run.lines.world["actions"]}))
+
+
+def hung_in(found: Found) -> Tuple[List[Tuple[Run, World]], List[str]]:
+    """Worlds with all that may be allowed of the runs that hang on keys that nothing gives, and what was not asked, in words."""
+    hung = [it for it, _ in found.asked if hangs(it.lines.world, [it.pattern])]
+    asked = [it for it in hung if len(probes_of({**it.lines.world, "actions": [it.pattern]})) <= PROBES]
+    opens = [f"{it.pattern}: {TOO_MANY}" for it in hung if it not in asked]
+    # A text of which a variable is a part that nothing gives may be of another kind with each value.
+    opens += [line for it in asked for line in unresolved({**it.lines.world, "actions": [it.pattern]}, "*")]
+    worlds: List[Tuple[Run, World]] = []
+    services = [it.service for it, _ in found.asked if it.service != REST]
+    for run, rows in zip(asked, answered(list(map(apart, asked)), services)):
+        hidden = [it for it in rows if it["decision"] == NOT_SHOWN]
+        opens += [f"{it['principal']} {it['action']} {it['resource']}: {TOO_MANY}" for it in hidden]
+        some = [it for it in rows if it["decision"] == "allowed" and is_told(run.lines, it)]
+        for people, actions, texts in asking_alike(some):
+            resources = list(map(run.lines.resource, texts))
+            worlds.append((run, named_world(run.lines.world, people, actions, resources)))
+    return worlds, opens
+
+
+def turned(found: Found) -> Tuple[List[Turned], List[str], List[str]]:
+    """What of everything hangs on keys that nothing gives; what is not shown of what may be allowed, and what is told besides."""
+    worlds, opens = hung_in(found)
+    notes: List[str] = []
+    made: Dict[Any, Turned] = {}
+    every = ask_all([world for _, world in worlds])
+    for (run, _), answers, of in zip(worlds, every, hanging(every)):
+        opens, notes = opens + of.opens, notes + of.notes
+        for cell, turn in sorted(of.turns.items()):
+            who, action, resource = answers.texts(cell)
+            one = made.setdefault((who, run.service, turn), Turned(who, run.service, turn, [], []))
+            one.actions.extend([action] if action not in one.actions else [])
+            one.resources.extend([resource] if resource not in one.resources else [])
+    return list(made.values()), list(dict.fromkeys(opens)), list(dict.fromkeys(notes))
 
 
 def statement_words(cause: Cause, service: str) -> str:

@@ -3,12 +3,12 @@
 import array
 from typing import Any, Dict, List, Tuple
 
-from .hanging import Turn
 from .reports import Answer, Answers, keys_of
+from .turning import Turn
 
 # The answer where a world does not have the resource.
 ABSENT = Answer("absent", (), ())
-Turns = Dict[int, List[Turn]]
+Turns = Dict[int, Turn]
 
 
 def joined(several: List[Answers], actions: List[str]) -> Answers:

@@ -171,7 +171,7 @@ def principals_of(estate: Estate, patterns: List[str]) -> List[Dict[str, Any]]:
 def in_organization(estate: Estate, account: str, principal: Dict[str, Any]) -> Dict[str, Any]:
     """A principal of an account with what follows from the organisation's file, or from all requests."""
     keys, foreign = estate.organization.keys(account, "Principal"), estate.organization.foreign(account)
-    made = {**principal, **foreign, "context": {**principal.get("context", {}), **keys}}
+    made: Dict[str, Any] = {**principal, **foreign, "context": {**principal.get("context", {}), **keys}}
     return keep_context(made, estate.context)
 
 

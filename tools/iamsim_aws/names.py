@@ -238,7 +238,7 @@ def account_lines(
 
 def elsewhere(world: World, account: str, lines: List[Line]) -> Iterator[str]:
     """Patterns of what is not of an account, though a line for it may match: those of policies that name another one."""
-    texts = set()
+    texts: Set[Tuple[str, bool]] = set()
     for _, statement, is_new in statements(world, world["actions"]):
         texts.update((it, is_new) for it in texts_of(statement, "Resource", "NotResource"))
     for text, is_new in sorted(texts):
@@ -459,8 +459,8 @@ def nearest(names: Names, rows: List[Row], kind_of: Callable[[Row], object], kee
         far = max(0 if text in named else names.line_of(text).far, int(is_mixed(action, text)))
         far = NAMED if text in named and keeps_named else far
         answer = row.get("change", row.get("decision") == "allowed")
-        of = by_far.setdefault((row["principal"], action, answer), {}).setdefault(far, {})
-        of.setdefault(text if text in named else kind_of(row), row)
+        by_kind = by_far.setdefault((row["principal"], action, answer), {}).setdefault(far, {})
+        by_kind.setdefault(text if text in named else kind_of(row), row)
     found: List[Row] = []
     for of in by_far.values():
         found += of.pop(NAMED, {}).values()
@@ -540,7 +540,7 @@ def stands(names: Names) -> Callable[[Row], Origins]:
 
 def alike(names: Names, rows: List[Row]) -> List[Dict[str, str]]:
     """Requests by the other patterns of the policies that speak of what rows show, each of a shortest text."""
-    shown, found = names.shown(), {}
+    shown, found = names.shown(), {}  # type: Any, Dict[Tuple[str, str, str], None]
     people = [{principal_text(it): it for it in side.world["principals"]} for side in names.sides]
     for row in rows:
         things = shown(row["resource"])
@@ -554,7 +554,7 @@ def alike(names: Names, rows: List[Row]) -> List[Dict[str, str]]:
 
 def shortest_in(world: World, action: str, names: Names) -> Set[str]:
     """A shortest text for each pattern of resources in a world's statements on an action, where names mean it and do not name it."""
-    found = set()
+    found: Set[Optional[str]] = set()
     for place, statement, is_new in statements(world, [action]):
         values = values_of(world, place.path)[0]
         for it in texts_of(statement, "Resource"):
@@ -583,21 +583,25 @@ def alike_in_keys(names: Names) -> List[Names]:
 
 def naming(names: Names, rows: List[Row]) -> List[List[World]]:
     """Worlds of each side that name what rows show, those together that ask the same of the same texts."""
+    shown, made = names.shown(), []
+    for people, actions, some in asking_alike([it for it in rows if not is_access_point(it["resource"])]):
+        own = [shown(it) for it in some]
+        made.append([named_world(it.world, people, actions, [of[n] for of in own]) for n, it in enumerate(names.sides)])
+    return made
+
+
+def asking_alike(rows: List[Row]) -> Iterator[Tuple[List[str], Tuple[str, ...], Tuple[str, ...]]]:
+    """(principals, actions, texts of resources) that have a row each, one with another, of all rows."""
     texts: Dict[Tuple[str, str], Dict[str, None]] = {}
-    for it in rows if names.sides else ():
-        if not is_access_point(it["resource"]):
-            texts.setdefault((it["principal"], it["action"]), {})[it["resource"]] = None
+    for it in rows:
+        texts.setdefault((it["principal"], it["action"]), {})[it["resource"]] = None
     alike_texts: Dict[Tuple[str, Tuple[str, ...]], List[str]] = {}
     for (who, action), of in texts.items():
         alike_texts.setdefault((who, tuple(of)), []).append(action)
     groups_of: Dict[Tuple[Tuple[str, ...], Tuple[str, ...]], List[str]] = {}
     for (who, some), actions in alike_texts.items():
         groups_of.setdefault((tuple(actions), some), []).append(who)
-    shown, made = names.shown(), []
-    for (actions, some), people in groups_of.items():
-        own = [shown(it) for it in some]
-        made.append([named_world(it.world, people, actions, [of[n] for of in own]) for n, it in enumerate(names.sides)])
-    return made
+    yield from ((people, actions, some) for (actions, some), people in groups_of.items())
 
 
 def named_world(world: World, people: List[str], actions: Sequence[str], resources: List[Resource]) -> World:

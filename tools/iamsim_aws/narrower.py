@@ -6,8 +6,8 @@ that is narrower than one after, is put into both worlds, and is seen there to b
 
 from typing import Any, Dict, Iterator, List, NamedTuple, Sequence, Tuple
 
+from .arns import name_of
 from .bounds import is_new
-from .differences import name_of
 from .documents import Policy, World, conditions_of, each, layer_of, mapped, places, statements_of
 from .files import compact
 from .keys import plain_operator

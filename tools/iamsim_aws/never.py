@@ -1,7 +1,7 @@
 """What must never be allowed: requests that are allowed all the same, as they are or with keys that nothing gives."""
 
 import functools
-from typing import Any, Callable, Iterator, List, NamedTuple, Optional, Sequence, Tuple
+from typing import Any, Callable, Iterator, List, NamedTuple, Optional, Sequence, Set, Tuple
 
 from .arns import is_access_point, principal_text
 from .asking import ask_all
@@ -32,14 +32,15 @@ from .names import (
     stands,
     unresolved,
 )
-from .patterns import common, is_pattern
+from .outsiders import Outsider
+from .patterns import any_matches, common, is_pattern
 from .questions import Asked, Question, Scope, actions, asked_in, lacked, principals, worlds
 from .references import is_mixed
 from .reports import Answers
 from .roles import with_named
 from .sources import ASSUME
 from .speaking import Origins, patterns_of_actions
-from .strangers import NOT_ASKED, strangers, with_strangers
+from .strangers import NOT_ASKED, everyone_outside, with_strangers
 
 
 ALLOWED = ["--decision", "allowed"]
@@ -129,17 +130,22 @@ def asked_of(scope: Scope, world: World, question: Question) -> Asked:
     further = owners_lines([side_of(scope, world)], patterns_of(question.resource), "")
     meant = asked.world["resources"] + [it.of for it in further if not it.is_shut]
     spoken_of = with_named(scope.source, {**world, "resources": meant})
-    some = strangers(scope.source, [spoken_of], question.principal) if scope.outside else []
+    some = everyone_outside(scope.source, [spoken_of], question.principal) if scope.outside else []
     resources = world["resources"] if is_pattern(question.resource) else asked.world["resources"]
     own = {**asked.world, "principals": principals(spoken_of["principals"], question), "resources": resources}
     return asked._replace(world=with_strangers(scope.source, own, principals(some, question)))
 
 
 def people_of(scope: Scope, world: World, resources: List[Any], question: Question) -> List[str]:
-    """For whom nobody is asked, though policies let them in, where a question means everybody."""
-    is_meant = scope.outside and not question.principal.strip("*")
-    meant = [{**world, "resources": resources}] if is_meant else []
-    return [it for it in unasked(scope.source, meant) if NOT_ASKED in it]
+    """For whom nobody is asked, though policies let them in, where a question means everybody, or who is of no account by name."""
+    meant = [{**world, "resources": resources}] if scope.outside else []
+
+    def means(who: Outsider) -> bool:
+        return any_matches([question.principal], who.names) and not any_matches(question.exceptions, who.names)
+
+    told = unasked(scope.source, meant, means=means)
+    rest = unasked(scope.source, meant, means=lambda _: False) if question.principal.strip("*") else {}
+    return [it for it in told if NOT_ASKED in it and it not in rest]
 
 
 def findings(scope: Scope, some: Sequence[Never], as_given: bool) -> List[Finding]:
@@ -246,7 +252,7 @@ def by_examples(asked: List[Tuple[Names, List[Tuple[Names, Found]]]]) -> Iterato
     worlds = [[naming(names, it.rows) for names, it in of] for _, of in asked]
     answers = iter(ask_any_key([one for [one] in (world for of in worlds for some in of for world in some)]))
     for (every, of), several in zip(asked, worlds):
-        made, shown = [], set()
+        made, shown = [], set()  # type: List[Tuple[Names, Found]], Set[str]
         for (names, found), some in zip(of, several):
             opens, wanted = list(found.opens), {tuple(it[name] for name in REQUEST) for it in found.rows}
             rows: List[Row] = [it for it in found.rows if is_access_point(it["resource"])]

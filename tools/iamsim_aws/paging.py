@@ -11,11 +11,11 @@ from typing import Any, Dict, List, Optional, Tuple
 from .arns import account_of, principal_arn, principal_text
 from .documents import THROUGH, Policy, World, statements_of
 from .files import compact
-from .hanging import Turn
 from .joining import ABSENT
 from .speaking import Origins, stands
 from .reports import DECISIONS, Answers, Numbers, keys_of
 from .strangers import shown
+from .turning import Turn
 
 # A request by the keys of its axes.
 Request = Tuple[Any, ...]
@@ -109,7 +109,7 @@ def side(answers: Answers, axes: List[List[Any]], table: Numbers, layers: Layers
 def data(
     answers: Answers,
     is_brief: bool,
-    turns: Optional[Dict[int, List[Turn]]] = None,
+    turns: Optional[Dict[int, Turn]] = None,
     before: Optional[Answers] = None,
     stand: Optional[Origins] = None,
     keyed: Optional[List[Tuple[str, Request, str]]] = None,
@@ -134,7 +134,7 @@ def data(
         "isBrief": is_brief,
         "layers": own,
         "before": old and {"cells": packed(old[0], len(every))[1], "layers": old[1]},
-        "turns": {str(cell): [[it.key, it.values, it.decision] for it in of] for cell, of in (turns or {}).items()},
+        "turns": {str(cell): [it.decision, it.keys] for cell, it in (turns or {}).items()},
         "keyed": keyed_cells(axes, keyed or []),
         "hasCommands": has_commands and before is None,
         "stand": list(stands(stand or {}).items()),

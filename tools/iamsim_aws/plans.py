@@ -16,7 +16,14 @@ from .yamls import Unclear
 
 INDEX = re.compile(r"\[[^\]]*\]")
 # What of the settings of a provider says as whom it signs in.
-SIGN_IN = ("assume_role", "assume_role_with_web_identity", "profile", "access_key", "shared_credentials_files", "shared_config_files")
+SIGN_IN = (
+    "assume_role",
+    "assume_role_with_web_identity",
+    "profile",
+    "access_key",
+    "shared_credentials_files",
+    "shared_config_files",
+)
 DATA_DOCUMENT = "aws_iam_policy_document"
 # Attributes that are documents, which a document may be taken from as a whole.
 DOCUMENTS = ("policy", "json", "assume_role_policy", "content", "inline_policy")
@@ -105,9 +112,9 @@ class Plan:
             if "resource_changes" not in given and "format_version" not in given:
                 raise TypeError
             every = [(change_of(it), it.get("mode")) for it in given.get("resource_changes", [])]
-            configuration = given.get("configuration", {})
+            planned = given.get("configuration", {})
             given_variables = {key: it.get("value") for key, it in given.get("variables", {}).items()}
-            root = Module("", "", given_variables, configuration.get("root_module", {}))
+            root = Module("", "", given_variables, planned.get("root_module", {}))
             self.modules = {it.path: it for it in root.modules()}
             self.expressions = {
                 it.path + of["address"]: (it.path, of.get("expressions", {}))
@@ -121,8 +128,8 @@ class Plan:
                 for it in self.modules.values()
                 for of in it.given.get("resources", [])
             }
-            self.regions = regions_of(configuration)
-            strangers = strangers_of(configuration)
+            self.regions = regions_of(planned)
+            strangers = strangers_of(planned)
         except (KeyError, TypeError, AttributeError):
             raise Fault(f"{self.path}: it is no plan of 'terraform show -json'") from None
         # Where one of several providers does not tell its region, no other one's is taken for it.

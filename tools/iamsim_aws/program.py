@@ -11,6 +11,7 @@ from typing import Any, Deque, Iterable, Iterator, List, Set, Tuple
 from .documents import World, bare
 from .faults import Fault, Progress
 from .files import compact, encoded
+from .outsiders import standing
 
 TOP = os.path.dirname(os.path.dirname(os.path.dirname(os.path.realpath(__file__))))
 
@@ -74,7 +75,7 @@ def run(words: List[str], world: bytes) -> bytes:
 
 
 def world_bytes(world: World) -> bytes:
-    return encoded(compact(bare(world)))
+    return encoded(compact(bare(standing(world))))
 
 
 def processors() -> int:

@@ -12,7 +12,7 @@ from .patterns import any_matches, is_pattern, matcher, near, plain
 from .roles import with_named
 from .sources import ASSUME, Source
 from .speaking import Origins, beside, is_absent_role, patterns_of_actions
-from .strangers import is_excepted, is_meant, strangers, with_strangers
+from .strangers import everyone_outside, is_excepted, is_meant, with_strangers
 
 ACTION = re.compile(r"[A-Za-z0-9-]+:[A-Za-z0-9_.-]+")
 ARN = re.compile(r"arn:[^:]*:[^:]+:[^:]*:[^:]*:.+", re.DOTALL)
@@ -123,7 +123,7 @@ def asked_in(scope: Scope, world: World, question: Question) -> Asked:
     narrow = with_named(scope.source, {**world, "resources": resources})
     narrow["principals"] = principals(narrow["principals"], question)
     narrow["accounts"] = with_account(scope, world, resources)
-    some = strangers(scope.source, [narrow], question.principal) if scope.outside else []
+    some = everyone_outside(scope.source, [narrow], question.principal) if scope.outside else []
     narrow = with_strangers(scope.source, narrow, principals(some, question))
     return Asked(narrow, {}, added, [])
 

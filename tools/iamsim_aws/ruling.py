@@ -20,7 +20,7 @@ from .reports import Answers
 from .roles import with_named
 from .slips import is_unnamed, unnamed
 from .sources import ASSUME
-from .strangers import is_excepted, is_stranger, shown, strangers
+from .strangers import everyone_outside, is_excepted, is_stranger, shown
 
 # Texts of broken rules for which it is asked what allowed them before a draft.
 MOST = 100
@@ -114,7 +114,7 @@ def question_of(words: List[str], where: str) -> Question:
 def exceptions(scope: Scope, rule: Rule) -> Dict[str, List[str]]:
     """The principals that each exception of a rule means. A name alone has to mean one, so that none is excepted unseen."""
     world, found = with_named(scope.source, scope.source.world([ASSUME])), {}
-    people = world["principals"] + (strangers(scope.source, [world]) if rule.question.exceptions else [])
+    people = world["principals"] + (everyone_outside(scope.source, [world]) if rule.question.exceptions else [])
     for it in rule.question.exceptions:
         some = [one for one in people if is_excepted(one, [it])]
         found[it] = [principal_text(one) for one in some]
@@ -159,7 +159,9 @@ def in_doubt(scope: Scope, rule: Rule, broken: List[Break]) -> List[str]:
 def reason(scope: Scope, question: Question, of: Never) -> str:
     """Why a rule meets no request. A role that is not there is asked for by none."""
     resources = [it for one in of.asked for it in one.world["resources"]]
-    is_absent = question.action.lower().startswith("sts:") and not any(is_named(question, it["arn"]) for it in resources)
+    is_absent = question.action.lower().startswith("sts:") and not any(
+        is_named(question, it["arn"]) for it in resources
+    )
     return missing(scope, question) if is_absent or not of.asked else NOTHING_SPEAKS
 
 

@@ -115,7 +115,7 @@ def owned(of: Dict[str, Resource], arn: str, account: str) -> Resource:
     it = of.get(owner_of(arn))
     if it is None:
         return {"arn": arn, "account": account}
-    made = {"arn": arn, **{name: it[name] for name in ("account", "policy", "control") if name in it}}
+    made: Resource = {"arn": arn, **{name: it[name] for name in ("account", "policy", "control") if name in it}}
     if THROUGH in it:
         made[THROUGH] = {**it[THROUGH], "arn": in_bucket(arn, bucket_of(it[THROUGH]["arn"]))}
     return made

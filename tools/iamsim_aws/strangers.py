@@ -25,6 +25,7 @@ from .parties import (
     nobody_of,
     said_in,
 )
+from .outsiders import outsider_of, outsiders
 from .patterns import any_matches, is_pattern, matcher, plain
 from .sources import Source
 
@@ -37,14 +38,15 @@ Principal = Dict[str, Any]
 
 
 def is_stranger(principal: Principal) -> bool:
-    return any(isinstance(it, Policy) and it.name == ASSUMED for it in principal.get("identity") or [])
+    is_assumed = any(isinstance(it, Policy) and it.name == ASSUMED for it in principal.get("identity") or [])
+    return is_assumed or outsider_of(principal) is not None
 
 
 def shown(principal: Principal) -> str:
     """The principal as answers name it."""
-    text = principal_text(principal)
-    if not is_stranger(principal):
-        return text
+    text, outsider = principal_text(principal), outsider_of(principal)
+    if outsider or not is_stranger(principal):
+        return outsider.words() if outsider else text
     if text.endswith(f"/{ANYBODY}"):
         return "anyone outside: any account"
     return f"anyone outside: account {account_of(text)}" if text.endswith(f"/{ANYONE}") else f"outside: {text}"
@@ -52,6 +54,9 @@ def shown(principal: Principal) -> str:
 
 def forms(principal: Principal) -> List[List[str]]:
     """The texts that patterns are compared with; who stands for a whole account is a user and a role of it."""
+    outsider = outsider_of(principal)
+    if outsider:
+        return [outsider.names]
     names, arn = names_of_principal(principal), principal_arn(principal)
     if not is_stranger(principal) or not arn.endswith((f"/{ANYONE}", f"/{ANYBODY}")):
         return [names]
@@ -86,10 +91,22 @@ def stand_in(text: str, partition: str, session: str) -> Optional[Principal]:
     return own.get(kind) if parts else None
 
 
-def strangers(source: Source, worlds: List[World], asked: str = "", speaking: Sequence[World] = ()) -> List[Principal]:
+def everyone_outside(
+    source: Source, worlds: List[World], asked: str = "", speaking: Sequence[World] = ()
+) -> List[Principal]:
     """The stand-ins for whom policies of the worlds' resources let in, of each kind that policies on these tell apart, and on
     those of further worlds; and for whom a question names, or `--outside`."""
-    known, said, name = source.accounts(), said_in([*worlds, *speaking]), plain(asked)
+    said = said_in([*worlds, *speaking])
+    return [*of_accounts(source, worlds, asked, said), *outsiders(worlds, nobody_in(source, worlds, said))]
+
+
+def strangers(source: Source, worlds: List[World]) -> List[Principal]:
+    """Those stand-ins alone that are users and roles of accounts."""
+    return of_accounts(source, worlds, "", said_in(worlds))
+
+
+def of_accounts(source: Source, worlds: List[World], asked: str, said: Said) -> List[Principal]:
+    known, name = source.accounts(), plain(asked)
     grants = said_in(worlds).grants
     session = source.estate.session if source.estate else "session"
     of_question = name if PARTY.fullmatch(name) else account_of(name)
@@ -117,10 +134,9 @@ def told_apart(source: Source, worlds: List[World], said: Said) -> Iterator[str]
     that the same lists name one alone has the kinds of which no list says the account."""
     known, organization, named = source.accounts(), organization_of(source), by_field(said.patterns)
     free, seen = named.pop(""), set()  # type: List[str], Set[object]
-    owners = dict.fromkeys(it["account"] for world in worlds for it in world["resources"])
+    owners = owners_in(worlds)
     accounts = [it for it in dict.fromkeys([*accounts_in(said.patterns), *owners]) if it not in known]
-    ids = {it["id"] for world in worlds for it in world["accounts"]}
-    nobody = nobody_of(said.patterns, {*known, *accounts, *ids, *source.outside, *organization.parents})
+    nobody = nobody_in(source, worlds, said)
     members = organization.members(known) if not said.keys.isdisjoint(OF_ORGANIZATION) else []
     for account in dict.fromkeys([nobody, *accounts, *members]):
         own = [it for field, of in named.items() if matcher(field)(account) for it in of]
@@ -137,6 +153,18 @@ def told_apart(source: Source, worlds: List[World], said: Said) -> Iterator[str]
             yield from found
             anyone = f"arn:{partition}:iam::{account}:user/{name}"
             yield from [anyone] if account == nobody or account in members else []
+
+
+def owners_in(worlds: List[World]) -> Dict[str, None]:
+    """The accounts of the worlds' resources."""
+    return dict.fromkeys(it["account"] for world in worlds for it in world["resources"])
+
+
+def nobody_in(source: Source, worlds: List[World], said: Said) -> str:
+    """An account that nothing names."""
+    ids = {it["id"] for world in worlds for it in world["accounts"]}
+    named = {*accounts_in(said.patterns), *owners_in(worlds), *ids}
+    return nobody_of(said.patterns, {*named, *source.accounts(), *source.outside, *organization_of(source).parents})
 
 
 def organization_of(source: Source) -> Organization:

@@ -1,16 +1,16 @@
 """Answers in words: statements by their policies' names, what lacks, and what an answer hangs on."""
 
 import json
-from typing import Any, Callable, Dict, List, NamedTuple, Tuple
+from typing import Any, Callable, Dict, List, NamedTuple, Optional, Tuple
 
 from .arns import account_of, principal_arn
 from .documents import THROUGH, Policy, World, each, statements_of
 from .faults import line_of
-from .hanging import Turn
 from .speaking import Origins, speaks_of, texts_of
 from .patterns import any_matches, opened
 from .reports import Answers
 from .strangers import is_stranger
+from .turning import Turn
 
 LAYERS = {
     "org": "organisation policy",
@@ -150,17 +150,12 @@ def silent_levels(layer: str) -> Callable[[Answers, int], List[str]]:
 HINTS = {"identity": nearest, "org": silent_levels("org"), "control": silent_levels("control")}
 
 
-def turn_words(turn: Turn) -> str:
-    what = "allowed" if turn.decision == "allowed" else "denied"
-    return f"{what} if {turn.words()}"
-
-
 def request_words(answers: Answers, cell: int) -> str:
     row = answers.row(cell)
     return f"{row.principal} {row.action} {row.resource}"
 
 
-def told(answers: Answers, cell: int, turns: List[Turn], is_long: bool, is_verbose: bool = False) -> List[str]:
+def told(answers: Answers, cell: int, turn: Optional[Turn], is_long: bool, is_verbose: bool = False) -> List[str]:
     """An answer in lines."""
     answer = answers.at(cell)
     lines = [f"{answer.decision}: {request_words(answers, cell)}"]
@@ -173,20 +168,18 @@ def told(answers: Answers, cell: int, turns: List[Turn], is_long: bool, is_verbo
         )
     for layer in answer.lacks:
         lines += [f"  lacks {layer}: {LACKS[layer]}", *(HINTS[layer](answers, cell) if layer in HINTS else [])]
-    lines += [f"  {turn_words(it)}" for it in turns]
+    lines += [f"  {turn.words()}"] if turn else []
     return [line_of(it) for it in lines]
 
 
 def hangs_on(turn: Turn) -> Dict[str, Any]:
     """What an answer hangs on; further keys that it wants at once stand under `besides`, each with its values."""
-    besides: Dict[str, List[str]] = {}
-    for key, value in turn.besides:
-        besides.setdefault(key, []).append(value)
-    own = {"key": turn.key, "value": turn.value, "decision": turn.decision, "values": turn.values}
-    return {**own, **({"besides": besides} if besides else {})}
+    (key, values), *more = turn.keys
+    own = {"key": key, "value": values[0], "decision": turn.decision, "values": values}
+    return {**own, **({"besides": dict(more)} if more else {})}
 
 
-def as_json(answers: Answers, cell: int, turns: List[Turn], made_up: Origins) -> Dict[str, Any]:
+def as_json(answers: Answers, cell: int, turn: Optional[Turn], made_up: Origins) -> Dict[str, Any]:
     """An answer, with what its texts stand for that are made up."""
     row = answers.row(cell)
     statements = [
@@ -201,7 +194,7 @@ def as_json(answers: Answers, cell: int, turns: List[Turn], made_up: Origins) ->
         "decision": row.answer.decision,
         "statements": statements,
         "lacks": list(row.answer.lacks),
-        "hangsOn": [hangs_on(it) for it in turns],
+        "hangsOn": [hangs_on(turn)] if turn else [],
         "standsFor": [{"text": it, **made_up[it]._asdict()} for it in (row.action, row.resource) if it in made_up],
     }
 
@@ -209,7 +202,7 @@ def as_json(answers: Answers, cell: int, turns: List[Turn], made_up: Origins) ->
 HEADER = ["principal", "action", "resource", "decision", "policies", "lacks", "hangs on"]
 
 
-def as_fields(answers: Answers, cell: int, turns: List[Turn]) -> List[str]:
+def as_fields(answers: Answers, cell: int, turn: Optional[Turn]) -> List[str]:
     row = answers.row(cell)
     names = list(dict.fromkeys(it.words() for it in causes(answers, cell)))
     lacks = " ".join(row.answer.lacks)
@@ -220,5 +213,5 @@ def as_fields(answers: Answers, cell: int, turns: List[Turn]) -> List[str]:
         row.answer.decision,
         "; ".join(names),
         lacks,
-        "; ".join(map(turn_words, turns)),
+        turn.words() if turn else "",
     ]

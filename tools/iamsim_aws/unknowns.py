@@ -19,7 +19,8 @@ HOLD_NONE = re.compile(
 
 class Applied(NamedTuple):
     """The estates before and after a plan or templates; what is to be told; of it what is left out, whatever that would do; and
-    the estate after, with what only the apply tells taken to allow nothing and to deny all: None where it is the same."""
+    the estate after, with what only the apply tells taken to allow nothing and to deny all: None where it is the same.
+    """
 
     before: Estate
     after: Estate
@@ -74,7 +75,9 @@ class Unknowns:
         not read; and of these lines those of what may do anything."""
         if self.names() and not allows:
             words = ", ".join(self.names())
-            raise Fault(f"{self.path}: only the apply tells {words}: --allow-unknown leaves these changes out{self.hint}")
+            raise Fault(
+                f"{self.path}: only the apply tells {words}: --allow-unknown leaves these changes out{self.hint}"
+            )
         doubts = [f"{self.path}: {why}" for why in self.doubts]
         lacking = [f"{it} {LATER}: the change is left out" for it in dict.fromkeys(self.lacking)]
         unread = {kind: f"{count} changes of {kind} are not read: {end_of(kind)}" for kind, count in ignored.items()}

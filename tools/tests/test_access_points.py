@@ -236,3 +236,14 @@ def test_where_the_bucket_is_not_asked():
     assert words in said, said
     page, said = aws("page", EXPORT, "--resources", resources(TO_POINTS), "--actions", actions)
     assert words not in said and "bucket/0/0" in page, said
+
+
+def test_a_service_by_an_access_point():
+    """It may where the bucket lets access points decide; where the bucket lets nobody in, it may not."""
+    point = document({**grant({}, f"{POINT}/object/*"), "Principal": {"Service": "lambda.amazonaws.com"}})
+    for bucket, status in ((TO_POINTS, 3), (None, 0)):
+        given = resources(bucket, point)
+        out, _ = aws("who-can", "s3:GetObject", KEY, EXPORT, "--resources", given)
+        same("allowed: service: lambda.amazonaws.com s3:GetObject" in out, status == 3, out)
+        out, _ = aws("rules", file(f"never * s3:GetObject {KEY} except wide\n"), EXPORT, "--resources", given, status=status)
+        same(f"  service: lambda.amazonaws.com may s3:GetObject {KEY}: allowed by" in out, status == 3, out)

@@ -302,7 +302,7 @@ def test_given_actions_join_those_of_the_draft():
         "--resource",
         "arn:aws:s3:::b/k",
     )
-    same(out, "0 lost and 0 gained, of 9 principals and all names\n")
+    same(out, "0 lost and 0 gained, of 12 principals and all names\n")
     # The page then shows who may assume what.
     page, _ = aws("changes", EXPORT, "--put", f"ReadObjects={draft}", "--action", "kms:Decrypt", "--format", "page")
     assert '"sts:AssumeRole"' in page, page[:200]

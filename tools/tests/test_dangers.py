@@ -4,6 +4,7 @@ What is gained is worked out by hand; `can` confirms each example over the draft
 import csv
 import io
 import json
+import re
 
 from harness import answer, aws, document, file, load, same, small_world, statement
 
@@ -296,26 +297,160 @@ def test_whom_a_resource_control_policy_excepts():
     assert f"allowed: {wanted} " in aws("who-can", GET, f"{S3}homes/x", given, *words(excepts(OWN, OTHER)))[0]
 
 
-def test_who_is_federated_and_services():
-    """For them nobody is asked, so what lets them in newly is open; in the twin it was there before."""
-    github = f"{ACCOUNT}oidc-provider/token.actions.githubusercontent.com"
+GITHUB = "token.actions.githubusercontent.com"
+PROVIDER, SUBJECT = f"{ACCOUNT}oidc-provider/{GITHUB}", f"{GITHUB}:sub"
+WEB, LAMBDA = f"web identity: {GITHUB}", "service: lambda.amazonaws.com"
+BY_TOKEN = "sts:AssumeRoleWithWebIdentity"
 
-    def trust(who, subject="repo:ours/app:*"):
-        condition = {"StringLike": {"token.actions.githubusercontent.com:sub": subject}}
-        return {"Effect": "Allow", "Principal": who, "Action": "sts:AssumeRoleWithWebIdentity", "Condition": condition}
 
-    own = trust({"Federated": github})
-    role = {"RoleName": "app", "RoleId": "AROA0", "Arn": f"{ACCOUNT}role/app", "AssumeRolePolicyDocument": document(own)}
-    given = file({**json.load(open(export(on("c/*")))), "RoleDetailList": [role]})
-    service = {"Effect": "Allow", "Principal": {"Service": "ec2.amazonaws.com"}, "Action": "sts:AssumeRole"}
-    for some, named in (
-        ([trust({"Federated": github}, "repo:*")], "Federated"),
-        ([own, trust({"Federated": "accounts.google.com"})], "Federated"),
-        ([own, service], "Service"),
+def trust(who, action="sts:AssumeRole", **more):
+    return {"Effect": "Allow", "Principal": who, "Action": action, **more}
+
+
+def of_github(subject, **more):
+    return trust({"Federated": PROVIDER}, BY_TOKEN, Condition={"StringLike": {SUBJECT: subject}, **more})
+
+
+def trusting(*statements):
+    """An account with a role app of this trust policy."""
+    role = {"RoleName": "app", "RoleId": "AROA0", "Arn": f"{ACCOUNT}role/app", "AssumeRolePolicyDocument": document(*statements)}
+    return file({**load(export(on("c/*"))), "RoleDetailList": [role]})
+
+
+def gained_by(given, name, *draft, words=()):
+    """{(who is outside, action): keys} that a draft gains; `who-can` confirms each with these keys."""
+    words = [*words, "--put", f"{name}={file(document(*draft))}", "--moment", "0"]
+    found = {}
+    for row in csv.DictReader(io.StringIO(aws("changes", given, *words, "--fail-on", "gained", "--format", "csv", status=3)[0])):
+        keys = dict(re.findall("`([^`]*)` is `([^`]*)`", row["if"]))
+        found[row["principal"], row["action"]] = keys
+        out, _ = aws("who-can", row["action"], row["resource"], given, *words, "--context", file(keys), "--format", "json")
+        assert row["principal"] in {it["principal"] for it in json.loads(out) if it["outside"] and it["decision"] == "allowed"}, out
+    return found
+
+
+def test_a_trust_of_web_identities_that_widens():
+    """A pattern of subjects; a narrower one, and one more condition, are the twins."""
+    own = of_github("repo:ours/app:*")
+    found = gained_by(trusting(own), "role/app", of_github("repo:*"))
+    subject = found.pop((WEB, BY_TOKEN))[SUBJECT]
+    assert not found and subject.startswith("repo:") and not subject.startswith("repo:ours/app:"), subject
+    for narrower in (own, of_github("repo:ours/app:ref:*"), of_github("repo:ours/app:*", StringEquals={f"{GITHUB}:aud": "sts.amazonaws.com"})):
+        green(trusting(own), narrower, {**own, "Effect": "Deny"}, name="role/app")
+    text = f"never * {BY_TOKEN} {ACCOUNT}role/app"
+    for given, words, status in ((own, "", 3), (own, f" except {ACCOUNT}*", 3), (own, f" except {GITHUB}", 0), ({**own, "Effect": "Deny"}, "", 0)):
+        out = rule(f"{text}{words}", trusting(given), status)
+        assert (f"  {WEB} may {BY_TOKEN} {ACCOUNT}role/app if `{SUBJECT}` is `repo:ours/app:" in out) == (status == 3), out
+
+
+def test_lists_of_subjects_and_of_accounts_that_grow():
+    """Of web identities, beside another key, and of what a service works for; the twins go the other way."""
+    first, second = (f"repo:ours/{it}:ref:refs/heads/main" for it in ("a", "b"))
+    audience = {f"{GITHUB}:aud": "sts.amazonaws.com"}
+    subjects = lambda *some: trust({"Federated": PROVIDER}, BY_TOKEN, Condition={"StringEquals": {SUBJECT: list(some), **audience}})
+    accounts = lambda *some: trust({"Service": "lambda.amazonaws.com"}, Condition={"StringEquals": {"aws:SourceAccount": list(some)}})
+    for of, one, more, wanted in (
+        (subjects, first, second, {(WEB, BY_TOKEN): {SUBJECT: second, **audience}}),
+        (accounts, OWN, OTHER, {(LAMBDA, "sts:AssumeRole"): {"aws:SourceAccount": OTHER}}),
     ):
-        _, said = changed(given, "--put", f"role/app={file(document(*some))}", status=5)
-        assert f"role/app trust policy names {named} " in said and "for whom nobody is asked" in said, said
-    green(given, own, {**service, "Effect": "Deny"}, name="role/app")
+        same(gained_by(trusting(of(one)), "role/app", of(one, more)), wanted)
+        green(trusting(of(one, more)), of(one), name="role/app")
+    # Without its condition it needs no key.
+    same(gained_by(trusting(subjects(first)), "role/app", trust({"Federated": PROVIDER}, BY_TOKEN)), {(WEB, BY_TOKEN): {}})
+
+
+def test_who_is_of_no_account():
+    """A further provider, a service, and a canonical user; the twin denies to the same."""
+    own = of_github("repo:ours/app:*")
+    for who, action, shown in (
+        ({"Federated": "accounts.google.com"}, BY_TOKEN, ["web identity: accounts.google.com"]),
+        ({"Federated": f"{ACCOUNT}saml-provider/idp"}, "sts:AssumeRoleWithSAML", ["SAML identity: idp"]),
+        ({"Service": ["lambda.amazonaws.com"], "AWS": OTHER}, "sts:AssumeRole", [LAMBDA, f"anyone outside: account {OTHER}"]),
+    ):
+        same(gained_by(trusting(own), "role/app", own, trust(who, action)), {(it, action): {} for it in shown})
+        green(trusting(own, trust(who, action)), own, trust(who, action), trust(who, action, Effect="Deny"), name="role/app")
+        green(trusting(own), own, trust(who, action, Effect="Deny"), name="role/app")
+    given, user = export(statement(action="sqs:*")), {"Principal": {"CanonicalUser": "79a5"}}
+    granted, denied = ({**on("homes/*", effect=effect), **user} for effect in ("Allow", "Deny"))
+    words = ["--resources", bucket()]
+    same(gained_by(given, "homes", granted, words=words), {("canonical user: 79a5", GET): {}})
+    green(given, denied, name="homes", words=words)
+    for some, status in (([granted], 3), ([granted, denied], 0)):
+        out = rule(f"never * s3:* {S3}homes/*", given, status, "--resources", bucket(*some))
+        assert (f"canonical user: 79a5 may {GET.lower()} {S3}homes/" in out.replace(GET, GET.lower())) == (status == 3), out
+
+
+def test_what_is_not_known_of_who_is_of_no_account():
+    """A statement that asks for what follows from the ARN of a user or role, or with `NotPrincipal`, leaves open what a service may; the
+    twins speak of other actions."""
+    given, service = export(statement(action="sqs:*")), {"Service": "lambda.amazonaws.com"}
+    granted = {**on("homes/*"), "Principal": service}
+    other = {"StringNotEquals": {"aws:PrincipalAccount": OWN}}
+    asks = lambda action: to("*", "homes/*", effect="Deny", action=action, Condition=other)
+    but = lambda action: {**on("homes/*", effect="Deny", action=action), "NotPrincipal": {"AWS": [OWN, ALICE]}}
+    on_delete = to("*", "homes/*", effect="Deny", action=DELETE)
+    put_in = lambda before, after: (["--resources", bucket(*before)], "--put", f"homes={file(document(*after))}")
+    for denied, why in ((asks, "asks for aws:PrincipalAccount"), (but, "has NotPrincipal")):
+        line = f"{S3}homes policy names Service lambda.amazonaws.com, for whom nobody is asked: {S3}homes policy, statement 1, {why}"
+        for before, after, status in (
+            ([], [granted, denied(GET)], 5),
+            ([granted, denied(GET)], [granted], 5),
+            ([denied(GET)], [granted], 5),
+            ([granted], [granted, to("*", "homes/*", Condition={"Null": {"aws:PrincipalArn": "true"}})], 5),
+            ([granted], [granted, denied(GET)], 0),
+            ([granted, denied(GET)], [granted, denied(GET), denied(DELETE)], 0),
+        ):
+            words, *draft = put_in(before, after)
+            for chosen in ([], ["--resource", f"{S3}homes/k"], ["--resource", f"{S3}homes/*"]):
+                found, said = changed(given, *words, *draft, *chosen, status=status)
+                same((found, "for whom nobody is asked" in said), (set(), True), said)
+        same(gained_by(given, "homes", granted, denied(DELETE), words=["--resources", bucket()]), {(LAMBDA, GET): {}})
+        out = rule(f"never * {GET} {S3}homes/*", given, 5, "--resources", bucket(granted, denied(GET)))
+        assert f"  open: {line}" in out, out
+        for who, status in (("* {} {} except *.amazonaws.com", 0), ("*a* {} {}", 5), ("*li* {} {}", 0), ("*.amazonaws.com {} {}", 4)):
+            text = f"never {who.format(GET, f'{S3}homes/*')}"
+            rule(text, given, status, "--resources", bucket(granted, denied(GET), on_delete))
+        rule(f"never * {DELETE} {S3}homes/*", given, 0, "--resources", bucket(granted, denied(GET), on_delete))
+        _, said = aws("who-can", GET, f"{S3}homes/k", given, "--resources", bucket(granted, denied(GET)), status=5)
+        assert line in said, said
+
+
+def test_sessions_that_a_policy_names():
+    """By their ARN, and by `aws:userid`; the twin names a session of a role that is not there."""
+    role = {"RoleName": "app", "RoleId": "AROAAPP", "Arn": f"{ACCOUNT}role/app", "AssumeRolePolicyDocument": document(trust({"AWS": OWN}))}
+    given = file({**load(export(statement(action="sqs:*"))), "RoleDetailList": [role]})
+    session = lambda name: f"arn:aws:sts::{OWN}:assumed-role/{name}/alice@corp.com"
+    by_id = lambda own: to({"AWS": f"{ACCOUNT}role/app"}, "homes/*", Condition={"StringEquals": {"aws:userid": f"{own}:alice@corp.com"}})
+    for some, status in (
+        ([to({"AWS": session("app")}, "homes/*")], 3),
+        ([by_id("AROAAPP")], 3),
+        ([to({"AWS": session("gone")}, "homes/*")], 0),
+        ([by_id("AROAGONE")], 0),
+    ):
+        words = ["--resources", bucket(*some)]
+        for resource in (f"{S3}homes/*", f"{S3}homes/k"):
+            out = rule(f"never * {GET} {resource}", given, status, *words)
+            assert (f"  {session('app')} may {GET} {S3}homes/" in out) == (status == 3), out
+        out, _ = aws("who-can", GET, f"{S3}homes/k", given, *words)
+        assert (f"allowed: {session('app')} {GET} {S3}homes/k\n" in out) == (status == 3), out
+
+
+def test_a_role_that_is_linked_to_a_service():
+    """Of the same account, named by the policy of a key; the twin names another role that the export has not."""
+    name = "AWSServiceRoleForAutoScaling"
+    arn = f"{ACCOUNT}role/aws-service-role/autoscaling.amazonaws.com/{name}"
+    linked = {"RoleName": name, "RoleId": "AROALINK", "Arn": arn, "Path": "/aws-service-role/autoscaling.amazonaws.com/"}
+    linked["AssumeRolePolicyDocument"] = document(trust({"Service": "autoscaling.amazonaws.com"}))
+    given = file({**load(export(statement(action="sqs:*"))), "RoleDetailList": [linked]})
+    key = f"arn:aws:kms:eu-west-1:{OWN}:key/k"
+    for who, status in ((arn, 3), (f"{arn}Gone", 5)):
+        policy = document({"Effect": "Allow", "Principal": {"AWS": who}, "Action": "kms:Decrypt", "Resource": "*"})
+        words = ["--resources", file([{"arn": key, "account": OWN, "sealed": True, "policy": policy}])]
+        out, said = aws("who-can", "kms:Decrypt", key, given, *words, status=0 if status == 3 else 5)
+        session = f"arn:aws:sts::{OWN}:assumed-role/{name}/session"
+        same(f"allowed: {session} kms:Decrypt {key}\n" in out, status == 3, out)
+        same("a service-linked role, for whom nobody is asked" in said, status == 5, said)
+        same(f"  {session} may kms:Decrypt" in rule(f"never * kms:Decrypt {key}", given, status, *words), status == 3)
 
 
 def test_a_plan_asks_the_same_outsiders():

@@ -242,3 +242,23 @@ def test_what_tightens_in_other_words():
     _, said = aws("changes", export(number("NumericEquals", "5")), *put(number("NumericLessThan", "6")), "--action", GET, "--fail-on", "gained", status=3)
     _, said = aws("changes", export(number("NumericLessThan", "6")), *put(number("NumericEquals", "5")), "--fail-on", "gained", status=5)
     assert f"open: {ALICE} {GET} {S3}b/: with which values of s3:max-keys it changes is not shown" in said, said
+
+
+def test_a_pattern_of_a_key_that_widens():
+    """What is new is outside of what was there; the twin narrows it."""
+    prefix = lambda of: on("b", action="s3:ListBucket", **when(StringLike={"s3:prefix": of}))
+    value = lone(gained(export(prefix("x*")), *put(prefix("*"))))["s3:prefix"]
+    assert not value.startswith("x"), value
+    green(export(prefix("*")), *put(prefix("x*")))
+
+
+def test_twins_in_other_words():
+    """The same deny in both with twenty keys that nothing gives, a deny by `NotResource`, and a network as its two halves."""
+    unknown = [on("b/*", effect="Deny", **when(StringNotEquals={f"aws:RequestTag/t{n}": "a"})) for n in range(20)]
+    mfa = when(Bool={"aws:MultiFactorAuthPresent": "true"})
+    green(export(on("b/*"), *unknown), *put(on("b/*"), *unknown, on("b/x*", effect="Deny")))
+    but = {"Effect": "Deny", "Action": GET, "NotResource": f"{S3}b/x*", **mfa}
+    green(export(on("b/*"), but), *put(on("b/x*"), but))
+    within = lambda *networks: on("b/*", **when(IpAddress={"aws:SourceIp": list(networks)}))
+    green(export(within("10.0.0.0/8")), *put(within("10.0.0.0/9", "10.128.0.0/9")))
+    green(export(within("10.0.0.0/9", "10.128.0.0/9")), *put(within("10.0.0.0/8")))

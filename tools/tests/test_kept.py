@@ -183,13 +183,13 @@ def test_keys_that_nothing_gives():
 
 
 def test_whom_nobody_asks():
-    """Whom a policy lets in by other words than those of a principal. A rule that means none of them is not open by it."""
-    who = {"CanonicalUser": "79a59df900b949e55d96a1e698fbacedfd6e09d98eacf8f8d5218e7cd47ef2be"}
+    """Whom a policy lets in by words that no name can have. A rule that means none of them is not open by it."""
+    who = {"Federated": "*"}
     grants = document({"Effect": "Allow", "Principal": who, "Action": "s3:*", "Resource": f"{S3}b/*"})
     bucket = {"arn": f"{S3}b", "account": ACCOUNT, "policy": grants}
     made = small_world(document(statement(action="sqs:*")), resources=[bucket])
     state, _, out = asked(made, f"never * s3:GetObject {S3}b/*", status=5)
-    assert state == "open" and "names CanonicalUser 79a59df900b9" in out, out
+    assert state == "open" and "names Federated *, for whom nobody is asked" in out, out
     kept(made, f"never *:user/ann s3:GetObject {S3}b/*")
     other = {"Effect": "Allow", "Principal": {"AWS": f"arn:aws:iam::{ACCOUNT}:user/bob"}, "Action": "s3:*", "Resource": f"{S3}b/*"}
     made["resources"] = [{**bucket, "policy": document(other)}]

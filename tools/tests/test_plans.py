@@ -152,12 +152,12 @@ def of_github(count=1):
 
 
 def test_a_role_that_a_provider_of_the_plan_is_trusted_for():
-    """The ARN of the provider follows from its URL; nobody is asked for whom it vouches, which is told."""
+    """The ARN of the provider follows from its URL; for whom it vouches a stand-in is asked."""
     found, said = gained(of_github())
     same(found, {("gained", f"{SESSION}ci/s1")})
     assert "apply" not in said, said
-    _, said = gained(of_github(), action="sts:AssumeRoleWithWebIdentity", resource=f"{ACCOUNT}role/ci")
-    assert f"{ACCOUNT}role/ci trust policy names Federated {ACCOUNT}{OIDC}, for whom nobody is asked\n" in said, said
+    found, _ = gained(of_github(), action="sts:AssumeRoleWithWebIdentity", resource=f"{ACCOUNT}role/ci")
+    same(found, {("gained", f"web identity: {OIDC.partition('/')[2]}")})
     # Of two blocks nobody knows which is which.
     _, said = gained(of_github(2), status=1)
     assert "only the apply tells aws_iam_role.ci.assume_role_policy" in said, said

@@ -4,19 +4,20 @@ import argparse
 from typing import Any, List, Tuple
 
 from .. import drafts, files, reviews
+from ..arns import owner_of, service_of
 from ..asking import ask_all
-from ..changing import Comparison, compare, compared, paged
-from ..covering import OF_MEMBERS, tell_actions, tell_strangers, unasked
+from ..changing import Changes, Comparison, compare, compared, paged
+from ..covering import is_open, tell_actions, tell_strangers, unasked
 from ..differences import differing, said_newly
 from ..documents import World, bare
 from ..faults import TOLD, Fault, tell
 from ..joining import joined
-from ..names import is_named
+from ..names import is_named, patterns_of
 from ..paging import data, page, request_of
+from ..patterns import common, of_given
 from ..questions import Question, Scope
 from ..slips import slips
 from ..sources import ASSUME, Source, add_outside, add_source
-from ..strangers import NOT_ASKED
 from .parsers import add, add_verbose
 
 
@@ -38,7 +39,9 @@ def add_all(commands: Any) -> None:
     add_verbose(parser)
     help_of_status = "as --fail-on any"
     parser.add_argument("--exit-status", action="store_true", help=help_of_status)
-    help_of_fail_on = "status 3 where such a request is told, 5 where something is open, 4 where nothing is of the choice"
+    help_of_fail_on = (
+        "status 3 where such a request is told, 5 where something is open, 4 where nothing is of the choice"
+    )
     parser.add_argument("--fail-on", choices=["gained", "lost", "any"], help=help_of_fail_on)
 
 
@@ -48,7 +51,8 @@ def run(options: argparse.Namespace) -> int:
     found = compare(before, after, patterns, options.resource, options.account)
     if found.worlds:
         tell_actions(after, patterns)
-    tell_strangers(after, changed(before, after, patterns, options.resource), True)
+    both = chosen(before, after, patterns, options.resource)
+    tell_strangers(after, list(differing(*both))[::-1], every=both)
     lines = [line for it in found.changes for line in reviews.lines_of(it, options.verbose)]
     if found.left:
         tell(f"{found.left} requests that change are left out, since no service has them (--services)")
@@ -74,23 +78,23 @@ def run(options: argparse.Namespace) -> int:
 
 
 def is_unasked(before: Source, after: Source, options: argparse.Namespace, asked: str) -> bool:
-    """Whether a statement that comes, or goes, lets in somebody for whom nobody is asked, as who is federated or a service."""
+    """Whether a statement that comes, or goes, lets in somebody for whom nobody is asked."""
     worlds = chosen(before, after, options.action or ["*"], options.resource)
     ways = {"gained": [worlds], "lost": [worlds[::-1]]}.get(asked, [worlds, worlds[::-1]])
-    lines = (line for of in ways for line in unasked(after, [said_newly(*of)], True))
-    return any(NOT_ASKED in it and OF_MEMBERS not in it for it in lines)
+    lines = (line for of in ways for line in unasked(after, [said_newly(*of)], every=worlds))
+    return any(map(is_open, lines))
 
 
 def chosen(before: Source, after: Source, patterns: List[str], resource: str) -> List[World]:
-    """Both worlds, with what is chosen."""
-    worlds = ({**it.world([ASSUME]), "actions": list(patterns)} for it in (before, after))
-    asked = Question("*", "*", resource)
-    return [{**it, "resources": [one for one in it["resources"] if is_named(asked, one["arn"])]} for it in worlds]
+    """Both worlds, with what is chosen, and with what has the policy of it."""
+    worlds: List[World] = [{**it.world([ASSUME]), "actions": list(patterns)} for it in (before, after)]
+    return [{**it, "resources": [one for one in it["resources"] if is_chosen(resource, one["arn"])]} for it in worlds]
 
 
-def changed(before: Source, after: Source, patterns: List[str], resource: str) -> List[World]:
-    """The worlds, for what is chosen, with the documents alone that differ; those of after first."""
-    return list(differing(*chosen(before, after, patterns, resource)))[::-1]
+def is_chosen(resource: str, arn: str) -> bool:
+    """Whether a pattern of resources means one, or something that has its policy."""
+    inside = f"{of_given(owner_of(arn))}/*" if service_of(arn) == "s3" else ""
+    return is_named(Question("*", "*", resource), arn) or any(common(it, inside) for it in patterns_of(resource))
 
 
 def is_different(before: Source, after: Source) -> bool:
@@ -108,11 +112,17 @@ def tell_slips(sources: Tuple[Source, Source], patterns: List[str], resource: st
                 tell(line)
 
 
+def assuming(first: Source, second: Source) -> Changes:
+    """Who may assume which role before and after."""
+    before, after = ask_all([it.world([ASSUME]) for it in (first, second)])
+    return compared(before, after)
+
+
 def page_of(found: Comparison, first: Source, second: Source) -> str:
     """The page of the matrix before and after, with what changes with a key alone; where nothing changes of who may assume what."""
     if not found.people and not found.requests:
         raise Fault("the two sides differ in no policy, so there is no page")
-    whole = paged(found) or [compared(*ask_all([it.world([ASSUME]) for it in (first, second)]))]
+    whole = paged(found) or [assuming(first, second)]
     sides = [[it.before for it in whole], [it.after for it in whole]]
     actions = list(dict.fromkeys(action for it in whole for action in it.after.world["actions"]))
     before, after = (joined(of, actions) if of[1:] else of[0] for of in sides)

@@ -43,7 +43,7 @@ def run(options: argparse.Namespace) -> int:
     if options.svg:
         files.write_file(options.svg, drawing(found, reporting.summary(found, end), reporting.notes(found, end)))
     files.write(WRITE[options.format](found, end))
-    tell_strangers(source, [search.things.trusting], asks_linked=False)
+    tell_strangers(source, [search.things.trusting], asks_all=False)
     return status(found)
 
 

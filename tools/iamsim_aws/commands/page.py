@@ -3,15 +3,16 @@
 import argparse
 from typing import Any, List
 
-from .. import files, hanging
+from .. import files
 from ..asking import ask_all
 from ..documents import World
-from ..faults import Fault
+from ..faults import Fault, tell
 from ..joining import joined, joined_turns
 from ..making import refuse_empty
 from ..paging import data, page
 from ..reports import is_brief, read_report
 from ..sources import ASSUME, Source, add_source, source_of
+from ..turning import hanging
 from .parsers import add
 
 
@@ -42,7 +43,10 @@ def run(options: argparse.Namespace) -> int:
     else:
         text = files.read_text(options.report)
         found, brief = [read_report(worlds[0], text)], is_brief(text)
-    turned = [hanging.turns(it.world, it) if options.hanging else {} for it in found]
+    hung = hanging(found) if options.hanging else []
+    for line in (line for it in hung for line in [*(f"open: {one}" for one in it.opens), *it.notes]):
+        tell(line)
+    turned = [it.turns for it in hung] or [{} for _ in found]
     if found[1:]:
         answers = joined(found, source.actions)
         turns = joined_turns(answers, list(zip(found, turned)))

@@ -3,14 +3,12 @@
 import argparse
 from typing import Any, Dict, List, NamedTuple, Set
 
-from .. import chains, drafts, files, hanging
-from ..asking import ask
-from ..covering import tell_lacked, tell_strangers
+from .. import chains, drafts, files
+from ..asking import ask_all
+from ..covering import is_open, tell_lacked, tell_strangers, unasked
 from ..everything import is_meant
-from ..examples import ask_any_key
 from ..exports import policy
 from ..faults import Fault, line_of, tell
-from ..hanging import Turn
 from ..speaking import made_up, stand_words
 from ..points import is_half_known
 from ..never import worlds_of_kinds
@@ -19,6 +17,7 @@ from ..reports import Answers, csv_text
 from ..sources import add_outside, add_source, source_of
 from ..strangers import is_stranger
 from ..telling import HEADER, as_fields, as_json, told
+from ..turning import Turn, hanging
 from . import databases, everything
 from .parsers import add, add_chains, add_verbose
 
@@ -27,11 +26,12 @@ ALL_NAMES = "all names were asked for, of those that one pattern allows the shor
 
 
 class Found(NamedTuple):
-    """The answers of one world, and what they hang on."""
+    """The answers of one world, what they hang on, and what is told of that besides."""
 
     asked: Asked
     answers: Answers
-    turns: Dict[int, List[Turn]]
+    turns: Dict[int, Turn]
+    notes: List[str]
 
 
 def add_all(commands: Any) -> None:
@@ -54,9 +54,7 @@ def add_question(parser: argparse.ArgumentParser) -> None:
     parser.add_argument("action", metavar="ACTION", help="as s3:GetObject, or a pattern")
     parser.add_argument("resource", metavar="RESOURCE", help="an ARN, a name, or a pattern of what the world has")
     add_source(parser)
-    parser.add_argument(
-        "--kinds", action="store_true", help="a pattern means every name, and not only what is named"
-    )
+    parser.add_argument("--kinds", action="store_true", help="a pattern means every name, and not only what is named")
     parser.add_argument("--policy", metavar="FILE", help="the policy of the resource, as a bucket's")
     parser.add_argument(
         "--sealed", action="store_true", help="that policy must grant in the same account too, as a KMS key's"
@@ -80,61 +78,33 @@ def answered(scope: Scope, question: Question) -> List[Found]:
     asked = worlds_of_kinds(scope, question) if scope.kinds else worlds(scope, question)
     if not asked:
         raise Fault(missing(scope, question))
-    found = []
     tell_lacked(lacked(scope.source, dict.fromkeys(action for it in asked for action in it.world["actions"])))
-    for it in asked:
-        answers = ask(it.world)
-        turns = hanging.turns(it.world, answers)
-        opens = add_examples(answers, turns)
-        found.append(Found(it._replace(opens=list(dict.fromkeys([*it.opens, *opens]))), answers, turns))
-    return found
-
-
-def add_examples(answers: Answers, turns: Dict[int, List[Turn]]) -> List[str]:
-    """Adds what allows a request of which no single value of a key does, by an example of all keys that it wants; and of which request
-    it is not shown, in words."""
-    [turned], flags = ask_any_key([answers.world]), answers.flags()
-    known = {cell for cell, of in turns.items() if any(it.decision == "allowed" for it in of)}
-    for cell, example in turned.examples.items():
-        if not flags[cell] and cell not in known:
-            (key, value), *more = example.pairs
-            turns.setdefault(cell, []).append(Turn(key, value, "allowed", (), tuple(more)))
-    return [turned.open_words(it) for it in turned.opens if it not in known]
+    every = ask_all([it.world for it in asked])
+    return [
+        Found(it._replace(opens=list(dict.fromkeys([*it.opens, *of.opens]))), answers, of.turns, of.notes)
+        for it, answers, of in zip(asked, every, hanging(every))
+    ]
 
 
 def notes(found: List[Found]) -> List[str]:
     """What the answers cover, and which keys could turn them."""
     lines = []
-    for asked, answers, turns in found:
+    for asked, answers, turns, more in found:
         for arn in asked.added:
             whose = account_words(asked.world, arn)
             lines.append(f"{arn} is not in the world: it is asked for {policy_words(asked, arn)}{whose}")
         lines += stand_lines(asked, answers, turns)
-        lines += key_notes(asked, turns)
-        lines += [f"open: {it}" for it in asked.opens]
+        lines += [*more, *(f"open: {it}" for it in asked.opens)]
     if any(it.asked.stand for it in found):
         lines.append(ALL_NAMES)
     return [line_of(it) for it in lines]
 
 
-def stand_lines(asked: Asked, answers: Answers, turns: Dict[int, List[Turn]]) -> List[str]:
+def stand_lines(asked: Asked, answers: Answers, turns: Dict[int, Turn]) -> List[str]:
     """What the texts stand for by which something is allowed, or would be; by the others nothing is."""
     rows = [answers.row(cell) for cell in {*answers.allowed(), *turns}]
     told_of = {text for row in rows for text in (row.action, row.resource)}
     return stand_words(asked.stand, *(it for it in asked.stand if it in told_of))
-
-
-def key_notes(asked: Asked, turns: Dict[int, List[Turn]]) -> List[str]:
-    """The keys that nothing gives, and with which no answer turned."""
-    turned = {key for of in turns.values() for it in of for key in (it.key, *dict(it.besides))}
-    silent = [it for it in hanging.wanted(asked.world) if it not in turned]
-    if not silent:
-        return []
-    if hanging.is_too_much(asked.world):
-        return [
-            f"what the answers hang on was not asked, since they are too many; policies ask for {', '.join(silent)}"
-        ]
-    return [hanging.silent_words(silent)]
 
 
 def policy_words(asked: Asked, arn: str) -> str:
@@ -150,13 +120,13 @@ def write(options: argparse.Namespace, found: List[Found], text: List[str]) -> N
         tell(line)
     values: List[Dict[str, Any]] = []
     fields: List[List[str]] = []
-    for asked, answers, turns in found:
+    for asked, answers, turns, _ in found:
         made = made_up(asked.stand)
         for cell in range(len(answers.numbers)):
             if options.format == "json":
-                values.append(as_json(answers, cell, turns.get(cell, []), made))
+                values.append(as_json(answers, cell, turns.get(cell), made))
             else:
-                fields.append(as_fields(answers, cell, turns.get(cell, [])))
+                fields.append(as_fields(answers, cell, turns.get(cell)))
     files.write(files.compact(values) + "\n" if options.format == "json" else csv_text(HEADER, fields))
 
 
@@ -170,11 +140,11 @@ def can(options: argparse.Namespace) -> int:
     lines = []
     for it in found:
         for cell in range(len(it.answers.numbers)):
-            lines += told(it.answers, cell, it.turns.get(cell, []), True, options.verbose)
+            lines += told(it.answers, cell, it.turns.get(cell), True, options.verbose)
     write(options, found, lines)
     if not all(it.decision == "allowed" for of in found for it in of.answers.table):
         return 3
-    if is_open(found):
+    if has_opens(found):
         return 5
     return 6 if any(is_half_known(it) for of in found for it in of.answers.world["resources"]) else 0
 
@@ -190,11 +160,12 @@ def who_can(options: argparse.Namespace) -> int:
     if options.chains:
         lines += chain_lines(scope, found, options.depth)
     write(options, found, lines)
-    tell_strangers(scope.source, [it.asked.world for it in found])
-    return 5 if is_open(found) else 0
+    asked = [it.asked.world for it in found]
+    tell_strangers(scope.source, asked)
+    return 5 if has_opens(found) or any(map(is_open, unasked(scope.source, asked))) else 0
 
 
-def is_open(found: List[Found]) -> bool:
+def has_opens(found: List[Found]) -> bool:
     return any(it.asked.opens for it in found)
 
 
@@ -217,9 +188,9 @@ def who_lines(found: Found, is_verbose: bool) -> List[str]:
 
 
 def lines_for(found: Found, allowed: List[int], turned: List[int], is_verbose: bool) -> List[str]:
-    _, answers, turns = found
+    _, answers, turns, _ = found
     some = set(allowed)
-    lines = [line for it in allowed for line in told(answers, it, turns.get(it, []), False, is_verbose)]
+    lines = [line for it in allowed for line in told(answers, it, turns.get(it), False, is_verbose)]
     more = [it for it in turned if it not in some]
     if more:
         lines.append(f"{len(more)} more would be, with a key that nothing gives:")
@@ -229,10 +200,9 @@ def lines_for(found: Found, allowed: List[int], turned: List[int], is_verbose: b
 def chain_lines(scope: Scope, found: List[Found], depth: int) -> List[str]:
     allowed: Set[str] = {it.answers.row(cell).principal for it in found for cell in it.answers.allowed()}
     lacking = {
-        it.answers.row(cell).principal: turn.words()
+        it.answers.row(cell).principal: turn.given()
         for it in found
-        for cell, of in it.turns.items()
-        for turn in of
+        for cell, turn in it.turns.items()
         if turn.decision == "allowed"
     }
     steps = chains.steps_of(scope.source, [it.asked.world for it in found])

@@ -136,7 +136,7 @@ class Things:
         outside = kind in (ASSUMED, "")
         principals = [people.principal(it) for it in nodes if outside or it.number < people.own]
         base = self.assumed if ASSUME in actions else self.base
-        world = {**base, "actions": actions, "principals": principals}
+        world: World = {**base, "actions": actions, "principals": principals}
         if kind == OPEN:
             world["resources"] = self.opened()
         elif kind == ELSEWHERE:

@@ -4,7 +4,8 @@ from typing import Dict, Iterable, List, NamedTuple, Optional, Set, Tuple
 
 from .. import chains
 from ..covering import unasked
-from ..hanging import wanted
+from ..dates import OF_MOMENT
+from ..bounds import hanging_keys
 from ..speaking import Origins
 from ..patterns import any_matches
 from ..sources import Source
@@ -17,7 +18,7 @@ from .steps import Open, Step, Steps
 from .table import BOUNDARY_KEY, POLICY_KEY, SERVICE_KEY
 
 # The keys that the requests of the ways have where AWS has them.
-GIVEN_KEYS = {it.lower() for it in (BOUNDARY_KEY, POLICY_KEY, SERVICE_KEY)}
+GIVEN_KEYS = {it.lower() for it in (BOUNDARY_KEY, POLICY_KEY, SERVICE_KEY, *OF_MOMENT)}
 
 
 class Found(NamedTuple):
@@ -70,7 +71,8 @@ class Search:
         """The nodes that are new after one step of these."""
         asked = Round(self.things, self.people, nodes)
         for answers in asked.answers.values():
-            self.keys.update(dict.fromkeys(it for it in wanted(answers.world) if it.lower() not in GIVEN_KEYS))
+            keys = hanging_keys(answers.world, answers.world["actions"])
+            self.keys.update(dict.fromkeys(it for it in keys if it.lower() not in GIVEN_KEYS))
         steps = Steps(self.things, self.people, asked)
         new: Dict[Node, None] = {}
         for node in nodes:
@@ -121,7 +123,7 @@ class Search:
     def let_in(self, arrived: List[Node]) -> List[str]:
         """Who is outside, is let into one of these, and is not asked for."""
         arns = {self.people.called(it) for it in arrived}
-        told = unasked(self.things.source, [self.things.trusting], asks_linked=False)
+        told = unasked(self.things.source, [self.things.trusting], asks_all=False)
         return [line for line, roles in told.items() if NOT_ASKED in line and arns & roles]
 
     def ways(self, ends: List[Node]) -> Dict[Node, List[Step]]:

@@ -70,7 +70,8 @@ def filled(pattern: str, account: str, template: Optional[List[str]] = None) -> 
 
 def resources(world: World, asked: str, actions: List[str]) -> List[Witness]:
     """A witness for the asked pattern and for each pattern of a policy that meets it, in the account of who has the policy
-    where it leaves that open. Named resources stand for themselves alone: a deny on one of them says nothing of the others."""
+    where it leaves that open. Named resources stand for themselves alone: a deny on one of them says nothing of the others.
+    """
     named = {it["arn"] for it in world["resources"]}
     ids = {it["id"] for it in world["accounts"]}
     patterns: Dict[Tuple[str, str], Origin] = {}

@@ -170,10 +170,10 @@ class Plan:
         if not longest:
             raise Fault("the estate has no resources: see --resources, or ask for sts:AssumeRole")
         refuse_doubles([it.value["arn"] for it in longest[: len(longest) - further]])
-        for n, it in enumerate(longest):
-            fields = (n, it.value["arn"], self.account(it.value["account"]), int(it.value.get("sealed") is True))
+        for n, value in enumerate(it.value for it in longest):
+            fields = (n, value["arn"], self.account(value["account"]), int(value.get("sealed") is True))
             self.keep("resources", [fields])
-            self.hold("resources", n, it.value)
+            self.hold("resources", n, value)
         first = 0
         for group, items in zip(self.groups, lists):
             if group and items:

@@ -483,16 +483,16 @@ function statementsPart(layers, decision, places, principal, resource) {
 }
 
 function turnsPart(n) {
-  const turns = data.turns[n] || [];
-  if (!turns.length) return [];
-  const list = make("ul");
-  turns.forEach(([key, values, decision]) => {
-    const line = make("li");
-    line.append(`${decision} if `, make("code", "", key), " is ");
-    values.forEach((value, n) => line.append(n ? " or " : "", make("code", "", value)));
-    list.append(line);
+  const turn = data.turns[n];
+  if (!turn) return [];
+  const [decision, keys] = turn;
+  const line = make("p", "", `${decision} if `);
+  keys.forEach(([key, values], at) => {
+    line.append(at ? " and " : "", make("code", "", key), " is ");
+    const between = keys.length > 1 ? " and " : " or ";
+    values.forEach((value, n) => line.append(n ? between : "", make("code", "", value)));
   });
-  return [make("h3", "", "What it hangs on"), list];
+  return [make("h3", "", "What it hangs on"), line];
 }
 
 function lacksPart(lacks) {

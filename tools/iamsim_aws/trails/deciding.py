@@ -24,7 +24,7 @@ def jobs_of(side: Side, some: List[Request]) -> Iterator[Job]:
     for numbers in grouped(some):
         given = [some[n] for n in numbers]
         keys = list(dict.fromkeys(it.keys for it in given))
-        world, made = without_decimals(side.world(given), list(map(dict, keys)))
+        world, made = without_decimals(side.world(given), [dict(it) for it in keys])
         contexts = dict(zip(keys, made))
         people = {(it.who, it.session): None for it in given}
         principals = {key: n for n, key in enumerate(people)}
