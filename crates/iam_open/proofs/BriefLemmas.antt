@@ -1,7 +1,6 @@
 -- Rows in brief, from texts with what stands beside them in each row.
 use Rattle.std.proofs.Common.{◌≡◌, ◌∙◌, ℕ, List, [], ◌∷◌, ◌++◌, ap, append_assoc, codes, decimal, refl, sym, true}
-use Rattle.iam_layers.specs.Cell.{IsCell}
-use Rattle.iam_open.specs.Code.Parts.{back_text, comma_behind, middle_text, pieces_text}
+use Rattle.iam_open.specs.Code.Parts.{comma_behind, middle_text, pieces_text}
 use Rattle.iam_open.specs.Rows.{TurnedRow, brief_text, quoted_texts, row_text, together, word_of, word_text}
 use Rattle.iam_open.specs.declared.asked.Word.{Word}
 use Rattle.iam_row.specs.Piece.{IsQuotedOf, pieces_at, pieces_of, quote_of}

@@ -1,14 +1,13 @@
 -- The first request of those that are selected of which it is not seen that it is never allowed.
-use Rattle.std.proofs.Common.{◌≡◌, ◌≢◌, ◌⊎◌, ◌∙◌, ℕ, zero, suc, ◌+◌, ◌*◌, ◌/◌, ◌<◌, ◌≤◌, List, [], ◌∷◌, Option, Some, None, ⊎_elim, ap, arith, length, min, refl, subst, sym, ◌++◌, true}
+use Rattle.std.proofs.Common.{◌≡◌, ◌≢◌, ◌∙◌, ℕ, zero, suc, ◌+◌, ◌*◌, ◌/◌, ◌<◌, ◌≤◌, List, [], ◌∷◌, Option, Some, None, ⊎_elim, ap, arith, length, refl, subst, sym, ◌++◌, true}
 use Rattle.std.specs.List.{slice_get}
 use Rattle.std.proofs.Math.Nat.{div-mul-le_self, lt-div-mul-add}
 use Rattle.std.proofs.lemmas.Bool.{cases_lt}
 use Rattle.std.proofs.lemmas.List.{append-nil}
 use Rattle.std.proofs.lemmas.Nat.{le-div}
-use Rattle.iam_layers.specs.Cell.{IsCell}
 use Rattle.iam_open.specs.Asked.{AskedValue, IsSelected}
-use Rattle.iam_open.specs.Code.Parts.{AreNeverBelow, IsFirstIn, IsFoundHere, IsOther, found_report, from_of, to_of}
-use Rattle.iam_open.specs.First.{FirstRow, IsFirstTurnedReport, IsNeverAt}
+use Rattle.iam_open.specs.Code.Parts.{AreNeverBelow, IsFirstIn, IsFoundHere, found_report, from_of, to_of}
+use Rattle.iam_open.specs.First.{IsFirstTurnedReport, IsNeverAt}
 use Rattle.iam_open.specs.InQuestion.{IsNever}
 use Rattle.iam_open.specs.Rows.{opening_text, word_of}
 use Rattle.iam_open.specs.Turned.{IsTurned}

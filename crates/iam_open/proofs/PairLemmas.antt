@@ -1,5 +1,5 @@
 -- What is known of a pair: statement by statement, and what follows for its requests.
-use Rattle.std.proofs.Common.{◌≡◌, ◌∙◌, ◌+◌, ◌<◌, inl, inr, ℕ, zero, suc, List, [], ◌∷◌, ◌++◌, All, Bool, None, Option, if◌then◌else◌, arith, get_or, length, map, refl, subst, sym, ap, take}
+use Rattle.std.proofs.Common.{◌≡◌, ◌∙◌, ◌+◌, ◌<◌, inl, inr, ℕ, zero, suc, List, [], ◌∷◌, ◌++◌, All, None, Option, if◌then◌else◌, arith, get_or, length, map, refl, subst, sym, ap, take}
 use Rattle.std.specs.List.{Any, Contains}
 use Rattle.std.proofs.lemmas.List.{append-nil, length-map}
 use Rattle.std.proofs.lemmas.List.Elements.{Contains-append_left, Contains-push, Contains-push_cases}

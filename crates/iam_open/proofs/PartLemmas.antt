@@ -1,5 +1,5 @@
 -- Rows of cells that follow one another.
-use Rattle.std.proofs.Common.{◌≡◌, ◌⊎◌, ◌∙◌, inl, inr, ℕ, zero, suc, ◌+◌, ◌*◌, ◌<◌, ◌≤◌, Bool, Global, List, [], ◌∷◌, ◌++◌, Option, Some, String, ap, append_assoc, arith, codes, length, min, refl, string_bytes, subst, sym, take}
+use Rattle.std.proofs.Common.{◌≡◌, ◌⊎◌, ◌∙◌, inl, inr, ℕ, zero, suc, ◌+◌, ◌*◌, Bool, Global, List, [], ◌∷◌, ◌++◌, Option, Some, String, ap, append_assoc, arith, codes, length, min, refl, string_bytes, subst, sym}
 use Rattle.std.specs.List.{slice_get}
 use Rattle.std.proofs.Math.Nat.{add-mul}
 use Rattle.std.proofs.lemmas.List.{append-nil, length-append}

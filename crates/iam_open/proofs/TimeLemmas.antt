@@ -1,5 +1,5 @@
 -- What is certain of the time in the contexts that are at no earlier moment than one.
-use Rattle.std.proofs.Common.{◌≡◌, ◌↔◌, ◌∙◌, ◌<◌, ◌≤◌, ◌≤ℤ◌, ◌*ℤ◌, inl, inr, pos, ℕ, ℤ, List, [], ◌∷◌, Bool, true, false, All, Any, IsTrue, IfSome, MatchBool, None, Option, Some, ap, arith, get_or, length, map, refl, subst, sym}
+use Rattle.std.proofs.Common.{◌≡◌, ◌↔◌, ◌∙◌, ◌<◌, ◌≤◌, ◌*ℤ◌, inl, inr, pos, ℕ, ℤ, List, [], ◌∷◌, Bool, true, false, All, Any, IfSome, MatchBool, None, Option, Some, ap, arith, get_or, length, map, refl, subst, sym}
 use Rattle.std.proofs.lemmas.Int.{ints}
 use Rattle.std.proofs.lemmas.Slice.Eq.{bytes_eq-Decides}
 use Rattle.std.specs.Char.{to_ascii_lowercase}
@@ -16,7 +16,7 @@ use Rattle.iam_condition.specs.declared.operator.Quantifier.{Quantifier}
 use Rattle.iam_context.specs.Context.{ContextValue, is_same_key, values_of}
 use Rattle.iam_match.specs.Entry.{EntryHolds, HasTruth, HoldsOn, Ordered, Resolves, Satisfies, ValueMatches, asks_every, is_null}
 use Rattle.iam_open.specs.Code.Certain.{Tells}
-use Rattle.iam_open.specs.Code.Time.{DateTells, IsAtMoment, IsFrom, IsInTime, IsNoEarlier, time_key}
+use Rattle.iam_open.specs.Code.Time.{DateTells, IsFrom, IsInTime, IsNoEarlier, time_key}
 use Rattle.iam_open.specs.declared.certain.Certain.{Certain}
 use Rattle.iam_open.specs.declared.certain.Certain.TheVariants.{Always, Never, Open}
 use Rattle.iam_open.proofs.ListLemmas.{none_of_none, some_cases, some_first}

@@ -8,7 +8,7 @@ use Rattle.iam_open.specs.Hangs.{ArePlacesOf, HangsOn}
 use Rattle.iam_open.specs.Rows.{TurnedRow, report_text, word_of}
 use Rattle.iam_open.specs.Turned.{IsTurned}
 use Rattle.iam_open.specs.declared.answer.Turned.{Turned}
-use Rattle.iam_open.specs.declared.answer.Turned.TheVariants.{Always, Never, Possible, Open}
+use Rattle.iam_open.specs.declared.answer.Turned.TheVariants.{Possible}
 use Rattle.iam_row.specs.Report.{AreEntriesFrom, HasTexts}
 use Rattle.iam_row.specs.declared.quoted.Format.{Format}
 use Rattle.iam_world.specs.World.{WorldValue, world_cells}

@@ -1,8 +1,8 @@
 // What is said of a request, whatever values the keys have that nothing gives.
-ghost use Rattle.std.specs.Prelude.{◌≡◌, ◌<◌, ◌∷◌, [], IfOk, length};
+ghost use Rattle.std.specs.Prelude.{◌<◌, ◌∷◌, [], IfOk, IfSome, length, ℕ};
 ghost use Rattle.iam_open.specs.Code.Pairs.{AreKept};
-ghost use Rattle.iam_open.specs.InQuestion.{IsAlways, IsNever};
-ghost use Rattle.iam_open.specs.Turned.{IsTurned};
+ghost use Rattle.iam_open.specs.Turned.{IsShown, IsTurned};
+ghost use Rattle.iam_world.specs.World.{WorldValue};
 
 use crate::certain::Certain;
 use crate::example::Example;
@@ -42,8 +42,11 @@ pub fn turned_of(
     requires resource { r < length world.now.resources }
     ensures { IfOk result (IsTurned (world.now ∷ []) world.now p a r) }
 {
-    let certain = certainly(alloc, world, p, a, r)?;
-    turned_by(alloc, world, p, a, r, certain)
+    match certainly(alloc, world, p, a, r)? {
+        Certain::Always => Ok(Turned::Always),
+        Certain::Never => Ok(Turned::Never),
+        Certain::Open => Ok(shown_by(example(alloc, world, p, a, r)?)),
+    }
 }
 
 /// The same, with pairs that are kept.
@@ -62,32 +65,19 @@ pub fn kept_turned<'a>(
     ensures turned { IfOk result (IsTurned (world.entry.now ∷ []) world.entry.now p a r) }
     ensures kept { AreKept world.entry.now kept.new }
 {
-    let certain = kept.certainly(alloc, world, p, a, r)?;
-    turned_by(alloc, world, p, a, r, certain)
-}
-
-/// The same, where this is certain of the request.
-fn turned_by(
-    alloc: Global,
-    world: &World,
-    p: u64,
-    a: u64,
-    r: u64,
-    certain: Certain,
-) -> Result<Turned, OutOfMemory>
-    requires principal { p < length world.now.principals }
-    requires action { a < length world.now.actions }
-    requires resource { r < length world.now.resources }
-    requires always { certain ≡ Certain.Always → IsAlways (world.now ∷ []) world.now p a r }
-    requires never { certain ≡ Certain.Never → IsNever (world.now ∷ []) world.now p a r }
-    ensures { IfOk result (IsTurned (world.now ∷ []) world.now p a r) }
-{
-    match certain {
+    match kept.certainly(alloc, world, p, a, r)? {
         Certain::Always => Ok(Turned::Always),
         Certain::Never => Ok(Turned::Never),
-        Certain::Open => match example(alloc, world, p, a, r)? {
-            Some(shown) => Ok(Turned::Possible(shown)),
-            None => Ok(Turned::Open),
-        },
+        Certain::Open => Ok(shown_by(kept.example(alloc, world, p, a, r)?)),
+    }
+}
+
+/// What an example shows, if there is one.
+fn shown_by(found: Option<Example>) -> Turned
+    ensures { (world : WorldValue) (p a r : ℕ) → IfSome found (IsShown (world ∷ []) world p a r) → IsTurned (world ∷ []) world p a r result }
+{
+    match found {
+        Some(shown) => Turned::Possible(shown),
+        None => Turned::Open,
     }
 }

@@ -1,17 +1,24 @@
 // Pairs that are kept from request to request. Where one stands is a guess: it is that of a principal and a resource only where it says so.
 // Tiles come in no order of principals (LOGIC 11.7), so those of all principals are kept.
-ghost use Rattle.std.specs.Prelude.{◌≡◌, ◌↔◌, ◌<◌, All, Contains, IfOk, IfSome, IsTrue, List, None, [], length};
+ghost use Rattle.std.specs.Prelude.{◌≡◌, ◌↔◌, ◌<◌, All, Contains, IfOk, IfSome, IsTrue, List, None, [], ◌∷◌, length};
 ghost use Rattle.iam_open.specs.Code.Pairs.{AreKept, IsKept, IsPairAt};
 ghost use Rattle.iam_open.specs.InQuestion.{IsAlways, IsNever};
+ghost use Rattle.iam_open.specs.Turned.{IsShown};
 ghost use Rattle.iam_world.specs.World.{WorldValue};
 
 use crate::certain::Certain;
+use crate::example::{Example, example_of};
+use crate::finds::{Again, Finds, acting_on};
 use crate::pair::{Pair, pair_certain, plain_pair};
+use crate::seek::example;
 use iam_layers::{OutOfMemory, World};
 use std::alloc::Global;
 
 /// So many statements of pairs are kept at most by all workers together, some 32 MB.
 pub const ROOM: u64 = 800_000;
+
+/// What a search found takes the room of so many statements.
+const FIND: u64 = 8;
 
 /// Stands for no place.
 const NO_PLACE: u32 = u32::MAX;
@@ -23,6 +30,7 @@ pub struct Kept<'a> {
     // The place of the pair of each principal and resource, `NO_PLACE` where there is none.
     places: Vec<u32>,
     resources: u64,
+    finds: Finds,
     // How many statements they have, where each counts for some more, and may have.
     held: u64,
     room: u64,
@@ -37,6 +45,7 @@ impl<'a> Kept<'a> {
             pairs: Vec::new(alloc),
             places: Vec::new(alloc),
             resources,
+            finds: Finds::new(alloc, room / FIND),
             held: 0,
             room,
         }
@@ -79,6 +88,60 @@ impl<'a> Kept<'a> {
             return Some(pair);
         }
         None
+    }
+
+    /// As [`crate::seek::example`]: what was found where the same statements act is tried first, and settles it where it was sought.
+    pub fn example(
+        &mut self,
+        alloc: Global,
+        world: &'a World,
+        p: u64,
+        a: u64,
+        r: u64,
+    ) -> Result<Option<Example>, OutOfMemory>
+        requires principal { p < length world.now.principals }
+        requires action { a < length world.now.actions }
+        requires resource { r < length world.now.resources }
+        requires kept { AreKept world.now self.old }
+        ensures shown { IfOk result (λ found. IfSome found (IsShown (world.entry.now ∷ []) world.entry.now p a r)) }
+        ensures kept { AreKept world.entry.now self.new }
+    {
+        match self.again(alloc, p, r, world.action_text(a))? {
+            Again::Nothing => return Ok(None),
+            Again::Found(own, moment) => return example_of(alloc, world, p, a, r, own, moment),
+            Again::Unknown => {}
+        }
+        let found = example(alloc, world, p, a, r)?;
+        self.keep_found(alloc, p, r, world.action_text(a), &found);
+        Ok(found)
+    }
+
+    /// What was found for an action on which the same statements act.
+    fn again(&self, alloc: Global, p: u64, r: u64, action: &str) -> Result<Again, OutOfMemory> {
+        match self.acting(p, r, action) {
+            Some(acting) => self.finds.again(alloc, self.place(p, r), p, r, acting),
+            None => Ok(Again::Unknown),
+        }
+    }
+
+    /// Keeps what was found for an action.
+    fn keep_found(&mut self, alloc: Global, p: u64, r: u64, action: &str, found: &Option<Example>)
+        ensures { self.new.pairs.items ≡ self.old.pairs.items }
+    {
+        let place = self.place(p, r);
+        let Some(acting) = self.acting(p, r, action) else {
+            return;
+        };
+        // Where there is no memory it is not kept.
+        let _ = self.finds.keep(alloc, place, p, r, acting, found);
+    }
+
+    /// Which of the statements of a pair that is kept act on an action.
+    fn acting(&self, p: u64, r: u64, action: &str) -> Option<u64> {
+        match self.of(p, r) {
+            Some(pair) => acting_on(pair, action),
+            None => None,
+        }
     }
 
     /// Where the place of the pair of principal p and resource r is noted.

@@ -23,6 +23,7 @@ mod certain;
 mod decide;
 mod entry;
 mod example;
+mod finds;
 mod first;
 mod hangs;
 mod kept;

@@ -1,8 +1,8 @@
 use Rattle.std.proofs.Common.{[], ◌∷◌, arith, refl}
 use Rattle.iam_open.proofs.answer.turned_of.Goals as goal
 
-pub turned_by-requires-clause-always : goal.turned_by-requires-clause-always
-turned_by-requires-clause-always c = c.in_ok-certain.ensures.always (c.args.world.now ∷ []) (0, omega arith, refl)
+pub returns-in-Always : goal.returns-in-Always
+returns-in-Always c = c.in_ok-certainly.ensures.always (c.args.world.now ∷ []) (0, omega arith, refl) c.in-Always.is
 
-pub turned_by-requires-clause-never : goal.turned_by-requires-clause-never
-turned_by-requires-clause-never c = c.in_ok-certain.ensures.never (c.args.world.now ∷ []) (0, omega arith, refl)
+pub returns-in-Never : goal.returns-in-Never
+returns-in-Never c = c.in_ok-certainly.ensures.never (c.args.world.now ∷ []) (0, omega arith, refl) c.in-Never.is

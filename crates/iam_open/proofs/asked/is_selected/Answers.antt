@@ -1,6 +1,4 @@
-use Rattle.std.proofs.Common.{◌≡◌}
-use Rattle.iam_layers.specs.Cell.{IsCell}
-use Rattle.iam_open.specs.Asked.{AskedValue, asked_of}
+use Rattle.iam_open.specs.Asked.{asked_of}
 use Rattle.iam_open.proofs.AskedLemmas.{selected_texts, texts_selected}
 use Rattle.iam_row.specs.Report.{CellTexts, HasTexts}
 use Rattle.iam_open.proofs.asked.is_selected.Goals as goal

@@ -1,4 +1,4 @@
-use Rattle.std.proofs.Common.{◌<◌, ◌+◌, ◌≤◌, arith, subst, sym}
+use Rattle.std.proofs.Common.{arith, subst, sym}
 use Rattle.iam_open.specs.Asked.{asked_of}
 use Rattle.iam_open.specs.Code.Parts.{AreNeverBelow}
 use Rattle.iam_open.proofs.FirstLemmas.{never_more, none_here}

@@ -1,10 +1,9 @@
-use Rattle.std.proofs.Common.{◌≡◌, ◌+◌, ◌/◌, ◌<◌, ap, arith, ◌∙◌, subst, string_bytes}
+use Rattle.std.proofs.Common.{◌+◌, ◌/◌, ap, arith, ◌∙◌, subst, string_bytes}
 use Rattle.std.proofs.lemmas.Result.{MatchResult-weaker}
 use Rattle.iam_crew.specs.Bound.{bound_of}
 use Rattle.iam_open.specs.Asked.{asked_of}
 use Rattle.iam_open.specs.Code.Parts.{IsFirstIn}
 use Rattle.iam_open.proofs.FirstLemmas.{first_whole, tiles_never}
-use Rattle.iam_world.specs.World.{world_cells}
 use Rattle.iam_open.proofs.first.first_turned_report.Goals as goal
 
 pub returns : goal.returns

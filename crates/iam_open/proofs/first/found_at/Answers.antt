@@ -1,6 +1,5 @@
-use Rattle.std.proofs.Common.{◌≡◌, ◌≢◌, ◌∙◌, [], ◌∷◌, ap, refl, subst, sym}
+use Rattle.std.proofs.Common.{◌≡◌, ◌≢◌, ◌∙◌, [], ◌∷◌, ap, refl, sym}
 use Rattle.iam_open.specs.Rows.{word_of}
-use Rattle.iam_open.specs.declared.asked.Word.{Word}
 use Rattle.iam_open.specs.declared.asked.Word.TheVariants.{Never}
 use Rattle.iam_open.proofs.FirstLemmas.{never_said}
 use Rattle.iam_open.proofs.first.found_at.Goals as goal

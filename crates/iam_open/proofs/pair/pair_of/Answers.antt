@@ -1,6 +1,5 @@
-use Rattle.std.proofs.Common.{List, map, subst}
-use Rattle.iam_decision.specs.Applicable.{ApplicableValue}
-use Rattle.iam_decision.specs.Matched.{Placed, placed}
+use Rattle.std.proofs.Common.{List, subst}
+use Rattle.iam_decision.specs.Matched.{Placed}
 use Rattle.iam_match.specs.Statement.{AccessValue}
 use Rattle.iam_open.specs.Code.Known.{Follows}
 use Rattle.iam_open.specs.Code.Pairs.{AreChances}

@@ -1,4 +1,4 @@
-use Rattle.std.proofs.Common.{◌≡◌, ◌+◌, ◌<◌, ◌≤◌, ℕ, List, arith, string_bytes, subst, sym}
+use Rattle.std.proofs.Common.{arith, string_bytes, subst, sym}
 use Rattle.iam_open.specs.Asked.{asked_of}
 use Rattle.iam_open.specs.Code.Parts.{IsPart}
 use Rattle.iam_open.proofs.PartLemmas.{part_more}

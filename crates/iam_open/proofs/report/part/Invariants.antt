@@ -1,4 +1,4 @@
-use Rattle.std.proofs.Common.{◌≡◌, ◌-◌, ◌<◌, ◌≤◌, string_bytes}
+use Rattle.std.proofs.Common.{◌-◌, ◌<◌, ◌≤◌, string_bytes}
 use Rattle.iam_layers.specs.Cell.{IsCell}
 use Rattle.iam_world.specs.World.{world_cells}
 use Rattle.iam_open.specs.Asked.{asked_of}

@@ -1,4 +1,4 @@
-use Rattle.std.proofs.Common.{◌≡◌, inl, inr, None, Some, string_bytes, subst, sym}
+use Rattle.std.proofs.Common.{inl, inr, None, Some, string_bytes, subst, sym}
 use Rattle.std.proofs.lemmas.Result.{on_ok_weaker}
 use Rattle.iam_open.specs.Asked.{IsWanted, asked_of}
 use Rattle.iam_open.specs.Rows.{word_of}

@@ -1,5 +1,4 @@
-use Rattle.std.proofs.Common.{◌≡◌, ◌∙◌, ◌+◌, ◌*◌, ◌/◌, ◌<◌, ◌≤◌, ◌++◌, ℕ, zero, Global, List, [], String, Some, ap, arith, length, min, string_bytes, subst, sym}
-use Rattle.std.specs.List.{slice_get}
+use Rattle.std.proofs.Common.{◌≡◌, ◌∙◌, ◌+◌, ◌*◌, ◌/◌, ◌<◌, ◌++◌, ℕ, Global, List, [], String, ap, arith, length, string_bytes, subst}
 use Rattle.std.proofs.Math.Nat.{add-mul, lt-div-mul-add}
 use Rattle.std.proofs.lemmas.Result.{MatchResult-weaker}
 use Rattle.iam_world.specs.World.{world_cells}

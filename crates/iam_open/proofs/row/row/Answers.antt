@@ -1,11 +1,10 @@
-use Rattle.std.proofs.Common.{◌≡◌, ◌∙◌, [], ap, false, refl, subst, sym, true}
+use Rattle.std.proofs.Common.{◌∙◌, [], ap, false, refl, subst, sym, true}
 use Rattle.std.proofs.lemmas.Result.{MatchResult-weaker}
 use Rattle.iam_decision.specs.declared.verdict.Decision.TheVariants.{ImplicitDeny}
-use Rattle.iam_layers.specs.Cell.{IsCell}
 use Rattle.iam_open.specs.Report.{IsRow, IsSaid}
 use Rattle.iam_open.specs.Rows.{TurnedRow, brief_text, row_text}
 use Rattle.iam_open.specs.declared.answer.Turned.{Turned}
-use Rattle.iam_row.specs.Piece.{bare, quote_of}
+use Rattle.iam_row.specs.Piece.{bare}
 use Rattle.iam_row.specs.Report.{CellTexts, HasTexts}
 use Rattle.iam_open.proofs.RowLemmas.{row_made, said_plain}
 use Rattle.iam_open.proofs.row.row.Goals as goal

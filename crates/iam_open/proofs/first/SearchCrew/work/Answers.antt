@@ -1,4 +1,4 @@
-use Rattle.std.proofs.Common.{◌<◌, ◌≤◌, arith}
+use Rattle.std.proofs.Common.{arith}
 use Rattle.iam_open.specs.Asked.{asked_of}
 use Rattle.iam_open.proofs.FirstLemmas.{none_in}
 use Rattle.iam_open.proofs.first.SearchCrew.work.Goals as goal

@@ -1,4 +1,4 @@
-use Rattle.std.proofs.Common.{◌<◌, List, [], All, arith, length, subst, sym}
+use Rattle.std.proofs.Common.{List, [], All, arith, subst, sym}
 use Rattle.iam_open.specs.Code.Pairs.{IsKept}
 use Rattle.iam_open.specs.declared.pair.Pair.{Pair}
 use Rattle.iam_open.proofs.kept.Kept.new.Goals as goal
