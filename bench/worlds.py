@@ -358,6 +358,14 @@ def tags():
     return world(people, actions(25), things)
 
 
+def half_tags():
+    """The same, where half of the keys are left out."""
+    dice, made = random.Random(1), tags()
+    for it in (*made["principals"], *made["resources"]):
+        it["context"] = {key: value for key, value in it["context"].items() if dice.random() < 0.5}
+    return made
+
+
 def many_accounts():
     ids = [f"{n:012}" for n in range(40000)]
     people = [user(f"u{n}", (), ids[-1 - n]) for n in range(40)]
@@ -535,6 +543,7 @@ WORLDS = {
     "late-cell": ("100, 100, 100; one cell among the last is allowed", MATRIX, late_cell),
     "many-users": ("24,000 principals, 5 actions, 5 resources", MATRIX, many_users),
     "tags": ("conditions on tags of both sides: 200, 25, 200", MATRIX, tags),
+    "half-tags": ("the same without half of the tags", READING, half_tags),
     "many-accounts": ("40,000 accounts; 40, 25, 40", MATRIX, many_accounts),
     "assume": (
         "sessions that share managed policies, sts:AssumeRole, roles",
