@@ -1,7 +1,6 @@
 -- What it hangs on whether a request is allowed.
-use Rattle.std.proofs.Common.{◌≡◌, ◌∙◌, ◌⊎◌, ◌+◌, ◌<◌, ◌≤◌, ℕ, inl, inr, List, [], ◌∷◌, ◌++◌, All, Bool, true, false, ◌||◌, Some, None, ap, arith, codes, get_or, length, pos, refl, set, subst, sym, take}
-use Rattle.std.proofs.lemmas.List.{take_all}
-use Rattle.std.specs.List.{Contains, slice_get}
+use Rattle.std.proofs.Common.{◌≡◌, ◌∙◌, ◌≤◌, ℕ, inl, inr, List, [], ◌∷◌, ◌++◌, All, Bool, true, false, ◌||◌, Some, None, ap, codes, pos, refl, set, subst, sym, take}
+use Rattle.std.specs.List.{Contains, flat_map, slice_get}
 use Rattle.iam_context.specs.Context.{ContextValue, derived_names, has_key, is_same_key, joined, keys_of, values_of}
 use Rattle.iam_decision.specs.Applicable.{ApplicableValue, frame_of}
 use Rattle.iam_decision.specs.Decision.{Allows, AllowsAt, Grants, GrantsAtLeast, IsDecision, Says}
@@ -15,20 +14,20 @@ use Rattle.iam_layers.specs.Derived.{derived_of}
 use Rattle.iam_layers.specs.Own.{IsCleanAt, IsWorldWith}
 use Rattle.iam_layers.proofs.VerdictLemmas.{one_some}
 use Rattle.iam_match.specs.Requester.{RequesterValue}
-use Rattle.iam_match.specs.Statement.{AccessValue, RequestValue, StatementMatches}
-use Rattle.iam_open.specs.Code.Added.{Adds, AddsPlace, IsCertain, IsSameFrom, IsSameOn}
-use Rattle.iam_open.specs.Code.Known.{AgreeOn, Follows, request_in}
-use Rattle.iam_open.specs.Hangs.{AreAlikeOn, AreOpenAt, HangsOn, HasTime, IsAskedIn}
+use Rattle.iam_match.specs.Statement.{AccessValue, RequestValue}
+use Rattle.iam_open.specs.Asks.{all_added, keys_asked}
+use Rattle.iam_open.specs.Code.Added.{AreListedIn, IsSameFrom, IsTold}
+use Rattle.iam_open.specs.Code.Known.{AgreeOn, Follows}
+use Rattle.iam_open.specs.Hangs.{AreAlikeOn, AreListed, HangsOn, HasTime, IsAskedIn, IsAsking, IsSettled, known_keys}
 use Rattle.iam_open.specs.InQuestion.{IsAlways, IsNever, MayBeGiven, at_moment}
-use Rattle.iam_open.proofs.AddLemmas.{among_self, any_on, from_same}
+use Rattle.iam_open.proofs.AddLemmas.{any_on}
 use Rattle.iam_open.proofs.AgreeLemmas.{same_in}
 use Rattle.iam_open.proofs.BoundLemmas.{more_allowed}
 use Rattle.iam_open.proofs.ContextLemmas.{AreNotOf, AreOf, back_has_none, front_has_not, front_same, has_of, none_derived, not_derived, second}
-use Rattle.iam_open.proofs.ListLemmas.{push_all, taken_more}
+use Rattle.iam_open.proofs.ListedLemmas.{chosen_as}
 use Rattle.iam_open.proofs.TriedLemmas.{all_are_tried, since_world}
 use Rattle.iam_open.proofs.TurnLemmas.{OneStamp, derived_are, given_of, in_question, known_same, own_free, put_there}
 use Rattle.iam_open.proofs.WhereLemmas.{IsLookedAt, asked, in_turn}
-use Rattle.iam_policy.specs.Reading.{StatementValue}
 use Rattle.iam_policy.specs.declared.effect.Effect.TheVariants.{Deny}
 use Rattle.iam_value.specs.Moment.{IsStamp}
 use Rattle.iam_world.specs.World.{PrincipalValue, ResourceValue, WorldValue}
@@ -141,51 +140,10 @@ alike_agree stamps world p r keys one other early late one_clean other_clean ali
     subst (λ (c : ContextValue). AgreeOn keys c then) (sym here.context_is)
     (subst (λ (c : ContextValue). AgreeOn keys (given_of world q s ++ (one ++ before)) c) (sym then_is) agree)
 
--- ---- statements
-
--- of an open statement, by the keys that were added for it
-pub adds_matched : (known : List (List ℕ)) (base : ContextValue) (before after : List (List ℕ)) (s : StatementValue) (access : AccessValue)
-    (action : List ℕ)
-    → Adds before after (λ more. (access : AccessValue) (action : List ℕ)
-    → IsSameOn known more (λ other. StatementMatches s (request_in access action other)))
-    → Adds before after (λ more. IsSameFrom known base more (λ other. StatementMatches s (request_in access action other)))
-adds_matched known base before after s access action adds =
-    (adds.0, λ more among. from_same known base more (λ other. StatementMatches s (request_in access action other)) (adds.1 more among access action))
-
--- the statement matches in both of two such contexts, or in neither
-abbrev pub IsSameOf : List (List ℕ) → ContextValue → AccessValue → List ℕ → List (List ℕ) → Placed → Type 0
-IsSameOf known base access action keys s = IsSameFrom known base keys (λ other. IsMatched (request_in access action other) s)
-
-pub same_more : (known : List (List ℕ)) (base : ContextValue) (before after : List (List ℕ)) (access : AccessValue) (action : List ℕ)
-    (xs : List Placed) (i : ℕ) (x : Placed) → i < length xs → x ≡ get_or xs i x → All (IsSameOf known base access action before) (take i xs)
-    → Adds before after (λ more. IsSameOf known base access action more x) → All (IsSameOf known base access action after) (take (i + 1) xs)
-same_more known base before after access action xs i x below at so_far adds =
-    subst (λ (l : List Placed). All (IsSameOf known base access action after) l) (sym (taken_more xs i x below at))
-    (push_all (IsSameOf known base access action after) (take i xs) x
-    (λ k d lower one other a b both. so_far k d lower one other a b (λ key is. both key (adds.0 key is))) (adds.1 after (among_self after)))
-
--- the statement stands at one of these places, or it is certain whether it matches
-abbrev pub IsPlaced : List (List ℕ) → ContextValue → AccessValue → List ℕ → List Place → Placed → Type 0
-IsPlaced known base access action places s =
-    Contains places s.place ⊎ IsCertain (Follows known base) (λ other. IsMatched (request_in access action other) s)
-
-pub placed_more : (known : List (List ℕ)) (base : ContextValue) (before after : List Place) (access : AccessValue) (action : List ℕ)
-    (xs : List Placed) (i : ℕ) (x : Placed) → i < length xs → x ≡ get_or xs i x → All (IsPlaced known base access action before) (take i xs)
-    → AddsPlace before after x.place (Follows known base) (λ other. IsMatched (request_in access action other) x)
-    → All (IsPlaced known base access action after) (take (i + 1) xs)
-placed_more known base before after access action xs i x below at so_far adds =
-    subst (λ (l : List Placed). All (IsPlaced known base access action after) l) (sym (taken_more xs i x below at))
-    (push_all (IsPlaced known base access action after) (take i xs) x
-    (λ k d lower. elim (so_far k d lower) [ inl there ↦ inl (adds.0 (get_or (take i xs) k d).place there) | inr certain ↦ inr certain ]) adds.1)
-
--- of all of a list
-pub all_none : {X : Type 0} (P : X → Type 0) (xs : List X) → All P (take 0 xs)
-all_none P xs k d below = absurd (let wrong : ⊥ = omega (arith, below) in wrong)
-
-pub all_taken : {X : Type 0} (P : X → Type 0) (xs : List X) (i : ℕ) → length xs ≤ i → All P (take i xs) → All P xs
-all_taken {X} P xs i past all = subst (λ (l : List X). All P l) (take_all i xs past) all
-
 -- ---- decisions
+
+abbrev pub access_with : RequesterValue → List ℕ → ContextValue → AccessValue
+access_with requester arn context = record { requester = requester; resource = arn; context = context }
 
 -- each of the statements that matches the one request matches the other
 abbrev MatchAlike : RequestValue → RequestValue → List Placed → Type 0
@@ -273,32 +231,55 @@ asked_in stamps worlds world p a r none base derived now known requester arn act
     (all_are_tried none it.own it.moment empty) it.other it.there it.applicable request access text is_access is_action request_is in
     (access.context, record { agree = agree; later = later (since worlds world now it.own it.moment first it.question.given among) }, same)
 
--- each statement that applies is at one of these places, or it is certain whether it matches
-abbrev pub ArePlacedHere : WorldValue → ℕ → ℕ → RequesterValue → List ℕ → List ℕ → List (List ℕ) → ContextValue → List Place → Type 0
-ArePlacedHere world p r requester arn action known base places =
-    (a : ApplicableValue) → IsApplicableAt world p r a
-    → All (λ s. Contains places s.place ⊎ IsCertain (Follows known base) (λ other. IsMatched (asked requester arn action other) s)) (placed a)
-
-pub open_at : OneStamp → (worlds : List WorldValue) (world : WorldValue) (p a r : ℕ) (none base derived : ContextValue) (now : ℕ)
-    (known : List (List ℕ)) (requester : RequesterValue) (arn action : List ℕ) (places : List Place)
+-- of a statement that is certain it is settled whether it matches
+settled : OneStamp → (worlds : List WorldValue) (world : WorldValue) (p a r : ℕ) (none base derived : ContextValue) (now : ℕ)
+    (known : List (List ℕ)) (requester : RequesterValue) (arn action : List ℕ)
     → IsLookedAt world p a r none base derived None now known requester arn action → now ≡ world.moment → Contains worlds world → none ≡ []
-    → ArePlacedHere world p r requester arn action known base places → AreOpenAt worlds world p a r places
-open_at stamps worlds world p a r none base derived now known requester arn action places looked first among empty told applicable s applies (k, below, at) =
-    let IsTold : Placed → Type 0 = λ x. Contains places x.place ⊎ IsCertain (Follows known base) (λ other. IsMatched (asked requester arn action other) x) in
-    let found : IsTold s = subst IsTold at (told applicable applies k s below) in
-    elim found [
-      | inl there ↦ inl there
-      | inr certain ↦ inr (elim certain [
-        | inl always ↦ inl (λ request it.
-            let (context, agree, same) =
-            asked_in stamps worlds world p a r none base derived now known requester arn action looked first among empty request it in
-            subst (λ (q : RequestValue). IsMatched q s) (sym same) (always context agree))
-        | inr never ↦ inr (λ request it matches.
-            let (context, agree, same) =
-            asked_in stamps worlds world p a r none base derived now known requester arn action looked first among empty request it in
-            never context agree (subst (λ (q : RequestValue). IsMatched q s) same matches))
-      ])
-    ]
+    → (s : Placed) → IsTold known (access_with requester arn base) action s → IsSettled worlds world p a r s
+settled stamps worlds world p a r none base derived now known requester arn action looked first among empty s told = elim told [
+  | inl always ↦ inl (λ request it.
+      let (context, agree, same) = asked_in stamps worlds world p a r none base derived now known requester arn action looked first among empty request it in
+      subst (λ (q : RequestValue). IsMatched q s) (sym same) (always context agree))
+  | inr never ↦ inr (λ request it matches.
+      let (context, agree, same) = asked_in stamps worlds world p a r none base derived now known requester arn action looked first among empty request it in
+      never context agree (subst (λ (q : RequestValue). IsMatched q s) same matches))
+]
+
+-- the statements that are listed where this is looked at are those of the answer
+pub listed_at : OneStamp → (worlds : List WorldValue) (world : WorldValue) (p a r : ℕ) (none base derived : ContextValue) (now : ℕ)
+    (known : List (List ℕ)) (requester : RequesterValue) (arn action : List ℕ) (places : List Place) (keys : List (List ℕ))
+    → IsLookedAt world p a r none base derived None now known requester arn action → now ≡ world.moment → Contains worlds world → none ≡ []
+    → ((x : ApplicableValue) → IsApplicableAt world p r x → AreListedIn known (access_with requester arn base) action (placed x) places keys)
+    → AreListed worlds world p a r places keys
+listed_at stamps worlds world p a r none base derived now known requester arn action places keys looked first among empty told =
+    let (q, at_q, (s, at_s, known_is)) = looked.known_are in
+    let (q', at_q', who_is) = looked.who in
+    let here : known ≡ known_keys world q s =
+    known_is
+    ∙ ap
+    (λ (own : ContextValue). keys_of world.context ++ (keys_of q.context ++ (keys_of s.context ++ (keys_of own ++ take 5 derived_names)))) empty in
+    let who : requester ≡ q.requester =
+    who_is ∙ ap (λ (y : PrincipalValue). y.requester) (one_some (slice_get world.principals p) q' q at_q' at_q) in
+    let found = told (applicable_of world q s) (q, at_q, (s, at_s, refl)) in
+    record {
+      principal = q;
+      resource = s;
+      action = action;
+      listed = found.listed;
+      principal_is = at_q;
+      resource_is = at_s;
+      action_is = looked.does;
+      chosen = chosen_as (λ x. IsAsking known requester action x.statement) (IsTold known (access_with requester arn base) action)
+          (λ x. IsAsking (known_keys world q s) q.requester action x.statement) (IsSettled worlds world p a r)
+          (placed (applicable_of world q s)) found.listed
+          (λ x asking.
+          subst (λ (y : RequesterValue). IsAsking (known_keys world q s) y action x.statement) who
+          (subst (λ (ks : List (List ℕ)). IsAsking ks requester action x.statement) here asking))
+          (settled stamps worlds world p a r none base derived now known requester arn action looked first among empty) found.chosen;
+      places_are = found.places_are;
+      keys_are = found.keys_are
+          ∙ ap (λ (ks : List (List ℕ)). all_added ks [] (flat_map (λ (x : Placed). keys_asked x.statement) found.listed)) here;
+    }
 
 -- what is always allowed hangs on no key, nor does what never is
 pub always_hangs : (worlds : List WorldValue) (world : WorldValue) (p a r : ℕ) (keys : List (List ℕ)) → IsAlways worlds world p a r

@@ -1,5 +1,6 @@
 mod AddLemmas
 mod AgreeLemmas
+mod AskLemmas
 mod AskedLemmas
 pub mod BoundLemmas
 mod BriefLemmas
@@ -12,6 +13,7 @@ mod FormLemmas
 pub mod GivenLemmas
 mod HangLemmas
 pub mod ListLemmas
+mod ListedLemmas
 mod PairLemmas
 mod PartLemmas
 mod RowLemmas

@@ -66,6 +66,10 @@ all_pushed P (y ∷ xs) x all =
     first zero d below more = all 0 d (omega arith)
     first (suc k) d below more = more k d (omega (arith, below))
 
+pub all_front : {X : Type 0} (P : X → Type 0) (x : X) (xs : List X) → P x → All P xs → All P (x ∷ xs)
+all_front P x xs first all zero d below = first
+all_front P x xs first all (suc k) d below = all k d (omega (arith, below))
+
 pub push_all : {X : Type 0} (P : X → Type 0) (xs : List X) (x : X) → All P xs → P x → All P (xs ++ x ∷ [])
 push_all P [] x all p zero d below = p
 push_all P [] x all p (suc k) d below = absurd (let wrong : ⊥ = omega (arith, below) in wrong)

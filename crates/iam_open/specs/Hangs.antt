@@ -1,21 +1,26 @@
 -- What it hangs on whether a request is allowed: keys beside which nothing that nothing gives turns it, and statements beside which none
 -- does. LOGIC 11.11.
-use Rattle.std.specs.Prelude.{◌≡◌, ◌⊎◌, ℕ, List, [], codes, true}
-use Rattle.std.specs.List.{Contains}
-use Rattle.iam_context.specs.Context.{ContextValue, has_key}
+use Rattle.std.specs.Prelude.{◌≡◌, ◌⊎◌, ◌++◌, ℕ, List, [], ◌∷◌, Some, codes, map, take, true}
+use Rattle.std.specs.List.{flat_map, slice_get}
+use Rattle.iam_context.specs.Context.{ContextValue, derived_names, has_key, keys_of}
 use Rattle.iam_decision.specs.Applicable.{ApplicableValue}
 use Rattle.iam_decision.specs.Matched.{IsMatched, Placed, placed}
 use Rattle.iam_decision.specs.declared.place.Place.{Place}
 use Rattle.iam_decision.specs.declared.verdict.Decision.{Decision}
 use Rattle.iam_decision.specs.declared.verdict.Decision.TheVariants.{Allowed}
-use Rattle.iam_layers.specs.Cell.{IsApplicableAt, IsRequestAt}
+use Rattle.iam_layers.specs.Applicable.{applicable_of}
+use Rattle.iam_layers.specs.Cell.{IsAction, IsRequestAt}
 use Rattle.iam_layers.specs.Own.{IsWorldWith}
-use Rattle.iam_match.specs.Statement.{RequestValue}
+use Rattle.iam_match.specs.Principal.{PrincipalMatches}
+use Rattle.iam_match.specs.Requester.{RequesterValue}
+use Rattle.iam_match.specs.Statement.{ActionMatches, RequestValue}
+use Rattle.iam_open.specs.Asks.{all_added, is_beyond, keys_asked}
 use Rattle.iam_open.specs.Code.Known.{AgreeOn}
 use Rattle.iam_open.specs.InQuestion.{IsDecisionIn, IsInQuestion, at_moment}
 use Rattle.iam_open.specs.declared.answer.Turned.{Turned}
 use Rattle.iam_open.specs.declared.answer.Turned.TheVariants.{Always, Never, Possible, Open}
-use Rattle.iam_world.specs.World.{WorldValue}
+use Rattle.iam_policy.specs.Reading.{StatementValue}
+use Rattle.iam_world.specs.World.{PrincipalValue, ResourceValue, WorldValue}
 
 -- one of the two keys that follow from the moment is among these
 abbrev pub HasTime : List (List ℕ) → Type 0
@@ -51,15 +56,44 @@ IsSettled worlds world p a r s =
     ((request : RequestValue) → IsAskedIn worlds world p a r request → IsMatched request s)
     ⊎ ((request : RequestValue) → IsAskedIn worlds world p a r request → ¬ IsMatched request s)
 
--- each statement that applies stands at one of these places, or is settled
-abbrev pub AreOpenAt : List WorldValue → WorldValue → ℕ → ℕ → ℕ → List Place → Type 0
-AreOpenAt worlds world p a r places =
-    (applicable : ApplicableValue) (s : Placed) → IsApplicableAt world p r applicable → Contains (placed applicable) s
-    → Contains places s.place ⊎ IsSettled worlds world p a r s
+-- the statement matches by its action element and its principal element, and asks for a key that is not known
+pub record IsAsking (known : List (List ℕ)) (requester : RequesterValue) (action : List ℕ) (s : StatementValue) : Type 0 where
+  pub action_matches : ActionMatches s.action action
+  pub principal_matches : PrincipalMatches s.principal requester
+  pub asks : is_beyond known (keys_asked s) ≡ true
+
+-- those that are chosen of a list, in its order, have the one property, and each other one has the other
+abbrev pub AreChosen : {X : Type 0} → (X → Type 0) → (X → Type 0) → List X → List X → Type 0
+AreChosen P Q [] chosen = chosen ≡ []
+AreChosen P Q (x ∷ xs) chosen =
+    (P x × ((rest : List _) × (chosen ≡ x ∷ rest) × AreChosen P Q xs rest)) ⊎ (Q x × AreChosen P Q xs chosen)
+
+-- the keys that are known where the principal asks for the resource: those that some part of the context gives, and those that follow from
+-- requester and resource
+abbrev pub known_keys : WorldValue → PrincipalValue → ResourceValue → List (List ℕ)
+known_keys world principal resource =
+    keys_of world.context ++ (keys_of principal.context ++ (keys_of resource.context ++ take 5 derived_names))
+
+-- of the statements that apply some are listed, in their order, each of which asks for a key that is not known; each other one is settled.
+-- The places are those of the listed ones, and the keys those that these ask for and that are not known, each once, in the order in which
+-- they are asked for, as they are first written
+pub record AreListed (worlds : List WorldValue) (world : WorldValue) (p a r : ℕ) (places : List Place) (keys : List (List ℕ)) : Type 0 where
+  pub principal : PrincipalValue
+  pub resource : ResourceValue
+  pub action : List ℕ
+  pub listed : List Placed
+  pub principal_is : slice_get world.principals p ≡ Some principal
+  pub resource_is : slice_get world.resources r ≡ Some resource
+  pub action_is : IsAction world a action
+  pub chosen :
+      AreChosen (λ s. IsAsking (known_keys world principal resource) principal.requester action s.statement) (IsSettled worlds world p a r)
+      (placed (applicable_of world principal resource)) listed
+  pub places_are : places ≡ map (λ s. s.place) listed
+  pub keys_are : keys ≡ all_added (known_keys world principal resource) [] (flat_map (λ s. keys_asked s.statement) listed)
 
 -- where it is not said that the request is always allowed, or never; else there are none
-abbrev pub ArePlacesOf : List WorldValue → WorldValue → ℕ → ℕ → ℕ → Turned → List Place → Type 0
-ArePlacesOf worlds world p a r Always places = places ≡ []
-ArePlacesOf worlds world p a r Never places = places ≡ []
-ArePlacesOf worlds world p a r (Possible example) places = AreOpenAt worlds world p a r places
-ArePlacesOf worlds world p a r Open places = AreOpenAt worlds world p a r places
+abbrev pub AreListedOf : List WorldValue → WorldValue → ℕ → ℕ → ℕ → Turned → List Place → List (List ℕ) → Type 0
+AreListedOf worlds world p a r Always places keys = (places ≡ []) × (keys ≡ [])
+AreListedOf worlds world p a r Never places keys = (places ≡ []) × (keys ≡ [])
+AreListedOf worlds world p a r (Possible example) places keys = AreListed worlds world p a r places keys
+AreListedOf worlds world p a r Open places keys = AreListed worlds world p a r places keys

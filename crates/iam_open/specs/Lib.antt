@@ -1,4 +1,5 @@
 pub mod Asked
+pub mod Asks
 pub mod Code
 pub mod First
 pub mod Hangs

@@ -4,7 +4,7 @@ use Rattle.iam_decision.specs.declared.place.Place.{Place}
 use Rattle.iam_decision.specs.declared.verdict.Verdict.{Verdict}
 use Rattle.iam_layers.specs.Cell.{IsCell, IsVerdictAt}
 use Rattle.iam_open.specs.Asked.{AskedValue, IsSelected, IsWanted}
-use Rattle.iam_open.specs.Hangs.{ArePlacesOf, HangsOn}
+use Rattle.iam_open.specs.Hangs.{AreListedOf, HangsOn}
 use Rattle.iam_open.specs.Rows.{TurnedRow, report_text, word_of}
 use Rattle.iam_open.specs.Turned.{IsTurned}
 use Rattle.iam_open.specs.declared.answer.Turned.{Turned}
@@ -22,7 +22,7 @@ IsSaid false world p a r turned verdict = IsVerdictAt world p a r verdict
 -- it hangs on these keys whether the request is allowed, and on the statements at these places. In brief they play no part
 abbrev pub IsHung : Bool → WorldValue → ℕ → ℕ → ℕ → Turned → List Place → List (List ℕ) → Type 0
 IsHung true world p a r turned places keys = ⊤
-IsHung false world p a r turned places keys = HangsOn (world ∷ []) world p a r keys × ArePlacesOf (world ∷ []) world p a r turned places
+IsHung false world p a r turned places keys = HangsOn (world ∷ []) world p a r keys × AreListedOf (world ∷ []) world p a r turned places keys
 
 -- this is said of the request of the cell
 abbrev pub IsTurnedOf : WorldValue → ℕ → Turned → Type 0

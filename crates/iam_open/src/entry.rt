@@ -1,7 +1,9 @@
 // Whether conditions hold in contexts that agree on what is known.
-ghost use Rattle.std.specs.Prelude.{All, IfOk};
+ghost use Rattle.std.specs.Prelude.{◌≡◌, All, IfOk, true};
+ghost use Rattle.std.specs.List.{flat_map};
 ghost use Rattle.iam_match.specs.Entry.{EntryHolds};
-ghost use Rattle.iam_open.specs.Code.Certain.{Tells};
+ghost use Rattle.iam_open.specs.Asks.{entry_keys, is_beyond};
+ghost use Rattle.iam_open.specs.Code.Certain.{IfOpen, Tells};
 ghost use Rattle.iam_open.specs.Code.Known.{AgreeOn, Follows};
 
 use crate::beyond::entry_beyond;
@@ -23,7 +25,8 @@ pub fn conditions_certain<'c>(
     context: &Context<'c>,
     known: &Known<'_>,
 ) -> Result<Certain, OutOfMemory>
-    ensures { IfOk result (λ certain. Tells certain (Follows known.now context.now) (λ other. All (EntryHolds other) entries.now)) }
+    ensures told { IfOk result (λ certain. Tells certain (Follows known.now context.now) (λ other. All (EntryHolds other) entries.now)) }
+    ensures asks { IfOk result (λ certain. IfOpen certain (is_beyond known.now (flat_map entry_keys entries.now) ≡ true)) }
 {
     let mut certain = Certain::Always;
     for entry in entries {
@@ -39,7 +42,8 @@ fn entry_from<'c>(
     context: &Context<'c>,
     known: &Known<'_>,
 ) -> Result<Certain, OutOfMemory>
-    ensures { IfOk result (λ certain. Tells certain (Follows known.now context.now) (λ other. EntryHolds other entry.now)) }
+    ensures told { IfOk result (λ certain. Tells certain (Follows known.now context.now) (λ other. EntryHolds other entry.now)) }
+    ensures asks { IfOk result (λ certain. IfOpen certain (is_beyond known.now (entry_keys entry.now) ≡ true)) }
 {
     match entry_certain(alloc, entry, context, known)? {
         Certain::Open => Ok(time_certain(entry, context)),
@@ -54,7 +58,8 @@ pub fn entry_certain<'c>(
     context: &Context<'c>,
     known: &Known<'_>,
 ) -> Result<Certain, OutOfMemory>
-    ensures { IfOk result (λ certain. Tells certain (AgreeOn known.now context.now) (λ other. EntryHolds other entry.now)) }
+    ensures told { IfOk result (λ certain. Tells certain (AgreeOn known.now context.now) (λ other. EntryHolds other entry.now)) }
+    ensures asks { IfOk result (λ certain. IfOpen certain (is_beyond known.now (entry_keys entry.now) ≡ true)) }
 {
     unasked_keys();
     if entry_beyond(entry, context, known) {

@@ -2,18 +2,15 @@
 //
 // Of two contexts in question in which these keys have the same values, each statement matches both or neither: one that is not open tells
 // the same in all of them, and an open one asks for no other key.
-ghost use Rattle.std.specs.Prelude.{◌≡◌, ◌⊎◌, ◌++◌, ◌<◌, ◌∷◌, [], ℕ, All, IfOk, List, OnOk, false, length, map, option_copied, true};
-ghost use Rattle.std.specs.List.{Contains};
+ghost use Rattle.std.specs.Prelude.{◌≡◌, ◌<◌, ◌∷◌, [], IfOk, List, OnOk, length, map, option_copied};
+ghost use Rattle.std.specs.List.{Contains, flat_map};
 ghost use Rattle.iam_context.specs.Context.{has_key};
 ghost use Rattle.iam_decision.specs.Code.Scan.{placed_value};
-ghost use Rattle.iam_decision.specs.Matched.{IsMatched};
 ghost use Rattle.iam_layers.specs.Own.{IsCleanAt};
-ghost use Rattle.iam_match.specs.Entry.{EntryHolds};
 ghost use Rattle.iam_match.specs.Request.{access_of};
-ghost use Rattle.iam_match.specs.Statement.{AccessValue, ResourceMatches, StatementMatches};
-ghost use Rattle.iam_open.specs.Code.Added.{Adds, AddsPlace, IsCertain, IsSameFrom, IsSameOn};
-ghost use Rattle.iam_open.specs.Code.Known.{Follows, operand_beyond, piece_beyond, request_in, text_beyond};
-ghost use Rattle.iam_open.specs.Hangs.{AreOpenAt, ArePlacesOf, HangsOn};
+ghost use Rattle.iam_open.specs.Asks.{added, all_added, element_keys, entry_keys, keys_asked, operand_keys, piece_keys, text_keys};
+ghost use Rattle.iam_open.specs.Code.Added.{AreListedIn, IsAdded};
+ghost use Rattle.iam_open.specs.Hangs.{AreListed, AreListedOf, HangsOn};
 ghost use Rattle.iam_open.specs.Turned.{IsTurned};
 ghost use Rattle.iam_text.specs.Stretches.{piece_of};
 ghost use Rattle.iam_world.specs.World.{WorldValue};
@@ -58,7 +55,7 @@ pub fn hangs_of(
     requires resource { r < length world.now.resources }
     requires turned { IsTurned (world.now ∷ []) world.now p a r turned.now }
     ensures keys { IfOk result (λ hangs. HangsOn (world.now ∷ []) world.now p a r hangs.keys.items) }
-    ensures places { IfOk result (λ hangs. ArePlacesOf (world.now ∷ []) world.now p a r turned.now hangs.places.items) }
+    ensures listed { IfOk result (λ hangs. AreListedOf (world.now ∷ []) world.now p a r turned.now hangs.places.items hangs.keys.items) }
 {
     match turned {
         Turned::Always => Ok(Hangs::on_nothing(alloc)),
@@ -74,7 +71,8 @@ fn hangs_at(alloc: Global, world: &World, p: u64, a: u64, r: u64) -> Result<Hang
     requires action { a < length world.now.actions }
     requires resource { r < length world.now.resources }
     ensures keys { (worlds : List WorldValue) → Contains worlds world.now → IfOk result (λ hangs. HangsOn worlds world.now p a r hangs.keys.items) }
-    ensures places { (worlds : List WorldValue) → Contains worlds world.now → IfOk result (λ hangs. AreOpenAt worlds world.now p a r hangs.places.items) }
+    ensures listed { (worlds : List WorldValue) → Contains worlds world.now
+        → IfOk result (λ hangs. AreListed worlds world.now p a r hangs.places.items hangs.keys.items) }
 {
     let none = Vec::new(alloc);
     // The parts of a world's contexts can be joined, so that nothing is refused but memory.
@@ -99,10 +97,12 @@ fn hangs_where(
     requires clean { IsCleanAt world.now p r none.now.items }
     requires empty { none.now.items ≡ [] }
     ensures keys { (worlds : List WorldValue) → Contains worlds world.now → IfOk result (λ hangs. HangsOn worlds world.now p a r hangs.keys.items) }
-    ensures places { (worlds : List WorldValue) → Contains worlds world.now → IfOk result (λ hangs. AreOpenAt worlds world.now p a r hangs.places.items) }
+    ensures listed { (worlds : List WorldValue) → Contains worlds world.now
+        → IfOk result (λ hangs. AreListed worlds world.now p a r hangs.places.items hangs.keys.items) }
 {
     one_stamp();
     one_decision();
+    unasked_keys();
     let derived = world.derived_at(alloc, p, r, world.moment())?;
     let Ok(context) = world.own_context(alloc, p, r, none, &derived) else {
         return Err(OutOfMemory);
@@ -131,10 +131,8 @@ fn open_of<'c>(
     action: &str,
     known: &Known<'_>,
 ) -> Result<Hangs, OutOfMemory>
-    ensures keys { IfOk result (λ hangs. All (λ s. IsSameFrom known.now access.entry.context.now hangs.keys.items
-        (λ other. IsMatched (request_in (access_of access.entry) action.now other) s)) (map placed_value statements.now)) }
-    ensures places { IfOk result (λ hangs. All (λ s. Contains hangs.places.items s.place ⊎ IsCertain (Follows known.now access.entry.context.now)
-        (λ other. IsMatched (request_in (access_of access.entry) action.now other) s)) (map placed_value statements.now)) }
+    ensures { IfOk result (λ hangs. AreListedIn known.now (access_of access.entry) action.now (map placed_value statements.now)
+        hangs.places.items hangs.keys.items) }
 {
     let mut hangs = Hangs::on_nothing(alloc);
     for &standing in statements {
@@ -163,11 +161,7 @@ impl Hangs {
         action: &str,
         known: &Known<'_>,
     ) -> Result<(), OutOfMemory>
-        ensures keys { OnOk result (Adds self.old.keys.items self.new.keys.items (λ more. IsSameFrom known.now access.entry.context.now more
-            (λ other. IsMatched (request_in (access_of access.entry) action.now other) (placed_value standing.entry)))) }
-        ensures places { OnOk result (AddsPlace self.old.places.items self.new.places.items standing.entry.place
-            (Follows known.now access.entry.context.now)
-            (λ other. IsMatched (request_in (access_of access.entry) action.now other) (placed_value standing.entry))) }
+        ensures { OnOk result (IsAdded known.now (access_of access.entry) action.now (placed_value standing.entry) self.old self.new) }
     {
         match statement_certain(alloc, standing.statement, access, action, known)? {
             Certain::Always => Ok(()),
@@ -187,8 +181,7 @@ fn add_statement(
     statement: &Statement,
     known: &Known<'_>,
 ) -> Result<(), OutOfMemory>
-    ensures { OnOk result (Adds keys.old.items keys.new.items (λ more. (access : AccessValue) (action : List ℕ)
-        → IsSameOn known.now more (λ other. StatementMatches statement.now (request_in access action other)))) }
+    ensures { OnOk result (keys.new.items ≡ all_added known.now keys.old.items (keys_asked statement.now)) }
 {
     add_element(alloc, keys, statement.resource(), known)?;
     add_conditions(alloc, keys, statement.conditions(), known)
@@ -200,8 +193,7 @@ fn add_element(
     element: Option<&Resources>,
     known: &Known<'_>,
 ) -> Result<(), OutOfMemory>
-    ensures { OnOk result (Adds keys.old.items keys.new.items (λ more. (resource : List ℕ)
-        → IsSameOn known.now more (λ other. ResourceMatches (option_copied element.entry) resource other))) }
+    ensures { OnOk result (keys.new.items ≡ all_added known.now keys.old.items (element_keys (option_copied element.entry))) }
 {
     match element {
         None => Ok(()),
@@ -215,7 +207,7 @@ fn add_texts(
     texts: &[Template],
     known: &Known<'_>,
 ) -> Result<(), OutOfMemory>
-    ensures { OnOk result (Adds keys.old.items keys.new.items (λ more. All (λ text. text_beyond (known.now ++ more) text ≡ false) texts.now)) }
+    ensures { OnOk result (keys.new.items ≡ all_added known.now keys.old.items (flat_map text_keys texts.now)) }
 {
     for text in texts {
         add_text(alloc, keys, text, known)?;
@@ -229,8 +221,7 @@ fn add_conditions(
     entries: &[Entry],
     known: &Known<'_>,
 ) -> Result<(), OutOfMemory>
-    ensures { OnOk result (Adds keys.old.items keys.new.items
-        (λ more. All (λ entry. IsSameOn known.now more (λ other. EntryHolds other entry)) entries.now)) }
+    ensures { OnOk result (keys.new.items ≡ all_added known.now keys.old.items (flat_map entry_keys entries.now)) }
 {
     for entry in entries {
         add_entry(alloc, keys, entry, known)?;
@@ -245,9 +236,8 @@ fn add_entry(
     entry: &Entry,
     known: &Known<'_>,
 ) -> Result<(), OutOfMemory>
-    ensures { OnOk result (Adds keys.old.items keys.new.items (λ more. IsSameOn known.now more (λ other. EntryHolds other entry.now))) }
+    ensures { OnOk result (keys.new.items ≡ all_added known.now keys.old.items (entry_keys entry.now)) }
 {
-    unasked_keys();
     add_key(alloc, keys, entry.key(), known)?;
     add_values(alloc, keys, entry.values(), known)
 }
@@ -258,7 +248,7 @@ fn add_values(
     values: &[Operand],
     known: &Known<'_>,
 ) -> Result<(), OutOfMemory>
-    ensures { OnOk result (Adds keys.old.items keys.new.items (λ more. All (λ value. operand_beyond (known.now ++ more) value ≡ false) values.now)) }
+    ensures { OnOk result (keys.new.items ≡ all_added known.now keys.old.items (flat_map operand_keys values.now)) }
 {
     for value in values {
         add_value(alloc, keys, value, known)?;
@@ -272,7 +262,7 @@ fn add_value(
     value: &Operand,
     known: &Known<'_>,
 ) -> Result<(), OutOfMemory>
-    ensures { OnOk result (Adds keys.old.items keys.new.items (λ more. operand_beyond (known.now ++ more) value.now ≡ false)) }
+    ensures { OnOk result (keys.new.items ≡ all_added known.now keys.old.items (operand_keys value.now)) }
 {
     match value {
         Operand::Text(text) => add_text(alloc, keys, text, known),
@@ -287,7 +277,7 @@ fn add_text(
     text: &Template,
     known: &Known<'_>,
 ) -> Result<(), OutOfMemory>
-    ensures { OnOk result (Adds keys.old.items keys.new.items (λ more. text_beyond (known.now ++ more) text.now ≡ false)) }
+    ensures { OnOk result (keys.new.items ≡ all_added known.now keys.old.items (text_keys text.now)) }
 {
     match text.form() {
         TemplateForm::Fixed(_) => Ok(()),
@@ -301,7 +291,7 @@ fn add_draft(
     draft: &Draft,
     known: &Known<'_>,
 ) -> Result<(), OutOfMemory>
-    ensures { OnOk result (Adds keys.old.items keys.new.items (λ more. text_beyond (known.now ++ more) draft.now ≡ false)) }
+    ensures { OnOk result (keys.new.items ≡ all_added known.now keys.old.items (text_keys draft.now)) }
 {
     let mut left = draft.stretches();
     while let Some((_, form, behind)) = left.first_form() {
@@ -317,7 +307,7 @@ fn add_form(
     form: Form<'_>,
     known: &Known<'_>,
 ) -> Result<(), OutOfMemory>
-    ensures { OnOk result (Adds keys.old.items keys.new.items (λ more. piece_beyond (known.now ++ more) (piece_of form.entry) ≡ false)) }
+    ensures { OnOk result (keys.new.items ≡ all_added known.now keys.old.items (piece_keys (piece_of form.entry))) }
 {
     match form {
         Form::Literal(_) => Ok(()),
@@ -332,7 +322,7 @@ fn add_key(
     key: &str,
     known: &Known<'_>,
 ) -> Result<(), OutOfMemory>
-    ensures { OnOk result (Adds keys.old.items keys.new.items (λ more. has_key (known.now ++ more) key.now ≡ true)) }
+    ensures { OnOk result (keys.new.items ≡ added known.now keys.old.items key.now) }
 {
     if known.has(key) {
         return Ok(());

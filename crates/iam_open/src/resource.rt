@@ -1,10 +1,12 @@
 // Whether a resource element matches in contexts that agree on what is known.
-ghost use Rattle.std.specs.Prelude.{◌≡◌, ◌⊎◌, ◌↔◌, All, Any, IfOk, IsSome, IsTrue, MatchOption, None, Some, option_copied};
+ghost use Rattle.std.specs.Prelude.{◌≡◌, ◌⊎◌, ◌↔◌, All, Any, IfOk, IsSome, IsTrue, MatchOption, None, Some, option_copied, true};
+ghost use Rattle.std.specs.List.{flat_map};
 ghost use Rattle.iam_context.specs.Context.{ContextValue};
 ghost use Rattle.iam_context.specs.Resolve.{resolved};
 ghost use Rattle.iam_match.specs.Code.Compared.{TextDiffers};
 ghost use Rattle.iam_match.specs.Statement.{ResourceMatches, TextMatches};
-ghost use Rattle.iam_open.specs.Code.Certain.{Tells};
+ghost use Rattle.iam_open.specs.Asks.{element_keys, is_beyond, text_keys};
+ghost use Rattle.iam_open.specs.Code.Certain.{IfOpen, Tells};
 ghost use Rattle.iam_open.specs.Code.Known.{AgreeOn};
 
 use crate::beyond::text_beyond;
@@ -26,8 +28,9 @@ pub fn resource_certain<'c>(
     context: &Context<'c>,
     known: &Known<'_>,
 ) -> Result<Certain, OutOfMemory>
-    ensures { IfOk result (λ certain. Tells certain (AgreeOn known.now context.now)
+    ensures told { IfOk result (λ certain. Tells certain (AgreeOn known.now context.now)
         (λ other. ResourceMatches (option_copied element.entry) resource.now other)) }
+    ensures asks { IfOk result (λ certain. IfOpen certain (is_beyond known.now (element_keys (option_copied element.entry)) ≡ true)) }
 {
     match element {
         None => Ok(Certain::Always),
@@ -42,7 +45,8 @@ fn element_certain<'c>(
     context: &Context<'c>,
     known: &Known<'_>,
 ) -> Result<Certain, OutOfMemory>
-    ensures { IfOk result (λ certain. Tells certain (AgreeOn known.now context.now) (λ other. ResourceMatches (Some element.now) resource.now other)) }
+    ensures told { IfOk result (λ certain. Tells certain (AgreeOn known.now context.now) (λ other. ResourceMatches (Some element.now) resource.now other)) }
+    ensures asks { IfOk result (λ certain. IfOpen certain (is_beyond known.now (flat_map text_keys element.now.texts) ≡ true)) }
 {
     if element.is_negated() {
         all_differ(alloc, element.texts(), resource, context, known)
@@ -59,7 +63,8 @@ fn some_matches<'c>(
     context: &Context<'c>,
     known: &Known<'_>,
 ) -> Result<Certain, OutOfMemory>
-    ensures { IfOk result (λ certain. Tells certain (AgreeOn known.now context.now) (λ other. Any (TextMatches other resource.now) texts.now)) }
+    ensures told { IfOk result (λ certain. Tells certain (AgreeOn known.now context.now) (λ other. Any (TextMatches other resource.now) texts.now)) }
+    ensures asks { IfOk result (λ certain. IfOpen certain (is_beyond known.now (flat_map text_keys texts.now) ≡ true)) }
 {
     let mut certain = Certain::Never;
     for text in texts {
@@ -76,7 +81,8 @@ fn all_differ<'c>(
     context: &Context<'c>,
     known: &Known<'_>,
 ) -> Result<Certain, OutOfMemory>
-    ensures { IfOk result (λ certain. Tells certain (AgreeOn known.now context.now) (λ other. All (TextDiffers other resource.now) texts.now)) }
+    ensures told { IfOk result (λ certain. Tells certain (AgreeOn known.now context.now) (λ other. All (TextDiffers other resource.now) texts.now)) }
+    ensures asks { IfOk result (λ certain. IfOpen certain (is_beyond known.now (flat_map text_keys texts.now) ≡ true)) }
 {
     let mut certain = Certain::Always;
     for text in texts {
@@ -94,7 +100,8 @@ fn text_matches<'c>(
     context: &Context<'c>,
     known: &Known<'_>,
 ) -> Result<Certain, OutOfMemory>
-    ensures { IfOk result (λ certain. Tells certain (AgreeOn known.now context.now) (λ other. TextMatches other resource.now text.now)) }
+    ensures told { IfOk result (λ certain. Tells certain (AgreeOn known.now context.now) (λ other. TextMatches other resource.now text.now)) }
+    ensures asks { IfOk result (λ certain. IfOpen certain (is_beyond known.now (text_keys text.now) ≡ true)) }
 {
     if text_beyond(text, known) {
         return may_match(alloc, text, resource);
@@ -130,7 +137,8 @@ fn text_differs<'c>(
     context: &Context<'c>,
     known: &Known<'_>,
 ) -> Result<Certain, OutOfMemory>
-    ensures { IfOk result (λ certain. Tells certain (AgreeOn known.now context.now) (λ other. TextDiffers other resource.now text.now)) }
+    ensures told { IfOk result (λ certain. Tells certain (AgreeOn known.now context.now) (λ other. TextDiffers other resource.now text.now)) }
+    ensures asks { IfOk result (λ certain. IfOpen certain (is_beyond known.now (text_keys text.now) ≡ true)) }
 {
     if text_beyond(text, known) {
         return Ok(Certain::Open);

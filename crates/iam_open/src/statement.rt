@@ -1,10 +1,13 @@
 // Whether a statement matches requests in contexts that agree on what is known.
-ghost use Rattle.std.specs.Prelude.{All, IfOk};
+ghost use Rattle.std.specs.Prelude.{◌≡◌, All, IfOk, true};
 ghost use Rattle.iam_match.specs.Entry.{EntryHolds};
+ghost use Rattle.iam_match.specs.Principal.{PrincipalMatches};
 ghost use Rattle.iam_match.specs.Request.{access_of};
 ghost use Rattle.iam_match.specs.Statement.{ResourceMatches, RestMatches, StatementMatches};
-ghost use Rattle.iam_open.specs.Code.Certain.{Tells};
+ghost use Rattle.iam_open.specs.Asks.{is_beyond, keys_asked};
+ghost use Rattle.iam_open.specs.Code.Certain.{IfOpen, Tells};
 ghost use Rattle.iam_open.specs.Code.Known.{Follows, access_at, request_in};
+ghost use Rattle.iam_open.specs.Hangs.{IsAsking};
 
 use crate::certain::Certain;
 use crate::entry::conditions_certain;
@@ -24,8 +27,9 @@ pub fn statement_certain<'c>(
     action: &str,
     known: &Known<'_>,
 ) -> Result<Certain, OutOfMemory>
-    ensures { IfOk result (λ certain. Tells certain (Follows known.now access.entry.context.now)
+    ensures told { IfOk result (λ certain. Tells certain (Follows known.now access.entry.context.now)
         (λ other. StatementMatches statement.now (request_in (access_of access.entry) action.now other))) }
+    ensures asks { IfOk result (λ certain. IfOpen certain (IsAsking known.now access.entry.requester.now action.now statement.now)) }
 {
     if !action_matches(statement.action(), action) {
         return Ok(Certain::Never);
@@ -40,8 +44,9 @@ pub fn rest_certain<'c>(
     access: Access<'_, 'c>,
     known: &Known<'_>,
 ) -> Result<Certain, OutOfMemory>
-    ensures { IfOk result (λ certain. Tells certain (Follows known.now access.entry.context.now)
+    ensures told { IfOk result (λ certain. Tells certain (Follows known.now access.entry.context.now)
         (λ other. RestMatches statement.now (access_at (access_of access.entry) other))) }
+    ensures asks { IfOk result (λ certain. IfOpen certain (PrincipalMatches statement.now.principal access.entry.requester.now × (is_beyond known.now (keys_asked statement.now) ≡ true))) }
 {
     if !principal_matches(statement, access.requester) {
         return Ok(Certain::Never);
@@ -56,9 +61,10 @@ fn elements_certain<'c>(
     access: Access<'_, 'c>,
     known: &Known<'_>,
 ) -> Result<Certain, OutOfMemory>
-    ensures { IfOk result (λ certain. Tells certain (Follows known.now access.entry.context.now)
+    ensures told { IfOk result (λ certain. Tells certain (Follows known.now access.entry.context.now)
         (λ other. ResourceMatches statement.now.resource access.entry.resource.now other
         × All (EntryHolds other) statement.now.conditions)) }
+    ensures asks { IfOk result (λ certain. IfOpen certain (is_beyond known.now (keys_asked statement.now) ≡ true)) }
 {
     let resource = resource_certain(
         alloc,

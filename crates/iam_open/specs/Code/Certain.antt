@@ -14,6 +14,12 @@ Tells Always Are holds = (context : ContextValue) → Are context → holds cont
 Tells Never Are holds = (context : ContextValue) → Are context → ¬ holds context
 Tells Open Are holds = ⊤
 
+-- this is so, where it is open
+abbrev pub IfOpen : Certain → Type 0 → Type 0
+IfOpen Always P = ⊤
+IfOpen Never P = ⊤
+IfOpen Open P = P
+
 -- what is known to hold, or not to
 abbrev pub certain_of : Bool → Certain
 certain_of true = Always

@@ -1,11 +1,17 @@
-use Rattle.std.proofs.Common.{◌∙◌, subst, sym}
+use Rattle.std.proofs.Common.{◌≡◌, ◌∙◌, subst, sym, true}
 use Rattle.iam_match.specs.Entry.{EntryHolds}
+use Rattle.iam_open.specs.Asks.{entry_keys, is_beyond}
 use Rattle.iam_open.specs.Code.Certain.{Tells}
 use Rattle.iam_open.specs.Code.Known.{AgreeOn}
 use Rattle.iam_open.specs.declared.certain.Certain.{Certain}
 use Rattle.iam_open.proofs.AgreeLemmas.{entry_same}
+use Rattle.iam_open.proofs.AskLemmas.{entry_asks, known_closed}
 use Rattle.iam_open.proofs.CertainLemmas.{tells_known}
 use Rattle.iam_open.proofs.entry.entry_certain.Goals as goal
+
+pub returns-then-entry_beyond-clause-asks : goal.returns-then-entry_beyond-clause-asks
+returns-then-entry_beyond-clause-asks c =
+    entry_asks c.args.known.now c.args.context.now c.args.entry.now (sym c.entry_beyond.ensures ∙ c.if-entry_beyond.true)
 
 pub returns : goal.returns
 returns c =
@@ -14,8 +20,11 @@ returns c =
     let entry = c.args.entry.now in
     let held = c.in_ok-holds.ensures in
     let free = sym c.entry_beyond.ensures ∙ c.if-entry_beyond.false in
-    subst (λ (x : Certain). Tells x (AgreeOn known context) (λ other. EntryHolds other entry)) (sym c.of.ensures)
-    (tells_known c.in_ok-holds.field-0 (AgreeOn known context) (λ other. EntryHolds other entry)
-    (λ other agree.
-    let same = entry_same c.unasked_keys.ensures.conditions known context other agree entry free in
-    (λ t. same.0 (held.0 t), λ e. held.1 (same.1 e))))
+    record {
+      told = subst (λ (x : Certain). Tells x (AgreeOn known context) (λ other. EntryHolds other entry)) (sym c.of.ensures)
+          (tells_known c.in_ok-holds.field-0 (AgreeOn known context) (λ other. EntryHolds other entry)
+          (λ other agree.
+          let same = entry_same c.unasked_keys.ensures.conditions known context other agree entry free in
+          (λ t. same.0 (held.0 t), λ e. held.1 (same.1 e))));
+      asks = known_closed c.of.result c.in_ok-holds.field-0 (is_beyond known (entry_keys entry) ≡ true) c.of.ensures;
+    }

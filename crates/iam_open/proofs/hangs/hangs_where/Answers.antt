@@ -1,11 +1,14 @@
-use Rattle.std.proofs.Common.{◌⊎◌, List, None, subst}
+use Rattle.std.proofs.Common.{List, None, subst}
 use Rattle.std.proofs.lemmas.Result.{IfOk-weaker}
-use Rattle.std.specs.List.{All, Contains}
-use Rattle.iam_decision.specs.Matched.{IsMatched, Placed}
-use Rattle.iam_open.specs.Code.Added.{IsCertain, IsSameFrom}
-use Rattle.iam_open.specs.Code.Known.{Follows}
-use Rattle.iam_open.proofs.HangLemmas.{hangs_on, open_at}
-use Rattle.iam_open.proofs.WhereLemmas.{IsLookedAt, asked}
+use Rattle.std.specs.Prelude.{IfOk}
+use Rattle.iam_decision.specs.Applicable.{ApplicableValue}
+use Rattle.iam_decision.specs.Matched.{Placed, placed}
+use Rattle.iam_layers.specs.Cell.{IsApplicableAt}
+use Rattle.iam_open.specs.Code.Added.{AreListedIn}
+use Rattle.iam_open.specs.declared.hangs.Hangs.{Hangs}
+use Rattle.iam_open.proofs.HangLemmas.{access_with, hangs_on, listed_at}
+use Rattle.iam_open.proofs.ListedLemmas.{listed_same}
+use Rattle.iam_open.proofs.WhereLemmas.{IsLookedAt}
 use Rattle.iam_open.proofs.hangs.hangs_where.Goals as goal
 
 pub returns : goal.returns
@@ -28,25 +31,28 @@ returns c =
       what = c.resource_text.ensures;
       does = c.action_text.ensures;
     } in
+    let access = access_with who what base in
+    let Here : Hangs → Type 0 = λ hangs. (x : ApplicableValue) → IsApplicableAt world c.args.p c.args.r x
+    → AreListedIn known access does (placed x) hangs.places.items hangs.keys.items in
+    let here : IfOk c.open_of.result Here =
+    IfOk-weaker c.open_of.result _ _
+    (λ hangs found x applies.
+    subst (λ (xs : List Placed). AreListedIn known access does xs hangs.places.items hangs.keys.items) (c.in_ok-statements.ensures x applies)
+    (rw c.as_slice.ensures.value at found))
+    c.open_of.ensures in
     record {
       keys = λ worlds among.
           IfOk-weaker c.open_of.result _ _
-          (λ hangs same.
+          (λ hangs found.
           hangs_on c.one_stamp.ensures c.one_decision.ensures worlds world c.args.p c.args.a c.args.r none base derived c.moment.result known who what
           does hangs.keys.items looked c.moment.ensures.value among c.requires.empty
-          (λ a applies.
-          subst (λ (xs : List Placed). All (λ s. IsSameFrom known base hangs.keys.items (λ other. IsMatched (asked who what does other) s)) xs)
-          (c.in_ok-statements.ensures a applies) (rw c.as_slice.ensures.value at same)))
-          c.open_of.ensures.keys;
-      places = λ worlds among.
+          (λ x applies.
+          listed_same c.unasked_keys.ensures.conditions known access does (placed x) hangs.places.items hangs.keys.items (found x applies)))
+          here;
+      listed = λ worlds among.
           IfOk-weaker c.open_of.result _ _
-          (λ hangs told.
-          open_at c.one_stamp.ensures worlds world c.args.p c.args.a c.args.r none base derived c.moment.result known who what does
-          hangs.places.items looked c.moment.ensures.value among c.requires.empty
-          (λ a applies.
-          subst
-          (λ (xs : List Placed). All
-          (λ s. Contains hangs.places.items s.place ⊎ IsCertain (Follows known base) (λ other. IsMatched (asked who what does other) s)) xs)
-          (c.in_ok-statements.ensures a applies) (rw c.as_slice.ensures.value at told)))
-          c.open_of.ensures.places;
+          (λ hangs found.
+          listed_at c.one_stamp.ensures worlds world c.args.p c.args.a c.args.r none base derived c.moment.result known who what does
+          hangs.places.items hangs.keys.items looked c.moment.ensures.value among c.requires.empty found)
+          here;
     }

@@ -29,4 +29,4 @@ loop-standing-preserved c =
     let below : i < length xs = omega (arith, long, inside) in
     let here = at_map placed_value statements i s inside c.standing-item.is in
     subst (λ (found : List Chance). AreChances access Are (take (i + 1) xs) found) (sym c.in_ok-add_chance.ensures)
-    (chances_more access Are xs i s c.in_ok-certain.certain c.loop-standing.chances.items below here c.in_ok-certain.ensures c.loop-standing.invariant)
+    (chances_more access Are xs i s c.in_ok-certain.certain c.loop-standing.chances.items below here c.in_ok-certain.ensures.told c.loop-standing.invariant)

@@ -48,7 +48,7 @@ returns-in-Possible c =
     λ text is. (
       row,
       subst (λ b. IsRow b c.args.world.now c.args.at.cell row) (sym c.if-brief.false)
-          (c.args.at.principal, c.args.at.action, c.args.at.resource, c.requires.cell, has, c.requires.turned, subst (λ (t : Turned). IsSaid false c.args.world.now c.args.at.principal c.args.at.action c.args.at.resource t c.in-Possible.it.verdict) (sym c.in-Possible.is) refl, (c.in_ok-hangs.ensures.keys, c.in_ok-hangs.ensures.places)),
+          (c.args.at.principal, c.args.at.action, c.args.at.resource, c.requires.cell, has, c.requires.turned, subst (λ (t : Turned). IsSaid false c.args.world.now c.args.at.principal c.args.at.action c.args.at.resource t c.in-Possible.it.verdict) (sym c.in-Possible.is) refl, (c.in_ok-hangs.ensures.keys, c.in_ok-hangs.ensures.listed)),
       refl,
       is ∙ made ∙ ap (λ b. row_text c.args.format b c.args.at.cell row) (sym c.if-brief.false),
     )
@@ -71,7 +71,7 @@ returns c =
     λ text is. (
       row,
       subst (λ b. IsRow b c.args.world.now c.args.at.cell row) (sym c.if-brief.false)
-          (c.args.at.principal, c.args.at.action, c.args.at.resource, c.requires.cell, has, c.requires.turned, said_plain c.args.world.now c.args.at.principal c.args.at.action c.args.at.resource turned c.in_ok-verdict-in_default.verdict c.in_default.not-Possible c.in_ok-verdict-in_default.ensures, (c.in_ok-hangs.ensures.keys, c.in_ok-hangs.ensures.places)),
+          (c.args.at.principal, c.args.at.action, c.args.at.resource, c.requires.cell, has, c.requires.turned, said_plain c.args.world.now c.args.at.principal c.args.at.action c.args.at.resource turned c.in_ok-verdict-in_default.verdict c.in_default.not-Possible c.in_ok-verdict-in_default.ensures, (c.in_ok-hangs.ensures.keys, c.in_ok-hangs.ensures.listed)),
       refl,
       is ∙ made ∙ ap (λ b. row_text c.args.format b c.args.at.cell row) (sym c.if-brief.false),
     )

@@ -15,14 +15,14 @@ returns-in-Never c =
     let Are = AgreeOn c.args.known.now c.args.context.now in
     let entry = c.entry-item.result in
     some_never Are c.args.entries.now c.loop-entry.entry-index entry c.loop-entry-test.true c.entry-item.is
-    (subst (λ (x : Certain). Tells x Are (λ other. EntryHolds other entry)) c.in-Never.is c.in_ok-entry_certain.ensures)
+    (subst (λ (x : Certain). Tells x Are (λ other. EntryHolds other entry)) c.in-Never.is c.in_ok-entry_certain.ensures.told)
 
 pub loop-entry-preserved-in-Always : goal.loop-entry-preserved-in-Always
 loop-entry-preserved-in-Always c =
     let Are = AgreeOn c.args.known.now c.args.context.now in
     let entry = c.entry-item.result in
     suffice_always Are c.args.entries.now (map (λ it. it.now) c.loop-entry.left.items) c.loop-entry.entry-index entry c.loop-entry-test.true
-    c.entry-item.is (subst (λ (x : Certain). Tells x Are (λ other. EntryHolds other entry)) c.in-Always.is c.in_ok-entry_certain.ensures)
+    c.entry-item.is (subst (λ (x : Certain). Tells x Are (λ other. EntryHolds other entry)) c.in-Always.is c.in_ok-entry_certain.ensures.told)
     c.loop-entry.invariant
 
 pub loop-entry-preserved : goal.loop-entry-preserved
