@@ -22,7 +22,7 @@ json_row : (d p a r w one two three four five six end : List ℕ)
     ≡ (one ++ (a ++ (two ++ (d ++ (three ++ (w ++ four)))))) ++ (five ++ (p ++ (six ++ (r ++ end))))
 json_row d p a r w one two three four five six end = simp append_assoc refl
 
-pieces_row : (format : Format) (cell : ℕ) (texts : CellTexts) (word : Word)
+pub pieces_row : (format : Format) (cell : ℕ) (texts : CellTexts) (word : Word)
     → pieces_text format cell (pieces_of format texts) word ≡ brief_text format cell (quoted_texts format texts) (word_text word)
 pieces_row Csv cell texts word =
     csv_row (decimal cell) (quote_of Csv texts.principal) (quote_of Csv texts.action) (quote_of Csv texts.resource) (word_text word) (codes ",") (codes "\n")

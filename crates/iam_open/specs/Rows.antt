@@ -22,6 +22,9 @@ pub record TurnedRow : Type 0 where
   pub places : List Place
   pub keys : List (List ℕ)
 
+abbrev pub row_with : CellTexts → Turned → Verdict → List Place → List (List ℕ) → TurnedRow
+row_with texts turned verdict places keys = record { texts = texts; turned = turned; verdict = verdict; places = places; keys = keys }
+
 -- what is said, as a word
 abbrev pub word_of : Turned → Word
 word_of Always = word.Always

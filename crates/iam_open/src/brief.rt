@@ -1,14 +1,19 @@
-// Rows in brief, put together from texts that are quoted once for the whole report.
-ghost use Rattle.std.specs.Prelude.{◌≡◌, ◌++◌, OnOk, string_bytes};
+// Rows in brief, put together from texts with what stands beside them: for a report each of these is made once.
+ghost use Rattle.std.specs.Prelude.{◌≡◌, ◌++◌, ◌∷◌, [], IfOk, OnOk, string_bytes, true};
+ghost use Rattle.iam_layers.specs.Cell.{IsCell};
 ghost use Rattle.iam_open.specs.Code.Parts.{back_text, comma_behind, middle_text, pieces_text};
-ghost use Rattle.iam_open.specs.Rows.{together};
+ghost use Rattle.iam_open.specs.Report.{IsRow};
+ghost use Rattle.iam_open.specs.Rows.{TurnedRow, row_text, together};
+ghost use Rattle.iam_open.specs.Turned.{IsTurned};
 ghost use Rattle.iam_row.specs.Piece.{pieces_at};
 ghost use Rattle.iam_row.specs.declared.quoted.Format.TheVariants as format;
 
-use crate::asked::Word;
-use iam_layers::OutOfMemory;
-use iam_row::{Format, Position, Quoted, text_at};
+use crate::answer::Turned;
+use crate::asked::{Word, word_of};
+use iam_layers::{OutOfMemory, World};
+use iam_row::{Format, Position, Quoted, quote, text_at};
 use itoa::Buffer;
+use std::alloc::Global;
 
 /// What stands before the principal in a row of JSON.
 fn middle(word: Word) -> &'static str
@@ -51,6 +56,35 @@ pub fn put_brief(
         Format::Csv => put_csv(text, at.cell, principal, action, resource, word),
         Format::Json => put_json(text, at.cell, principal, action, resource, word),
     }
+}
+
+/// The row of a cell in brief, as CSV, of whose request this is said.
+pub fn brief_row(
+    alloc: Global,
+    world: &World,
+    at: Position,
+    turned: &Turned,
+) -> Result<String, OutOfMemory>
+    requires cell { IsCell world.now at.cell at.principal at.action at.resource }
+    requires turned { IsTurned (world.now ∷ []) world.now at.principal at.action at.resource turned.now }
+    ensures { IfOk result (λ text. (row : TurnedRow) × IsRow true world.now at.cell row × (row.turned ≡ turned.now)
+        × (string_bytes text ≡ row_text format.Csv true at.cell row)) }
+{
+    let principal = quote(alloc, Format::Csv, world.principal_text(at.principal))?;
+    let action = quote(alloc, Format::Csv, world.action_text(at.action))?;
+    let resource = quote(alloc, Format::Csv, world.resource_text(at.resource))?;
+    let principal = format!(in alloc; ",{principal},")?;
+    let action = format!(in alloc; "{action},")?;
+    let mut text = String::new(alloc);
+    put_csv(
+        &mut text,
+        at.cell,
+        principal.as_str(),
+        action.as_str(),
+        resource.as_str(),
+        word_of(turned),
+    )?;
+    Ok(text)
 }
 
 /// Puts a comma behind rows, where there are some.

@@ -9,8 +9,9 @@ ghost use Rattle.iam_world.specs.World.{world_cells};
 
 use crate::answer::turned_of;
 use crate::asked::{Asked, Word, is_selected, word_of};
+use crate::brief::brief_row;
 use crate::report::TILES;
-use crate::row::{opening, row};
+use crate::row::opening;
 use iam_crew::{Bound, Crew, Gate, gather};
 use iam_layers::{OutOfMemory, World};
 use iam_row::{Format, Position};
@@ -135,7 +136,7 @@ fn found_at(
     if is_never(word_of(&turned)) {
         return Ok(None);
     }
-    let text = row(alloc, world, Format::Csv, true, at, &turned)?;
+    let text = brief_row(alloc, world, at, &turned)?;
     Ok(Some(Found {
         cell: at.cell,
         text,

@@ -137,7 +137,7 @@ fn put_row(
         return put_brief(text, cells.quoted, at, word_of(turned));
     }
     let format = cells.quoted.format;
-    let more = row(alloc, cells.world, format, false, at, turned)?;
+    let more = row(alloc, cells.world, format, at, turned)?;
     put(format, text, more.as_str())
 }
 

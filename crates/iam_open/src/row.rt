@@ -1,12 +1,13 @@
 // The rows of requests: what is said of each, and an example.
-ghost use Rattle.std.specs.Prelude.{◌≡◌, ◌++◌, ◌∷◌, [], IfOk, OnOk, codes, false, string_bytes, true};
+ghost use Rattle.std.specs.Prelude.{◌≡◌, ◌++◌, ◌∷◌, [], IfOk, OnOk, codes, false, string_bytes};
 ghost use Rattle.std.specs.List.{join_by};
 ghost use Rattle.iam_layers.specs.Cell.{IsCell};
 ghost use Rattle.iam_open.specs.Report.{IsRow};
-ghost use Rattle.iam_open.specs.Rows.{TurnedRow, back_text, brief_text, entry_text, example_text, front_text, full_text, joined_row, json_of, keys_in, lacks_in, opening_text, places_in, row_text, shown_text, turned_word};
+ghost use Rattle.iam_open.specs.Rows.{TurnedRow, back_text, entry_text, example_text, front_text, full_text, joined_row, json_of, keys_in, lacks_in, opening_text, places_in, row_text, row_with, shown_text, turned_word};
 ghost use Rattle.iam_open.specs.Turned.{IsTurned};
 ghost use Rattle.iam_decision.specs.declared.verdict.Verdict.{Verdict};
 ghost use Rattle.iam_row.specs.Piece.{quote_of};
+ghost use Rattle.iam_row.specs.Report.{CellTexts, HasTexts};
 
 use crate::answer::Turned;
 use crate::asked::{word_of, word_text};
@@ -127,28 +128,6 @@ fn front_text(
         Format::Csv => format!(in alloc; "{cell},{principal},{action},{resource},{word}"),
         Format::Json => {
             format!(in alloc; "{{\"action\":{action},\"cell\":{cell},\"decision\":\"{word}\"")
-        }
-    }
-}
-
-/// A row in brief, of texts as they stand in it.
-fn brief_text(
-    alloc: Global,
-    format: Format,
-    cell: u64,
-    principal: &str,
-    action: &str,
-    resource: &str,
-    word: &str,
-) -> Result<String, OutOfMemory>
-    ensures { IfOk result (λ text. string_bytes text
-        ≡ brief_text format cell (record { principal = principal.now; action = action.now; resource = resource.now }) word.now) }
-{
-    let front = front_text(alloc, format, cell, principal, action, resource, word)?;
-    match format {
-        Format::Csv => format!(in alloc; "{front}\n"),
-        Format::Json => {
-            format!(in alloc; "{front},\"principal\":{principal},\"resource\":{resource}}}")
         }
     }
 }
@@ -281,61 +260,56 @@ fn full_row(
     )
 }
 
-/// The row of a cell, of whose request this is said.
+/// The same, of the texts of a request.
+fn texts_row(
+    alloc: Global,
+    world: &World,
+    format: Format,
+    at: Position,
+    turned: &Turned,
+    verdict: &Verdict,
+    hangs: &Hangs,
+) -> Result<String, OutOfMemory>
+    requires { IsCell world.now at.cell at.principal at.action at.resource }
+    ensures { IfOk result (λ text. (texts : CellTexts) × HasTexts world.now at.principal at.action at.resource texts × (string_bytes text
+        ≡ row_text format false at.cell (row_with texts turned.now verdict.now hangs.now.places.items hangs.now.keys.items))) }
+{
+    let principal = quote(alloc, format, world.principal_text(at.principal))?;
+    let action = quote(alloc, format, world.action_text(at.action))?;
+    let resource = quote(alloc, format, world.resource_text(at.resource))?;
+    full_row(
+        alloc,
+        format,
+        at.cell,
+        principal.as_str(),
+        action.as_str(),
+        resource.as_str(),
+        turned,
+        verdict,
+        hangs,
+    )
+}
+
+/// The row of a cell in full, of whose request this is said.
 pub fn row(
     alloc: Global,
     world: &World,
     format: Format,
-    brief: bool,
     at: Position,
     turned: &Turned,
 ) -> Result<String, OutOfMemory>
     requires cell { IsCell world.now at.cell at.principal at.action at.resource }
     requires turned { IsTurned (world.now ∷ []) world.now at.principal at.action at.resource turned.now }
-    ensures { IfOk result (λ text. (row : TurnedRow) × IsRow brief world.now at.cell row × (row.turned ≡ turned.now)
-        × (string_bytes text ≡ row_text format brief at.cell row)) }
+    ensures { IfOk result (λ text. (row : TurnedRow) × IsRow false world.now at.cell row × (row.turned ≡ turned.now)
+        × (string_bytes text ≡ row_text format false at.cell row)) }
 {
     let (p, a, r) = (at.principal, at.action, at.resource);
-    let principal = quote(alloc, format, world.principal_text(p))?;
-    let action = quote(alloc, format, world.action_text(a))?;
-    let resource = quote(alloc, format, world.resource_text(r))?;
-    if brief {
-        return brief_text(
-            alloc,
-            format,
-            at.cell,
-            principal.as_str(),
-            action.as_str(),
-            resource.as_str(),
-            word(turned),
-        );
-    }
     let hangs = hangs_of(alloc, world, p, a, r, turned)?;
     match turned {
-        Turned::Possible(it) => full_row(
-            alloc,
-            format,
-            at.cell,
-            principal.as_str(),
-            action.as_str(),
-            resource.as_str(),
-            turned,
-            &it.verdict,
-            &hangs,
-        ),
+        Turned::Possible(it) => texts_row(alloc, world, format, at, turned, &it.verdict, &hangs),
         _ => {
             let verdict = world.decide_plain(alloc, p, a, r)?;
-            full_row(
-                alloc,
-                format,
-                at.cell,
-                principal.as_str(),
-                action.as_str(),
-                resource.as_str(),
-                turned,
-                &verdict,
-                &hangs,
-            )
+            texts_row(alloc, world, format, at, turned, &verdict, &hangs)
         }
     }
 }

@@ -1,4 +1,4 @@
-use Rattle.std.proofs.Common.{◌∙◌, ◌∷◌, ◌++◌, [], List, ℕ, ap, sym}
+use Rattle.std.proofs.Common.{◌≡◌, ◌∙◌, ◌∷◌, ◌++◌, [], List, ℕ, ap, false, sym}
 use Rattle.iam_context.specs.Context.{has_key}
 use Rattle.iam_open.proofs.AskLemmas.{added_known, added_new, added_there}
 use Rattle.iam_open.proofs.hangs.add_key.Goals as goal
@@ -13,7 +13,12 @@ returns-then-has_key c =
 
 pub returns : goal.returns
 returns c =
+    let known = c.args.known.now in
     let keys = c.args.keys.now.items in
-    c.in_ok-push.ensures.items ∙ ap (λ (key : List ℕ). keys ++ (key ∷ [])) c.in_ok-read.ensures
-    ∙ sym (added_new c.args.known.now keys c.args.key.now (sym c.has.ensures ∙ c.if-has.false)
-    (sym (ap (λ keys. has_key keys c.args.key.now) c.as_slice.ensures.value) ∙ sym c.has_key.ensures ∙ c.if-has_key.false))
+    let key = c.args.key.now in
+    let absent : has_key keys key ≡ false =
+    sym (ap (λ keys. has_key keys key) c.as_slice.ensures.value) ∙ sym c.has_key.ensures ∙ c.if-has_key.false in
+    let unknown : has_key known key ≡ false = sym c.has.ensures ∙ c.if-has.false in
+    let pushed : c.push.new.self.items ≡ keys ++ (key ∷ []) =
+    c.in_ok-push.ensures.items ∙ ap (λ (k : List ℕ). keys ++ (k ∷ [])) c.in_ok-read.ensures in
+    pushed ∙ sym (added_new known keys key unknown absent)
