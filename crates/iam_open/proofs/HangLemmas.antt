@@ -9,9 +9,9 @@ use Rattle.iam_decision.specs.Matched.{IsMatched, Placed, placed}
 use Rattle.iam_decision.specs.declared.place.Place.{Place}
 use Rattle.iam_decision.specs.declared.verdict.Decision.TheVariants.{Allowed}
 use Rattle.iam_layers.specs.Applicable.{applicable_of}
-use Rattle.iam_layers.specs.Cell.{IsAccessAt, IsApplicableAt}
-use Rattle.iam_layers.specs.Derived.{derived_of}
-use Rattle.iam_layers.specs.Own.{IsCleanAt, IsWorldWith}
+use Rattle.iam_layers.specs.Cell.{IsAccessAt, IsApplicableAt, IsDerivedAt}
+use Rattle.iam_layers.specs.Derived.{context_of, derived_of}
+use Rattle.iam_layers.specs.Own.{IsCleanAt, IsWorldWith, given_with}
 use Rattle.iam_layers.proofs.VerdictLemmas.{one_some}
 use Rattle.iam_match.specs.Requester.{RequesterValue}
 use Rattle.iam_match.specs.Statement.{AccessValue, RequestValue}
@@ -245,6 +245,44 @@ settled stamps worlds world p a r none base derived now known requester arn acti
       never context agree (subst (λ (q : RequestValue). IsMatched q s) same matches))
 ]
 
+-- what is looked at, at the world's moment and without keys of the request's own, is the request as the world gives it
+as_given : (world : WorldValue) (p a r : ℕ) (none base derived : ContextValue) (now : ℕ) (known : List (List ℕ)) (requester : RequesterValue)
+    (arn action : List ℕ) → IsLookedAt world p a r none base derived None now known requester arn action → now ≡ world.moment → none ≡ []
+    → (applicable : ApplicableValue) × (it : IsAccessAt world p r applicable (access_with requester arn base))
+    × (known ≡ known_keys world it.principal it.resource)
+as_given world p a r none base derived now known requester arn action looked first empty =
+    let (q, at_q, (s, at_s, derived_is)) = subst (λ (n : ℕ). IsDerivedAt (at_moment world n) p r derived) first looked.keys in
+    let (q1, at_q1, (s1, at_s1, known_is)) = looked.known_are in
+    let (q2, at_q2, who_is) = looked.who in
+    let (s2, at_s2, what_is) = looked.what in
+    let (q3, at_q3, (s3, at_s3, base_is)) = looked.context in
+    let one_who = one_some (slice_get world.principals p) in
+    let one_what = one_some (slice_get world.resources r) in
+    let who : requester ≡ q.requester = who_is ∙ ap (λ (y : PrincipalValue). y.requester) (one_who q2 q at_q2 at_q) in
+    let what : arn ≡ s.arn = what_is ∙ ap (λ (y : ResourceValue). y.arn) (one_what s2 s at_s2 at_s) in
+    let context : base ≡ context_of world q s derived =
+    base_is ∙ ap (λ (y : PrincipalValue). joined (given_with world y s3 none) derived) (one_who q3 q at_q3 at_q)
+    ∙ ap (λ (y : ResourceValue). joined (given_with world q y none) derived) (one_what s3 s at_s3 at_s)
+    ∙ ap (λ (own : ContextValue). joined (given_with world q s own) derived) empty in
+    let of_parts : PrincipalValue → ResourceValue → ContextValue → List (List ℕ) = λ y z own.
+    keys_of world.context ++ (keys_of y.context ++ (keys_of z.context ++ (keys_of own ++ take 5 derived_names))) in
+    let keys : known ≡ known_keys world q s =
+    known_is ∙ ap (λ (y : PrincipalValue). of_parts y s1 none) (one_who q1 q at_q1 at_q)
+    ∙ ap (λ (y : ResourceValue). of_parts q y none) (one_what s1 s at_s1 at_s) ∙ ap (of_parts q s) empty in
+    let access : IsAccessAt world p r (applicable_of world q s) (access_with requester arn base) = record {
+      principal = q;
+      resource = s;
+      derived = derived;
+      principal_is = at_q;
+      resource_is = at_s;
+      derived_is = derived_is;
+      applicable_is = refl;
+      access_is =
+          ap (λ (y : RequesterValue). access_with y arn base) who ∙ ap (λ (y : List ℕ). access_with q.requester y base) what
+          ∙ ap (access_with q.requester s.arn) context;
+    } in
+    (applicable_of world q s, access, keys)
+
 -- the statements that are listed where this is looked at are those of the answer
 pub listed_at : OneStamp → (worlds : List WorldValue) (world : WorldValue) (p a r : ℕ) (none base derived : ContextValue) (now : ℕ)
     (known : List (List ℕ)) (requester : RequesterValue) (arn action : List ℕ) (places : List Place) (keys : List (List ℕ))
@@ -252,29 +290,20 @@ pub listed_at : OneStamp → (worlds : List WorldValue) (world : WorldValue) (p 
     → ((x : ApplicableValue) → IsApplicableAt world p r x → AreListedIn known (access_with requester arn base) action (placed x) places keys)
     → AreListed worlds world p a r places keys
 listed_at stamps worlds world p a r none base derived now known requester arn action places keys looked first among empty told =
-    let (q, at_q, (s, at_s, known_is)) = looked.known_are in
-    let (q', at_q', who_is) = looked.who in
-    let here : known ≡ known_keys world q s =
-    known_is
-    ∙ ap
-    (λ (own : ContextValue). keys_of world.context ++ (keys_of q.context ++ (keys_of s.context ++ (keys_of own ++ take 5 derived_names)))) empty in
-    let who : requester ≡ q.requester =
-    who_is ∙ ap (λ (y : PrincipalValue). y.requester) (one_some (slice_get world.principals p) q' q at_q' at_q) in
-    let found = told (applicable_of world q s) (q, at_q, (s, at_s, refl)) in
+    let access = access_with requester arn base in
+    let (applicable, it, here) = as_given world p a r none base derived now known requester arn action looked first empty in
+    let found = told applicable (it.principal, it.principal_is, (it.resource, it.resource_is, it.applicable_is)) in
+    let there = known_keys world it.principal it.resource in
     record {
-      principal = q;
-      resource = s;
+      applicable = applicable;
+      access = access;
       action = action;
       listed = found.listed;
-      principal_is = at_q;
-      resource_is = at_s;
+      access_is = it;
       action_is = looked.does;
-      chosen = chosen_as (λ x. IsAsking known requester action x.statement) (IsTold known (access_with requester arn base) action)
-          (λ x. IsAsking (known_keys world q s) q.requester action x.statement) (IsSettled worlds world p a r)
-          (placed (applicable_of world q s)) found.listed
-          (λ x asking.
-          subst (λ (y : RequesterValue). IsAsking (known_keys world q s) y action x.statement) who
-          (subst (λ (ks : List (List ℕ)). IsAsking ks requester action x.statement) here asking))
+      chosen = chosen_as (λ x. IsAsking known access action x.statement) (IsTold known access action)
+          (λ x. IsAsking there access action x.statement) (IsSettled worlds world p a r) (placed applicable) found.listed
+          (λ x asking. subst (λ (ks : List (List ℕ)). IsAsking ks access action x.statement) here asking)
           (settled stamps worlds world p a r none base derived now known requester arn action looked first among empty) found.chosen;
       places_are = found.places_are;
       keys_are = found.keys_are

@@ -5,6 +5,7 @@ mod AskedLemmas
 pub mod BoundLemmas
 mod BriefLemmas
 mod CertainLemmas
+mod ClosedLemmas
 mod ContextLemmas
 mod DecideLemmas
 mod FirstLemmas

@@ -60,7 +60,7 @@ pub listed_more : (known : List (List ℕ)) (access : AccessValue) (action : Lis
     → i < length xs → x ≡ get_or xs i x → AreListedIn known access action (take i xs) before.places.items before.keys.items
     → IsAdded known access action x before after → AreListedIn known access action (take (i + 1) xs) after.places.items after.keys.items
 listed_more known access action xs i x before after below at found added =
-    let P : Placed → Type 0 = λ s. IsAsking known access.requester action s.statement in
+    let P : Placed → Type 0 = λ s. IsAsking known access action s.statement in
     let Q : Placed → Type 0 = IsTold known access action in
     subst (λ (l : List Placed). AreListedIn known access action l after.places.items after.keys.items) (sym (taken_more xs i x below at))
     (elim added [
@@ -97,7 +97,7 @@ pub listed_same : UnaskedKeys → (known : List (List ℕ)) (access : AccessValu
     → All (λ s. IsSameFrom known access.context keys (λ other. IsMatched (request_in access action other) s)) statements
 listed_same unasked known access action statements places keys found =
     let base = access.context in
-    let P : Placed → Type 0 = λ s. IsAsking known access.requester action s.statement in
+    let P : Placed → Type 0 = λ s. IsAsking known access action s.statement in
     let Q : Placed → Type 0 = IsTold known access action in
     let Here : Placed → Contexts = λ s other. IsMatched (request_in access action other) s in
     let asked = flat_map asked_by found.listed in

@@ -1,20 +1,19 @@
 -- What it hangs on whether a request is allowed: keys beside which nothing that nothing gives turns it, and statements beside which none
 -- does. LOGIC 11.11.
-use Rattle.std.specs.Prelude.{◌≡◌, ◌⊎◌, ◌++◌, ℕ, List, [], ◌∷◌, Some, codes, map, take, true}
-use Rattle.std.specs.List.{flat_map, slice_get}
+use Rattle.std.specs.Prelude.{◌≡◌, ◌⊎◌, ◌++◌, ℕ, List, [], ◌∷◌, All, codes, false, map, take, true}
+use Rattle.std.specs.List.{flat_map}
 use Rattle.iam_context.specs.Context.{ContextValue, derived_names, has_key, keys_of}
 use Rattle.iam_decision.specs.Applicable.{ApplicableValue}
 use Rattle.iam_decision.specs.Matched.{IsMatched, Placed, placed}
 use Rattle.iam_decision.specs.declared.place.Place.{Place}
 use Rattle.iam_decision.specs.declared.verdict.Decision.{Decision}
 use Rattle.iam_decision.specs.declared.verdict.Decision.TheVariants.{Allowed}
-use Rattle.iam_layers.specs.Applicable.{applicable_of}
-use Rattle.iam_layers.specs.Cell.{IsAction, IsRequestAt}
+use Rattle.iam_layers.specs.Cell.{IsAccessAt, IsAction, IsRequestAt}
 use Rattle.iam_layers.specs.Own.{IsWorldWith}
+use Rattle.iam_match.specs.Entry.{EntryHolds}
 use Rattle.iam_match.specs.Principal.{PrincipalMatches}
-use Rattle.iam_match.specs.Requester.{RequesterValue}
-use Rattle.iam_match.specs.Statement.{ActionMatches, RequestValue}
-use Rattle.iam_open.specs.Asks.{all_added, is_beyond, keys_asked}
+use Rattle.iam_match.specs.Statement.{AccessValue, ActionMatches, RequestValue, ResourceMatches}
+use Rattle.iam_open.specs.Asks.{all_added, element_keys, entry_keys, is_beyond, keys_asked}
 use Rattle.iam_open.specs.Code.Known.{AgreeOn}
 use Rattle.iam_open.specs.InQuestion.{IsDecisionIn, IsInQuestion, at_moment}
 use Rattle.iam_open.specs.declared.answer.Turned.{Turned}
@@ -56,11 +55,18 @@ IsSettled worlds world p a r s =
     ((request : RequestValue) → IsAskedIn worlds world p a r request → IsMatched request s)
     ⊎ ((request : RequestValue) → IsAskedIn worlds world p a r request → ¬ IsMatched request s)
 
--- the statement matches by its action element and its principal element, and asks for a key that is not known
-pub record IsAsking (known : List (List ℕ)) (requester : RequesterValue) (action : List ℕ) (s : StatementValue) : Type 0 where
-  pub action_matches : ActionMatches s.action action
-  pub principal_matches : PrincipalMatches s.principal requester
+-- what holds of a statement that asks for a key that is not known: its resource element matches if it asks for known keys alone, and so does
+-- each entry hold that asks for no other
+pub record AreAsking (known : List (List ℕ)) (access : AccessValue) (s : StatementValue) : Type 0 where
+  pub resource_matches : is_beyond known (element_keys s.resource) ≡ false → ResourceMatches s.resource access.resource access.context
+  pub entries_hold : All (λ entry. is_beyond known (entry_keys entry) ≡ false → EntryHolds access.context entry) s.conditions
   pub asks : is_beyond known (keys_asked s) ≡ true
+
+-- the statement matches by its action element and its principal element, and as far as known keys tell; and it asks for one that is not known
+pub record IsAsking (known : List (List ℕ)) (access : AccessValue) (action : List ℕ) (s : StatementValue) : Type 0 where
+  pub action_matches : ActionMatches s.action action
+  pub principal_matches : PrincipalMatches s.principal access.requester
+  pub elements : AreAsking known access s
 
 -- those that are chosen of a list, in its order, have the one property, and each other one has the other
 abbrev pub AreChosen : {X : Type 0} → (X → Type 0) → (X → Type 0) → List X → List X → Type 0
@@ -74,22 +80,22 @@ abbrev pub known_keys : WorldValue → PrincipalValue → ResourceValue → List
 known_keys world principal resource =
     keys_of world.context ++ (keys_of principal.context ++ (keys_of resource.context ++ take 5 derived_names))
 
--- of the statements that apply some are listed, in their order, each of which asks for a key that is not known; each other one is settled.
--- The places are those of the listed ones, and the keys those that these ask for and that are not known, each once, in the order in which
--- they are asked for, as they are first written
+-- of the statements that apply some are listed, in their order, which match as the world gives the request as far as known keys tell, and ask
+-- for others; each other one is settled. The places are those of the listed ones, and the keys those that these ask for and that are not
+-- known, each once, in the order in which they are asked for, as they are first written
 pub record AreListed (worlds : List WorldValue) (world : WorldValue) (p a r : ℕ) (places : List Place) (keys : List (List ℕ)) : Type 0 where
-  pub principal : PrincipalValue
-  pub resource : ResourceValue
+  pub applicable : ApplicableValue
+  pub access : AccessValue
   pub action : List ℕ
   pub listed : List Placed
-  pub principal_is : slice_get world.principals p ≡ Some principal
-  pub resource_is : slice_get world.resources r ≡ Some resource
+  pub access_is : IsAccessAt world p r applicable access
   pub action_is : IsAction world a action
   pub chosen :
-      AreChosen (λ s. IsAsking (known_keys world principal resource) principal.requester action s.statement) (IsSettled worlds world p a r)
-      (placed (applicable_of world principal resource)) listed
+      AreChosen (λ s. IsAsking (known_keys world access_is.principal access_is.resource) access action s.statement) (IsSettled worlds world p a r)
+      (placed applicable) listed
   pub places_are : places ≡ map (λ s. s.place) listed
-  pub keys_are : keys ≡ all_added (known_keys world principal resource) [] (flat_map (λ s. keys_asked s.statement) listed)
+  pub keys_are :
+      keys ≡ all_added (known_keys world access_is.principal access_is.resource) [] (flat_map (λ s. keys_asked s.statement) listed)
 
 -- where it is not said that the request is always allowed, or never; else there are none
 abbrev pub AreListedOf : List WorldValue → WorldValue → ℕ → ℕ → ℕ → Turned → List Place → List (List ℕ) → Type 0

@@ -1,9 +1,9 @@
 // Whether conditions hold in contexts that agree on what is known.
-ghost use Rattle.std.specs.Prelude.{◌≡◌, All, IfOk, true};
+ghost use Rattle.std.specs.Prelude.{◌≡◌, All, IfOk, false, true};
 ghost use Rattle.std.specs.List.{flat_map};
 ghost use Rattle.iam_match.specs.Entry.{EntryHolds};
 ghost use Rattle.iam_open.specs.Asks.{entry_keys, is_beyond};
-ghost use Rattle.iam_open.specs.Code.Certain.{IfOpen, Tells};
+ghost use Rattle.iam_open.specs.Code.Certain.{IfOpen, Tells, UnlessNever};
 ghost use Rattle.iam_open.specs.Code.Known.{AgreeOn, Follows};
 
 use crate::beyond::entry_beyond;
@@ -27,6 +27,8 @@ pub fn conditions_certain<'c>(
 ) -> Result<Certain, OutOfMemory>
     ensures told { IfOk result (λ certain. Tells certain (Follows known.now context.now) (λ other. All (EntryHolds other) entries.now)) }
     ensures asks { IfOk result (λ certain. IfOpen certain (is_beyond known.now (flat_map entry_keys entries.now) ≡ true)) }
+    ensures closed { IfOk result (λ certain. UnlessNever certain
+        (All (λ entry. is_beyond known.now (entry_keys entry) ≡ false → EntryHolds context.now entry) entries.now)) }
 {
     let mut certain = Certain::Always;
     for entry in entries {
@@ -44,6 +46,7 @@ fn entry_from<'c>(
 ) -> Result<Certain, OutOfMemory>
     ensures told { IfOk result (λ certain. Tells certain (Follows known.now context.now) (λ other. EntryHolds other entry.now)) }
     ensures asks { IfOk result (λ certain. IfOpen certain (is_beyond known.now (entry_keys entry.now) ≡ true)) }
+    ensures closed { IfOk result (λ certain. UnlessNever certain (is_beyond known.now (entry_keys entry.now) ≡ false → EntryHolds context.now entry.now)) }
 {
     match entry_certain(alloc, entry, context, known)? {
         Certain::Open => Ok(time_certain(entry, context)),

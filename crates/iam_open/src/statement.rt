@@ -1,13 +1,12 @@
 // Whether a statement matches requests in contexts that agree on what is known.
-ghost use Rattle.std.specs.Prelude.{◌≡◌, All, IfOk, true};
+ghost use Rattle.std.specs.Prelude.{All, IfOk};
 ghost use Rattle.iam_match.specs.Entry.{EntryHolds};
 ghost use Rattle.iam_match.specs.Principal.{PrincipalMatches};
 ghost use Rattle.iam_match.specs.Request.{access_of};
 ghost use Rattle.iam_match.specs.Statement.{ResourceMatches, RestMatches, StatementMatches};
-ghost use Rattle.iam_open.specs.Asks.{is_beyond, keys_asked};
 ghost use Rattle.iam_open.specs.Code.Certain.{IfOpen, Tells};
 ghost use Rattle.iam_open.specs.Code.Known.{Follows, access_at, request_in};
-ghost use Rattle.iam_open.specs.Hangs.{IsAsking};
+ghost use Rattle.iam_open.specs.Hangs.{AreAsking, IsAsking};
 
 use crate::certain::Certain;
 use crate::entry::conditions_certain;
@@ -29,7 +28,7 @@ pub fn statement_certain<'c>(
 ) -> Result<Certain, OutOfMemory>
     ensures told { IfOk result (λ certain. Tells certain (Follows known.now access.entry.context.now)
         (λ other. StatementMatches statement.now (request_in (access_of access.entry) action.now other))) }
-    ensures asks { IfOk result (λ certain. IfOpen certain (IsAsking known.now access.entry.requester.now action.now statement.now)) }
+    ensures asks { IfOk result (λ certain. IfOpen certain (IsAsking known.now (access_of access.entry) action.now statement.now)) }
 {
     if !action_matches(statement.action(), action) {
         return Ok(Certain::Never);
@@ -46,7 +45,8 @@ pub fn rest_certain<'c>(
 ) -> Result<Certain, OutOfMemory>
     ensures told { IfOk result (λ certain. Tells certain (Follows known.now access.entry.context.now)
         (λ other. RestMatches statement.now (access_at (access_of access.entry) other))) }
-    ensures asks { IfOk result (λ certain. IfOpen certain (PrincipalMatches statement.now.principal access.entry.requester.now × (is_beyond known.now (keys_asked statement.now) ≡ true))) }
+    ensures asks { IfOk result (λ certain. IfOpen certain (PrincipalMatches statement.now.principal access.entry.requester.now
+        × AreAsking known.now (access_of access.entry) statement.now)) }
 {
     if !principal_matches(statement, access.requester) {
         return Ok(Certain::Never);
@@ -64,7 +64,7 @@ fn elements_certain<'c>(
     ensures told { IfOk result (λ certain. Tells certain (Follows known.now access.entry.context.now)
         (λ other. ResourceMatches statement.now.resource access.entry.resource.now other
         × All (EntryHolds other) statement.now.conditions)) }
-    ensures asks { IfOk result (λ certain. IfOpen certain (is_beyond known.now (keys_asked statement.now) ≡ true)) }
+    ensures asks { IfOk result (λ certain. IfOpen certain (AreAsking known.now (access_of access.entry) statement.now)) }
 {
     let resource = resource_certain(
         alloc,

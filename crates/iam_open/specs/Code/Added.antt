@@ -32,7 +32,7 @@ IsTold known access action s = IsCertain (Follows known access.context) (λ othe
 
 -- the statement may turn the request: its place and the keys that it asks for are put behind those before
 pub record IsPut (known : List (List ℕ)) (access : AccessValue) (action : List ℕ) (s : Placed) (before after : Hangs) : Type 0 where
-  pub asking : IsAsking known access.requester action s.statement
+  pub asking : IsAsking known access action s.statement
   pub places_are : after.places.items ≡ before.places.items ++ (s.place ∷ [])
   pub keys_are : after.keys.items ≡ all_added known before.keys.items (keys_asked s.statement)
 
@@ -44,6 +44,6 @@ IsAdded known access action s before after = IsPut known access action s before 
 pub record AreListedIn (known : List (List ℕ)) (access : AccessValue) (action : List ℕ) (statements : List Placed) (places : List Place)
     (keys : List (List ℕ)) : Type 0 where
   pub listed : List Placed
-  pub chosen : AreChosen (λ s. IsAsking known access.requester action s.statement) (IsTold known access action) statements listed
+  pub chosen : AreChosen (λ s. IsAsking known access action s.statement) (IsTold known access action) statements listed
   pub places_are : places ≡ map (λ s. s.place) listed
   pub keys_are : keys ≡ all_added known [] (flat_map (λ s. keys_asked s.statement) listed)

@@ -20,6 +20,12 @@ IfOpen Always P = ⊤
 IfOpen Never P = ⊤
 IfOpen Open P = P
 
+-- unless it is never
+abbrev pub UnlessNever : Certain → Type 0 → Type 0
+UnlessNever Always P = P
+UnlessNever Never P = ⊤
+UnlessNever Open P = P
+
 -- what is known to hold, or not to
 abbrev pub certain_of : Bool → Certain
 certain_of true = Always

@@ -21,4 +21,4 @@ returns c =
     let unknown : has_key known key ≡ false = sym c.has.ensures ∙ c.if-has.false in
     let pushed : c.push.new.self.items ≡ keys ++ (key ∷ []) =
     c.in_ok-push.ensures.items ∙ ap (λ (k : List ℕ). keys ++ (k ∷ [])) c.in_ok-read.ensures in
-    pushed ∙ sym (added_new known keys key unknown absent)
+    ◌∙◌ {A = List (List ℕ)} pushed (sym (added_new known keys key unknown absent))

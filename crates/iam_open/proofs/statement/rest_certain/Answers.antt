@@ -1,11 +1,11 @@
 use Rattle.std.proofs.lemmas.Result.{IfOk-weaker}
-use Rattle.std.proofs.Common.{◌≡◌, All, true}
+use Rattle.std.proofs.Common.{All}
 use Rattle.iam_match.specs.Entry.{EntryHolds}
 use Rattle.iam_match.specs.Principal.{PrincipalMatches}
 use Rattle.iam_match.specs.Request.{access_of}
 use Rattle.iam_match.specs.Statement.{ResourceMatches, RestMatches}
-use Rattle.iam_open.specs.Asks.{is_beyond, keys_asked}
 use Rattle.iam_open.specs.Code.Known.{Follows, access_at}
+use Rattle.iam_open.specs.Hangs.{AreAsking}
 use Rattle.iam_open.specs.declared.certain.Certain.{Certain}
 use Rattle.iam_open.proofs.AskLemmas.{if_open_more}
 use Rattle.iam_open.proofs.CertainLemmas.{tells_same}
@@ -29,7 +29,7 @@ returns c =
           c.elements_certain.ensures.told;
       asks = IfOk-weaker c.elements_certain.result _ _
           (λ (certain : Certain) asks.
-          if_open_more certain (is_beyond c.args.known.now (keys_asked s) ≡ true)
-          (PrincipalMatches s.principal c.args.access.requester.now × (is_beyond c.args.known.now (keys_asked s) ≡ true)) (λ is. (who, is)) asks)
+          if_open_more certain (AreAsking c.args.known.now (access_of c.args.access) s)
+          (PrincipalMatches s.principal c.args.access.requester.now × AreAsking c.args.known.now (access_of c.args.access) s) (λ are. (who, are)) asks)
           c.elements_certain.ensures.asks;
     }

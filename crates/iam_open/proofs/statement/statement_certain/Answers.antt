@@ -1,12 +1,11 @@
 use Rattle.std.proofs.lemmas.Result.{IfOk-weaker}
-use Rattle.std.proofs.Common.{◌≡◌, subst, true}
+use Rattle.std.proofs.Common.{subst}
 use Rattle.iam_element.specs.Reading.{ActionElement}
 use Rattle.iam_match.specs.Principal.{PrincipalMatches}
 use Rattle.iam_match.specs.Request.{access_of}
 use Rattle.iam_match.specs.Statement.{ActionMatches, RestMatches, StatementMatches}
-use Rattle.iam_open.specs.Asks.{is_beyond, keys_asked}
 use Rattle.iam_open.specs.Code.Known.{Follows, access_at, request_in}
-use Rattle.iam_open.specs.Hangs.{IsAsking}
+use Rattle.iam_open.specs.Hangs.{AreAsking, IsAsking}
 use Rattle.iam_open.specs.declared.certain.Certain.{Certain}
 use Rattle.iam_open.proofs.AskLemmas.{if_open_more}
 use Rattle.iam_open.proofs.CertainLemmas.{tells_same}
@@ -27,8 +26,8 @@ returns c =
           c.rest_certain.ensures.told;
       asks = IfOk-weaker c.rest_certain.result _ _
           (λ (certain : Certain) asks.
-          if_open_more certain (PrincipalMatches s.principal access.requester × (is_beyond c.args.known.now (keys_asked s) ≡ true))
-          (IsAsking c.args.known.now access.requester c.args.action.now s)
-          (λ both. record { action_matches = acts; principal_matches = both.0; asks = both.1 }) asks)
+          if_open_more certain (PrincipalMatches s.principal access.requester × AreAsking c.args.known.now access s)
+          (IsAsking c.args.known.now access c.args.action.now s)
+          (λ both. record { action_matches = acts; principal_matches = both.0; elements = both.1 }) asks)
           c.rest_certain.ensures.asks;
     }

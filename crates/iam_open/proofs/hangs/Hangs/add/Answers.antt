@@ -26,7 +26,7 @@ returns-in-Never c =
 pub returns-in_ok-push-in-Open : goal.returns-in_ok-push-in-Open
 returns-in_ok-push-in-Open c =
     let asking =
-    subst (λ (x : Certain). IfOpen x (IsAsking c.args.known.now c.args.access.requester.now c.args.action.now c.args.standing.statement.now))
+    subst (λ (x : Certain). IfOpen x (IsAsking c.args.known.now (access_of c.args.access) c.args.action.now c.args.standing.statement.now))
     c.in-Open.is c.in_ok-statement_certain.ensures.asks in
     on_ok_weaker c.add_statement.result
     (λ is. inl (record { asking = asking; places_are = c.in_ok-push-in-Open.ensures.items; keys_are = is }))
