@@ -17,7 +17,7 @@ use Rattle.iam_open.proofs.ListLemmas.{all_pushed, in_some, none_of_none, taken_
 use Rattle.iam_open.proofs.TriedLemmas.{all_are_tried}
 use Rattle.iam_open.proofs.TurnLemmas.{OneStamp}
 use Rattle.iam_open.proofs.WhereLemmas.{IsLookedAt, in_turn}
-use Rattle.iam_open_changes.specs.Code.Kept.{AreKept, AreKeptOf, HasKept, IsKept, KeptValue, OpenHolds}
+use Rattle.iam_open_changes.specs.Code.Kept.{AreKept, AreKeptOf, IsKept, KeptValue, OpenHolds}
 use Rattle.iam_open_changes.specs.declared.numbers.Numbers.{Numbers}
 use Rattle.iam_open_changes.proofs.AllLemmas.{all_more}
 use Rattle.iam_world.specs.World.{WorldValue}

@@ -12,3 +12,4 @@ mod RequestLemmas
 mod RequesterLemmas
 mod SameLemmas
 mod ShownLemmas
+mod WiderLemmas

@@ -4,9 +4,9 @@ use Rattle.std.proofs.lemmas.Nat.{div-add-mod', shr-shr, shr_below}
 use Rattle.std.specs.List.{Any}
 use Rattle.iam_condition.specs.declared.operand.Operand.{Operand}
 use Rattle.iam_open.proofs.ListLemmas.{in_some, some_in}
-use Rattle.iam_open_changes.specs.Code.Implied.{AreHeld, HoldsAddress, HoldsAll, HoldsNetwork, IsIn, IsNetworkOf}
+use Rattle.iam_open_changes.specs.Code.Implied.{AreHeld, HoldsAddress, HoldsAll, HoldsNetwork, IsNetworkOf}
 use Rattle.iam_open_changes.specs.declared.network.Network.{Network}
-use Rattle.iam_value.specs.Address.{AddressBits, Block, Holds, first_bits}
+use Rattle.iam_value.specs.Address.{Block, first_bits}
 
 -- a number that is less than 2 to the 128 has nothing before its last 128 bits
 pub none_left : (n apart : ℕ) → n < 2 ^ 128 → 128 ≤ apart → 0 ≡ n / 2 ^ apart

@@ -1,10 +1,9 @@
 -- Statements that say as much as others.
-use Rattle.std.proofs.Common.{◌≡◌, ◌∙◌, ◌≤◌, ◌<◌, ◌+◌, ◌++◌, ◌∷◌, ℕ, List, [], IsTrue, ap, arith, get_or, inl, inr, length, subst, sym, take}
+use Rattle.std.proofs.Common.{◌≡◌, ◌∙◌, ◌≤◌, ◌<◌, ◌+◌, ℕ, List, ap, get_or, inl, inr, length, subst, sym, take}
 use Rattle.std.proofs.lemmas.List.Elements.{Contains-push_cases}
 use Rattle.std.specs.List.{Any, Contains}
 use Rattle.iam_condition.specs.Entry.{EntryValue}
-use Rattle.iam_decision.specs.Decision.{Says}
-use Rattle.iam_decision.specs.Matched.{IsMatched, Placed, placed}
+use Rattle.iam_decision.specs.Matched.{IsMatched, Placed}
 use Rattle.iam_match.specs.Entry.{EntryHolds}
 use Rattle.iam_match.specs.Principal.{grant_of, rank}
 use Rattle.iam_match.specs.Statement.{RequestValue, ResourceMatches}

@@ -1,13 +1,13 @@
 -- Requests of two worlds that are decided by the same.
-use Rattle.std.proofs.Common.{◌≡◌, ◌∙◌, ◌<◌, ◌≤◌, ℕ, arith, pos, List, [], ◌∷◌, ◌++◌, Some, ap, append_assoc, refl, set, subst, sym}
+use Rattle.std.proofs.Common.{◌≡◌, ◌∙◌, ◌<◌, ℕ, arith, pos, List, [], ◌∷◌, ◌++◌, Some, ap, append_assoc, refl, set, subst, sym}
 use Rattle.std.proofs.lemmas.List.{append-nil, get_or-set_same, length-set}
 use Rattle.std.proofs.lemmas.Option.{slice_get-get_or, slice_get_within}
-use Rattle.std.specs.List.{Any, Contains, slice_get}
+use Rattle.std.specs.List.{Any, slice_get}
 use Rattle.iam_context.specs.Context.{ContextValue, joined}
 use Rattle.iam_decision.specs.Applicable.{ApplicableValue, frame_of}
 use Rattle.iam_decision.specs.Decision.{Allows, AllowsAt, Denies, Grants, GrantsAtLeast, IsAllowed, IsDecided, IsDecision, Says}
 use Rattle.iam_decision.specs.Laws.{OneDecision}
-use Rattle.iam_decision.specs.Matched.{IsMatched, Placed, placed}
+use Rattle.iam_decision.specs.Matched.{Placed, placed}
 use Rattle.iam_decision.specs.declared.frame.Frame.{Frame}
 use Rattle.iam_decision.specs.declared.place.Layer.{Layer}
 use Rattle.iam_decision.specs.declared.verdict.Decision.{Decision}
@@ -17,9 +17,8 @@ use Rattle.iam_layers.specs.Cell.{IsAccessAt, IsRequestAt}
 use Rattle.iam_layers.specs.Derived.{derived_of}
 use Rattle.iam_layers.specs.Own.{IsCleanAt, IsWorldWith}
 use Rattle.iam_layers.proofs.VerdictLemmas.{one_some}
-use Rattle.iam_match.specs.Principal.{grant_of, rank}
 use Rattle.iam_match.specs.Requester.{RequesterValue}
-use Rattle.iam_match.specs.Statement.{AccessValue, RequestValue, StatementMatches, request_for}
+use Rattle.iam_match.specs.Statement.{AccessValue, RequestValue, request_for}
 use Rattle.iam_match.specs.declared.principal.Grant.{Grant}
 use Rattle.iam_open.specs.InQuestion.{IsDecisionIn, at_moment}
 use Rattle.iam_open.proofs.BoundLemmas.{more_allowed}
@@ -30,7 +29,6 @@ use Rattle.iam_open_changes.specs.Laws.{NoMoreIsAllowed, NoMoreIsNotTurned, Same
 use Rattle.iam_open_changes.specs.Same.{AllowsNoMore, AskSame, IsAskedInBoth, Reaches, SaysAsMuch, known_context}
 use Rattle.iam_open_changes.specs.declared.numbers.Numbers.{Numbers}
 use Rattle.iam_open_changes.specs.declared.turn.Turn.TheVariants.{Gained, Lost}
-use Rattle.iam_policy.specs.Reading.{StatementValue}
 use Rattle.iam_policy.specs.declared.effect.Effect.{Effect}
 use Rattle.iam_policy.specs.declared.effect.Effect.TheVariants.{Allow, Deny}
 use Rattle.iam_value.specs.Moment.{IsStamp}

@@ -27,6 +27,7 @@ mod same;
 mod seek;
 mod trials;
 mod turn;
+mod wider;
 
 pub use change::{Change, Told, change_of};
 pub use example::Example;

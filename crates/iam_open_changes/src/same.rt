@@ -65,64 +65,79 @@ fn excluded_of(
     }
     let one = kept_at(alloc, before, was)?;
     let other = kept_at(alloc, after, now)?;
-    Ok(Excluded {
-        gains: allow_no_more(other.as_slice(), one.as_slice()),
-        losses: allow_no_more(one.as_slice(), other.as_slice()),
-    })
+    let gains = allow_no_more(alloc, other.as_slice(), one.as_slice())?;
+    let losses = allow_no_more(alloc, one.as_slice(), other.as_slice())?;
+    Ok(Excluded { gains, losses })
 }
 
 /// `true` only where the first of these statements allow no more than the second ones.
-fn allow_no_more(ones: &[Kept<'_>], others: &[Kept<'_>]) -> bool
-    ensures { IsTrue result → AllowNoMore ones.now others.now }
+fn allow_no_more(alloc: Global, ones: &[Kept<'_>], others: &[Kept<'_>]) -> Result<bool, OutOfMemory>
+    ensures { IfOk result (λ yes. IsTrue yes → AllowNoMore ones.now others.now) }
 {
-    reach_others(Effect::Allow, ones, others) && reach_others(Effect::Deny, others, ones)
+    if !reach_others(alloc, Effect::Allow, ones, others)? {
+        return Ok(false);
+    }
+    reach_others(alloc, Effect::Deny, others, ones)
 }
 
 /// `true` only where each of the first statements that has this effect reaches one of the second ones.
-fn reach_others(effect: Effect, ones: &[Kept<'_>], others: &[Kept<'_>]) -> bool
-    ensures { IsTrue result → ReachOthers effect ones.now others.now }
+fn reach_others(
+    alloc: Global,
+    effect: Effect,
+    ones: &[Kept<'_>],
+    others: &[Kept<'_>],
+) -> Result<bool, OutOfMemory>
+    ensures { IfOk result (λ yes. IsTrue yes → ReachOthers effect ones.now others.now) }
 {
     for one in ones {
-        if !reaches_if(effect, one, others) {
-            return false;
+        if !reaches_if(alloc, effect, one, others)? {
+            return Ok(false);
         }
     }
-    true
+    Ok(true)
 }
 
 /// `true` only where the statement has another effect or reaches one of these.
-fn reaches_if(effect: Effect, one: &Kept<'_>, others: &[Kept<'_>]) -> bool
-    ensures { IsTrue result → one.now.standing.statement.effect ≡ effect → Any (IsReached one.now) others.now }
+fn reaches_if(
+    alloc: Global,
+    effect: Effect,
+    one: &Kept<'_>,
+    others: &[Kept<'_>],
+) -> Result<bool, OutOfMemory>
+    ensures { IfOk result (λ yes. IsTrue yes → one.now.standing.statement.effect ≡ effect → Any (IsReached one.now) others.now) }
 {
-    one.standing.statement.effect() != effect || reaches_one(one, others)
+    if one.standing.statement.effect() != effect {
+        return Ok(true);
+    }
+    reaches_one(alloc, one, others)
 }
 
 /// `true` only where the statement reaches one of these.
-fn reaches_one(one: &Kept<'_>, others: &[Kept<'_>]) -> bool
-    ensures { IsTrue result → Any (IsReached one.now) others.now }
+fn reaches_one(alloc: Global, one: &Kept<'_>, others: &[Kept<'_>]) -> Result<bool, OutOfMemory>
+    ensures { IfOk result (λ yes. IsTrue yes → Any (IsReached one.now) others.now) }
 {
     for other in others {
-        if is_reached(one, other) {
-            return true;
+        if is_reached(alloc, one, other)? {
+            return Ok(true);
         }
     }
-    false
+    Ok(false)
 }
 
 /// `true` only where the second statement says as much as the first one, wherever that matches.
-fn is_reached(one: &Kept<'_>, other: &Kept<'_>) -> bool
-    ensures { IsTrue result → IsReached one.now other.now }
+fn is_reached(alloc: Global, one: &Kept<'_>, other: &Kept<'_>) -> Result<bool, OutOfMemory>
+    ensures { IfOk result (λ yes. IsTrue yes → IsReached one.now other.now) }
 {
     if !stand_alike(one, other) {
-        return false;
+        return Ok(false);
     }
     if !grants_as_much(one, other) {
-        return false;
+        return Ok(false);
     }
     if !keeps_resource(one, other) {
-        return false;
+        return Ok(false);
     }
-    keeps_entries(one, other)
+    keeps_entries(alloc, one, other)
 }
 
 /// Whether both statements have the same effect, and stand at the same level of the same layer.
@@ -150,10 +165,12 @@ fn keeps_resource(one: &Kept<'_>, other: &Kept<'_>) -> bool
 }
 
 /// `true` only where the open entries of the second statement hold wherever the entries of the first one do.
-fn keeps_entries(one: &Kept<'_>, other: &Kept<'_>) -> bool
-    ensures { IsTrue result → All (λ entry. Any (λ it. Implies it entry) one.now.standing.statement.conditions) other.now.entries }
+fn keeps_entries(alloc: Global, one: &Kept<'_>, other: &Kept<'_>) -> Result<bool, OutOfMemory>
+    ensures { IfOk result (λ yes. IsTrue yes
+        → All (λ entry. Any (λ it. Implies it entry) one.now.standing.statement.conditions) other.now.entries) }
 {
     are_implied(
+        alloc,
         one.standing.statement.conditions(),
         other.entries.as_slice(),
     )
@@ -171,27 +188,28 @@ fn have_same_resource(one: &Statement, other: &Statement) -> bool
 }
 
 /// `true` only where each of these holds wherever all of the first entries do.
-fn are_implied(entries: &[Entry], others: &[&Entry]) -> bool
-    ensures { IsTrue result → All (λ entry. Any (λ it. Implies it entry) entries.now) (map (λ entry. entry.now) others.now) }
+fn are_implied(alloc: Global, entries: &[Entry], others: &[&Entry]) -> Result<bool, OutOfMemory>
+    ensures { IfOk result (λ yes. IsTrue yes
+        → All (λ entry. Any (λ it. Implies it entry) entries.now) (map (λ entry. entry.now) others.now)) }
 {
     for other in others {
-        if !is_implied(entries, other) {
-            return false;
+        if !is_implied(alloc, entries, other)? {
+            return Ok(false);
         }
     }
-    true
+    Ok(true)
 }
 
 /// `true` only where one of the entries implies this one.
-fn is_implied(entries: &[Entry], other: &Entry) -> bool
-    ensures { IsTrue result → Any (λ it. Implies it other.now) entries.now }
+fn is_implied(alloc: Global, entries: &[Entry], other: &Entry) -> Result<bool, OutOfMemory>
+    ensures { IfOk result (λ yes. IsTrue yes → Any (λ it. Implies it other.now) entries.now) }
 {
     for entry in entries {
-        if implies(entry, other) {
-            return true;
+        if implies(alloc, entry, other)? {
+            return Ok(true);
         }
     }
-    false
+    Ok(false)
 }
 
 /// `true` only where the same is asked in both worlds.

@@ -8,7 +8,6 @@ use Rattle.iam_layers.specs.Cell.{IsRequestAt}
 use Rattle.iam_layers.specs.Own.{IsCleanAt, IsWorldWith}
 use Rattle.iam_match.specs.Entry.{EntryHolds}
 use Rattle.iam_match.specs.Principal.{grant_of}
-use Rattle.iam_match.specs.Requester.{RequesterValue}
 use Rattle.iam_match.specs.Statement.{AccessValue, RequestValue, ResourceMatches}
 use Rattle.iam_match.specs.declared.principal.Grant.{Grant}
 use Rattle.iam_open.specs.Code.Certain.{Contexts}

@@ -6,9 +6,9 @@ use Rattle.iam_open_changes.proofs.implied.are_within.Goals as goal
 
 pub loop-one-preserved : goal.loop-one-preserved
 loop-one-preserved c =
-    all_more (IsWithin c.args.others.now) c.args.ones.now c.loop-one.one-index c.one-item.result c.loop-one-test.true c.one-item.is
-    c.loop-one.invariant (c.is_within.ensures c.if-not-is_within.false)
+    all_more (IsWithin c.args.base c.args.others.now) c.args.ones.now c.loop-one.one-index c.one-item.result c.loop-one-test.true c.one-item.is
+    c.loop-one.invariant (c.in_ok-is_within.ensures c.if-not-branch.false)
 
 pub returns : goal.returns
 returns c = λ t.
-    all_taken (IsWithin c.args.others.now) c.args.ones.now c.loop-one.one-index (omega (arith, c.loop-one-test.false)) c.loop-one.invariant
+    all_taken (IsWithin c.args.base c.args.others.now) c.args.ones.now c.loop-one.one-index (omega (arith, c.loop-one-test.false)) c.loop-one.invariant

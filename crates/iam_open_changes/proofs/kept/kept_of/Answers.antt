@@ -1,4 +1,4 @@
-use Rattle.std.proofs.Common.{◌≡◌, ◌<◌, ◌+◌, ◌++◌, ◌∷◌, [], List, MatchOption, Option, arith, length, map, subst, sym, take}
+use Rattle.std.proofs.Common.{◌≡◌, ◌<◌, ◌+◌, List, MatchOption, Option, arith, length, map, subst, sym, take}
 use Rattle.std.proofs.lemmas.List.{length-map}
 use Rattle.iam_context.specs.Context.{ContextValue}
 use Rattle.iam_decision.specs.Code.Scan.{placed_value}

@@ -17,7 +17,7 @@ loop-other-preserved c =
     let below : i < length xs = omega (arith, length-map others (λ entry. entry.now), inside) in
     all_more (λ entry. Any (λ it. Implies it entry) c.args.entries.now) xs i c.other-item.result.now below
     (at_map (λ entry. entry.now) others i c.other-item.result inside c.other-item.is) c.loop-other.invariant
-    (c.is_implied.ensures c.if-not-is_implied.false)
+    (c.in_ok-is_implied.ensures c.if-not-branch.false)
 
 pub returns : goal.returns
 returns c = λ t.
