@@ -21,6 +21,7 @@ DOCUMENTS = [
 # How many words each of these pages may have; any other has at most 300 lines, and LOGIC.md as many as it needs.
 WORDS = {
     "README.md": 1500,
+    "docs/guide.md": 2500,
     "CONTRIBUTING.md": 3000,
 }
 WIDTH = 120
