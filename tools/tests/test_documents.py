@@ -23,6 +23,7 @@ WORDS = {
     "README.md": 1500,
     "docs/guide.md": 2500,
     "CONTRIBUTING.md": 3000,
+    "bench/README.md": 3000,
 }
 WIDTH = 120
 
