@@ -24,6 +24,7 @@ WORDS = {
     "docs/guide.md": 2500,
     "CONTRIBUTING.md": 3000,
     "bench/README.md": 3000,
+    "docs/estates.md": 3000,
 }
 WIDTH = 120
 
