@@ -25,6 +25,7 @@ WORDS = {
     "CONTRIBUTING.md": 3000,
     "bench/README.md": 3000,
     "docs/estates.md": 3000,
+    "docs/reference.md": 3000,
 }
 WIDTH = 120
 
