@@ -12,7 +12,6 @@ from .bounds import at_most, closed, hanging_keys
 from .documents import FOREIGN, World, cells_of
 from .faults import Fault
 from .keys import with_key
-from .narrower import with_narrower
 from .program import Refused, each_of, world_bytes
 from .reports import REFUSED, Answer, Answers, rows_of
 from .splitting import Part, parts, parts_of_all
@@ -232,5 +231,5 @@ def parts_of_pair(pair: List[World]) -> Iterator[Tuple[List[World], Dict[str, in
         people = [[one for one in it["principals"] if every[principal_text(one)] == foreign] for it in pair]
         own = [closed({**it, "principals": some}) for it, some in zip(pair, people)]
         scales = scales_of(own)
-        for parts_of_both in parts_of_all(with_narrower([decimals.scaled(it, scales) for it in own])):
+        for parts_of_both in parts_of_all([decimals.scaled(it, scales) for it in own]):
             yield [it.world for it in parts_of_both], scales
