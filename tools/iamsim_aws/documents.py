@@ -44,8 +44,9 @@ def levels(kind: str, path: str, value: Any, change: Change) -> Any:
 
 # What the requests on an access point of S3 are in its bucket: a resource within a resource, which no world of iamsim has.
 THROUGH = "through"
-# The id of an organisation of which a principal is known not to be, which no world of iamsim has either.
-FOREIGN = "foreign"
+# The id of an organisation of which a principal is known not to be, and whether all tags are known that a principal may have or
+# sessions may set some: no world of iamsim has these either.
+FOREIGN, TAGS = "foreign", "tags"
 
 
 def within(_kind: str, path: str, value: Any, change: Change) -> Any:
@@ -104,7 +105,7 @@ def dressed(world: World, names: Dict[str, str]) -> World:
 def bare(world: World) -> World:
     """The JSON of a world."""
     made = mapped(world, lambda _, path, policy: policy.document)
-    for axis, name in (("resources", THROUGH), ("principals", FOREIGN)):
+    for axis, name in (("resources", THROUGH), ("principals", FOREIGN), ("principals", TAGS)):
         for it in made[axis] if isinstance(made.get(axis), list) else ():
             if isinstance(it, dict):
                 it.pop(name, None)

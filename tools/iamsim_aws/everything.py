@@ -17,6 +17,7 @@ from .patterns import common, is_pattern, matcher, of_given
 from .points import tell_points
 from .questions import Question, Scope, missing, principals
 from .references import is_mixed
+from .roles import with_sessions
 from .slips import is_wide
 from .sources import ASSUME
 from .telling import Cause, cause_of
@@ -164,7 +165,7 @@ def runs(scope: Scope, question: Question) -> Iterator[Run]:
     for kind, action in WORLDS.items():
         own = [it for it in patterns if (it if it in WORLDS else "") == kind]
         try:
-            world = whole(scope.source.worlds([action])[0]) if own else {"principals": []}
+            world = whole(with_sessions(scope.source.worlds([action]))[0]) if own else {"principals": []}
         except Fault as why:
             tell(f"{patterns[kind]} is not asked: {why}")
             continue

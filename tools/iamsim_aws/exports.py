@@ -7,9 +7,10 @@ from typing import Any, Dict, Iterator, List, Optional, Tuple
 
 from . import files
 from .arns import account_of
-from .documents import Policy
+from .documents import TAGS, Policy, statements_of
 from .faults import Fault
 from .naming import inline_policy
+from .speaking import speaks_of
 
 ACCOUNT = re.compile(r"[0-9]{12}")
 LISTS = {"UserDetailList": "users", "GroupDetailList": "groups", "RoleDetailList": "roles", "Policies": "policies"}
@@ -150,7 +151,7 @@ def tags(holder: Dict[str, Any], before: str) -> Dict[str, str]:
 def user_of(account: Account, it: Dict[str, Any]) -> Dict[str, Any]:
     policies = once(account.own(it, "UserPolicyList") + account.of_groups(it))
     context = {"aws:userid": it.get("UserId"), **tags(it, "aws:PrincipalTag/")}
-    return {"user": it["Arn"], "identity": policies, "context": known(context), **account.boundary(it)}
+    return {"user": it["Arn"], "identity": policies, "context": known(context), TAGS: True, **account.boundary(it)}
 
 
 def role_of(account: Account, it: Dict[str, Any], session: str) -> Dict[str, Any]:
@@ -162,8 +163,16 @@ def role_of(account: Account, it: Dict[str, Any], session: str) -> Dict[str, Any
         "session": session,
         "identity": policies,
         "context": known(context),
+        TAGS: not may_set_tags(it),
         **account.boundary(it),
     }
+
+
+def may_set_tags(role: Dict[str, Any]) -> bool:
+    """Whether a role's trust policy may let sessions set tags, or is not known."""
+    trust = document(role.get("AssumeRolePolicyDocument"), f"{role['Arn']} trust policy")
+    some = [it for it in statements_of(trust) if not isinstance(it, dict) or it.get("Effect") != "Deny"]
+    return not isinstance(trust, dict) or any(speaks_of(it, ("sts:TagSession",)) for it in some)
 
 
 def known(context: Dict[str, Any]) -> Dict[str, Any]:

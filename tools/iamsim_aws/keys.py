@@ -3,7 +3,7 @@
 from typing import Any, Dict, Iterator, List, Set, Tuple
 
 from .arns import account_of, principal_arn
-from .documents import FOREIGN, World, conditions_of, each, places, statements_of
+from .documents import FOREIGN, TAGS, World, conditions_of, each, places, statements_of
 from .patterns import variables_of
 
 # Those that follow from the request.
@@ -18,6 +18,8 @@ DERIVED = [
 ]
 # The account of who calls KMS.
 CALLER = "kms:CallerAccount"
+# How keys begin that are tags of a principal.
+TAG = "aws:principaltag/"
 OF_ORGANIZATION = ("aws:principalorgid", "aws:principalorgpaths")
 
 
@@ -107,17 +109,24 @@ def with_key(world: World, key: str, value: Any) -> World:
     return {**world, by: some}
 
 
-def with_callers(world: World) -> World:
-    """The world in which each principal gives its own account as that of who calls KMS, where a document asks for it and
-    the world does not give it."""
-    by, numbers = givers(world).get(CALLER.lower(), ("principals", set()))
-    if by != "principals" or not any(key.lower() == CALLER.lower() for key, _, _ in asked(world)):
+def with_own_keys(world: World) -> World:
+    """The world in which each principal gives what follows from who it is, where a document asks for it and the world does not give
+    it: its own account as that of who calls KMS, and of its tags, where all are known, that it has none."""
+    given, wanted = givers(world), {key.lower(): key for key, _, _ in asked(world)}
+    some = {it: key for it, key in wanted.items() if given.get(it, ("principals",))[0] == "principals"}
+    callers = [it for it in some if it == CALLER.lower()]
+    tags = [it for it in some if it.startswith(TAG)]
+
+    def own(it: Any) -> Dict[str, Any]:
+        made: Dict[str, Any] = {some[key]: account_of(principal_arn(it)) for key in callers}
+        made.update({some[key]: [] for key in tags if it.get(TAGS)})
+        has = {key.lower() for key in context_of(it)}
+        return {key: value for key, value in made.items() if key.lower() not in has}
+
+    if not callers and not tags:
         return world
-    some = [
-        it if n in numbers else {**it, "context": {**context_of(it), CALLER: account_of(principal_arn(it))}}
-        for n, it in enumerate(world["principals"])
-    ]
-    return {**world, "principals": some}
+    more = [(it, own(it)) for it in world["principals"]]
+    return {**world, "principals": [{**it, "context": {**context_of(it), **of}} if of else it for it, of in more]}
 
 
 def lacking(world: World) -> Dict[str, List[str]]:

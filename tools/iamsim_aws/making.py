@@ -19,7 +19,7 @@ from .arns import (
 from .documents import THROUGH, World
 from .exports import ACCOUNT, Account, is_service_linked, policy, role_of, tags, text, user_of
 from .faults import Fault
-from .keys import with_callers
+from .keys import with_own_keys
 from .speaking import owned, owners
 from .naming import control_policy, resource_policy, trust_policy
 from .organizations import Organization
@@ -235,7 +235,7 @@ def world_of(
     accounts = [estate.organization.account(it) for it in sorted(ids)]
     context = {} if estate.context is None else {"context": estate.context}
     axes = {"accounts": accounts, "principals": some, "actions": actions, "resources": of}
-    return with_callers({"moment": estate.moment, **context, **axes})
+    return with_own_keys({"moment": estate.moment, **context, **axes})
 
 
 def outside(estate: Estate) -> List[str]:

@@ -5,24 +5,27 @@ import re
 from typing import Any, Dict, Iterator, List, NamedTuple, Sequence, Tuple
 
 from .arns import principal_text, session_arn
-from .documents import World, conditions_of, each, places, statements_of
+from .documents import TAGS, World, conditions_of, each, places, statements_of
 from .exports import is_service_linked, role_of
 from .faults import Fault
-from .keys import context_of, with_callers
+from .keys import TAG, asked, context_of, with_own_keys
 from .making import in_organization
 from .parties import PARTY, SEGMENT, filled, said_in, texts_in, unused
 from .patterns import is_pattern, matcher, opened, overlap
 from .sources import Source
 
 USERID, LINKED = "aws:userid", "/aws-service-role/"
+# The name of a session that sets tags.
+TAGGED = "tagged"
 Principal = Dict[str, Any]
 
 
 class Spoken(NamedTuple):
-    """The ARNs of sessions that policies name, and the patterns of `aws:userid` for which they ask."""
+    """The ARNs of sessions that policies name, the patterns of `aws:userid` for which they ask, and the tags, in lower case."""
 
     arns: Dict[str, None]
     ids: Dict[str, None]
+    tags: Dict[str, None]
 
 
 # What is spoken of by the policies of lists of principals, which the worlds of many questions share: each with its list.
@@ -41,19 +44,20 @@ def spoken_in(world: World) -> Spoken:
             elif key.lower() == "aws:principalarn":
                 arns += map(str, each(value))
     sessions = (it for it in arns if ":assumed-role/" in it and PARTY.fullmatch(it))
-    return Spoken(dict.fromkeys(sessions), dict.fromkeys(ids))
+    tags = (key.lower() for key, _, _ in asked(world) if key.lower().startswith(TAG))
+    return Spoken(dict.fromkeys(sessions), dict.fromkeys(ids), dict.fromkeys(tags))
 
 
 def spoken_of(worlds: Sequence[World]) -> Spoken:
     """What the policies of worlds speak of."""
-    found = Spoken({}, {})
+    found = Spoken({}, {}, {})
     for world in worlds:
         people = world["principals"]
         if id(people) not in KNOWN:
             KNOWN[id(people)] = people, spoken_in({"principals": people})
-        for arns, ids in (KNOWN[id(people)][1], spoken_in({**world, "principals": []})):
-            found.arns.update(arns)
-            found.ids.update(ids)
+        for some in (KNOWN[id(people)][1], spoken_in({**world, "principals": []})):
+            for known, more in zip(found, some):
+                known.update(more)
     return found
 
 
@@ -80,18 +84,27 @@ def session_of(role: Principal, name: str) -> Principal:
     return {**role, "session": name, **({"context": context} if context else {})}
 
 
+def tagged(role: Principal, spoken: Spoken) -> Iterator[Principal]:
+    """A session of a role with tags in place of the role's own that policies ask for, where sessions may set some."""
+    context = {key: it for key, it in context_of(role).items() if key.lower() not in spoken.tags}
+    if role.get(TAGS) is False and len(context) < len(context_of(role)):
+        yield session_of({**role, "context": context}, TAGGED)
+
+
 def with_sessions(worlds: Sequence[World], speaking: Sequence[World] = ()) -> List[World]:
-    """The worlds with each session of their roles that policies of any of them name, or of further worlds."""
+    """The worlds with each session of their roles that policies of any of them name, or of further worlds, and with those that may
+    set tags for which these ask."""
     spoken = spoken_of([*worlds, *speaking])
 
     def more(world: World) -> List[Principal]:
         roles = {it["role"]: it for it in world["principals"] if "role" in it and not it.get("sessionPolicies")}
         names = ((it, name) for it in roles.values() for name in names_of(it, spoken) if re.fullmatch(SEGMENT, name))
-        found = {principal_text(it): it for it in (session_of(*of) for of in names)}
+        every = [*(session_of(*of) for of in names), *(one for it in roles.values() for one in tagged(it, spoken))]
+        found = {principal_text(it): it for it in every}
         known = {principal_text(it) for it in world["principals"]}
         return [it for text, it in found.items() if text not in known]
 
-    if not spoken.arns and not spoken.ids:
+    if not any(spoken):
         return list(worlds)
     return [{**world, "principals": [*world["principals"], *more(world)]} for world in worlds]
 
@@ -116,7 +129,7 @@ def with_linked(source: Source, world: World, speaking: Sequence[World] = ()) ->
     """The world with the service-linked roles that policies on its resources name, or on those of further worlds."""
     some, known = linked(source, [world, *speaking]), {principal_text(it) for it in world["principals"]}
     new = [it for it in some if principal_text(it) not in known]
-    return with_callers({**world, "principals": [*world["principals"], *new]}) if new else world
+    return with_own_keys({**world, "principals": [*world["principals"], *new]}) if new else world
 
 
 def with_named(source: Source, world: World) -> World:

@@ -10,7 +10,7 @@ from .arns import account_of, names_of_principal, principal_arn, principal_text,
 from .documents import Policy, World, statements_of
 from .exports import ACCOUNT
 from .faults import tell
-from .keys import OF_ORGANIZATION, with_callers
+from .keys import OF_ORGANIZATION, with_own_keys
 from .making import in_organization
 from .organizations import Organization
 from .parties import (
@@ -208,4 +208,4 @@ def with_strangers(source: Source, world: World, some: List[Principal]) -> World
     new = sorted({account_of(principal_arn(it)) for it in some} - ids)
     accounts = [source.estate.organization.account(it) if source.estate else {"id": it} for it in new]
     made = {**world, "accounts": world["accounts"] + accounts, "principals": world["principals"] + some}
-    return with_callers(made) if source.estate else made
+    return with_own_keys(made) if source.estate else made

@@ -641,7 +641,7 @@ def test_texts_that_a_variable_makes():
 
 def test_variables_that_nothing_gives():
     """Nothing gives the variable's value, so not each was asked for: that is open, of what changes alone."""
-    path = "arn:aws:s3:::secrets/${aws:PrincipalTag/none}/*"
+    path = "arn:aws:s3:::secrets/${aws:RequestTag/none}/*"
     words = ["--action", "s3:GetObject"]
     for resource, wanted in ((path, True), ("arn:aws:s3:::secrets/${aws:username}/*", False), ("*", False)):
         draft = file(document(statement(action="s3:GetObject", resource=resource)))
@@ -656,8 +656,8 @@ def test_variables_that_nothing_gives():
     grant = {"Effect": "Allow", "Principal": "*", "Action": "s3:GetObject"}
     resources = lambda **more: file([{"arn": "arn:aws:s3:::homes", "account": "111122223333", **more}])
     rule = file("never chain s3:GetObject arn:aws:s3:::homes/*\n")
-    # A session has no user's name, and may have a tag.
-    for variable, status, failures in (("aws:username", 0, 0), ("aws:PrincipalTag/none", 3, 1)):
+    # A session has no user's name, and a request may have a tag.
+    for variable, status, failures in (("aws:username", 0, 0), ("aws:RequestTag/none", 3, 1)):
         policy = document({**grant, "Resource": f"arn:aws:s3:::homes/${{{variable}}}/*"})
         junit = file("")
         aws("rules", rule, EXPORT, "--resources", resources(policy=policy), "--junit", junit, status=status)

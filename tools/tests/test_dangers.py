@@ -205,14 +205,49 @@ def test_tags_in_a_draft():
     secrets = on("secrets/${aws:PrincipalTag/team}/*")
     nothing = statement(action="sqs:*")
     put(export(nothing, tags={"team": "red"}), nothing, secrets, wanted={(GET.lower(), f"{S3}secrets/red/")})
-    draft = f"Own={file(document(nothing, secrets))}"
-    found, said = changed(export(nothing), "--put", draft, status=3)
+    # Known to be absent, it is in no name.
+    green(export(nothing), nothing, secrets)
+    given, draft = tagging("sts:TagSession", nothing, tags={}), f"Own={file(document(nothing, secrets))}"
+    found, said = changed(given, "--put", draft, status=3)
     same({it[1:] for it in found}, {(GET.lower(), f"{S3}secrets//")})
     # The tag is a part of the name: of the others the key is told.
     assert "open: aws:PrincipalTag/team: nothing gives it" in said, said
-    assert ", if `aws:PrincipalTag/team` is ``" in aws("changes", export(nothing), "--put", draft)[0]
+    assert ", if `aws:PrincipalTag/team` is ``" in aws("changes", given, "--put", draft)[0]
+    green(tagging("sts:AssumeRole", nothing, tags={}), nothing, secrets)
     # What a user's session never has.
     green(export(nothing), nothing, on("secrets/x", effect="Deny"))
+
+
+def tagging(action, *statements, tags):
+    """An account with a role app with these policies and tags, whose trust policy lets in for this action too."""
+    trusted = {"Effect": "Allow", "Principal": {"AWS": OWN}, "Action": ["sts:AssumeRole", action]}
+    role = {"RoleName": "app", "RoleId": "AROAAPP", "Arn": f"{ACCOUNT}role/app", "AssumeRolePolicyDocument": document(trusted)}
+    role["RolePolicyList"] = [{"PolicyName": "Own", "PolicyDocument": document(*statements)}]
+    role["Tags"] = [{"Key": key, "Value": value} for key, value in tags.items()]
+    return file({"RoleDetailList": [role]})
+
+
+def test_tags_that_sessions_set():
+    """In place of the role's own, and where it has none; the twins let nobody set tags, or ask for the role's tag alone."""
+    blue = on("secrets/*", Condition={"StringEquals": {"aws:PrincipalTag/team": "blue"}})
+    session = f"arn:aws:sts::{OWN}:assumed-role/app/"
+    for text in (f"never * {GET} {S3}secrets/*", f"never * {GET} {S3}secrets/k"):
+        for action, tags, name in (
+            ("sts:TagSession", {"team": "red"}, "tagged"),
+            ("sts:*", {"team": "red"}, "tagged"),
+            ("sts:TagSession", {}, "session"),
+            ("sts:AssumeRole", {"team": "red"}, ""),
+            ("sts:AssumeRole", {}, ""),
+        ):
+            out = rule(text, tagging(action, blue, tags=tags), 3 if name else 0)
+            same(f"{session}{name} may {GET} {S3}secrets/" in out and "`aws:PrincipalTag/team` is `blue`" in out, bool(name), out)
+    given = tagging("sts:TagSession", blue, tags={"team": "red"})
+    who, everything = aws("who-can", GET, f"{S3}secrets/k", given)[0], aws("can", "app", "*", "*", given, status=3)[0]
+    assert f"{session}tagged " in who and "allowed if `aws:PrincipalTag/team` is `blue`" in who, who
+    assert f"{session}tagged may do nothing of this\n" in everything and "allowed if `aws:PrincipalTag/team` is `blue`" in everything, everything
+    # A tag for which nothing asks makes no further session.
+    assert f"{session}tagged" not in aws("who-can", GET, f"{S3}secrets/k", tagging("sts:TagSession", on("secrets/*"), tags={"team": "red"}))[0]
+    rule(f"never * {GET} {S3}secrets/*", export(blue), 0)
 
 
 def test_what_another_account_has():

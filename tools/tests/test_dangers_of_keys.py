@@ -42,25 +42,25 @@ def test_numbers_beside_what_is_asked():
 
 def test_two_keys_of_two_statements():
     """Of one statement, and of an allow and a deny."""
-    wants = {"aws:SourceVpc": "vpc-1"}, {"aws:PrincipalTag/team": "red"}
+    wants = {"aws:SourceVpc": "vpc-1"}, {"aws:RequestTag/team": "red"}
     both = on("b/*", **when(StringEquals=wants[0], StringLike=wants[1]))
     apart = [on("b/*", **when(StringEquals=wants[0])), on("b/*", effect="Deny", **when(StringNotEquals=wants[1]))]
     for text in (KEY, ALL):
         for some in ([both], apart):
-            breaks(text, export(*some), "if `aws:PrincipalTag/team` is `red` and `aws:SourceVpc` is `vpc-1`, which")
+            breaks(text, export(*some), "if `aws:RequestTag/team` is `red` and `aws:SourceVpc` is `vpc-1`, which")
         rule(text, export(both, on("*", effect="Deny")), 0)
         rule(text, export(apart[0], on("*", effect="Deny", **when(Null={"aws:PrincipalArn": "false"}))), 0)
 
 
 def test_keys_that_are_compared_with_variables():
     """Where nothing gives either side, both may be the same; a variable in a resource may be any text."""
-    owned = on("b/*", **when(StringEquals={"s3:ExistingObjectTag/team": "${aws:PrincipalTag/team}"}))
+    owned, asked = (on("b/*", **when(StringEquals={"s3:ExistingObjectTag/team": f"${{aws:{it}/team}}"})) for it in ("PrincipalTag", "RequestTag"))
     for text in (KEY, ALL):
-        breaks(text, export(owned), "`aws:PrincipalTag/team` is", "`s3:ExistingObjectTag/team` is")
+        breaks(text, export(asked), "`aws:RequestTag/team` is", "`s3:ExistingObjectTag/team` is")
         breaks(text, export(owned, tags={"team": "red"}), "if `s3:ExistingObjectTag/team` is `red`, which")
-        breaks(text, export(on("${aws:PrincipalTag/home}/*")), "if `aws:PrincipalTag/home` is `b`, which")
+        breaks(text, export(on("${aws:RequestTag/home}/*")), "if `aws:RequestTag/home` is `b`, which")
         rule(text, export(on("${aws:PrincipalTag/home}/*"), HINT, tags={"home": "c"}), 0)
-        rule(text, export(on("c/${aws:PrincipalTag/home}/*"), HINT), 0)
+        rule(text, export(on("c/${aws:RequestTag/home}/*"), HINT), 0)
     rule(KEY, export(owned, on("b/*", effect="Deny"), tags={"team": "red"}), 0)
 
 
@@ -215,14 +215,14 @@ def test_what_begins_and_what_ends():
 
 def test_gains_with_two_keys_and_with_variables():
     """Of two statements, and of a variable that nothing gives."""
-    denied = on("b/*", effect="Deny", **when(StringNotEquals={"aws:PrincipalTag/team": "red"}))
+    denied = on("b/*", effect="Deny", **when(StringNotEquals={"aws:RequestTag/team": "red"}))
     allowed = on("b/*", **when(StringEquals={"aws:SourceVpc": "vpc-1"}))
-    wanted = {"aws:SourceVpc": "vpc-1", "aws:PrincipalTag/team": "red"}
+    wanted = {"aws:SourceVpc": "vpc-1", "aws:RequestTag/team": "red"}
     same(lone(gained(export(denied), *put(denied, allowed))), wanted)
     green(export(allowed), *put(denied, allowed))
-    owned = on("b/*", **when(StringEquals={"s3:ExistingObjectTag/team": "${aws:PrincipalTag/team}"}))
+    owned = on("b/*", **when(StringEquals={"s3:ExistingObjectTag/team": "${aws:RequestTag/team}"}))
     tags = lone(gained(export(on("c/*")), *put(on("c/*"), owned)))
-    same(set(tags), {"s3:ExistingObjectTag/team", "aws:PrincipalTag/team"})
+    same(set(tags), {"s3:ExistingObjectTag/team", "aws:RequestTag/team"})
     same(len(set(tags.values())), 1)
     green(export(owned), *put(owned, on("b/x*", effect="Deny")))
 

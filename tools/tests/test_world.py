@@ -85,7 +85,9 @@ def test_policies_of_groups_versions_and_paths():
     same(sids, [None, "OwnHome", "TeamFiles", "AppRoles"])
     same([it["Sid"] for it in bob["boundary"]["Statement"]], ["Storage", "Deploy"])
     same(alice["context"], {"aws:userid": "AIDAALICEALICEALICE00", "aws:PrincipalTag/team": "red"})
-    same(deploy["context"], {"aws:userid": "AROADEPLOY00000000000:s1", "aws:PrincipalTag/stage": "prod"})
+    # A policy asks for the team, which this role is known not to have.
+    tags = {"aws:PrincipalTag/stage": "prod", "aws:PrincipalTag/team": []}
+    same(deploy["context"], {"aws:userid": "AROADEPLOY00000000000:s1", **tags})
     same(made["resources"][0]["context"], {"aws:ResourceTag/stage": "prod", "iam:ResourceTag/stage": "prod"})
     same([it["arn"] for it in made["resources"] if not it["sealed"]], [])
 

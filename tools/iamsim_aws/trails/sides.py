@@ -9,7 +9,7 @@ from ..arns import account_of, principal_arn, resource_part, service_of, session
 from ..documents import Policy, World, places
 from ..exports import ACCOUNT
 from ..files import compact
-from ..keys import with_callers
+from ..keys import with_own_keys
 from ..making import bound, has_service
 from ..sources import Source
 from .mapping import Known
@@ -190,7 +190,7 @@ class Side:
             "actions": list(dict.fromkeys(it.action for it in some)),
             "resources": list(things.values()),
         }
-        return with_callers(made) if self.source.estate else made
+        return with_own_keys(made) if self.source.estate else made
 
 
 # Of principals, which are few.
