@@ -1,16 +1,22 @@
 """Who may come to a request by assuming roles, one after the other."""
 
-from typing import Dict, List, NamedTuple, Sequence, Set
+from typing import Any, Dict, List, NamedTuple, Sequence, Set
 
 from .arns import principal_arn, principal_text
-from .asking import ask
+from .asking import ask_all
+from .covering import is_open, unasked
 from .documents import World
 from .examples import ask_any_key
 from .faults import tell
+from .outsiders import Outsider, outsider_of
 from .reports import Answers
 from .roles import with_sessions
 from .sources import ASSUME, Source
-from .strangers import strangers, with_strangers
+from .strangers import everyone_outside, with_strangers
+
+# The actions by which web identities and SAML identities assume a role.
+BY_TOKENS = ["sts:AssumeRoleWithWebIdentity", "sts:AssumeRoleWithSAML"]
+SERVICES = "services that roles trust are not asked"
 
 
 class Step(NamedTuple):
@@ -33,12 +39,32 @@ class Way(NamedTuple):
 Steps = Dict[str, List[Step]]
 
 
-def opened(answers: Answers) -> Dict[int, str]:
+def opened(several: List[Answers]) -> List[Dict[int, str]]:
     """The requests that are allowed with keys that they lack, each with an example."""
-    [turned], flags = ask_any_key([answers.world]), answers.flags()
-    for it in turned.opens:
+    every = ask_any_key([it.world for it in several])
+    for turned, it in ((turned, it) for turned in every for it in turned.opens):
         tell(f"{turned.open_words(it)}, so who may come by it was not asked")
-    return {cell: it.words() for cell, it in turned.examples.items() if not flags[cell]}
+    flags = [it.flags() for it in several]
+    return [{n: it.words() for n, it in of.examples.items() if not own[n]} for of, own in zip(every, flags)]
+
+
+def is_no_service(who: Outsider) -> bool:
+    return who.kind != "Service"
+
+
+def comers(source: Source, world: World) -> List[Dict[str, Any]]:
+    """Who is outside and is let into a role of a world, but for services."""
+    some = [(it, outsider_of(it)) for it in everyone_outside(source, [world])]
+    return [it for it, who in some if who is None or is_no_service(who)]
+
+
+def asked_of(source: Source, world: World) -> List[World]:
+    """The requests to assume a role of a world: of users, roles and accounts, and of those who have a token."""
+    outside = comers(source, world)
+    tokens = [it for it in outside if outsider_of(it)]
+    first = with_strangers(source, world, [it for it in outside if it not in tokens])
+    second = with_strangers(source, {**world, "principals": [], "actions": BY_TOKENS}, tokens)
+    return [first, *([second] if tokens else [])]
 
 
 def steps_of(source: Source, speaking: Sequence[World] = ()) -> Steps:
@@ -52,13 +78,17 @@ def steps_of(source: Source, speaking: Sequence[World] = ()) -> Steps:
     untold = sorted(set(sessions) - {it["arn"] for it in narrow["resources"]})
     if untold:
         tell(f"who may assume these roles was not asked, since nothing gives their trust policies: {', '.join(untold)}")
+    for line in unasked(source, [{**narrow, "actions": [ASSUME, *BY_TOKENS]}], means=is_no_service):
+        if is_open(line):
+            tell(f"{line}, so who may come by it was not asked")
     found: Steps = {}
-    answers = ask(with_strangers(source, narrow, strangers(source, [narrow])))
-    for cell, given in [*((it, "") for it in answers.allowed()), *opened(answers).items()]:
-        row = answers.row(cell)
-        for it in sessions[row.resource]:
-            if it != row.principal:
-                found.setdefault(it, []).append(Step(row.principal, given))
+    several = ask_all(asked_of(source, narrow))
+    for answers, keyed in zip(several, opened(several)):
+        for cell, given in [*((it, "") for it in answers.allowed()), *keyed.items()]:
+            row = answers.row(cell)
+            for it in sessions[row.resource]:
+                if it != row.principal:
+                    found.setdefault(it, []).append(Step(row.principal, given))
     return found
 
 

@@ -3,8 +3,10 @@
 from typing import Any, Dict, Iterable, Iterator, List, NamedTuple, Optional, Sequence, Set, Tuple
 
 from .arns import account_of, is_access_point, name_of, owner_of, principal_text
-from .asking import ask_all, ask_changes
-from .any_key import texts_in, with_keys
+from .asking import ask_all, ask_allowed, ask_changes
+from .bounds import at_most
+from .any_key import BY_POINT as KEYED_BY_POINT
+from .any_key import request, texts_in, with_keys
 from .checking import NOTHING
 from .covering import tell_lacked
 from .differences import ANY, Difference, differing
@@ -232,6 +234,7 @@ def compare(before: Source, after: Source, asked: List[str], resource: str, acco
     first = with_buckets(scopes[1], [one for of in settled(scopes[1], names, len(names), []) for one in of])
     made = [changes_of(one, found, "") for one, found in first]
     keyed, more = with_keys(scopes[1], names, {it for one in made for it in one.told})
+    more += keyed_in_buckets(scopes[1], names)
     turned = [changes_of(*it) for it in keyed]
     told = [it for it in [*made, *turned] if not it.changes.given or it.changes.lost or it.changes.gained]
     opens = list(dict.fromkeys([*opens, *more, *(line for it in told for line in it.opens)]))
@@ -360,10 +363,8 @@ def with_buckets(scope: Scope, some: List[Tuple[Names, Found]]) -> List[Tuple[Na
     made = list(some)
     for (n, _, named), of in zip(every, settled(scope, [it for _, it, _ in every], len(every), [])):
         names, found = made[n]
-        point = owner_of(next(iter(named.values())))
         for row in (row for _, it in of for row in it.rows):
-            text = named.get(row["resource"], f"{point}/object{row['resource'][len(owner_of(row['resource'])):]}")
-            text = point if text == f"{point}/object" else text
+            text = by_point(row["resource"], named)
             if names.is_meant(text):
                 found.rows.append({**row, "resource": text})
             else:
@@ -372,20 +373,44 @@ def with_buckets(scope: Scope, some: List[Tuple[Names, Found]]) -> List[Tuple[Na
     return made
 
 
+def by_point(text: str, named: Dict[str, str]) -> str:
+    """The text by an access point of one in its bucket, of which some are named."""
+    point, rest = owner_of(next(iter(named.values()))), text[len(owner_of(text)) :]
+    return named.get(text, f"{point}/object{rest}" if rest else point)
+
+
+def keyed_in_buckets(scope: Scope, some: List[Names]) -> List[str]:
+    """The requests by access points of which keys that nothing gives may change what their buckets say, in words."""
+    lines: List[str] = []
+    for names, inside, named in ((it, *of) for it in some for of in in_bucket_of(it)):
+        found, opens = with_keys(scope, [inside], set())
+        rows = [{**it, "resource": by_point(it["resource"], named)} for _, of, _ in found for it in of.rows]
+        rows = [it for it in rows if names.is_meant(it["resource"])]
+        most = ask_allowed(list(map(at_most, worlds_by_points(names, rows)))) if rows else []
+        allowed = {it.texts(cell) for it in most for cell in it.allowed()}
+        lines += [*opens, *(f"{' '.join(request(it))}: {KEYED_BY_POINT}" for it in rows if request(it) in allowed)]
+    return lines
+
+
+def worlds_by_points(names: Names, rows: List[Row]) -> List[World]:
+    """The worlds of both sides with the resources of rows by access points, each with what it is in its bucket."""
+    arns = list(dict.fromkeys(it["resource"] for it in rows))
+    own = {"actions": list(dict.fromkeys(it["action"] for it in rows))}
+    worlds, shut = [], nobody_of(names.sides)
+    for side in names.sides:
+        resources = [side.resource(it, account_of(it), shut) for it in arns]
+        accounts = with_account(side.scope, side.world, resources)
+        worlds.append({**side.world, **own, "resources": resources, "accounts": accounts})
+    return worlds
+
+
 def by_points(names: Names, found: Found) -> Tuple[List[Row], List[str]]:
     """The rows, those on access points as they are with what their buckets say; and those of which that is not known."""
     rest = [it for it in found.rows if not is_access_point(it["resource"])]
     some = [it for it in found.rows if is_access_point(it["resource"])]
     if not some:
         return rest, []
-    arns = list(dict.fromkeys(it["resource"] for it in some))
-    own = {"actions": list(dict.fromkeys(it["action"] for it in some))}
-    worlds, shut = [], nobody_of(names.sides)
-    for side in names.sides:
-        resources = [side.resource(it, account_of(it), shut) for it in arns]
-        accounts = with_account(side.scope, side.world, resources)
-        worlds.append({**side.world, **own, "resources": resources, "accounts": accounts})
-    first, second = ask_all(worlds)
+    first, second = ask_all(worlds_by_points(names, some))
     both = compared(first, second)
     sides = (("lost", both.before, both.lost), ("gained", both.after, both.gained))
     told = {(change, *answers.texts(cell)): (answers, cell) for change, answers, cells in sides for cell in cells}

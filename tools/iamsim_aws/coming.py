@@ -2,14 +2,14 @@
 
 from typing import Any, Dict, List
 
-from .chains import Steps, Way, chains, steps_of
+from .chains import Steps, Way, chains, comers, steps_of
 from .faults import TOLD
 from .never import Break, Finding, findings, never
 from .questions import Scope
 from .roles import with_named
 from .ruling import Outcome, Rule
 from .sources import ASSUME
-from .strangers import is_excepted, is_meant, shown, strangers
+from .strangers import is_excepted, is_meant, shown
 
 
 def with_chains(scope: Scope, outcomes: List[Outcome], as_given: bool, depth: int) -> List[Outcome]:
@@ -23,7 +23,8 @@ def with_chains(scope: Scope, outcomes: List[Outcome], as_given: bool, depth: in
     def more(it: Outcome) -> Outcome:
         found = open_to(scope, it.rule, as_given)
         opens = list(dict.fromkeys(it.opens + found.opens + unasked))
-        return it._replace(broken=it.broken + coming(it, found.broken, steps, people, as_given, depth), opens=opens)
+        broken = it.broken + coming(it, found.broken, steps, people, as_given, depth)
+        return it._replace(broken=broken, opens=opens, by_roles=f"who comes by at most {depth} roles and is no service")
 
     return [more(it) if is_asked else it for it, is_asked in zip(outcomes, asks)]
 
@@ -31,7 +32,7 @@ def with_chains(scope: Scope, outcomes: List[Outcome], as_given: bool, depth: in
 def people_of(scope: Scope) -> List[Dict[str, Any]]:
     """Whom steps begin with: the principals, and who is outside and may assume a role."""
     world = with_named(scope.source, scope.source.world([ASSUME]))
-    return [*world["principals"], *strangers(scope.source, [world])]
+    return [*world["principals"], *comers(scope.source, world)]
 
 
 def open_to(scope: Scope, rule: Rule, as_given: bool) -> Finding:

@@ -63,7 +63,7 @@ def unasked(
                 lines = [(text, why_nobody(text, known, asked)) for text in named_by(statement)]
                 of_owner = owned.get(owner_of(it["arn"]), {}) if asks_all else None
                 lines += (
-                    (f"{who.kind} {who.text}", why) for who, why in others(statement, world, of_owner) if means(who)
+                    (who.said, why) for who, why in others(statement, world, of_owner) if means(who)
                 )
                 told = [f"{it['policy'].name} names {text}, {why}" for text, why in lines if why]
                 is_spoken_of = speaks_of(statement, tuple(world["actions"]))
@@ -97,6 +97,8 @@ def why_nobody(text: str, known: Set[str], asked: Set[str]) -> str:
         return "the id of who is deleted: it means nobody"
     if not text.startswith("arn:") and text != EVERYBODY and not ACCOUNT.fullmatch(text):
         return "which is no ARN and no account: it means nobody"
+    if ":federated-user/" in text:
+        return f"for whom {NOT_ASKED}"
     is_stranger = account_of(text) not in ("", *known)
     if LINKED in text and not is_stranger and text not in asked:
         return f"a service-linked role, for whom {NOT_ASKED}"

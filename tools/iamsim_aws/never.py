@@ -22,6 +22,7 @@ from .names import (
     cells_in,
     groups,
     is_met,
+    is_named,
     names_of,
     naming,
     nearest,
@@ -97,9 +98,10 @@ def never(scope: Scope, question: Question) -> Never:
 def asked_by(scope: Scope, question: Question) -> Never:
     """What is asked: one request of each principal where no pattern is given, else each name that the patterns mean."""
     if not is_pattern(question.action) and not is_pattern(question.resource):
-        asked = worlds(scope, question)
-        people = [line for it in asked for line in people_of(scope, it.world, it.world["resources"], question)]
-        return Never(question, asked, [], bool(asked), people)
+        every = [asked_in(scope, it, question) for it in scope.source.worlds(actions(scope, question.action))]
+        asked = [it for it in every if it.world["principals"] and it.world["resources"]]
+        people = [line for it in every for line in people_of(scope, it.world, it.world["resources"], question)]
+        return Never(question, asked, [], bool(asked or people), people)
     chosen = spoken(scope, question.action)
     found = Never(question, [], [], False, [])
     is_lacked = not chosen and scope.source.references.has_file(question.action)
@@ -113,9 +115,12 @@ def asked_by(scope: Scope, question: Question) -> Never:
             continue
         asked_for = asked_of(scope, {**world, "actions": [pattern or action]}, question)
         own = asked_for.world
-        names = []
-        if own["principals"]:
-            names = names_of([side_of(scope, own)], question, pattern, pattern or action, without)
+        if not own["principals"]:
+            named = [it for it in own["resources"] if is_named(question, it["arn"])]
+            people = people_of(scope, own, named + owned_by(scope, own, question), question)
+            found = found._replace(is_met=found.is_met or bool(people), opens=found.opens + people)
+            continue
+        names = names_of([side_of(scope, own)], question, pattern, pattern or action, without)
         if names:
             met = found.is_met or is_met(scope, {**world, "resources": own["resources"]}, question, chosen)
             meant = {id(it.of): it.of for one in names for it in one.lines if not it.is_shut}
@@ -127,13 +132,18 @@ def asked_by(scope: Scope, question: Question) -> Never:
 def asked_of(scope: Scope, world: World, question: Question) -> Asked:
     """The principals that a question means, and who is outside and let in by a policy of what it means."""
     asked = asked_in(scope._replace(outside=False), world, question)
-    further = owners_lines([side_of(scope, world)], patterns_of(question.resource), "")
-    meant = asked.world["resources"] + [it.of for it in further if not it.is_shut]
+    meant = asked.world["resources"] + owned_by(scope, world, question)
     spoken_of = with_named(scope.source, {**world, "resources": meant})
     some = everyone_outside(scope.source, [spoken_of], question.principal) if scope.outside else []
     resources = world["resources"] if is_pattern(question.resource) else asked.world["resources"]
     own = {**asked.world, "principals": principals(spoken_of["principals"], question), "resources": resources}
     return asked._replace(world=with_strangers(scope.source, own, principals(some, question)))
+
+
+def owned_by(scope: Scope, world: World, question: Question) -> List[Any]:
+    """What a question means of the objects of buckets and access points, that have their policies."""
+    lines = owners_lines([side_of(scope, world)], patterns_of(question.resource), "")
+    return [it.of for it in lines if not it.is_shut]
 
 
 def people_of(scope: Scope, world: World, resources: List[Any], question: Question) -> List[str]:

@@ -8,10 +8,11 @@ import re
 from typing import Any, Dict, Iterable, Iterator, List, NamedTuple, Optional, Sequence
 
 from .arns import owner_of, principal_arn, resource_part, service_of
-from .documents import THROUGH, Policy, World, each, mapped, places, statements_of
+from .documents import THROUGH, Place, Policy, World, each, mapped, places, statements_of
 from .keys import CALLER, DERIVED, asked_by
 from .parties import EVERYBODY, PARTY, texts_in
 from .speaking import shares, texts_of
+from .unsigned import SIGNED, is_of_everybody, may_be_unsigned, telling_apart
 
 # The name of the policy that lets it ask.
 BY_ITSELF = "what it may do by itself (assumed)"
@@ -36,7 +37,14 @@ class Outsider(NamedTuple):
         part = resource_part(self.text)
         return part[len("oidc-provider/") :] if part.startswith("oidc-provider/") else part
 
+    @property
+    def said(self) -> str:
+        """How policies name it."""
+        return REST_WORDS if self == REST else f"{self.kind} {self.text}"
+
     def words(self) -> str:
+        if self == REST:
+            return self.name
         if self.kind == "Service":
             return f"service: {self.name}"
         if self.kind == "CanonicalUser":
@@ -64,6 +72,10 @@ class Outsider(NamedTuple):
     def can_stand(self) -> bool:
         """Whether some user can have an ARN with its text."""
         return bool(PARTY.fullmatch(self.arn("0" * 12)))
+
+
+# Whom '*' means besides users and roles.
+REST, REST_WORDS = Outsider("*", "anonymous"), "everybody, also who signs nothing or is no user and no role"
 
 
 def outsider_of(principal: Dict[str, Any]) -> Optional[Outsider]:
@@ -112,7 +124,32 @@ def doubts(resources: List[Resource]) -> Dict[Outsider, Optional[str]]:
     """Whom policies of resources let in that is of no account: nothing where somebody stands for it, else why nobody does, which may go
     without saying."""
     found = dict.fromkeys(who for it in resources for who, _ in let_in_by(it))
-    return {who: (doubt(who, resources) or None) if who.can_stand() else "" for who in found}
+    of_rest = doubt_of_rest(resources)
+    some = {who: (doubt(who, resources) or None) if who.can_stand() else "" for who in found}
+    return {**some, REST: of_rest} if of_rest else some
+
+
+def doubt_of_rest(resources: List[Resource]) -> str:
+    """Why it is not known what the policies of resources let everybody do who is no user and no role."""
+    signed = any(service_of(it["arn"]) in SIGNED for it in resources)
+    every = [] if signed else [(it, *one) for it in places({"resources": resources}) for one in numbered(it)]
+    every = [it for it in every if is_of_everybody(it[2])]
+    own = [
+        action
+        for it, _, one in every
+        if it.kind == "resource" and one.get("Effect") == "Allow" and may_be_unsigned(one)
+        for action in actions_of(one)
+    ]
+    for it, n, one in every:
+        keys = telling_apart(one)
+        if keys and any(shares(of, action) for of in actions_of(one) for action in own):
+            return f"{it.policy.name}, statement {n}, asks for {keys[0]}"
+    return ""
+
+
+def numbered(it: Place) -> Iterator[Any]:
+    """(number, statement) of a document."""
+    return enumerate(statements_of(it.policy.document))
 
 
 def doubt(who: Outsider, resources: List[Resource]) -> str:

@@ -28,6 +28,9 @@ OF_KEYS = {
     CALLER.lower(): OF_ACCOUNT,
     "aws:username": "arn:{partition}:iam::*:user/{value}",
 }
+# Those that the values of another one stand for.
+TYPE = "aws:principaltype"
+OF_TYPES = {"User": "arn:{partition}:iam::*:user/*", "AssumedRole": "arn:{partition}:iam::*:role/*"}
 # Kinds of names in an account behind which no more patterns are held against each other.
 MOST = 200
 SIGNS = f"x{string.ascii_letters}{string.digits}+=,.@_-"
@@ -81,6 +84,9 @@ def lists_in(statement: Any, partition: str) -> Iterator[Tuple[str, ...]]:
     for _, key, value in conditions_of(statement):
         if key.lower() in OF_KEYS:
             yield tuple(pattern_for(key.lower(), str(it), partition) for it in each(value))
+        elif key.lower() == TYPE:
+            some = [matcher(opened(str(it)), True) for it in each(value)]
+            yield tuple(of.format(partition=partition) for name, of in OF_TYPES.items() if any(it(name) for it in some))
 
 
 def said_in(worlds: Iterable[World]) -> Said:

@@ -69,7 +69,7 @@ def names_of(role: Principal, spoken: Spoken) -> Iterator[str]:
     own = f"{str(given).split(':')[0]}:"
     for it in spoken.ids if given else ():
         if not is_pattern(it):
-            yield from [it[len(own) :]] if it.startswith(own) else []
+            yield from [it[len(own) :]] if it.lower().startswith(own.lower()) else []
         else:
             some = (one for one in overlap(it, f"{own}*") if one != f"{own}*")
             yield from (filled(one, unused(spoken.ids))[len(own) :] for one in some)

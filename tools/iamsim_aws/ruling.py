@@ -46,8 +46,8 @@ class Rule(NamedTuple):
 
 class Outcome(NamedTuple):
     """How a rule fares: how many requests it meets, or principals that it means with every name; those that break it, what its
-    answer hangs on that was not asked, why it meets none, what gives keys, which stand-ins were asked, and whether with every value
-    of the keys that nothing gives."""
+    answer hangs on that was not asked, why it meets none, what gives keys, which stand-ins were asked, whether with every value of
+    the keys that nothing gives, and by which roles, in words."""
 
     rule: Rule
     requests: int
@@ -59,6 +59,7 @@ class Outcome(NamedTuple):
     giver: str
     outside: List[str]
     has_values: bool
+    by_roles: str = ""
 
     @property
     def state(self) -> str:
@@ -75,7 +76,8 @@ class Outcome(NamedTuple):
         if not self.is_of_names:
             found = [f"{self.requests} requests{stand_ins and f', also of {stand_ins}'}"]
         found += [f"every name of {names}"] if self.is_of_names else []
-        return ", ".join(found + (["every value of each key"] if self.has_values else []))
+        found += ["every value of each key"] if self.has_values else []
+        return ", ".join([*found, *filter(None, [self.by_roles])])
 
 
 def words_of(line: str) -> List[str]:
@@ -173,7 +175,7 @@ def outcome(scope: Scope, rule: Rule, of: Never, found: Finding, as_given: bool)
     requests = len({principal_text(it) for it in asked if not is_stranger(it)})
     if not of.names:
         requests = sum(len(cells_of(scope, Answers(it.world, count_of(it.world)))) for it in of.asked)
-        why = why or ("" if requests else NOTHING_SPEAKS)
+        why = why or ("" if requests or of.opens else NOTHING_SPEAKS)
     if not why and not found.broken and is_unnamed(scope, rule.question):
         why = unnamed(scope, rule.question.action)
     opens = [*found.opens, *scope.source.left]

@@ -247,3 +247,23 @@ def test_a_service_by_an_access_point():
         same("allowed: service: lambda.amazonaws.com s3:GetObject" in out, status == 3, out)
         out, _ = aws("rules", file(f"never * s3:GetObject {KEY} except wide\n"), EXPORT, "--resources", given, status=status)
         same(f"  service: lambda.amazonaws.com may s3:GetObject {KEY}: allowed by" in out, status == 3, out)
+
+
+def test_a_bucket_that_allows_with_keys():
+    """What a draft of the bucket lets an access point do with keys is told as open, where the point is asked alone; the twin lets in whom
+    the point denies, or for another action."""
+    given = lambda denied, *some: resources(document(*some), document(grant("*", f"{POINT}/object/*"), *denied))
+    lets = grant({"AWS": f"{USERS}jane"}, f"{BUCKET}/*")
+    keyed = lambda *of: {**lets, "Condition": {"StringEquals": {"aws:SourceVpc": list(of)}}}
+    deny = grant({"AWS": f"{USERS}jane"}, f"{POINT}/object/*", effect="Deny")
+    for before, after, denied, status in (
+        ([], [keyed("v")], [], 5),
+        ([keyed("v")], [keyed("v", "w")], [], 5),
+        ([], [keyed("v")], [deny], 0),
+        ([keyed("v")], [keyed("v"), {**keyed("w"), "Action": "s3:PutObject"}], [], 0),
+    ):
+        draft = ["--resources", given(denied, *before), "--put", f"{BUCKET}={file(document(*after))}", "--fail-on", "gained"]
+        for asked in (KEY, f"{POINT}/object/*"):
+            _, said = aws("changes", EXPORT, *draft, "--action", "s3:GetObject", "--resource", asked, status=status)
+            told = "whether it changes by the access point with keys that nothing gives is not asked"
+            same(f"{POINT}/object/" in said and told in said, status == 5, said)

@@ -442,7 +442,8 @@ def test_what_is_not_known_of_who_is_of_no_account():
         same(gained_by(given, "homes", granted, denied(DELETE), words=["--resources", bucket()]), {(LAMBDA, GET): {}})
         out = rule(f"never * {GET} {S3}homes/*", given, 5, "--resources", bucket(granted, denied(GET)))
         assert f"  open: {line}" in out, out
-        for who, status in (("* {} {} except *.amazonaws.com", 0), ("*a* {} {}", 5), ("*li* {} {}", 0), ("*.amazonaws.com {} {}", 4)):
+        whose = (("* {} {} except *.amazonaws.com", 0), ("*a* {} {}", 5), ("*li* {} {}", 0), ("*.amazonaws.com {} {}", 5), ("*.example.com {} {}", 4))
+        for who, status in whose:
             text = f"never {who.format(GET, f'{S3}homes/*')}"
             rule(text, given, status, "--resources", bucket(granted, denied(GET), on_delete))
         rule(f"never * {DELETE} {S3}homes/*", given, 0, "--resources", bucket(granted, denied(GET), on_delete))

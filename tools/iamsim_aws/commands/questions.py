@@ -10,6 +10,7 @@ from ..everything import is_meant
 from ..exports import policy
 from ..faults import Fault, line_of, tell
 from ..speaking import made_up, stand_words
+from ..patterns import is_pattern
 from ..points import is_half_known
 from ..never import worlds_of_kinds
 from ..questions import Asked, Question, Scope, account_words, lacked, missing, worlds
@@ -86,9 +87,9 @@ def answered(scope: Scope, question: Question) -> List[Found]:
     ]
 
 
-def notes(found: List[Found]) -> List[str]:
+def notes(options: argparse.Namespace, found: List[Found]) -> List[str]:
     """What the answers cover, and which keys could turn them."""
-    lines = []
+    lines = [] if options.kinds else named_lines(options, found)
     for asked, answers, turns, more in found:
         for arn in asked.added:
             whose = account_words(asked.world, arn)
@@ -98,6 +99,16 @@ def notes(found: List[Found]) -> List[str]:
     if any(it.asked.stand for it in found):
         lines.append(ALL_NAMES)
     return [line_of(it) for it in lines]
+
+
+def named_lines(options: argparse.Namespace, found: List[Found]) -> List[str]:
+    """How many actions and resources the patterns mean; what has a file of the service reference has no further actions."""
+    worlds = [it.asked.world for it in found]
+    actions = {action for it in worlds for action in it["actions"]}
+    some = [(options.action, "actions", actions)] if not options.services else []
+    some.append((options.resource, "resources", {one["arn"] for it in worlds for one in it["resources"]}))
+    named = "that are named: with --kinds it means every name"
+    return [f"{pattern} is taken for the {len(of)} {kind} {named}" for pattern, kind, of in some if is_pattern(pattern)]
 
 
 def stand_lines(asked: Asked, answers: Answers, turns: Dict[int, Turn]) -> List[str]:
@@ -114,9 +125,9 @@ def policy_words(asked: Asked, arn: str) -> str:
 
 def write(options: argparse.Namespace, found: List[Found], text: List[str]) -> None:
     if options.format == "text":
-        files.write("".join(f"{line}\n" for line in [*text, *notes(found)]))
+        files.write("".join(f"{line}\n" for line in [*text, *notes(options, found)]))
         return
-    for line in notes(found):
+    for line in notes(options, found):
         tell(line)
     values: List[Dict[str, Any]] = []
     fields: List[List[str]] = []
@@ -207,11 +218,12 @@ def chain_lines(scope: Scope, found: List[Found], depth: int) -> List[str]:
     }
     steps = chains.steps_of(scope.source, [it.asked.world for it in found])
     ways, keyed = chains.chains(steps, allowed, lacking, depth)
-    lines = [] if ways or keyed else ["nobody else may come to it by assuming roles"]
+    lines = [] if ways or keyed else [f"nobody else may come to it by assuming at most {depth} roles"]
     if ways:
         lines = [f"{len(ways)} more may come to it by assuming at most {depth} roles one after the other:"]
         lines += [f"  {way.words()}" for way in ways]
     if keyed:
         lines.append(f"{len(keyed)} more may come to it by assuming roles, with keys that nothing gives:")
         lines += [f"  {way.words()}" for way in keyed]
+    tell(chains.SERVICES)
     return [line_of(it) for it in lines]
