@@ -154,11 +154,11 @@ def everybody(sides: Sequence[Side]) -> List[Principal]:
 
 
 def with_people(world: World, people: List[Principal]) -> World:
-    """The world with those of its principals that are among these."""
+    """The world with those of its principals that are among these, or have the text of one that is of another world."""
     ids, texts = set(map(id, people)), set(map(principal_text, people))
     some = [it for it in world["principals"] if principal_text(it) in texts]
-    own = [it for it in some if id(it) in ids]
-    return {**world, "principals": own or some}
+    own = {principal_text(it) for it in some if id(it) in ids}
+    return {**world, "principals": [it for it in some if id(it) in ids or principal_text(it) not in own]}
 
 
 def patterns_of(asked: str) -> List[str]:

@@ -4,11 +4,12 @@ from typing import Any, Dict, List, NamedTuple, Optional, Set, Tuple
 
 from . import files
 from .arns import account_of, bucket_of, owner_of, resource_part, service_of
-from .documents import Policy, World, mapped, places
-from .exports import Account, document
+from .documents import TAGS, Policy, World, mapped, places
+from .exports import Account, document, may_set_tags
 from .faults import Fault
+from .keys import TAG, context_of
 from .making import Estate
-from .naming import called, organization_policy, resource_policy
+from .naming import called, organization_policy, resource_policy, trust_policy
 from .patterns import near
 
 
@@ -74,8 +75,20 @@ def put(world: World, drafts: List[Draft]) -> World:
         is_new = "policy" not in it and name in documents and is_resource(it, name)
         return {**it, "policy": Policy(name, documents[name])} if is_new else it
 
-    made = {**world, "resources": [own(it) for it in world["resources"]]}
+    people = [with_tags(it, documents) for it in world["principals"]]
+    made = {**world, "principals": people, "resources": [own(it) for it in world["resources"]]}
     return mapped(made, lambda _kind, _path, it: Policy(it.name, documents.get(it.name, it.document)))
+
+
+def with_tags(principal: Dict[str, Any], documents: Dict[str, Any]) -> Dict[str, Any]:
+    """A principal whose sessions may set tags, or no longer may, by the draft of its role's trust policy."""
+    name = trust_policy(principal["role"]) if TAGS in principal and "role" in principal else ""
+    if name not in documents:
+        return principal
+    is_free = may_set_tags({"Arn": principal["role"], "AssumeRolePolicyDocument": documents[name]})
+    absent = {key for key, it in context_of(principal).items() if is_free and it == [] and key.lower().startswith(TAG)}
+    known = {key: it for key, it in context_of(principal).items() if key not in absent}
+    return {**principal, "context": known, TAGS: not is_free}
 
 
 def is_managed(name: str) -> bool:

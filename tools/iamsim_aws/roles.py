@@ -15,13 +15,15 @@ from .patterns import is_pattern, matcher, opened, overlap
 from .sources import Source
 
 USERID, LINKED = "aws:userid", "/aws-service-role/"
+ID = re.compile(rf"AROA[A-Z0-9]*:{SEGMENT}")
 # The name of a session that sets tags.
 TAGGED = "tagged"
 Principal = Dict[str, Any]
 
 
 class Spoken(NamedTuple):
-    """The ARNs of sessions that policies name, the patterns of `aws:userid` for which they ask, and the tags, in lower case."""
+    """The ARNs of sessions that policies name, the patterns of `aws:userid` for which they ask, or that names of resources have, and the
+    tags, in lower case."""
 
     arns: Dict[str, None]
     ids: Dict[str, None]
@@ -43,6 +45,8 @@ def spoken_in(world: World) -> Spoken:
                 ids += (opened(str(it)) for it in each(value))
             elif key.lower() == "aws:principalarn":
                 arns += map(str, each(value))
+    # By '${aws:userid}' a resource may be of the session whose id it names.
+    ids += (it for one in world.get("resources", []) for it in ID.findall(one["arn"]))
     sessions = (it for it in arns if ":assumed-role/" in it and PARTY.fullmatch(it))
     tags = (key.lower() for key, _, _ in asked(world) if key.lower().startswith(TAG))
     return Spoken(dict.fromkeys(sessions), dict.fromkeys(ids), dict.fromkeys(tags))
@@ -84,22 +88,30 @@ def session_of(role: Principal, name: str) -> Principal:
     return {**role, "session": name, **({"context": context} if context else {})}
 
 
-def tagged(role: Principal, spoken: Spoken) -> Iterator[Principal]:
+def tagged(role: Principal, spoken: Spoken) -> Principal:
     """A session of a role with tags in place of the role's own that policies ask for, where sessions may set some."""
-    context = {key: it for key, it in context_of(role).items() if key.lower() not in spoken.tags}
-    if role.get(TAGS) is False and len(context) < len(context_of(role)):
-        yield session_of({**role, "context": context}, TAGGED)
+    is_free = role.get(TAGS) is False
+    context = {key: it for key, it in context_of(role).items() if not is_free or key.lower() not in spoken.tags}
+    return session_of({**role, "context": context}, TAGGED)
+
+
+def tagging(world: World, spoken: Spoken) -> Iterator[str]:
+    """The roles of a world whose sessions may set other tags than the role's own, of those that policies ask for."""
+    for it in world["principals"]:
+        if it.get(TAGS) is False and not spoken.tags.keys().isdisjoint(key.lower() for key in context_of(it)):
+            yield it["role"]
 
 
 def with_sessions(worlds: Sequence[World], speaking: Sequence[World] = ()) -> List[World]:
     """The worlds with each session of their roles that policies of any of them name, or of further worlds, and with those that may
     set tags for which these ask."""
     spoken = spoken_of([*worlds, *speaking])
+    free = {role for it in worlds for role in tagging(it, spoken)}
 
     def more(world: World) -> List[Principal]:
         roles = {it["role"]: it for it in world["principals"] if "role" in it and not it.get("sessionPolicies")}
         names = ((it, name) for it in roles.values() for name in names_of(it, spoken) if re.fullmatch(SEGMENT, name))
-        every = [*(session_of(*of) for of in names), *(one for it in roles.values() for one in tagged(it, spoken))]
+        every = [*(session_of(*of) for of in names), *(tagged(it, spoken) for role, it in roles.items() if role in free)]
         found = {principal_text(it): it for it in every}
         known = {principal_text(it) for it in world["principals"]}
         return [it for text, it in found.items() if text not in known]

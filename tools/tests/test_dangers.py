@@ -250,6 +250,32 @@ def test_tags_that_sessions_set():
     rule(f"never * {GET} {S3}secrets/*", export(blue), 0)
 
 
+def test_sessions_may_set_tags_by_a_draft():
+    """That is open for what the tags would let the role do; what it may do without them is not gained, and the twins ask for no tag, or set none."""
+    blue, rest = on("secrets/*", Condition={"StringEquals": {"aws:PrincipalTag/team": "blue"}}), on("open/*")
+    trusted = lambda action: {"Effect": "Allow", "Principal": {"AWS": OWN}, "Action": ["sts:AssumeRole", action]}
+    words = ["--put", f"{ACCOUNT}role/app={file(document(trusted('sts:TagSession')))}", "--action", GET]
+    for tags, name in (({"team": "red"}, "tagged"), ({}, "session")):
+        found, said = changed(tagging("sts:AssumeRole", blue, rest, tags=tags), *words, status=5)
+        same(found, set(), said)
+        assert f"open: arn:aws:sts::{OWN}:assumed-role/app/{name} {GET} {S3}secrets/: with which values of aws:PrincipalTag/team" in said, said
+        same(changed(tagging("sts:AssumeRole", rest, tags=tags), *words, status=0)[0], set())
+        other = ["--put", f"{ACCOUNT}role/app={file(document({**trusted('sts:AssumeRole'), 'Principal': {'AWS': OTHER}}))}", "--action", GET]
+        same(changed(tagging("sts:AssumeRole", blue, rest, tags=tags), *other, status=0)[0], set())
+
+
+def test_somebody_who_goes():
+    """What changes for others is told as without; what they had already is not gained."""
+    user = lambda name, *some: {"UserName": name, "UserId": name, "Arn": f"{ACCOUNT}user/{name}", "UserPolicyList": [{"PolicyName": "Own", "PolicyDocument": document(*some)}]}
+    both, one = [on("a*"), on("c*")], [on("a*")]
+    users = lambda *some: file({"UserDetailList": list(some)})
+    for before, after, kind, status in ((both, one, "lost", 3), (one, both, "gained", 3), (one, one, "", 0)):
+        words = ["--before", users(user("alice", *before), user("bob", *both)), "--after", users(user("alice", *after)), "--format", "csv"]
+        out, _ = aws("changes", *words, "--fail-on", "gained", status=status if kind == "gained" else 0)
+        rows = [row for row in csv.reader(io.StringIO(out)) if row[1] == ALICE]
+        same([(row[0], row[3]) for row in rows], [(kind, f"{S3}c")] if kind else [])
+
+
 def test_what_another_account_has():
     """Its own policy is assumed to grant, which is told."""
     nothing = statement(action="sqs:*")

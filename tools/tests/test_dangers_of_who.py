@@ -77,6 +77,18 @@ def test_ids_of_sessions_without_regard_to_case():
             same(f":assumed-role/app/bob may {GET}" in out, status == 3, out)
 
 
+def test_ids_of_sessions_in_names():
+    """What is of `${aws:userid}` is of the session that its name has; the twins name another role, and another place."""
+    role = {"RoleName": "app", "RoleId": "AROAAPP", "Arn": f"{ACCOUNT}role/app", "AssumeRolePolicyDocument": document(trust({"AWS": OWN}))}
+    own = {"PolicyName": "Own", "PolicyDocument": document(on("homes/${aws:userid}/*"))}
+    but = {"PolicyName": "Own", "PolicyDocument": document(on("*"), {"Effect": "Deny", "Action": GET, "NotResource": f"{S3}homes/${{aws:userid}}/*"})}
+    for of in (own, but):
+        given = file({"RoleDetailList": [{**role, "RolePolicyList": [of]}]})
+        for name, status in (("homes/AROAAPP:bob/k", 3), ("homes/AROAGONE:bob/k", 0), ("public/AROAAPP:bob/k", 0)):
+            out = rule(f"never * {GET} {S3}{name}", given, status)
+            same(f":assumed-role/app/bob may {GET} {S3}{name}" in out, status == 3, out)
+
+
 def test_who_comes_by_a_token():
     """Web identities and SAML identities that a role trusts come to what it may do; the twins are denied, or are services."""
     text = f"never * {GET} {S3}secrets/* except *:role/app"
