@@ -111,7 +111,7 @@ def with_sessions(worlds: Sequence[World], speaking: Sequence[World] = ()) -> Li
     def more(world: World) -> List[Principal]:
         roles = {it["role"]: it for it in world["principals"] if "role" in it and not it.get("sessionPolicies")}
         names = ((it, name) for it in roles.values() for name in names_of(it, spoken) if re.fullmatch(SEGMENT, name))
-        every = [*(session_of(*of) for of in names), *(tagged(it, spoken) for role, it in roles.items() if role in free)]
+        every = [session_of(*of) for of in names] + [tagged(it, spoken) for role, it in roles.items() if role in free]
         found = {principal_text(it): it for it in every}
         known = {principal_text(it) for it in world["principals"]}
         return [it for text, it in found.items() if text not in known]
