@@ -1,12 +1,14 @@
-"""One matrix of the answers of several worlds, which have the same principals and other actions, as those of sts: and of iam:."""
+"""One matrix of the answers of several worlds, which have other actions, as those of sts: and of iam:."""
 
 import array
 from typing import Any, Dict, List, Tuple
 
+from .arns import principal_text
+from .documents import cells_of
 from .reports import Answer, Answers, keys_of
 from .turning import Turn
 
-# The answer where a world does not have the resource.
+# The answer where a world does not have the principal or the resource.
 ABSENT = Answer("absent", (), ())
 Turns = Dict[int, Turn]
 
@@ -19,8 +21,12 @@ def joined(several: List[Answers], actions: List[str]) -> Answers:
         if key not in resources or "policy" not in resources[key]:
             resources[key] = it
     accounts = {it["id"]: it for answers in several for it in answers.world["accounts"]}
-    axes = {"accounts": list(accounts.values()), "actions": actions, "resources": list(resources.values())}
-    made = Answers({**several[0].world, **axes}, len(several[0].world["principals"]) * len(actions) * len(resources))
+    people = {principal_text(it): it for answers in reversed(several) for it in answers.world["principals"]}
+    first = map(principal_text, several[0].world["principals"])
+    principals = [people[it] for it in dict.fromkeys([*first, *people])]
+    axes = {"accounts": list(accounts.values()), "principals": principals, "actions": actions}
+    world = {**several[0].world, **axes, "resources": list(resources.values())}
+    made = Answers(world, cells_of(world))
     made.numbers = array.array("I", [made.number(ABSENT, lambda: ABSENT)]) * len(made.numbers)
     for answers in several:
         new = [made.number(it, lambda it=it: it) for it in answers.table]

@@ -1,5 +1,9 @@
 """Checks that a pipeline trusts, over dangers of who asks. Each case has a harmless twin, which is green."""
 
+import base64
+import json
+import re
+
 from harness import aws, document, file, load, same, statement
 from test_dangers import ACCOUNT, GET, OWN, S3, bucket, changed, export, of_github, on, rule, to, trust, trusting
 
@@ -134,3 +138,16 @@ def test_patterns_of_what_is_named():
     assert f"s3:* is taken for the 1 actions {told}\n" in said, said
     for words in ([f"{S3}homes/*", "--kinds"], [f"{S3}homes/a"]):
         assert told not in "".join(aws("who-can", GET, *words, *given)), words
+
+
+def test_a_page_with_stand_ins_of_several_worlds():
+    """A canonical user of a bucket and a web identity of a role, of which the world of the bucket has none."""
+    words = ["--resources", bucket(), "--put", f"role/app={file(document(of_github('repo:x:*')))}"]
+    words += ["--put", f"homes={file(document(to({'CanonicalUser': '79a5'}, 'homes/*')))}", "--format", "page"]
+    text, _ = aws("changes", trusting(trust({"AWS": OWN})), *words)
+    found = json.loads(re.search('<script id="data" type="application/json">(.*?)</script>', text, re.DOTALL).group(1))
+    web, token = "web identity: token.actions.githubusercontent.com", "sts:AssumeRoleWithWebIdentity"
+    same(found["axes"], [["canonical user: 79a5", web], [GET, token], [f"{S3}homes/", f"{ACCOUNT}role/app"]])
+    cells, allowed, absent = base64.b64decode(found["cells"]), 0, 3
+    same(found["answers"][cells[0]][0], allowed)
+    same([found["answers"][it][0] for it in cells[4:7]], [absent] * 3)
