@@ -29,9 +29,9 @@ def is_of_everybody(statement: Any) -> bool:
 
 
 def may_be_unsigned(statement: Any) -> bool:
-    """Whether a statement that grants to everybody wants nothing that unsigned requests lack."""
-    wanted = (key for operator, key, _ in conditions_of(statement) if operator != "Null" and wants_value(operator))
-    return not any(key.lower().startswith(LACKING) for key in wanted)
+    """Whether a statement that grants to everybody wants nothing that unsigned requests lack, and that federated users have not."""
+    some = [it for it in conditions_of(statement) if it[1].lower().startswith(LACKING) and not is_federated(it[2])]
+    return not any(operator != "Null" and wants_value(operator) for operator, _, _ in some)
 
 
 def telling_apart(statement: Dict[str, Any]) -> List[str]:
@@ -45,12 +45,17 @@ def tells_apart(is_grant: bool, operator: str, key: str, value: Any) -> bool:
         return operator == "Null" or has_match(value, OF_NOBODY)
     if key not in ANYBODY:
         return False
-    if operator == "Null" or has_match(value, ["anonymous"]):
+    if operator == "Null" or has_match(value, ["anonymous"]) or is_federated(value):
         return True
     is_negated, is_any = "Not" in plain_operator(operator), operator.startswith("ForAnyValue:")
     if is_grant:
         return not wants_value(operator) and not is_negated
     return is_any if is_negated else wants_value(operator) and has_match(value, [ANYBODY[key]])
+
+
+def is_federated(value: Any) -> bool:
+    """Whether some value is an ARN of federated users."""
+    return any(":federated-user/" in str(it) for it in each(value))
 
 
 def has_match(value: Any, texts: Iterable[str]) -> bool:

@@ -49,6 +49,7 @@ def test_requests_that_nobody_signs():
         granting("StringEquals", "aws:PrincipalType", "Anonymous"),
         granting("StringEquals", "aws:PrincipalAccount", "anonymous"),
         granting("StringEquals", "aws:PrincipalType", "Account"),
+        granting("ArnLike", "aws:PrincipalArn", f"arn:aws:sts::{OWN}:federated-user/*"),
     ):
         asked(some, 5, shown)
     for of in (("Null", "aws:PrincipalArn", "false"), ("StringLike", "aws:PrincipalArn", "*"), ("ForAnyValue:StringNotLike", "aws:PrincipalArn", "x")):
