@@ -3,7 +3,8 @@
 import json
 
 from harness import aws, document, file, load, same, statement
-from test_changes import ACCOUNT, ALICE, EXPORT, SESSION, changes
+from test_changes import SESSION, changes
+from test_cloudformation import ACCOUNT, ALICE, EXPORT
 
 
 def test_a_name_of_several_policies():

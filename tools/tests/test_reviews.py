@@ -1,7 +1,8 @@
 """What changes in words, and as a comment for a review. What is lost and gained is worked out by hand from the exports in data/."""
 
 from harness import aws, document, file, same, small_world, statement
-from test_changes import ALICE, EXPORT, SESSION
+from test_changes import SESSION
+from test_cloudformation import ALICE, EXPORT
 
 
 def test_changes_in_words_and_for_a_review():

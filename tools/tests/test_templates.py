@@ -14,7 +14,6 @@ from test_cloudformation import (
     FUNCTION,
     FURTHER,
     IN_SHOP,
-    OTHERS,
     READ,
     ROLE,
     SAM,
@@ -30,6 +29,7 @@ from test_cloudformation import (
     template,
     unknown,
 )
+from test_cloudformation_functions import OTHERS
 
 SECONDS = 20
 
