@@ -177,7 +177,7 @@ beyond_text known (Plain sign ∷ pieces) = beyond_text known pieces
 beyond_text known (Escaped c ∷ pieces) = beyond_text known pieces
 beyond_text known (Variable key default ∷ pieces) = ap (λ (b : Bool). not (has_key known key) || b) (beyond_text known pieces)
 
-pub beyond_operand : (known : List (List ℕ)) (value : Operand) → is_beyond known (operand_keys value) ≡ operand_beyond known value
+beyond_operand : (known : List (List ℕ)) (value : Operand) → is_beyond known (operand_keys value) ≡ operand_beyond known value
 beyond_operand known (operand.Text pieces) = beyond_text known pieces
 beyond_operand known (operand.Number n) = refl
 beyond_operand known (operand.Instant nanos) = refl
@@ -246,7 +246,7 @@ right_asks known xs ys is = beyond_append known xs ys ∙ second_is (is_beyond k
 abbrev pub Asks : List (List ℕ) → Certain → List (List ℕ) → Type 0
 Asks known c keys = IfOpen c (is_beyond known keys ≡ true)
 
-pub both_asks : (known : List (List ℕ)) (a b : Certain) (xs ys : List (List ℕ)) → Asks known a xs → Asks known b ys → Asks known (both a b) (xs ++ ys)
+both_asks : (known : List (List ℕ)) (a b : Certain) (xs ys : List (List ℕ)) → Asks known a xs → Asks known b ys → Asks known (both a b) (xs ++ ys)
 both_asks known Never b xs ys p q = tt
 both_asks known Always Always xs ys p q = tt
 both_asks known Always Never xs ys p q = tt
