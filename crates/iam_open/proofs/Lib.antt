@@ -21,4 +21,5 @@ mod RowLemmas
 mod TimeLemmas
 pub mod TriedLemmas
 pub mod TurnLemmas
+mod UnmetLemmas
 pub mod WhereLemmas

@@ -6,3 +6,4 @@ pub mod Pairs
 pub mod Parts
 pub mod Time
 pub mod Tried
+pub mod Unmet

@@ -10,6 +10,7 @@ use crate::beyond::entry_beyond;
 use crate::certain::Certain;
 use crate::known::Known;
 use crate::time::time_certain;
+use crate::unmet::is_unmet;
 use iam_condition::Entry;
 use iam_context::Context;
 use iam_match::{OutOfMemory, holds};
@@ -54,6 +55,21 @@ fn entry_from<'c>(
     }
 }
 
+/// The same of an entry that asks for a key that is not known: never, where no value of a key meets it.
+fn beyond_certain<'c>(
+    alloc: Global,
+    entry: &'c Entry,
+    context: &Context<'c>,
+    known: &Known<'_>,
+) -> Result<Certain, OutOfMemory>
+    ensures told { IfOk result (λ certain. Tells certain (AgreeOn known.now context.now) (λ other. EntryHolds other entry.now)) }
+{
+    if is_unmet(alloc, entry, context, known)? {
+        return Ok(Certain::Never);
+    }
+    Ok(Certain::Open)
+}
+
 /// Whether the entry holds in the contexts that agree with this one on the keys that are known.
 pub fn entry_certain<'c>(
     alloc: Global,
@@ -66,7 +82,7 @@ pub fn entry_certain<'c>(
 {
     unasked_keys();
     if entry_beyond(entry, context, known) {
-        return Ok(Certain::Open);
+        return beyond_certain(alloc, entry, context, known);
     }
     Ok(Certain::of(holds(alloc, entry, context)?))
 }

@@ -37,6 +37,7 @@ mod statement;
 mod sure;
 mod time;
 mod trials;
+mod unmet;
 
 pub use answer::{Turned, turned_of};
 pub use asked::{Asked, Word};
