@@ -157,15 +157,6 @@ pub added_plain : (known keys : List (List ℕ)) (text : List Piece) (signs : Li
     → keys ≡ all_added known keys (text_keys text)
 added_plain known keys text signs is = sym (ap (λ (ps : List Piece). all_added known keys (text_keys ps)) is ∙ ap (all_added known keys) (plain_keys signs))
 
--- a value that is no text
-pub no_keys : (value : Operand) → ((pieces : List Piece) → ¬ (value ≡ operand.Text pieces)) → operand_keys value ≡ []
-no_keys (operand.Text pieces) none = absurd (none pieces refl)
-no_keys (operand.Number n) none = refl
-no_keys (operand.Instant nanos) none = refl
-no_keys (operand.Truth truth) none = refl
-no_keys (operand.Bytes bytes) none = refl
-no_keys (operand.Range range) none = refl
-
 -- ---- keys that are not known
 
 pub beyond_append : (known xs ys : List (List ℕ)) → is_beyond known (xs ++ ys) ≡ (is_beyond known xs || is_beyond known ys)
@@ -225,11 +216,6 @@ pub if_open : (c : Certain) (P : Type 0) → P → IfOpen c P
 if_open Always P p = tt
 if_open Never P p = tt
 if_open Open P p = p
-
-pub if_open_more : (c : Certain) (P Q : Type 0) → (P → Q) → IfOpen c P → IfOpen c Q
-if_open_more Always P Q more p = tt
-if_open_more Never P Q more p = tt
-if_open_more Open P Q more p = more p
 
 -- what is known to hold, or not to, is not open
 pub known_closed : (c : Certain) (held : Bool) (P : Type 0) → c ≡ certain_of held → IfOpen c P
