@@ -26,6 +26,7 @@ WORDS = {
     "bench/README.md": 3000,
     "docs/estates.md": 3000,
     "docs/reference.md": 3000,
+    "docs/proofs.md": 3000,
 }
 WIDTH = 120
 
