@@ -27,6 +27,7 @@ WORDS = {
     "docs/estates.md": 3000,
     "docs/reference.md": 3000,
     "docs/proofs.md": 3000,
+    "docs/replay.md": 3000,
 }
 WIDTH = 120
 
