@@ -22,6 +22,7 @@ DOCUMENTS = [
 WORDS = {
     "README.md": 1500,
     "docs/guide.md": 2500,
+    "docs/AWS.md": 4000,
     "CONTRIBUTING.md": 3000,
     "bench/README.md": 3000,
     "docs/estates.md": 3000,
