@@ -29,6 +29,7 @@ WORDS = {
     "docs/reference.md": 3000,
     "docs/proofs.md": 3000,
     "docs/replay.md": 3000,
+    "docs/escalate.md": 3000,
     "docs/DECISIONS.md": 6000,
 }
 WIDTH = 120
