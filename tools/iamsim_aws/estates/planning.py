@@ -9,7 +9,7 @@ from .. import decimals, files
 from ..arns import principal_arn, principal_text
 from ..asking import whole
 from ..checking import holder_of, lines, refused_documents
-from ..documents import MEMBERS, Policy, bare, changed, statements_of
+from ..documents import MEMBERS, TAGS, Policy, bare, changed, statements_of
 from ..exports import Account, account_in, read_exports
 from ..faults import Fault, tell
 from ..making import Estate, has_service, outside, principals_of, refuse_doubles, resources_of
@@ -61,7 +61,8 @@ def item_of(axis: str, value: Dict[str, Any]) -> Item:
         counts.append(len(statements_of(policy.document)))
         return policy.document
 
-    text = files.compact(changed(value, axis, MEMBERS[axis], take))
+    own = {name: it for name, it in value.items() if (axis, name) != ("principals", TAGS)}
+    text = files.compact(changed(own, axis, MEMBERS[axis], take))
     return Item(value, text, sum(counts), len(files.encoded(text)) + 1, "Numeric" in text)
 
 
