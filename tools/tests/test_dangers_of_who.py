@@ -132,11 +132,11 @@ def test_patterns_of_what_is_named():
     """Without `--kinds` they are told to be so; a question without a pattern, and one for every name, are not."""
     objects = file([{"arn": f"{S3}homes/{it}", "account": OWN} for it in "ab"])
     given = [export(on("homes/c*", action=["s3:Get*", GET])), "--resources", objects]
-    told = "that are named: with --kinds it means every name"
+    told = "with --kinds it means every name"
     out, _ = aws("who-can", GET, f"{S3}homes/*", *given)
-    assert f"{S3}homes/* is taken for the 2 resources {told}\n" in out, out
+    assert f"{S3}homes/* is taken for 2 named resources: {told}\n" in out, out
     out, said = aws("can", "alice", "s3:*", f"{S3}homes/c", *given, "--format", "json")
-    assert f"s3:* is taken for the 1 actions {told}\n" in said, said
+    assert f"s3:* is taken for 1 named action: {told}\n" in said, said
     for words in ([f"{S3}homes/*", "--kinds"], [f"{S3}homes/a"]):
         assert told not in "".join(aws("who-can", GET, *words, *given)), words
 

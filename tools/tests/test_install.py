@@ -13,6 +13,7 @@ def test_the_installed_command():
     shutil.copy(IAMSIM, os.path.join(room, "bin", "iamsim"))
     command = ["env", "-u", "IAMSIM", f"{room}/bin/iamsim-aws"]
     out, said = run([*command, "can", "alice", "sts:AssumeRole", "*/audit", data("account.json"), "--format", "csv"])
-    same((out.count("\n"), ",allowed," in out, said), (2, True, ""))
+    told = "iamsim-aws: */audit is taken for 1 named resource: with --kinds it means every name\n"
+    same((out.count("\n"), ",allowed," in out, said), (2, True, told))
     out, _ = run([*command, "page", data("account.json")])
     assert out.startswith("<!DOCTYPE html>"), out[:100]

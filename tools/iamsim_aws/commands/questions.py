@@ -105,10 +105,10 @@ def named_lines(options: argparse.Namespace, found: List[Found]) -> List[str]:
     """How many actions and resources the patterns mean; what has a file of the service reference has no further actions."""
     worlds = [it.asked.world for it in found]
     actions = {action for it in worlds for action in it["actions"]}
-    some = [(options.action, "actions", actions)] if not options.services else []
-    some.append((options.resource, "resources", {one["arn"] for it in worlds for one in it["resources"]}))
-    named = "that are named: with --kinds it means every name"
-    return [f"{pattern} is taken for the {len(of)} {kind} {named}" for pattern, kind, of in some if is_pattern(pattern)]
+    some = [(options.action, "action", actions)] if not options.services else []
+    some.append((options.resource, "resource", {one["arn"] for it in worlds for one in it["resources"]}))
+    every = ((pattern, kind if len(of) == 1 else f"{kind}s", len(of)) for pattern, kind, of in some if is_pattern(pattern))
+    return [f"{it} is taken for {count} named {kind}: with --kinds it means every name" for it, kind, count in every]
 
 
 def stand_lines(asked: Asked, answers: Answers, turns: Dict[int, Turn]) -> List[str]:
