@@ -14,28 +14,8 @@ from .documents import THROUGH, Place, Policy, World, places, statements_of
 from .every import UNNAMED, WORLDS
 from .exports import ACCOUNT
 from .names import (
-    REQUEST,
-    Found,
-    Line,
-    Names,
-    Row,
-    Side,
-    abroad,
-    alike,
-    answers_of,
-    cells_in,
-    everybody,
-    groups,
-    met_patterns,
-    names_of,
-    nearest,
-    nobody_of,
-    settled,
-    side_of,
-    stands,
-    unresolved,
-    with_lines,
-    with_people,
+    REQUEST, Found, Line, Names, Row, Side, abroad, alike, answers_of, cells_in, everybody, groups, met_patterns,
+    names_of, nearest, nobody_of, settled, side_of, stands, unresolved, with_lines, with_people,
 )
 from .patterns import is_pattern, matcher, of_given, plain
 from .points import tell_points, through

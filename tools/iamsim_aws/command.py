@@ -15,11 +15,12 @@ DESCRIPTION = """Questions to iamsim about what AWS gives: who can, what changes
 Only 'organization' calls AWS; iamsim decides. docs/AWS.md explains it."""
 
 STATUSES = """statuses: 0 done; 1 a fault, told in one line; 2 the command line is refused; 3 'can': not all is allowed,
-'rules': a rule is broken, 'changes --fail-on': something changes, 'replay': a call is refused then, or answered otherwise,
-'escalate': somebody can come there; 4 'rules': a rule meets no request, 'changes --fail-on': what is in question is nothing of
---action and --resource, 'replay': no call is asked for, 'escalate': there is nobody to ask; 5 'rules', 'changes --fail-on',
-'can', 'who-can' and 'escalate': nothing of 3 and 4, but something could not be asked or shown, 'replay --strict': something of
-the log was not asked; 6 '--database': of some requests nothing is known"""
+'rules': a rule is broken, 'changes --fail-on': such a change is found, 'replay': a call is refused then, or answered otherwise,
+'escalate': somebody can come there; 4 'rules': a rule meets no request, 'changes --fail-on': what differs is nothing of --action
+and --resource, 'replay': no call is asked for, 'escalate': there is nobody to ask; 5 something is open, as it was not asked or is
+not shown. 'who-can': always, 'can': and nothing is refused, or '*' '*' was asked, 'rules', 'changes --fail-on' and 'escalate': and
+there is nothing of 3 and 4, 'replay --strict': something of the log was not asked; 6 'can' and 'who-can --database': of some
+requests nothing is known, 'can': nor of what an access point's bucket allows"""
 
 
 def parser() -> argparse.ArgumentParser:

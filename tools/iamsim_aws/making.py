@@ -4,17 +4,8 @@ from typing import Any, Dict, List, NamedTuple, Optional
 
 from . import files
 from .arns import (
-    account_of,
-    in_bucket,
-    is_access_point,
-    keys_of_point,
-    names_of_principal,
-    names_of_resource,
-    owner_of,
-    principal_arn,
-    principal_text,
-    resource_part,
-    service_of,
+    account_of, in_bucket, is_access_point, keys_of_point, names_of_principal, names_of_resource, owner_of,
+    principal_arn, principal_text, resource_part, service_of,
 )
 from .documents import THROUGH, World
 from .exports import ACCOUNT, Account, is_service_linked, policy, role_of, tags, text, user_of

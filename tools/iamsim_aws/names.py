@@ -14,33 +14,14 @@ from .keys import asked as asked_keys
 from .keys import context_of
 from .making import bound
 from .patterns import (
-    any_matches,
-    common,
-    is_pattern,
-    matcher,
-    of_given,
-    of_policy,
-    opened,
-    overlap,
-    pattern_of,
-    plain,
-    shortest,
+    any_matches, common, is_pattern, matcher, of_given, of_policy, opened, overlap, pattern_of, plain, shortest,
     variables_of,
 )
 from .questions import Question, Scope, dressed, lacked, with_account
 from .references import is_mixed
 from .reports import REFUSED, Answer, Answers, axes_of
 from .speaking import (
-    Origin,
-    Origins,
-    Resource,
-    is_absent_role,
-    may_come,
-    owned,
-    owners,
-    patterns_of_actions,
-    statements,
-    texts_of,
+    Origin, Origins, Resource, is_absent_role, may_come, owned, owners, patterns_of_actions, statements, texts_of,
     values_of,
 )
 from .splitting import Part, parts_of_all

@@ -8,30 +8,13 @@ from .asking import ask_all
 from .bounds import MOST as PROBES
 from .bounds import TOO_MANY, at_most, hanging_people, hangs, probes_of, told_apart
 from .chains import Way
-from .covering import unasked
+from .covering import is_open, unasked
 from .documents import World
 from .examples import Example, ask_any_key
 from .faults import Fault
 from .names import (
-    REQUEST,
-    Found,
-    Names,
-    Row,
-    alike_in_keys,
-    answers_of,
-    cells_in,
-    groups,
-    is_met,
-    is_named,
-    names_of,
-    naming,
-    nearest,
-    owners_lines,
-    patterns_of,
-    settled,
-    side_of,
-    stands,
-    unresolved,
+    REQUEST, Found, Names, Row, alike_in_keys, answers_of, cells_in, groups, is_met, is_named, names_of, naming,
+    nearest, owners_lines, patterns_of, settled, side_of, stands, unresolved,
 )
 from .outsiders import Outsider
 from .patterns import any_matches, common, is_pattern
@@ -41,7 +24,7 @@ from .reports import Answers
 from .roles import with_named
 from .sources import ASSUME
 from .speaking import Origins, patterns_of_actions
-from .strangers import NOT_ASKED, everyone_outside, with_strangers
+from .strangers import everyone_outside, with_strangers
 
 
 ALLOWED = ["--decision", "allowed"]
@@ -155,7 +138,7 @@ def people_of(scope: Scope, world: World, resources: List[Any], question: Questi
 
     told = unasked(scope.source, meant, means=means)
     rest = unasked(scope.source, meant, means=lambda _: False) if question.principal.strip("*") else {}
-    return [it for it in told if NOT_ASKED in it and it not in rest]
+    return [it for it in told if is_open(it) and it not in rest]
 
 
 def findings(scope: Scope, some: Sequence[Never], as_given: bool) -> List[Finding]:

@@ -115,8 +115,9 @@ def asked_in(scope: Scope, world: World, question: Question) -> Asked:
     pattern = question.resource
     found = [it for it in world["resources"] if any_matches([pattern], names_of_resource(it["arn"]))]
     added = []
-    is_one, arn = not is_pattern(pattern), plain(pattern)
-    if not found and is_one and ARN.fullmatch(arn) and not is_absent_role(world, arn):
+    arn = plain(pattern)
+    is_one = not is_pattern(pattern) and (arn == "*" or ARN.fullmatch(arn))
+    if not found and is_one and not is_absent_role(world, arn):
         found, added = [beside(world, arn, account_for(scope, world, arn))], [arn]
     estate = scope.source.estate
     resources = [bound(estate, dressed(scope, it)) if estate else dressed(scope, it) for it in found]

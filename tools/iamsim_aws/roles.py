@@ -96,9 +96,10 @@ def tagged(role: Principal, spoken: Spoken) -> Principal:
 
 
 def tagging(world: World, spoken: Spoken) -> Iterator[str]:
-    """The roles of a world whose sessions may set other tags than the role's own, of those that policies ask for."""
+    """The roles of a world whose sessions may set other tags than the role's own, of those that policies ask for; or than all requests."""
     for it in world["principals"]:
-        if it.get(TAGS) is False and not spoken.tags.keys().isdisjoint(key.lower() for key in context_of(it)):
+        given = {key.lower() for key in [*context_of(it), *context_of(world)]}
+        if it.get(TAGS) is False and not spoken.tags.keys().isdisjoint(given):
             yield it["role"]
 
 

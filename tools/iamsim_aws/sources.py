@@ -36,7 +36,7 @@ def add_options(parser: argparse.ArgumentParser, has_session: bool = True) -> No
         "--moment",
         type=moment,
         metavar="SECONDS",
-        help="the moment of the requests, in seconds since 1970 (default: now)",
+        help="the moment of the requests, in seconds since 1970 (default: now, or that of the world)",
     )
     add(
         "--services",
@@ -260,6 +260,9 @@ def plain_source(options: argparse.Namespace) -> Source:
             what = "--resources, --context, --sessions and --organization"
             raise Fault(f"{what} join exports: a world has what they give in itself")
         given = read_world(options.world, options.names)
+        # A world whose moment is none is left for iamsim to refuse.
+        if options.moment is not None and type(given.get("moment")) is int:
+            given = {**given, "moment": options.moment}
         return Source(None, given, actions or given["actions"], references)
     return Source(estate_of(options, options.exports), None, actions, references)
 

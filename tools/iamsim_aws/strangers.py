@@ -7,24 +7,13 @@ account, and for everybody ('*'), it is a user whose name no user can have; who 
 from typing import Any, Dict, Iterator, List, Optional, Sequence, Set
 
 from .arns import account_of, names_of_principal, principal_arn, principal_text, session_arn
-from .documents import Policy, World, statements_of
+from .documents import FOREIGN, Policy, World, statements_of
 from .exports import ACCOUNT
 from .faults import tell
 from .keys import OF_ORGANIZATION, with_own_keys
-from .making import in_organization
+from .making import in_organization, keep_context
 from .organizations import Organization
-from .parties import (
-    ANYONE,
-    EVERYBODY,
-    PARTY,
-    Said,
-    accounts_in,
-    by_field,
-    kinds_of,
-    lists_in,
-    nobody_of,
-    said_in,
-)
+from .parties import (ANYONE, EVERYBODY, PARTY, Said, accounts_in, by_field, kinds_of, lists_in, nobody_of, said_in)
 from .outsiders import outsider_of, outsiders
 from .patterns import any_matches, is_pattern, matcher, plain
 from .sources import Source
@@ -200,6 +189,19 @@ def assumed(principal: Principal, account: str, source: Source) -> Principal:
     statement = {"Effect": "Allow", "Action": "*", "Resource": "*", "Condition": elsewhere}
     made = {**principal, "identity": [Policy(ASSUMED, {"Version": "2012-10-17", "Statement": statement})]}
     return in_organization(source.estate, account, made) if source.estate else made
+
+
+def lacking_member(source: Source, worlds: List[World]) -> List[Principal]:
+    """Who stands for a member of the organisation that its file lacks, of an account that nothing names, where there is a file."""
+    organization = organization_of(source)
+    if source.estate is None or not organization.is_there:
+        return []
+    account = nobody_in(source, worlds, said_in(worlds))
+    made = assumed({"user": f"arn:aws:iam::{account}:user/{ANYBODY}"}, account, source)
+    # Of its place nothing is known.
+    context = {**made.get("context", {}), "aws:PrincipalOrgID": organization.given.get("id", "")}
+    one = {name: it for name, it in made.items() if name != FOREIGN}
+    return [keep_context({**one, "context": context}, source.estate.context)]
 
 
 def with_strangers(source: Source, world: World, some: List[Principal]) -> World:

@@ -16,6 +16,10 @@ IAMSIM = os.path.abspath(os.environ["IAMSIM"])
 AWS = os.path.join(TOOLS, "iamsim-aws")
 
 
+# What iamsim-aws was asked by which it shows examples, and what it wrote: for test_confirmed.
+ASKED = []
+
+
 class Skipped(Exception):
     pass
 
@@ -52,6 +56,8 @@ def aws(*words, given="", status=0, seconds=120):
     """What iamsim-aws writes on both streams; a fault is one line."""
     out, said = run([AWS, *words], given, status, seconds)
     assert "Traceback" not in said, said
+    if words[0] in ("rules", "changes", "who-can") and not given and status != 1:
+        ASKED.append((words, out))
     if status == 1:
         assert said.count("\n") == 1 or words[0] == "check", said
     return out, said

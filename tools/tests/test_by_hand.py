@@ -161,8 +161,11 @@ def lacks(*layers):
 
 
 def answers(action, resource, *words):
-    """{name: (decision, what lacks)} of who is in the exports, and of who is outside."""
-    out, _ = aws("who-can", action, resource, *GIVEN, *words, "--format", "json")
+    """{name: (decision, what lacks)} of who is in the exports, and of who is outside. The ledger lets members of the organisation read
+    reports: of those that its file lacks nobody is asked, so that reading it is open."""
+    is_open = action == READ and resource.startswith(LEDGER)
+    out, told = aws("who-can", action, resource, *GIVEN, *words, "--format", "json", status=5 if is_open else 0)
+    same("of those that its file lacks nobody is asked" in told, is_open)
     rows = json.loads(out)
     inside = {it["principal"].replace("/s", "").split("/")[-1]: it for it in rows if not it["outside"]}
     outside = {it["principal"]: it["decision"] for it in rows if it["outside"]}

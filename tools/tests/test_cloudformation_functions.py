@@ -4,19 +4,7 @@ import json
 
 from harness import document, file, same, statement
 from test_cloudformation import (
-    ACCOUNT,
-    After,
-    FURTHER,
-    IN_SHOP,
-    READ,
-    STACK_ARN,
-    inline,
-    refused,
-    resource,
-    role,
-    stack,
-    template,
-    unknown,
+    ACCOUNT, After, FURTHER, IN_SHOP, READ, STACK_ARN, inline, refused, resource, role, stack, template, unknown,
 )
 
 OTHERS = {

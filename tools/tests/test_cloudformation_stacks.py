@@ -6,32 +6,8 @@ import json
 
 from harness import aws, document, file, same, statement
 from test_cloudformation import (
-    ACCOUNT,
-    ALICE,
-    AUDIT,
-    After,
-    BOB,
-    EXPORT,
-    FURTHER,
-    GET,
-    NEW,
-    POLICY,
-    READ,
-    READ_OBJECTS,
-    ROLE,
-    STACK_ARN,
-    TRUST,
-    WRITE,
-    deployed,
-    granting,
-    inline,
-    refused,
-    resource,
-    role,
-    stack,
-    template,
-    unknown,
-    written,
+    ACCOUNT, ALICE, AUDIT, After, BOB, EXPORT, FURTHER, GET, NEW, POLICY, READ, READ_OBJECTS, ROLE, STACK_ARN, TRUST,
+    WRITE, deployed, granting, inline, refused, resource, role, stack, template, unknown, written,
 )
 
 DEPLOY = f"{ACCOUNT}role/app/deploy"

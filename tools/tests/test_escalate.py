@@ -19,6 +19,7 @@ from iamsim_aws.escalation.table import (  # noqa: E402
     HELD,
     KINDS,
     REPLACED,
+    TAGGED,
     UNTOLD,
     VERSION,
     WAYS,
@@ -26,6 +27,7 @@ from iamsim_aws.escalation.table import (  # noqa: E402
 
 OWN, OTHER = "111122223333", "444455556666"
 SECRET = {"Bool": {"aws:MultiFactorAuthPresent": "true"}}
+ASSUME, NEEDS_MFA = "sts:AssumeRole", {"aws:MultiFactorAuthPresent": ["true"]}
 SERVICES = sorted({ask.service for way in WAYS for ask in way.asks} - {""})
 SCP = "SERVICE_CONTROL_POLICY"
 
@@ -60,6 +62,7 @@ def bound(name):
     return {"PermissionsBoundary": {"PermissionsBoundaryArn": arn("policy", name)}}
 
 
+UNTAGGED = [way for way in WAYS if way.gain != TAGGED]
 HARMLESS, EVERYTHING = document(statement(action="s3:ListBucket")), document(statement())
 # The kinds of resources that are asked for alone.
 ASKED = (*HELD, *KINDS, ELSEWHERE, "*")
@@ -117,9 +120,9 @@ def add(export, way, name, lacks=None, **more):
 
 
 def account():
-    """An account with a principal for each way, and its twins that may not go it."""
+    """An account with a principal for each way, and its twins that may not go it. No policy asks for tags."""
     made = ground()
-    for way in WAYS:
+    for way in UNTAGGED:
         add(made, way, way.name)
         for n, ask in enumerate(it for it in way.asks if it.kind in ASKED):
             add(made, way, f"{way.name}-lacks-{n}", lacks=ask)
@@ -163,16 +166,25 @@ def found(answer):
 def test_each_way_is_found_and_none_without_one_of_its_requests():
     answer = escalated(account())
     same(sorted(map(short, answer["already"])), ["bare", "boss", "chief", "open"])
-    wanted = {way.name: [[way.name]] for way in WAYS if way.gain != UNTOLD}
+    told = {(short(it["principal"]), it["way"]): it for it in answer["open"]}
+    wanted = {}
+    for way in UNTAGGED:
+        if way.gain != UNTOLD:
+            wanted.update({way.name: [[way.name]], f"{way.name}-keyed": [[way.name]]})
+            continue
+        twins = {who for who, name in told if name == way.name and who.startswith(way.name)}
+        assert {way.name, f"{way.name}-keyed"} <= twins and f"{way.name}-bound" not in twins, twins
+        for who, given in ((way.name, {}), (f"{way.name}-keyed", NEEDS_MFA)):
+            same([it["if"] for it in told[who, way.name]["requests"]], [given] * len(way.asks), who)
     same(found(answer), wanted)
-    told = {(short(it["principal"]), it["way"]) for it in answer["open"]}
-    for way in (it for it in WAYS if it.gain == UNTOLD):
-        assert (way.name, way.name) in told, way.name
-        twins = {who for who, name in told if name == way.name and who.startswith(f"{way.name}-")}
-        assert not {f"{way.name}-bound", f"{way.name}-keyed"} & twins, twins
-    same(answer["absentKeys"], ["aws:MultiFactorAuthPresent"])
-    # Though somebody is found, who may go a way with that key is told.
-    same(sorted(map(short, answer["maybe"])), sorted(f"{way.name}-keyed" for way in WAYS))
+    for it in answer["found"]:
+        given = NEEDS_MFA if short(it["principal"]).endswith("-keyed") else {}
+        of = [one["if"] for step in it["steps"] for part in step["parts"] for one in part["requests"] if one["action"] != ASSUME]
+        assert given in of and all(one in ({}, given) for one in of) or not of, (it["principal"], of)
+    # Those that need keys are told behind the others.
+    keyed = [short(it["principal"]).endswith("-keyed") for it in answer["found"]]
+    same(keyed, sorted(keyed))
+    same((answer["absentKeys"], answer["maybe"]), (["aws:MultiFactorAuthPresent"], []))
 
 
 def test_no_way_is_found_behind_a_policy_of_the_organisation():
@@ -186,36 +198,143 @@ def test_with_the_key_that_a_condition_asks_for():
     way = next(it for it in WAYS if it.name == "lambda-new")
     export = ground()
     add(export, way, "keyed", Condition=SECRET)
-    answer = escalated(export, status=5)
-    same((answer["absentKeys"], answer["maybe"]), (["aws:MultiFactorAuthPresent"], [arn("user", "keyed")]))
-    answer = escalated(export, "--context", file({"aws:MultiFactorAuthPresent": True}))
-    same(found(answer), {"keyed": [["lambda-new"]]})
+    answer = escalated(export)
+    same((answer["absentKeys"], found(answer)), (["aws:MultiFactorAuthPresent"], {"keyed": [["lambda-new"]]}))
+    same([it["if"] for it in answer["found"][0]["steps"][0]["parts"][0]["requests"]], [NEEDS_MFA] * 3)
+    out, _ = aws("escalate", file(export), status=3)
+    assert out.startswith("1 of 5 principals can come to be an administrator (1 of these with keys that nothing gives)"), out
+    assert " (iam:PassedToService lambda.amazonaws.com) if `aws:MultiFactorAuthPresent` is `true`\n" in out, out
+    for given, status in ((True, 3), (False, 0), ([], 0)):
+        answer = escalated(export, "--context", file({"aws:MultiFactorAuthPresent": given}), status=status)
+        same((found(answer), answer["maybe"]), ({"keyed": [["lambda-new"]]} if status else {}, []))
     # Who changes a role with that key and assumes it is told, and not the role, which does nothing by itself.
     export = ground()
     export["RoleDetailList"].append(role("idle", {"AWS": f"arn:aws:iam::{OWN}:root"}))
     own = statement(action=["iam:PutRolePolicy", "sts:AssumeRole"], resource=arn("role", "idle"), Condition=SECRET)
     export["UserDetailList"].append(entity("User", "kim", [own]))
-    same(escalated(export, status=5)["maybe"], [arn("user", "kim")])
+    same(found(escalated(export)), {"kim": [["put-role-policy", "assume-role"]]})
+    # Who may do everything with that key may give himself a policy; where nobody may, it is not shown that he is an administrator.
+    export = ground()
+    export["UserDetailList"] += [entity("User", "pat", [statement(Condition=SECRET)]), entity("User", "lee", [statement("Deny"), statement(Condition=SECRET)])]
+    same(list(found(escalated(export))), ["pat"])
+    every = {ask.action for way in WAYS for ask in way.asks}
+    nothing = ["--organization", file(organization(*every))]
+    same(escalated(export, *nothing, status=5)["maybe"], [arn("user", "pat")])
+    answer = escalated(export, *nothing, "--context", file({"aws:MultiFactorAuthPresent": True}), status=0)
+    same(sorted(map(short, answer["already"])), ["bare", "boss", "chief", "open", "pat"])
 
 
-def test_what_no_text_stands_for_is_not_taken_for_safe():
-    """A deny on some functions, regions or names takes the text that stands for all; another may be left."""
+def test_a_grant_that_begins_later_or_has_ended():
+    """The moment is of the example; the twins ended before."""
+    way = next(it for it in WAYS if it.name == "access-key")
+    for operator, status in (("DateGreaterThan", 3), ("DateLessThan", 0)):
+        export = ground()
+        add(export, way, "dev", Condition={operator: {"aws:CurrentTime": "1970-01-01T00:00:00Z" if status == 0 else "2030-01-01T00:00:00Z"}})
+        answer = escalated(export, status=status)
+        [moment] = [one["ifMoment"] for it in answer["found"] for one in it["steps"][0]["parts"][0]["requests"]] or [None]
+        same(moment, 1893456001 if status else None)
+
+
+def test_keys_that_a_request_has_not():
+    """`iam:PolicyARN` is a key of attaching alone, and no value of it lets somebody write a policy; the twin attaches."""
+    given = {"ArnEquals": {"iam:PolicyARN": "arn:aws:iam::aws:policy/AdministratorAccess"}}
+    for name, status in (("put-user-policy", 0), ("attach-to-user", 3)):
+        export = ground()
+        add(export, next(it for it in WAYS if it.name == name), "dev", Condition=given)
+        answer = escalated(export, status=status)
+        same((found(answer), answer["maybe"]), ({"dev": [[name]]} if status else {}, []))
+
+
+def test_all_names_are_asked():
+    """A deny on some functions, regions or names leaves others, and two patterns may meet in a name that none of them has; the twins leave
+    none."""
     way = next(it for it in WAYS if it.name == "lambda-new")
     own = [ask.action for ask in way.asks]
     every = f"arn:aws:lambda:*:{OWN}:function:"
-    meeting = [statement(action=own[0]), statement(action=own[1], resource=f"{every}a*")]
+    passes, denied = statement(action=own[0]), lambda *of: statement("Deny", "lambda:*", list(of))
+    outside = lambda *of: {"Effect": "Deny", "Action": "lambda:*", "NotResource": list(of)}
+    meeting = [passes, statement(action=own[1], resource=f"{every}a*"), statement(action=own[2], resource=f"{every}*b")]
+    apart = [passes, statement(action=own[1], resource=f"{every}a*"), statement(action=own[2], resource=f"{every}b*")]
+    keyed = [passes, statement(action=own[1]), statement(action=own[2], resource=every + "${aws:SourceVpc}")]
     cases = [
-        ([statement(action=own), statement("Deny", "lambda:*", "arn:aws:lambda:us-east-1:*")], 5),
-        ([statement(action=own), {**statement("Deny", "lambda:*"), "NotResource": "arn:aws:lambda:eu-west-1:*"}], 5),
-        ([statement(action=own, resource=["*", f"{every}a*"]), statement("Deny", "lambda:*", f"{every}*")], 0),
-        ([*meeting, statement(action=own[2], resource=f"{every}*b")], 5),
+        ([statement(action=own), denied("arn:aws:lambda:us-east-1:*")], f"arn:aws:lambda::{OWN}:function:"),
+        ([statement(action=own), outside("arn:aws:lambda:eu-west-1:*")], f"arn:aws:lambda:eu-west-1:{OWN}:function:"),
+        ([statement(action=own, resource=["*", f"{every}a*"]), denied(f"{every}*")], ""),
+        ([statement(action=own), denied("arn:aws:lambda:*")], ""),
+        ([statement(action=own), outside("arn:aws:s3:::*", "arn:aws:iam::*")], ""),
+        (meeting, f"arn:aws:lambda::{OWN}:function:ab"),
+        ([*meeting, denied(f"{every}ab")], f"arn:aws:lambda::{OWN}:function:a.b"),
+        ([*meeting, denied(f"{every}a*b")], ""),
+        (apart, ""),
+        ([passes, statement(action=own[1:], resource=f"arn:aws:lambda:*:{OTHER}:function:*")], ""),
     ]
-    for given, status in cases:
-        given = [{key: it for key, it in one.items() if key != "Resource" or "NotResource" not in one} for one in given]
+    for given, name in cases:
         export = ground()
         export["UserDetailList"].append(entity("User", "dev", given))
-        answer = escalated(export, status=status)
-        same((answer["found"], answer["maybe"]), ([], [arn("user", "dev")] if status else []))
+        answer = escalated(export, status=3 if name else 0)
+        asked = [it["resource"] for one in answer["found"] for it in one["steps"][0]["parts"][0]["requests"][1:]]
+        assert len(asked) == (2 if name else 0) and all(re.fullmatch(name, it) for it in asked), (given, asked)
+        same(answer["maybe"], [], str(given))
+    # A variable in a name that nothing gives may have a value.
+    export = ground()
+    export["UserDetailList"].append(entity("User", "dev", keyed))
+    [[*_, last]] = [part["requests"] for it in escalated(export)["found"] for part in it["steps"][0]["parts"]]
+    same(list(last["if"]), ["aws:SourceVpc"])
+
+
+MARKED = {"StringEquals": {"aws:PrincipalTag/team": "a"}}
+
+
+def marked(name, actions, given, tags=()):
+    """A role that the account may assume by these actions, whose own policy asks for a tag."""
+    trust = {"Effect": "Allow", "Principal": {"AWS": f"arn:aws:iam::{OWN}:root"}, "Action": actions}
+    made = role(name, {}, [given], Tags=[{"Key": "team", "Value": it} for it in tags])
+    return {**made, "AssumeRolePolicyDocument": document(trust)}
+
+
+def test_tags_of_sessions():
+    """Who may set them comes to what they allow; the twins may not set them, by their own policies or by the role's trust policy."""
+    key = statement(action="iam:CreateAccessKey", resource=arn("user", "boss"), Condition=MARKED)
+    both = [ASSUME, "sts:TagSession"]
+    for tags in ((), ("b",)):
+        for trusted, own, wanted in (
+            (both, both, {"kim": [["assume-role-tags"], ["access-key"]], "tagged": [["access-key"]]}),
+            (both, [ASSUME], {"tagged": [["access-key"]]}),
+            ([ASSUME], both, {}),
+            ([ASSUME], [*both, "iam:UpdateAssumeRolePolicy"], {"kim": [["trust-policy-tags"], ["access-key"]]}),
+            # The trust policy that is written names whoever writes it, which suffices; a deny of his own does not pass.
+            ([ASSUME], ["iam:UpdateAssumeRolePolicy"], {"kim": [["trust-policy-tags"], ["access-key"]]}),
+            ([ASSUME], ["iam:Update*", "!"], {}),
+        ):
+            export = ground()
+            export["RoleDetailList"].append(marked("marked", trusted, key, tags))
+            but = [statement("Deny", "sts:TagSession")] if own[-1] == "!" else []
+            own = [it for it in own if it != "!"]
+            export["UserDetailList"].append(entity("User", "kim", [statement(action=own, resource=arn("role", "marked")), *but]))
+            answer = escalated(export, status=3 if wanted else 0)
+            same({it.split("/")[-1]: way for it, way in ways_of(answer).items()}, wanted, str((tags, trusted, own)))
+            last = [one["steps"][-1]["parts"][-1]["requests"][-1]["if"] for one in answer["found"]]
+            same((last, answer["maybe"]), ([{"aws:PrincipalTag/team": ["a"]}] * len(wanted), []))
+    # The role's own tag is that of each session that sets none.
+    export = ground()
+    export["RoleDetailList"].append(marked("marked", [ASSUME], key, ("a",)))
+    same(found(escalated(export)), {"marked": [["access-key"]]})
+    # Who may do everything with a tag may give himself a policy.
+    export = ground()
+    export["RoleDetailList"].append(marked("marked", both, statement(Condition=MARKED)))
+    export["UserDetailList"].append(entity("User", "kim", [statement(action=both, resource=arn("role", "marked"))]))
+    same(sorted(found(escalated(export))), ["kim", "marked"])
+
+
+def test_sessions_that_policies_name():
+    """Who assumes a role names the session; the twin names a session of a role that nobody assumes."""
+    for of, status in (("AROAAPP:alice", 3), ("AROAGONE:alice", 0)):
+        export = ground()
+        key = statement(action="iam:CreateAccessKey", resource=arn("user", "boss"), Condition={"StringEquals": {"aws:userid": of}})
+        export["RoleDetailList"].append({**role("app", {"AWS": f"arn:aws:iam::{OWN}:root"}, [key]), "RoleId": "AROAAPP"})
+        export["UserDetailList"].append(entity("User", "kim", [statement(action=ASSUME, resource=arn("role", "app"))]))
+        wanted = {arn("user", "kim"): [["assume-role"], ["access-key"]], session("app", "alice"): [["access-key"]]}
+        same(ways_of(escalated(export, status=status)), wanted if status else {})
 
 
 def test_a_service_by_the_name_of_its_region():
@@ -277,6 +396,23 @@ def test_several_steps_are_the_shortest_way():
     same(ways["kim"], [["put-role-policy", "assume-role"]])
     same(sorted(it for step in ways["joe"] for it in step)[:2], ["join-group", "no-user-boundary"])
     same(len(ways["joe"]), 3)
+
+
+def test_two_who_change_one_user():
+    """What the one makes of him keeps nothing from the other, who makes less of him; the twin may not be him."""
+    export = ground()
+    export["GroupDetailList"].append(entity("Group", "writers", [statement(action="iam:PutUserPolicy")]))
+    key, joins = ("iam:CreateAccessKey", arn("user", "x")), statement(action="iam:AddUserToGroup", resource=arn("group", "writers"))
+    export["UserDetailList"] += [
+        entity("User", "x"),
+        entity("User", "kim", [statement(action=["iam:PutUserPolicy", key[0]], resource=key[1])]),
+    ]
+    export["RoleDetailList"] += [
+        role("lee", {"Service": "x.amazonaws.com"}, [joins, statement(action=key[0], resource=key[1])]),
+        role("twin", {"Service": "x.amazonaws.com"}, [joins]),
+    ]
+    ways = found(escalated(export))
+    same(ways, {"kim": [["put-user-policy", "access-key"]], "lee": [["join-group", "access-key"], ["put-user-policy"]]})
 
 
 def test_an_administrator_is_whom_nothing_of_his_own_keeps_from_anything():

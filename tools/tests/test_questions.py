@@ -343,6 +343,13 @@ def test_each_kind_of_condition_turns():
     assert "turn an answer: aws:MultiFactorAuthPresent" in out, out
 
 
+def test_the_moment_of_a_world():
+    """It is that of --moment, or else the world's: a grant that has ended allows nothing. The twin ends behind both."""
+    for ends, words, status in (("2001", [], 0), ("2001", ["--moment", "1000000000"], 3), ("2038", ["--moment", "1000000000"], 0)):
+        over = document(statement(Condition={"DateLessThan": {"aws:CurrentTime": f"{ends}-01-01T00:00:00Z"}}))
+        aws("can", "ann", "s3:GetObject", "*", "--world", file(small_world(over)), *words, status=status)
+
+
 def test_several_keys_at_once():
     """An example has all keys that it wants, or a later moment; what is not shown is open."""
     both = {"Bool": {"aws:MultiFactorAuthPresent": "true", "aws:SecureTransport": "true"}}

@@ -433,6 +433,35 @@ def test_sessions_of_a_world():
     same(row["why"][-1], "lacks session: no session policy of the session allows this")
 
 
+def test_the_moment_of_a_world():
+    """It is that of --moment, or else the world's: of a grant that ends a later call is refused. The twin ends behind both."""
+    events = log(of("heads of buckets"))
+
+    def refused(ends, *words, before=False):
+        over = document(statement(Condition={"DateLessThan": {"aws:CurrentTime": ends}}))
+        made = {
+            "moment": 0,
+            "accounts": [{"id": OWN}],
+            "principals": [{"user": it, "identity": [over]} for it in (ALICE, BOB, CAROL)]
+            + [{"role": DEPLOY, "session": "any", "identity": [over]}],
+            "actions": ["s3:GetObject"],
+            "resources": [{"arn": "arn:aws:s3:::data/in/a.csv", "account": OWN}],
+        }
+        given = ["--before", file(made), "--after", file(made)] if before else ["--world", file(made)]
+        out, _ = aws("replay", events, *given, *words, "--format", "json", status=3 if refused_in(ends, words) else 0)
+        return len(json.loads(out)["rows"])
+
+    def refused_in(ends, words):
+        return "2001" in ends and "--moment" in words
+
+    later = ["--moment", "1000000000"]
+    same(refused("2001-01-01T00:00:00Z"), 0)
+    same(refused("2001-01-01T00:00:00Z", *later), 1)
+    same(refused("2038-01-01T00:00:00Z", *later), 0)
+    # Of two worlds too the moment is theirs, and not now.
+    same(refused("2001-01-01T00:00:00Z", before=True), 0)
+
+
 def test_what_the_page_shows():
     """docs/replay.md shows what comes out."""
     with open(os.path.join(os.path.dirname(TOOLS), "docs", "replay.md"), encoding="utf-8") as it:

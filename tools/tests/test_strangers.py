@@ -449,10 +449,7 @@ def test_members_of_the_organisation():
     given = bucket({**grant(), **own}, grant("444455556666", action="s3:PutObject"))
     # 444455556666 is a member, as is 999900001111, which manages it, and whoever is of no account there is none.
     members = [f"anyone outside: account {it}" for it in ("444455556666", "999900001111")]
-    same(outside("s3:GetObject", given, *organization), {**dict.fromkeys(members, True), ANY: False})
-    _, said = aws("who-can", "s3:GetObject", BUCKET, EXPORT, "--resources", given, *organization)
-    line = f"iamsim-aws: {BUCKET} policy grants to members of an organisation: of those that its file lacks nobody is asked\n"
-    same(said, line)
+    same(outside("s3:GetObject", given, *organization, status=5), {**dict.fromkeys(members, True), ANY: False})
     # 444455556666 may not do this by its organisation's policies.
     bound = load(data("organization.json"))
     bound["targets"]["444455556666"] = [{"Id": "p-00000001", "Type": "SERVICE_CONTROL_POLICY"}]
@@ -469,6 +466,41 @@ def test_members_of_the_organisation():
         bound["targets"]["444455556666"] = [{"Id": it, "Type": "SERVICE_CONTROL_POLICY"} for it in ids]
         found = outside("s3:GetObject", bucket(grant("444455556666")), "--organization", file(bound))
         same(found, {member: False, **wanted})
+
+
+def test_members_that_the_file_lacks():
+    """Nobody knows them, so it is open where they may be let in: told by each question alike. The twins deny whoever they are, grant
+    another action, or grant to a unit and deny all members."""
+    line = f"{BUCKET} policy grants to members of an organisation: of those that its file lacks nobody is asked"
+    member = {"StringEquals": {"aws:PrincipalOrgID": "o-example0001"}}
+    unit = {"ForAnyValue:StringLike": {"aws:PrincipalOrgPaths": "o-example0001/r-ab12/ou-ab12-99999999/*"}}
+    own = ("444455556666", "999900001111", OWN)
+    others = deny("StringNotEquals", "aws:PrincipalAccount", *own)
+    but = " ".join(f"*:{it}:*" for it in own)
+    cases = [
+        ([grant("*", Condition=member)], True),
+        ([grant("*", Condition=unit)], True),
+        ([grant("*", Condition=member), deny("Null", "aws:PrincipalArn", "true")], True),
+        ([grant("*", Condition=member), others], False),
+        ([grant("*", Condition=member), deny("StringEquals", "aws:PrincipalOrgID", "o-example0001")], False),
+        ([grant("*", Condition=member, action="s3:PutObject")], False),
+        ([grant("*", Condition=unit), deny("Null", "aws:PrincipalOrgID", "false")], False),
+    ]
+    words = ["--organization", data("organization.json")]
+    for some, is_open in cases:
+        given, status = bucket(*some), 5 if is_open else 0
+        for resource in (BUCKET, f"{BUCKET}/k", f"{BUCKET}/*"):
+            rule = file(f"never * s3:GetObject {resource} except {but}\n")
+            out, _ = aws("rules", rule, EXPORT, "--resources", given, *words, status=status)
+            same(f"  open: {line}\n" in out, is_open, str((some, resource, out)))
+        _, said = aws("who-can", "s3:GetObject", BUCKET, EXPORT, "--resources", given, *words, status=status)
+        same(said, f"iamsim-aws: {line}\n" if is_open else "", str(some))
+    # A draft that grants to members, but to none of those that the file has.
+    listed = deny("StringEquals", "aws:PrincipalAccount", *own)
+    for some, is_open in (([grant("*", Condition=member), listed], True), ([grant("*", Condition=member), listed, others], False)):
+        draft = ["--put", f"releases={file(document(*some))}", "--fail-on", "gained"]
+        _, said = aws("changes", EXPORT, "--resources", bucket(), *draft, *words, status=5 if is_open else 0)
+        same(line in said, is_open, said)
 
 
 def test_members_whom_a_deny_excepts():

@@ -9,25 +9,8 @@ import time
 
 from harness import AWS, aws, document, file, run, same, statement
 from test_cloudformation import (
-    ACCOUNT,
-    EXPORT,
-    FUNCTION,
-    FURTHER,
-    IN_SHOP,
-    READ,
-    ROLE,
-    SAM,
-    After,
-    called,
-    deployed,
-    granting,
-    inline,
-    refused,
-    resource,
-    role,
-    stack,
-    template,
-    unknown,
+    ACCOUNT, EXPORT, FUNCTION, FURTHER, IN_SHOP, READ, ROLE, SAM, After, called, deployed, granting, inline, refused,
+    resource, role, stack, template, unknown,
 )
 from test_cloudformation_functions import OTHERS
 

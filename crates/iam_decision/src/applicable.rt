@@ -56,7 +56,7 @@ impl<'a> Applicable<'a> {
     }
 
     /// What a decision asks beside the statements. The lists of levels have to have fewer than 2^32 members.
-    fn frame(&self) -> Frame
+    pub fn frame(&self) -> Frame
         requires { IsNumbered (value_of self.now) }
         ensures { result ≡ frame_of (value_of self.now) }
     {

@@ -124,8 +124,8 @@ impl<'a> Applicable<'a> {
         add_level(statements, self.session, Layer::Session, 0)
     }
 
-    /// All statements, in place order.
-    pub(crate) fn statements(&self, alloc: Global) -> Result<Vec<Standing<'a>>, OutOfMemory>
+    /// All statements, in place order. The lists of levels and each list of policies have to have fewer than 2^32 members.
+    pub fn statements(&self, alloc: Global) -> Result<Vec<Standing<'a>>, OutOfMemory>
         requires { IsNumbered (value_of self.now) }
         ensures { IfOk result (λ statements. map placed_value statements.items ≡ placed (value_of self.now)) }
     {

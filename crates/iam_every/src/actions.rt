@@ -7,7 +7,6 @@ ghost use Rattle.iam_every.specs.Elements.{Adds, HasPrints, elements_in, next_pr
 ghost use Rattle.iam_every.specs.Names.{AreActionGroups, action_question};
 ghost use Rattle.iam_every.specs.OwnActions.{AreOwnActionGroups, elements_of};
 
-use crate::concerned::statements;
 use iam_decision::{Actions, Applicable};
 use iam_glob::{Glob, Sign, Signs};
 use iam_kinds::{Grammar, Kinds, find_kinds_fold};
@@ -80,7 +79,7 @@ impl<'a> Elements<'a> {
         ensures adds { OnOk result (Adds (elements_in self.old) (elements_of (value_of applicable.now)) (elements_in self.new)) }
         ensures prints { OnOk result (HasPrints self.new) }
     {
-        let statements = statements(alloc, applicable)?;
+        let statements = applicable.statements(alloc)?;
         for &standing in statements.as_slice() {
             self.add(standing.statement.action())?;
         }

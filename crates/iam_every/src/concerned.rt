@@ -25,7 +25,7 @@ pub fn concerned<'a: 'c, 'c>(
     ensures { IfOk result (λ found. Selects (Concerns (access_of access.entry) action.now)
         (placed (value_of applicable.now)) (map placed_value found.items)) }
 {
-    let statements = statements(alloc, applicable)?;
+    let statements = applicable.statements(alloc)?;
     let mut found = Vec::with_capacity(alloc, statements.len())?;
     for &standing in statements.as_slice() {
         if concerns(alloc, standing.statement, access, action)? {
@@ -33,21 +33,6 @@ pub fn concerned<'a: 'c, 'c>(
         }
     }
     Ok(found)
-}
-
-/// All statements of the policies, in place order. Their lists have to have fewer than 2^32 members.
-pub fn statements<'a>(
-    alloc: Global,
-    applicable: &Applicable<'a>,
-) -> Result<Vec<Standing<'a>>, OutOfMemory>
-    requires { IsNumbered (value_of applicable.now) }
-    ensures { IfOk result (λ statements. map placed_value statements.items ≡ placed (value_of applicable.now)) }
-{
-    let mut statements = Vec::new(alloc);
-    applicable.add_org(&mut statements)?;
-    applicable.add_resource(&mut statements)?;
-    applicable.add_requester(&mut statements)?;
-    Ok(statements)
 }
 
 /// Whether the statement concerns requests for the action, whatever the resource: all its elements match but `Resource` and

@@ -8,7 +8,7 @@ ghost use Rattle.iam_decision.specs.Living.{Lives, item_of};
 ghost use Rattle.iam_decision.specs.Matched.{Selects, placed};
 ghost use Rattle.iam_every.specs.Code.Picked.{IsEligible, TellEach, both, picked};
 
-use crate::concerned::{conditions_hold, statements};
+use crate::concerned::conditions_hold;
 use iam_decision::{Applicable, Matched, Standing};
 use iam_match::{
     Access, OutOfMemory, Requester, Statement, grant_kind, principal_matches, rest_matches,
@@ -25,7 +25,7 @@ pub fn eligible<'a: 'c, 'c>(
     ensures { IfOk result (λ found. Selects (IsEligible (access_of access.entry))
         (placed (value_of applicable.now)) (map placed_value found.items)) }
 {
-    let statements = statements(alloc, applicable)?;
+    let statements = applicable.statements(alloc)?;
     let mut found = Vec::with_capacity(alloc, statements.len())?;
     for &standing in statements.as_slice() {
         if is_eligible(alloc, standing.statement, access)? {

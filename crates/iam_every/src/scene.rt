@@ -1,7 +1,6 @@
 // What the requests of a principal share for resources of which the same is said.
 ghost use Rattle.std.specs.Prelude.{◌≡◌, ℕ, IfOk, List, map};
 ghost use Rattle.iam_match.specs.Request.{access_of};
-ghost use Rattle.iam_decision.specs.Applicable.{IsNumbered, frame_of, value_of};
 ghost use Rattle.iam_decision.specs.Code.Scan.{placed_value};
 ghost use Rattle.iam_decision.specs.Living.{Lives};
 ghost use Rattle.iam_world.specs.World.{WorldValue};
@@ -11,7 +10,7 @@ ghost use Rattle.iam_every.specs.Code.Picked.{ActsOn, TellEach};
 ghost use Rattle.iam_every.specs.Code.Told.{IsScene, access_at, eligible_in};
 
 use crate::eligible::{found, lives};
-use iam_decision::{Applicable, Frame, Standing, Verdict, early_verdict};
+use iam_decision::{Frame, Standing, Verdict, early_verdict};
 use iam_match::{Access, OutOfMemory};
 use std::alloc::Global;
 
@@ -22,21 +21,6 @@ pub struct Scene<'s, 'e, 'a, 'c> {
     pub access: Access<'s, 'c>,
     pub frame: Frame,
     pub eligible: &'e [Standing<'a>],
-}
-
-/// What a decision asks beside the statements. The lists of levels have to have fewer than 2^32 members.
-pub fn frame_of(applicable: &Applicable<'_>) -> Frame
-    requires { IsNumbered (value_of applicable.now) }
-    ensures { result ≡ frame_of (value_of applicable.now) }
-{
-    Frame {
-        org: applicable.org.len() as u32,
-        control: applicable.control.len() as u32,
-        boundary: applicable.boundary.is_some(),
-        session: !applicable.session.is_empty(),
-        same_account: applicable.same_account,
-        sealed: applicable.sealed,
-    }
 }
 
 /// Of each of the statements whether it matches requests for the resource of this text once its action element does.

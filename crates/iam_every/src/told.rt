@@ -18,7 +18,7 @@ use crate::eligible::{eligible, picked};
 use crate::given::{Given, is_first_line};
 use crate::lines::line_kinds;
 use crate::rows::{Row, Said, unshown};
-use crate::scene::{Scene, frame_of, lives_on, verdict_by};
+use crate::scene::{Scene, lives_on, verdict_by};
 use iam_decision::Verdict;
 use iam_kinds::{Kinds, Walks};
 use iam_layers::Unnamed;
@@ -375,7 +375,7 @@ fn told_with<'a>(
     let eligible = eligible(alloc, &applicable, access)?;
     let scene = Scene {
         access,
-        frame: frame_of(&applicable),
+        frame: applicable.frame(),
         eligible: eligible.as_slice(),
     };
     told_in(alloc, walks, acting, given, about, scene, actions)

@@ -1,5 +1,5 @@
 // Resources that a world does not name.
-ghost use Rattle.std.specs.Prelude.{◌≡◌, ◌<◌, [], ℕ, IfOk, List, length};
+ghost use Rattle.std.specs.Prelude.{◌≡◌, ◌<◌, ◌≤◌, [], ℕ, IfOk, List, length};
 ghost use Rattle.iam_context.specs.Context.{ContextValue};
 ghost use Rattle.iam_decision.specs.Applicable.{ApplicableValue, IsNumbered, value_of};
 ghost use Rattle.iam_match.specs.Request.{access_of};
@@ -52,6 +52,27 @@ impl World {
         match unnamed {
             Unnamed::Like(r) => self.derived(alloc, p, r),
             Unnamed::Of(account) => self.derived_in(alloc, p, account),
+        }
+    }
+
+    /// The same at this moment in place of the world's, in seconds from 1970-01-01T00:00:00Z and at most 253,402,300,799.
+    ///
+    /// AWS IAM User Guide, "AWS global condition context keys".
+    pub fn unnamed_derived_at(
+        &self,
+        alloc: Global,
+        p: u64,
+        unnamed: Unnamed<'_>,
+        moment: u64,
+    ) -> Result<Derived, OutOfMemory>
+        requires principal { p < length self.now.principals }
+        requires there { IsThere self.now unnamed }
+        requires moment { moment ≤ 253402300799 }
+        ensures { IfOk result (λ derived. AreUnnamedKeys (record self.now { moment = moment }) p unnamed.entry derived.items) }
+    {
+        match unnamed {
+            Unnamed::Like(r) => self.derived_at(alloc, p, r, moment),
+            Unnamed::Of(account) => self.derived_in_at(alloc, p, account, moment),
         }
     }
 

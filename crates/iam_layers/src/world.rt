@@ -349,6 +349,22 @@ impl World {
         )
     }
 
+    /// The same at this moment in place of the world's, as of [`World::derived_at`].
+    pub(crate) fn derived_in_at(
+        &self,
+        alloc: Global,
+        p: u64,
+        account: &str,
+        moment: u64,
+    ) -> Result<Derived, OutOfMemory>
+        requires principal { p < length self.now.principals }
+        requires moment { moment ≤ 253402300799 }
+        ensures { IfOk result (λ derived. AreUnnamedKeys (record self.now { moment = moment }) p (Of account.entry) derived.items) }
+    {
+        let stamp = stamp_of(alloc, moment)?;
+        keys_with(alloc, self.requester(p), account, moment, stamp.as_str())
+    }
+
     /// How many levels of policies the organisation has that binds principal p, which has to be below `principals()`.
     pub fn org_levels(&self, p: u64) -> u32
         requires { p < length self.now.principals }

@@ -1,5 +1,5 @@
 mod AddLemmas
-mod AgreeLemmas
+pub mod AgreeLemmas
 mod AskLemmas
 mod AskedLemmas
 pub mod BoundLemmas
@@ -9,7 +9,7 @@ mod ClosedLemmas
 mod ContextLemmas
 mod DecideLemmas
 mod FirstLemmas
-mod FitLemmas
+pub mod FitLemmas
 mod FormLemmas
 pub mod GivenLemmas
 mod HangLemmas
@@ -18,6 +18,7 @@ mod ListedLemmas
 mod PairLemmas
 mod PartLemmas
 mod RowLemmas
+mod SeatLemmas
 mod TimeLemmas
 pub mod TriedLemmas
 pub mod TurnLemmas

@@ -6,4 +6,5 @@ pub mod Hangs
 pub mod InQuestion
 pub mod Report
 pub mod Rows
+pub mod Seat
 pub mod Turned

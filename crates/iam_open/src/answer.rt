@@ -1,13 +1,16 @@
 // What is said of a request, whatever values the keys have that nothing gives.
 ghost use Rattle.std.specs.Prelude.{◌<◌, ◌∷◌, [], IfOk, IfSome, length, ℕ};
+ghost use Rattle.iam_layers.specs.Cell.{IsAction};
 ghost use Rattle.iam_open.specs.Code.Pairs.{AreKept};
+ghost use Rattle.iam_open.specs.Seat.{IsSeat};
 ghost use Rattle.iam_open.specs.Turned.{IsShown, IsTurned};
 ghost use Rattle.iam_world.specs.World.{WorldValue};
 
 use crate::certain::Certain;
 use crate::example::Example;
 use crate::kept::Kept;
-use crate::pair::certainly;
+use crate::pair::scene_certain;
+use crate::scene::Scene;
 use crate::seek::example;
 use iam_layers::{OutOfMemory, World};
 use std::alloc::Global;
@@ -42,10 +45,26 @@ pub fn turned_of(
     requires resource { r < length world.now.resources }
     ensures { IfOk result (IsTurned (world.now ∷ []) world.now p a r) }
 {
-    match certainly(alloc, world, p, a, r)? {
+    let none = Vec::new(alloc);
+    let scene = Scene::named(world, p, r, &none);
+    scene_turned(alloc, scene, world.action_text(a))
+}
+
+/// The same of a request for an action and for what may be no resource of the world.
+///
+/// AWS IAM User Guide, "AWS global condition context keys" and "Policy evaluation logic".
+pub fn scene_turned(
+    alloc: Global,
+    scene: Scene<'_, '_>,
+    action: &str,
+) -> Result<Turned, OutOfMemory>
+    ensures { IfOk result (λ turned. (other : WorldValue) (a r : ℕ) → IsSeat scene.entry.world.now scene.entry.target other r
+        → IsAction other a action.now → IsTurned (other ∷ []) other scene.entry.p a r turned) }
+{
+    match scene_certain(alloc, scene, action)? {
         Certain::Always => Ok(Turned::Always),
         Certain::Never => Ok(Turned::Never),
-        Certain::Open => Ok(shown_by(example(alloc, world, p, a, r)?)),
+        Certain::Open => Ok(shown_by(example(alloc, scene, action)?)),
     }
 }
 

@@ -1,8 +1,12 @@
 // The verdict on a request in a context in question.
-ghost use Rattle.std.specs.Prelude.{◌<◌, ◌≤◌, IfOk, length};
+ghost use Rattle.std.specs.Prelude.{◌<◌, ◌≤◌, ℕ, IfOk, length};
+ghost use Rattle.iam_layers.specs.Cell.{IsAction};
 ghost use Rattle.iam_layers.specs.Own.{IsCleanAt, IsOwnVerdict};
 ghost use Rattle.iam_open.specs.InQuestion.{at_moment, last_moment};
+ghost use Rattle.iam_open.specs.Seat.{IsSeat};
+ghost use Rattle.iam_world.specs.World.{WorldValue};
 
+use crate::scene::Scene;
 use iam_context::Part;
 use iam_layers::{OutOfMemory, Verdict, World};
 use iam_match::Access;
@@ -28,15 +32,35 @@ pub fn verdict_in(
     requires moment { moment ≤ last_moment }
     ensures { IfOk result (IsOwnVerdict (at_moment world.now moment) p a r own.now.items) }
 {
-    let derived = world.derived_at(alloc, p, r, moment)?;
-    let Ok(context) = world.own_context(alloc, p, r, own, &derived) else {
+    let none = Vec::new(alloc);
+    let scene = Scene::named(world, p, r, &none);
+    scene_verdict(alloc, scene, world.action_text(a), own, moment)
+}
+
+/// The same on a request for an action and for what may be no resource of the world. The keys have to be open there: where they are not,
+/// it is as if there were no memory.
+///
+/// AWS IAM User Guide, "Policy evaluation logic".
+pub fn scene_verdict<'s>(
+    alloc: Global,
+    scene: Scene<'_, 's>,
+    action: &str,
+    own: &'s Part,
+    moment: u64,
+) -> Result<Verdict, OutOfMemory>
+    requires { moment ≤ last_moment }
+    ensures { IfOk result (λ verdict. (other : WorldValue) (a r : ℕ) → IsSeat scene.entry.world.now scene.entry.target other r
+        → IsAction other a action.now → IsOwnVerdict (at_moment other moment) scene.entry.p a r own.entry.now.items verdict) }
+{
+    let derived = scene.derived(alloc, moment)?;
+    let Ok(context) = scene.context(alloc, own, &derived) else {
         return Err(OutOfMemory);
     };
     let access = Access {
-        requester: world.requester(p),
-        resource: world.resource_text(r),
+        requester: scene.requester(),
+        resource: scene.text(),
         context: &context,
     };
-    let shared = world.applicable(p, r).shared(alloc, access)?;
-    shared.verdict(alloc, world.action_text(a))
+    let shared = scene.applicable().shared(alloc, access)?;
+    shared.verdict(alloc, action)
 }

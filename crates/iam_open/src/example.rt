@@ -1,10 +1,14 @@
 // Contexts in question in which a request is allowed.
-ghost use Rattle.std.specs.Prelude.{◌≡◌, ◌<◌, ◌≤◌, ◌∷◌, [], All, IfOk, IfSome, IsTrue, length};
+ghost use Rattle.std.specs.Prelude.{◌≡◌, ◌≤◌, ◌∷◌, [], ℕ, All, IfOk, IfSome, IsTrue, length};
 ghost use Rattle.std.specs.Str.{IsUtf8};
+ghost use Rattle.iam_layers.specs.Cell.{IsAction};
 ghost use Rattle.iam_open.specs.InQuestion.{MayBeGiven};
+ghost use Rattle.iam_open.specs.Seat.{IsSeat};
 ghost use Rattle.iam_open.specs.Turned.{IsShown};
+ghost use Rattle.iam_world.specs.World.{WorldValue};
 
-use crate::decide::verdict_in;
+use crate::decide::scene_verdict;
+use crate::scene::Scene;
 use iam_context::{ContextFault, Part, Values};
 use iam_layers::{Decision, OutOfMemory, Verdict, World};
 use std::alloc::Global;
@@ -20,31 +24,28 @@ pub struct Example {
     pub verdict: Verdict,
 }
 
-/// The example that these keys and this moment are for the request of principal p for action a on resource r, each below the number of its
-/// kind: where they are in question, and the request is allowed with them.
+/// The example that these keys and this moment are for the request for this action: where they are in question, and the request is allowed
+/// with them.
 pub fn example_of(
     alloc: Global,
-    world: &World,
-    p: u64,
-    a: u64,
-    r: u64,
+    scene: Scene<'_, '_>,
+    action: &str,
     own: Part,
     moment: u64,
 ) -> Result<Option<Example>, OutOfMemory>
-    requires principal { p < length world.now.principals }
-    requires action { a < length world.now.actions }
-    requires resource { r < length world.now.resources }
-    ensures { IfOk result (λ found. IfSome found (IsShown (world.now ∷ []) world.now p a r)) }
+    ensures { IfOk result (λ found. IfSome found (λ shown. (other : WorldValue) (a r : ℕ)
+        → IsSeat scene.entry.world.now scene.entry.target other r → IsAction other a action.now
+        → IsShown (other ∷ []) other scene.entry.p a r shown)) }
 {
-    if !may_be_given(world, &own, moment) {
+    if !may_be_given(scene.world, &own, moment) {
         return Ok(None);
     }
-    match world.check_own(alloc, p, r, &own) {
+    match scene.check(alloc, &own) {
         Ok(()) => {}
         Err(ContextFault::OutOfMemory) => return Err(OutOfMemory),
         Err(_) => return Ok(None),
     }
-    let verdict = verdict_in(alloc, world, p, a, r, &own, moment)?;
+    let verdict = scene_verdict(alloc, scene, action, &own, moment)?;
     if verdict.decision != Decision::Allowed {
         return Ok(None);
     }
@@ -55,9 +56,9 @@ pub fn example_of(
     }))
 }
 
-/// `true` only where requests may have these keys at this moment where the world is asked about.
+/// `true` only where requests may have these keys at this moment where the world, or another one of its moment, is asked about.
 fn may_be_given(world: &World, own: &Part, moment: u64) -> bool
-    ensures { IsTrue result → MayBeGiven (world.now ∷ []) own.now.items moment }
+    ensures { IsTrue result → (other : WorldValue) → other.moment ≡ world.now.moment → MayBeGiven (other ∷ []) own.now.items moment }
 {
     if moment < world.moment() {
         return false;

@@ -2,15 +2,16 @@
 //
 // Of two contexts in question in which these keys have the same values, each statement matches both or neither: one that is not open tells
 // the same in all of them, and an open one asks for no other key.
-ghost use Rattle.std.specs.Prelude.{◌≡◌, ◌<◌, ◌∷◌, [], IfOk, List, OnOk, length, map, option_copied};
-ghost use Rattle.std.specs.List.{Contains, flat_map};
+ghost use Rattle.std.specs.Prelude.{◌≡◌, ◌<◌, ◌∷◌, [], ℕ, IfOk, OnOk, length, map, option_copied};
+ghost use Rattle.std.specs.List.{flat_map};
 ghost use Rattle.iam_context.specs.Context.{has_key};
 ghost use Rattle.iam_decision.specs.Code.Scan.{placed_value};
-ghost use Rattle.iam_layers.specs.Own.{IsCleanAt};
+ghost use Rattle.iam_layers.specs.Cell.{IsAction};
 ghost use Rattle.iam_match.specs.Request.{access_of};
 ghost use Rattle.iam_open.specs.Asks.{added, all_added, element_keys, entry_keys, keys_asked, operand_keys, piece_keys, text_keys};
 ghost use Rattle.iam_open.specs.Code.Added.{AreListedIn, IsAdded};
 ghost use Rattle.iam_open.specs.Hangs.{AreListed, AreListedOf, HangsOn};
+ghost use Rattle.iam_open.specs.Seat.{IsSeat};
 ghost use Rattle.iam_open.specs.Turned.{IsTurned};
 ghost use Rattle.iam_text.specs.Stretches.{piece_of};
 ghost use Rattle.iam_world.specs.World.{WorldValue};
@@ -18,10 +19,10 @@ ghost use Rattle.iam_world.specs.World.{WorldValue};
 use crate::answer::Turned;
 use crate::certain::Certain;
 use crate::known::{Known, is_same};
+use crate::scene::Scene;
 use crate::statement::statement_certain;
-use crate::sure::{known_of, statements_at};
 use iam_condition::{Entry, Operand};
-use iam_context::{Draft, Part, Text};
+use iam_context::{Draft, Text};
 use iam_decision::{Place, Standing, one_decision};
 use iam_layers::{OutOfMemory, World};
 use iam_match::{Access, Statement};
@@ -57,70 +58,56 @@ pub fn hangs_of(
     ensures keys { IfOk result (λ hangs. HangsOn (world.now ∷ []) world.now p a r hangs.keys.items) }
     ensures listed { IfOk result (λ hangs. AreListedOf (world.now ∷ []) world.now p a r turned.now hangs.places.items hangs.keys.items) }
 {
+    let none = Vec::new(alloc);
+    let scene = Scene::named(world, p, r, &none);
+    scene_hangs(alloc, scene, world.action_text(a), turned)
+}
+
+/// The same of a request for an action and for what may be no resource of the world.
+pub fn scene_hangs(
+    alloc: Global,
+    scene: Scene<'_, '_>,
+    action: &str,
+    turned: &Turned,
+) -> Result<Hangs, OutOfMemory>
+    ensures keys { IfOk result (λ hangs. (other : WorldValue) (a r : ℕ) → IsSeat scene.entry.world.now scene.entry.target other r
+        → IsAction other a action.now → IsTurned (other ∷ []) other scene.entry.p a r turned.now
+        → HangsOn (other ∷ []) other scene.entry.p a r hangs.keys.items) }
+    ensures listed { IfOk result (λ hangs. (other : WorldValue) (a r : ℕ) → IsSeat scene.entry.world.now scene.entry.target other r
+        → IsAction other a action.now → AreListedOf (other ∷ []) other scene.entry.p a r turned.now hangs.places.items hangs.keys.items) }
+{
     match turned {
         Turned::Always => Ok(Hangs::on_nothing(alloc)),
         Turned::Never => Ok(Hangs::on_nothing(alloc)),
-        Turned::Possible(_) => hangs_at(alloc, world, p, a, r),
-        Turned::Open => hangs_at(alloc, world, p, a, r),
+        Turned::Possible(_) => hangs_in(alloc, scene, action),
+        Turned::Open => hangs_in(alloc, scene, action),
     }
 }
 
 /// What it hangs on whether the request is allowed.
-fn hangs_at(alloc: Global, world: &World, p: u64, a: u64, r: u64) -> Result<Hangs, OutOfMemory>
-    requires principal { p < length world.now.principals }
-    requires action { a < length world.now.actions }
-    requires resource { r < length world.now.resources }
-    ensures keys { (worlds : List WorldValue) → Contains worlds world.now → IfOk result (λ hangs. HangsOn worlds world.now p a r hangs.keys.items) }
-    ensures listed { (worlds : List WorldValue) → Contains worlds world.now
-        → IfOk result (λ hangs. AreListed worlds world.now p a r hangs.places.items hangs.keys.items) }
-{
-    let none = Vec::new(alloc);
-    // The parts of a world's contexts can be joined, so that nothing is refused but memory.
-    if world.check_own(alloc, p, r, &none).is_err() {
-        return Err(OutOfMemory);
-    }
-    hangs_where(alloc, world, p, a, r, &none)
-}
-
-/// The same, with no keys of the request's own.
-fn hangs_where(
-    alloc: Global,
-    world: &World,
-    p: u64,
-    a: u64,
-    r: u64,
-    none: &Part,
-) -> Result<Hangs, OutOfMemory>
-    requires principal { p < length world.now.principals }
-    requires action { a < length world.now.actions }
-    requires resource { r < length world.now.resources }
-    requires clean { IsCleanAt world.now p r none.now.items }
-    requires empty { none.now.items ≡ [] }
-    ensures keys { (worlds : List WorldValue) → Contains worlds world.now → IfOk result (λ hangs. HangsOn worlds world.now p a r hangs.keys.items) }
-    ensures listed { (worlds : List WorldValue) → Contains worlds world.now
-        → IfOk result (λ hangs. AreListed worlds world.now p a r hangs.places.items hangs.keys.items) }
+fn hangs_in(alloc: Global, scene: Scene<'_, '_>, action: &str) -> Result<Hangs, OutOfMemory>
+    ensures keys { IfOk result (λ hangs. (other : WorldValue) (a r : ℕ) → IsSeat scene.entry.world.now scene.entry.target other r
+        → IsAction other a action.now → HangsOn (other ∷ []) other scene.entry.p a r hangs.keys.items) }
+    ensures listed { IfOk result (λ hangs. (other : WorldValue) (a r : ℕ) → IsSeat scene.entry.world.now scene.entry.target other r
+        → IsAction other a action.now → AreListed (other ∷ []) other scene.entry.p a r hangs.places.items hangs.keys.items) }
 {
     one_stamp();
     one_decision();
     unasked_keys();
-    let derived = world.derived_at(alloc, p, r, world.moment())?;
-    let Ok(context) = world.own_context(alloc, p, r, none, &derived) else {
+    let none = Vec::new(alloc);
+    let derived = scene.derived(alloc, scene.world.moment())?;
+    // The parts of a world's contexts can be joined, so that nothing is refused but memory.
+    let Ok(context) = scene.context(alloc, &none, &derived) else {
         return Err(OutOfMemory);
     };
     let access = Access {
-        requester: world.requester(p),
-        resource: world.resource_text(r),
+        requester: scene.requester(),
+        resource: scene.text(),
         context: &context,
     };
-    let known = known_of(world, p, r, none, None);
-    let statements = statements_at(alloc, world, p, r)?;
-    open_of(
-        alloc,
-        statements.as_slice(),
-        access,
-        world.action_text(a),
-        &known,
-    )
+    let known = scene.known(&none, None);
+    let statements = scene.statements(alloc)?;
+    open_of(alloc, statements.as_slice(), access, action, &known)
 }
 
 /// Those of the statements of which it is open whether they match this request, and the keys that they ask for.

@@ -10,6 +10,7 @@ use crate::certain::Certain;
 use crate::example::{Example, example_of};
 use crate::finds::{Again, Finds, acting_on};
 use crate::pair::{Pair, pair_certain, plain_pair};
+use crate::scene::Scene;
 use crate::seek::example;
 use iam_layers::{OutOfMemory, World};
 use std::alloc::Global;
@@ -69,10 +70,11 @@ impl<'a> Kept<'a> {
         ensures kept { AreKept world.entry.now self.new }
     {
         if let Some(pair) = self.of(p, r) {
-            return pair_certain(alloc, world, pair, a);
+            return pair_certain(alloc, pair, world.action_text(a));
         }
-        let pair = plain_pair(alloc, world, p, r)?;
-        let certain = pair_certain(alloc, world, &pair, a)?;
+        let none = Vec::new(alloc);
+        let pair = plain_pair(alloc, Scene::named(world, p, r, &none))?;
+        let certain = pair_certain(alloc, &pair, world.action_text(a))?;
         self.keep(pair);
         Ok(certain)
     }
@@ -106,13 +108,16 @@ impl<'a> Kept<'a> {
         ensures shown { IfOk result (λ found. IfSome found (IsShown (world.entry.now ∷ []) world.entry.now p a r)) }
         ensures kept { AreKept world.entry.now self.new }
     {
-        match self.again(alloc, p, r, world.action_text(a))? {
+        let none = Vec::new(alloc);
+        let scene = Scene::named(world, p, r, &none);
+        let action = world.action_text(a);
+        match self.again(alloc, p, r, action)? {
             Again::Nothing => return Ok(None),
-            Again::Found(own, moment) => return example_of(alloc, world, p, a, r, own, moment),
+            Again::Found(own, moment) => return example_of(alloc, scene, action, own, moment),
             Again::Unknown => {}
         }
-        let found = example(alloc, world, p, a, r)?;
-        self.keep_found(alloc, p, r, world.action_text(a), &found);
+        let found = example(alloc, scene, action)?;
+        self.keep_found(alloc, p, r, action, &found);
         Ok(found)
     }
 

@@ -6,22 +6,24 @@ ghost use Rattle.iam_decision.specs.Code.Scan.{placed_value};
 ghost use Rattle.iam_decision.specs.Decision.{IsDecision};
 ghost use Rattle.iam_decision.specs.Matched.{IsMatched};
 ghost use Rattle.iam_decision.specs.declared.verdict.Decision.TheVariants as decision;
+ghost use Rattle.iam_layers.specs.Cell.{IsAction};
 ghost use Rattle.iam_layers.specs.Own.{IsCleanAt};
 ghost use Rattle.iam_match.specs.Request.{access_of};
 ghost use Rattle.iam_match.specs.Statement.{AccessValue};
 ghost use Rattle.iam_open.specs.Code.Bounds.{AreBounds};
 ghost use Rattle.iam_open.specs.Code.Certain.{Tells};
 ghost use Rattle.iam_open.specs.Code.Known.{Follows, request_in};
-ghost use Rattle.iam_open.specs.Code.Pairs.{AreChances, IsChance, IsPairAt, IsPairOf, chance_of, may_match, placed_of};
+ghost use Rattle.iam_open.specs.Code.Pairs.{AreChances, AreChancesAt, IsChance, IsPairAt, IsPairOf, chance_of, may_match, placed_of};
 ghost use Rattle.iam_open.specs.Code.Tried.{IsAlwaysWhere, IsNeverWhere};
 ghost use Rattle.iam_open.specs.InQuestion.{IsAlways, IsNever, last_moment};
+ghost use Rattle.iam_open.specs.Seat.{IsSeat};
 ghost use Rattle.iam_world.specs.World.{WorldValue};
 
 use crate::bounds::{Bounds, matched_of};
 use crate::certain::Certain;
 use crate::known::Known;
+use crate::scene::Scene;
 use crate::statement::rest_certain;
-use crate::sure::{known_of, statements_at};
 use iam_context::Part;
 use iam_decision::{Frame, Matched, Standing, one_decision};
 use iam_layers::{OutOfMemory, World};
@@ -40,6 +42,7 @@ pub struct Chance<'a> {
 }
 
 /// A principal and a resource, by their numbers: what decisions on their requests ask beside statements, and the statements that may match.
+/// A resource that the world does not name has the number behind all others.
 #[derive(Drop)]
 pub struct Pair<'a> {
     pub principal: u64,
@@ -63,8 +66,28 @@ pub fn certainly(
     ensures always { (worlds : List WorldValue) → Contains worlds world.now → IfOk result (λ certain. certain ≡ Certain.Always → IsAlways worlds world.now p a r) }
     ensures never { (worlds : List WorldValue) → Contains worlds world.now → IfOk result (λ certain. certain ≡ Certain.Never → IsNever worlds world.now p a r) }
 {
-    let pair = plain_pair(alloc, world, p, r)?;
-    pair_certain(alloc, world, &pair, a)
+    let none = Vec::new(alloc);
+    let scene = Scene::named(world, p, r, &none);
+    scene_certain(alloc, scene, world.action_text(a))
+}
+
+/// The same of a request for an action and for what may be no resource of the world.
+///
+/// AWS IAM User Guide, "AWS global condition context keys" and "Policy evaluation logic".
+pub fn scene_certain(
+    alloc: Global,
+    scene: Scene<'_, '_>,
+    action: &str,
+) -> Result<Certain, OutOfMemory>
+    ensures always { IfOk result (λ certain. (worlds : List WorldValue) (other : WorldValue) (a r : ℕ)
+        → IsSeat scene.entry.world.now scene.entry.target other r → IsAction other a action.now → Contains worlds other
+        → certain ≡ Certain.Always → IsAlways worlds other scene.entry.p a r) }
+    ensures never { IfOk result (λ certain. (worlds : List WorldValue) (other : WorldValue) (a r : ℕ)
+        → IsSeat scene.entry.world.now scene.entry.target other r → IsAction other a action.now → Contains worlds other
+        → certain ≡ Certain.Never → IsNever worlds other scene.entry.p a r) }
+{
+    let pair = plain_pair(alloc, scene)?;
+    pair_certain(alloc, &pair, action)
 }
 
 /// Whether it is allowed in those contexts in which these keys have these values, at this moment, if there is one.
@@ -87,86 +110,85 @@ pub fn certainly_where(
     ensures always { IfOk result (λ certain. certain ≡ Certain.Always → IsAlwaysWhere world.now p a r own.now.items moment) }
     ensures never { IfOk result (λ certain. certain ≡ Certain.Never → IsNeverWhere world.now p a r own.now.items moment) }
 {
-    let pair = pair_of(alloc, world, p, r, own, moment)?;
-    pair_certain(alloc, world, &pair, a)
+    let none = Vec::new(alloc);
+    let pair = pair_of(alloc, Scene::named(world, p, r, &none), own, moment)?;
+    pair_certain(alloc, &pair, world.action_text(a))
 }
 
-/// Whether the request of a pair for action a is allowed in the contexts in which it was looked at.
+/// Whether the request of a pair for this action is allowed in the contexts in which it was looked at.
 ///
 /// AWS IAM User Guide, "Policy evaluation logic".
-pub fn pair_certain(
-    alloc: Global,
-    world: &World,
-    pair: &Pair<'_>,
-    a: u64,
-) -> Result<Certain, OutOfMemory>
-    requires action { a < length world.now.actions }
-    ensures always { IfOk result (λ certain. (p r : ℕ) (part : ContextValue) (at : Option ℕ) → IsPairAt world.now p r part at pair.now
-        → certain ≡ Certain.Always → IsAlwaysWhere world.now p a r part at) }
-    ensures never { IfOk result (λ certain. (p r : ℕ) (part : ContextValue) (at : Option ℕ) → IsPairAt world.now p r part at pair.now
-        → certain ≡ Certain.Never → IsNeverWhere world.now p a r part at) }
+pub fn pair_certain(alloc: Global, pair: &Pair<'_>, action: &str) -> Result<Certain, OutOfMemory>
+    ensures always { IfOk result (λ certain. (world : WorldValue) (p a r : ℕ) (part : ContextValue) (at : Option ℕ) → IsAction world a action.now
+        → IsPairAt world p r part at pair.now → certain ≡ Certain.Always → IsAlwaysWhere world p a r part at) }
+    ensures never { IfOk result (λ certain. (world : WorldValue) (p a r : ℕ) (part : ContextValue) (at : Option ℕ) → IsAction world a action.now
+        → IsPairAt world p r part at pair.now → certain ≡ Certain.Never → IsNeverWhere world p a r part at) }
 {
     one_stamp();
     one_decision();
-    allowed_certain(alloc, pair, world.action_text(a))
+    allowed_certain(alloc, pair, action)
 }
 
-/// What principal p may do with resource r, each below the number of its kind, where keys have no values but those of the world.
-pub fn plain_pair<'a>(
-    alloc: Global,
-    world: &'a World,
-    p: u64,
-    r: u64,
-) -> Result<Pair<'a>, OutOfMemory>
-    requires principal { p < length world.now.principals }
-    requires resource { r < length world.now.resources }
-    ensures is { IfOk result (IsPairAt world.entry.now p r [] None) }
-    ensures principal { IfOk result (λ pair. pair.principal ≡ p) }
-    ensures resource { IfOk result (λ pair. pair.resource ≡ r) }
+/// What a principal may do with what it asks for, where keys have no values but those of the world.
+pub fn plain_pair<'a>(alloc: Global, scene: Scene<'a, '_>) -> Result<Pair<'a>, OutOfMemory>
+    ensures is { IfOk result (λ pair. (other : WorldValue) (r : ℕ) → IsSeat scene.entry.world.now scene.entry.target other r
+        → IsPairAt other scene.entry.p r [] None pair) }
+    ensures principal { IfOk result (λ pair. pair.principal ≡ scene.entry.p) }
+    ensures resource { IfOk result (λ pair. (other : WorldValue) (r : ℕ) → IsSeat scene.entry.world.now scene.entry.target other r
+        → pair.resource ≡ r) }
 {
     let none = Vec::new(alloc);
-    // The parts of a world's contexts can be joined, so that nothing is refused but memory.
-    if world.check_own(alloc, p, r, &none).is_err() {
-        return Err(OutOfMemory);
-    }
-    pair_of(alloc, world, p, r, &none, None)
+    pair_of(alloc, scene, &none, None)
 }
 
-/// The same in those contexts in which these keys have these values, at this moment, if there is one.
-pub fn pair_of<'a>(
+/// The same in those contexts in which these keys have these values, at this moment, if there is one. The keys have to be open there:
+/// where they are not, it is as if there were no memory.
+pub fn pair_of<'a, 's>(
     alloc: Global,
-    world: &'a World,
-    p: u64,
-    r: u64,
-    own: &Part,
+    scene: Scene<'a, 's>,
+    own: &'s Part,
     moment: Option<u64>,
 ) -> Result<Pair<'a>, OutOfMemory>
-    requires principal { p < length world.now.principals }
-    requires resource { r < length world.now.resources }
-    requires clean { IsCleanAt world.now p r own.now.items }
     requires moment { IfSome moment (λ tried. tried ≤ last_moment) }
-    ensures is { IfOk result (IsPairAt world.entry.now p r own.now.items moment) }
-    ensures principal { IfOk result (λ pair. pair.principal ≡ p) }
-    ensures resource { IfOk result (λ pair. pair.resource ≡ r) }
+    ensures is { IfOk result (λ pair. (other : WorldValue) (r : ℕ) → IsSeat scene.entry.world.now scene.entry.target other r
+        → IsPairAt other scene.entry.p r own.entry.now.items moment pair) }
+    ensures principal { IfOk result (λ pair. pair.principal ≡ scene.entry.p) }
+    ensures resource { IfOk result (λ pair. (other : WorldValue) (r : ℕ) → IsSeat scene.entry.world.now scene.entry.target other r
+        → pair.resource ≡ r) }
 {
-    let derived = world.derived_at(alloc, p, r, looked_at(world, moment))?;
-    let Ok(context) = world.own_context(alloc, p, r, own, &derived) else {
+    let statements = scene.statements(alloc)?;
+    let chances = chances_in(alloc, scene, statements.as_slice(), own, moment)?;
+    Ok(Pair {
+        principal: scene.p,
+        resource: scene.number(),
+        frame: scene.frame(),
+        chances,
+    })
+}
+
+/// Those of the statements that may match in these contexts.
+fn chances_in<'a: 's, 's>(
+    alloc: Global,
+    scene: Scene<'s, 's>,
+    statements: &[Standing<'a>],
+    own: &'s Part,
+    moment: Option<u64>,
+) -> Result<Vec<Chance<'a>>, OutOfMemory>
+    requires { IfSome moment (λ tried. tried ≤ last_moment) }
+    ensures { IfOk result (λ chances. (other : WorldValue) (r : ℕ) → IsSeat scene.entry.world.now scene.entry.target other r
+        → AreChancesAt other scene.entry.p r own.entry.now.items moment (map placed_value statements.now) chances.items) }
+{
+    let derived = scene.derived(alloc, looked_at(scene.world, moment))?;
+    let Ok(context) = scene.context(alloc, own, &derived) else {
         return Err(OutOfMemory);
     };
     let access = Access {
-        requester: world.requester(p),
-        resource: world.resource_text(r),
+        requester: scene.requester(),
+        resource: scene.text(),
         context: &context,
     };
-    let known = known_of(world, p, r, own, moment);
-    let statements = statements_at(alloc, world, p, r)?;
-    let chances = chances_of(alloc, statements.as_slice(), access, &known)?;
-    Ok(Pair {
-        principal: p,
-        resource: r,
-        frame: world.frame_with(p, r, world.org_levels(p)),
-        chances,
-    })
+    let known = scene.known(own, moment);
+    chances_of(alloc, statements, access, &known)
 }
 
 /// The moment of the context that is looked at.

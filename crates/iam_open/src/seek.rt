@@ -3,35 +3,33 @@
 // Whether a statement matches where some keys are tried hangs on the keys that it asks for alone, so that what is known of it before any
 // is tried stays known, and no values are tried of a key that none of the other statements asks for: that it has none stands for all of
 // them, and the contexts of its values are counted as if they were looked at.
-ghost use Rattle.std.specs.Prelude.{◌<◌, ◌∷◌, [], IfOk, IfSome, length};
+ghost use Rattle.std.specs.Prelude.{◌∷◌, [], ℕ, IfOk, IfSome};
+ghost use Rattle.iam_layers.specs.Cell.{IsAction};
+ghost use Rattle.iam_open.specs.Seat.{IsSeat};
 ghost use Rattle.iam_open.specs.Turned.{IsShown};
+ghost use Rattle.iam_world.specs.World.{WorldValue};
 
 use crate::bounds::{Bounds, matched_of};
 use crate::certain::Certain;
 use crate::example::{Example, LAST_MOMENT, example_of};
 use crate::known::Known;
+use crate::scene::Scene;
 use crate::statement::statement_certain;
-use crate::sure::{known_of, statements_at};
 use crate::trials::{Trial, asks_for, asks_for_time, entry_of, moments_of, part_of, trials_of};
 use iam_context::{Context, ContextFault, Part};
 use iam_decision::{Frame, Standing};
-use iam_layers::{OutOfMemory, World};
+use iam_layers::OutOfMemory;
 use iam_match::Access;
 use std::alloc::Global;
 
 /// So many contexts are looked at for a request at most.
 const NODES: u32 = 4096;
 
-/// The request of principal p for action a on resource r, each below the number of its kind.
+/// The request for this action.
 #[derive(Clone, Copy)]
-struct Request<'a> {
-    world: &'a World,
-    p: u64,
-    a: u64,
-    r: u64,
-    ghost principal: { p < length world.now.principals },
-    ghost action: { a < length world.now.actions },
-    ghost resource: { r < length world.now.resources },
+struct Request<'a, 's> {
+    scene: Scene<'a, 's>,
+    action: &'s str,
 }
 
 /// The statements that may match a request, before any key is tried: those that do, and those of which it is open.
@@ -51,30 +49,29 @@ struct Tried<'s> {
     left: u32,
 }
 
-/// An example of a context in question in which the request of principal p for action a on resource r is allowed, each below the number of
-/// its kind, where one is found. `None` says nothing.
+/// An example of a context in question in which the request for this action is allowed, where one is found. `None` says nothing.
 pub fn example(
     alloc: Global,
-    world: &World,
-    p: u64,
-    a: u64,
-    r: u64,
+    scene: Scene<'_, '_>,
+    action: &str,
 ) -> Result<Option<Example>, OutOfMemory>
-    requires principal { p < length world.now.principals }
-    requires action { a < length world.now.actions }
-    requires resource { r < length world.now.resources }
-    ensures { IfOk result (λ found. IfSome found (IsShown (world.now ∷ []) world.now p a r)) }
+    ensures { IfOk result (λ found. IfSome found (λ shown. (other : WorldValue) (a r : ℕ)
+        → IsSeat scene.entry.world.now scene.entry.target other r → IsAction other a action.now
+        → IsShown (other ∷ []) other scene.entry.p a r shown)) }
 {
+    let world = scene.world;
     let none = Vec::new(alloc);
-    let derived = world.derived(alloc, p, r)?;
-    let context = world.context(alloc, p, r, &derived)?;
-    let statements = statements_at(alloc, world, p, r)?;
-    let request = Request { world, p, a, r };
-    let timeless = known_of(world, p, r, &none, None);
+    let derived = scene.derived(alloc, world.moment())?;
+    // The parts of a world's contexts can be joined, so that nothing is refused but memory.
+    let Ok(context) = scene.context(alloc, &none, &derived) else {
+        return Err(OutOfMemory);
+    };
+    let statements = scene.statements(alloc)?;
+    let request = Request { scene, action };
+    let timeless = scene.known(&none, None);
     let live = live_of(alloc, request, statements.as_slice(), &context, &timeless)?;
-    let known = known_of(world, p, r, &none, Some(world.moment()));
-    let resource = world.resource_text(r);
-    let trials = trials_of(alloc, statements.as_slice(), resource, &context, &known)?;
+    let known = scene.known(&none, Some(world.moment()));
+    let trials = trials_of(alloc, statements.as_slice(), scene.text(), &context, &known)?;
     let moments = moments_of(alloc, world.moment(), statements.as_slice())?;
     let matters = matters(alloc, trials.as_slice(), live.open.as_slice())?;
     example_in(
@@ -90,14 +87,15 @@ pub fn example(
 /// An example in which the time is one of these moments.
 fn example_in<'a>(
     alloc: Global,
-    request: Request<'a>,
+    request: Request<'a, '_>,
     live: &Live<'a>,
     trials: &[Trial<'_>],
     matters: &[bool],
     moments: &[u64],
 ) -> Result<Option<Example>, OutOfMemory>
-    ensures { IfOk result (λ found. IfSome found
-        (IsShown (request.entry.world.now ∷ []) request.entry.world.now request.entry.p request.entry.a request.entry.r)) }
+    ensures { IfOk result (λ found. IfSome found (λ shown. (other : WorldValue) (a r : ℕ)
+        → IsSeat request.entry.scene.world.now request.entry.scene.target other r → IsAction other a request.entry.action.now
+        → IsShown (other ∷ []) other request.entry.scene.p a r shown)) }
 {
     let hangs_on_time = some_asks_for_time(live.open.as_slice());
     let mut left = NODES;
@@ -121,25 +119,24 @@ fn example_in<'a>(
 /// Those of the statements that may match.
 fn live_of<'a: 'c, 'c>(
     alloc: Global,
-    request: Request<'a>,
+    request: Request<'a, '_>,
     statements: &[Standing<'a>],
     context: &Context<'c>,
     known: &Known<'_>,
 ) -> Result<Live<'a>, OutOfMemory> {
-    let (world, p, r) = (request.world, request.p, request.r);
+    let scene = request.scene;
     let access = Access {
-        requester: world.requester(p),
-        resource: world.resource_text(r),
+        requester: scene.requester(),
+        resource: scene.text(),
         context,
     };
-    let action = world.action_text(request.a);
     let mut live = Live {
-        frame: world.frame_with(p, r, world.org_levels(p)),
+        frame: scene.frame(),
         sure: Vec::new(alloc),
         open: Vec::new(alloc),
     };
     for &standing in statements {
-        match statement_certain(alloc, standing.statement, access, action, known)? {
+        match statement_certain(alloc, standing.statement, access, request.action, known)? {
             Certain::Never => {}
             Certain::Always => live.sure.push(standing)?,
             Certain::Open => live.open.push(standing)?,
@@ -182,7 +179,7 @@ fn some_asks_for_time(open: &[Standing<'_>]) -> bool {
 /// An example in which the keys before number k are as tried. It may be known already what is certain there.
 fn seek<'s, 'a>(
     alloc: Global,
-    request: Request<'a>,
+    request: Request<'a, '_>,
     live: &Live<'a>,
     trials: &'s [Trial<'_>],
     matters: &[bool],
@@ -190,8 +187,9 @@ fn seek<'s, 'a>(
     same: Option<Certain>,
     tried: &mut Tried<'s>,
 ) -> Result<Option<Example>, OutOfMemory>
-    ensures { IfOk result (λ found. IfSome found
-        (IsShown (request.entry.world.now ∷ []) request.entry.world.now request.entry.p request.entry.a request.entry.r)) }
+    ensures { IfOk result (λ found. IfSome found (λ shown. (other : WorldValue) (a r : ℕ)
+        → IsSeat request.entry.scene.world.now request.entry.scene.target other r → IsAction other a request.entry.action.now
+        → IsShown (other ∷ []) other request.entry.scene.p a r shown)) }
 {
     if tried.left == 0 {
         return Ok(None);
@@ -271,49 +269,42 @@ impl<'s> Tried<'s> {
 /// The example that the keys that are tried are.
 fn shown(
     alloc: Global,
-    request: Request<'_>,
+    request: Request<'_, '_>,
     tried: &Tried<'_>,
 ) -> Result<Option<Example>, OutOfMemory>
-    ensures { IfOk result (λ found. IfSome found
-        (IsShown (request.entry.world.now ∷ []) request.entry.world.now request.entry.p request.entry.a request.entry.r)) }
+    ensures { IfOk result (λ found. IfSome found (λ shown. (other : WorldValue) (a r : ℕ)
+        → IsSeat request.entry.scene.world.now request.entry.scene.target other r → IsAction other a request.entry.action.now
+        → IsShown (other ∷ []) other request.entry.scene.p a r shown)) }
 {
     let own = part_of(alloc, tried.chosen.as_slice())?;
-    example_of(
-        alloc,
-        request.world,
-        request.p,
-        request.a,
-        request.r,
-        own,
-        tried.moment,
-    )
+    example_of(alloc, request.scene, request.action, own, tried.moment)
 }
 
 /// Whether the request is allowed where these keys are tried at this moment, and no others are known; never, where they cannot be.
-fn certain_at<'a>(
+fn certain_at<'a: 's, 's>(
     alloc: Global,
-    request: Request<'a>,
+    request: Request<'s, 's>,
     live: &Live<'a>,
-    own: &Part,
+    own: &'s Part,
     moment: u64,
 ) -> Result<Certain, OutOfMemory> {
     if moment > LAST_MOMENT {
         return Ok(Certain::Never);
     }
-    let (world, p, r) = (request.world, request.p, request.r);
-    let derived = world.derived_at(alloc, p, r, moment)?;
-    let context = match world.own_context(alloc, p, r, own, &derived) {
+    let scene = request.scene;
+    let derived = scene.derived(alloc, moment)?;
+    let context = match scene.context(alloc, own, &derived) {
         Ok(context) => context,
         Err(ContextFault::OutOfMemory) => return Err(OutOfMemory),
         Err(_) => return Ok(Certain::Never),
     };
     let access = Access {
-        requester: world.requester(p),
-        resource: world.resource_text(r),
+        requester: scene.requester(),
+        resource: scene.text(),
         context: &context,
     };
-    let known = known_of(world, p, r, own, Some(moment));
-    certain_of(alloc, live, access, world.action_text(request.a), &known)
+    let known = scene.known(own, Some(moment));
+    certain_of(alloc, live, access, request.action, &known)
 }
 
 /// The same, as it follows from the statements that may match.

@@ -8,6 +8,7 @@ ghost use Rattle.iam_layers.specs.Cell.{IsApplicableAt};
 ghost use Rattle.iam_open.specs.Code.Tried.{AreKnownAt, derived_known};
 
 use crate::known::Known;
+use crate::scene::Scene;
 use iam_context::{DerivedKey, Part};
 use iam_decision::Standing;
 use iam_layers::{OutOfMemory, World};
@@ -39,17 +40,11 @@ pub fn known_of<'a>(
     requires resource { r < length world.now.resources }
     ensures { AreKnownAt world.entry.now p r own.entry.now.items moment result }
 {
-    Known {
-        world: world.world_part(),
-        principal: world.principal_part(p),
-        resource: world.resource_part(r),
-        own,
-        derived: known_derived(moment),
-    }
+    Scene::named(world, p, r, own).known(own, moment)
 }
 
 /// The derived keys that are known: all, where the moment is.
-fn known_derived(moment: Option<u64>) -> &'static [DerivedKey]
+pub fn known_derived(moment: Option<u64>) -> &'static [DerivedKey]
     ensures { map derived_name result.now ≡ derived_known moment }
 {
     match moment {
@@ -70,10 +65,5 @@ pub fn statements_at(
     ensures { IfOk result (λ statements. (a : ApplicableValue) → IsApplicableAt world.entry.now p r a
         → map placed_value statements.items ≡ placed a) }
 {
-    let applicable = world.applicable(p, r);
-    let mut statements = Vec::new(alloc);
-    applicable.add_org(&mut statements)?;
-    applicable.add_resource(&mut statements)?;
-    applicable.add_requester(&mut statements)?;
-    Ok(statements)
+    world.applicable(p, r).statements(alloc)
 }

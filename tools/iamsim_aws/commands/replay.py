@@ -1,7 +1,6 @@
 """replay."""
 
 import argparse
-import time
 from typing import Any, List, Optional, Tuple
 
 from .. import drafts, files
@@ -52,8 +51,6 @@ def add_all(commands: Any) -> None:
 
 
 def run(options: argparse.Namespace) -> int:
-    if options.moment is None:
-        options.moment = int(time.time())
     before, after = sources(options)
     sides = [Side(it) for it in (before, after) if it]
     mapper = Mapper(before.references, known_of(sides[0]), frozenset(asked_keys(sides)), tells_sessions(sides))

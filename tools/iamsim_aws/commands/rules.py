@@ -1,7 +1,6 @@
 """rules."""
 
 import argparse
-import time
 from typing import Any, List, Sequence, Set, Tuple
 
 from .. import drafts, files
@@ -80,8 +79,6 @@ def is_unasked(line: str) -> bool:
 
 
 def checked(options: argparse.Namespace) -> int:
-    if options.moment is None:
-        options.moment = int(time.time())
     rules = read_rules(options.rules)
     source, before = source_of(options), None
     if drafts.is_changed(options):

@@ -14,16 +14,7 @@ from ..points import tell_points
 from ..program import run
 from ..references import References
 from ..sources import (
-    ASSUME,
-    Source,
-    add_options,
-    add_sessions,
-    estate_of,
-    inputs,
-    read_actions,
-    read_object,
-    read_world,
-    refuse_unknown,
+    ASSUME, Source, add_options, add_sessions, estate_of, inputs, read_actions, read_object, read_world, refuse_unknown,
 )
 from ..splitting import limits
 from .parsers import add

@@ -3,16 +3,18 @@ organisation's policies and those of resources leave to nobody, an administrator
 
 from typing import Any, Dict, Iterator, List, Optional, Set, Tuple
 
+from .. import bounds
 from ..arns import account_of, principal_arn
 from ..asking import ask_all, explained, whole
 from ..documents import Policy, World, statements_of
+from ..keys import with_own_keys
 from ..making import bound
 from ..patterns import common, is_pattern
 from ..program import Refused, side_by_side, world_bytes
 from ..reports import rows_of
 from ..speaking import patterns_of_actions
 from ..telling import is_everything
-from .nodes import EVERYTHING, GIVEN, Node, People, Principal
+from .nodes import EVERYTHING, GIVEN, Node, Principal
 from .requests import Things
 
 # Actions that most who are none are not allowed, beside some that policies name: of whoever is not, all names are not asked.
@@ -94,10 +96,18 @@ def left(things: Things, principal: Principal, rows: List[Dict[str, Any]]) -> Tu
     return {**world, "actions": list(dict.fromkeys(it for it, _ in pairs)), "resources": resources}, pairs
 
 
-def administrators(things: Things, people: People, nodes: List[Node]) -> Dict[Node, Optional[bool]]:
-    """Whether each node is an administrator; None where that is not shown."""
+def at_most(things: Things, principal: Principal) -> Optional[Principal]:
+    """The principal whose own policies allow all that they do with any values of keys; nothing where they hang on none."""
+    world = with_own_keys({**things.base, "accounts": [], "principals": [principal], "resources": []})
+    [made] = bounds.at_most(world)["principals"]
+    return made if any(made.get(it) != principal.get(it) for it in ("identity", "boundary", "sessionPolicies")) else None
+
+
+def administrators(things: Things, given: Dict[Node, Principal]) -> Dict[Node, Optional[bool]]:
+    """Whether each node is an administrator, as it is given; None where that is not shown."""
+    nodes = list(given)
     found: Dict[Node, Optional[bool]] = dict.fromkeys(nodes, False)
-    every = {it: plain(people.principal(it)) for it in nodes}
+    every = {it: plain(one) for it, one in given.items()}
     if nodes:
         found.update(zip(nodes, likely(things, list(every.values()))))
     likeliest = [it for it in nodes if found[it]]

@@ -1,11 +1,12 @@
 """Principals as they are, and as they are once their policies, groups or boundary are changed."""
 
-from typing import Any, Callable, Dict, Iterator, List, NamedTuple, Optional, Tuple
+from typing import Any, Dict, Iterator, List, NamedTuple, Optional, Tuple
 
 from ..arns import account_of, names_of_principal, principal_arn, principal_text
-from ..documents import Policy
+from ..documents import TAGS, Policy, World
 from ..exports import Account, objects, once, policy
 from ..making import Estate
+from ..roles import spoken_of, tagged, with_sessions
 from .table import ANY, GROUP, REPLACED, VERSION
 
 Principal = Dict[str, Any]
@@ -56,6 +57,19 @@ class Holder(NamedTuple):
 def is_limited(principal: Principal) -> bool:
     """Whether it is a session with session policies."""
     return bool(principal.get("sessionPolicies"))
+
+
+def sessions_in(world: World, speaking: List[World]) -> Tuple[List[Principal], List[Principal]]:
+    """The principals of a world with each session of their roles that policies name, and with one that sets tags of each role whose trust
+    policy may allow that; and the same of the other roles, to which they come who change that policy."""
+    spoken = spoken_of([world, *speaking])
+    roles = [it for it in world["principals"] if "role" in it and not is_limited(it)] if spoken.tags else []
+    free = {principal_text(one): (one, it) for it in roles for one in [tagged({**it, TAGS: False}, spoken)]}
+    [every] = with_sessions([world], speaking)
+    some = (it for it in every["principals"] if principal_text(it) not in free)
+    plain = [it if is_limited(it) else {**it, TAGS: True} for it in some]
+    asked, hidden = ([one for one, it in free.values() if (it.get(TAGS) is False) == is_asked] for is_asked in (True, False))
+    return [*plain, *asked], hidden
 
 
 def attached(holder: Dict[str, Any]) -> List[str]:
@@ -118,21 +132,21 @@ def with_change(principal: Principal, holder: Holder, change: Change) -> Princip
 class People:
     """The principals of the exports and who stands for those outside, and each of them with changes."""
 
-    def __init__(
-        self,
-        principals: List[Principal],
-        outside: List[Principal],
-        estate: Estate,
-        loosened: Optional[Callable[[Principal], Principal]] = None,
-    ):
-        self.loosened = loosened
+    def __init__(self, principals: List[Principal], hidden: List[Principal], outside: List[Principal], estate: Estate):
         self.made: Dict[Node, Principal] = {}
-        self.principals = [*principals, *outside]
-        self.own = len(principals)
+        self.principals = [*principals, *hidden, *outside]
+        # So many are asked; who is `hidden` is come to alone.
+        self.asked, self.own = len(principals), len(principals) + len(hidden)
         self.holders = holders(estate)
-        # Who becomes a role has a session of his own, which no session policy limits.
-        self.numbers = {principal_arn(it): n for n, it in enumerate(principals) if not is_limited(it)}
-        self.limited = [it for it in principals if is_limited(it)]
+        # Who becomes a role has a session of his own, which no session policy limits: the first of each, and any that policies name or
+        # that sets tags.
+        self.sessions: Dict[str, List[int]] = {}
+        for n, it in enumerate([*principals, *hidden]):
+            if not is_limited(it):
+                self.sessions.setdefault(principal_arn(it), []).append(n)
+        self.numbers = {arn: some[0] for arn, some in self.sessions.items()}
+        further = {n for some in self.sessions.values() for n in some[1:]}
+        self.limited = [it for n, it in enumerate(principals) if is_limited(it) or n in further]
 
     def arn(self, node: Node) -> str:
         return principal_arn(self.principals[node.number])
@@ -140,13 +154,25 @@ class People:
     def called(self, node: Node) -> str:
         """Its ARN; of a session that its policies limit the session's."""
         principal = self.principals[node.number]
-        return principal_text(principal) if is_limited(principal) else principal_arn(principal)
+        return principal_text(principal) if self.is_apart(node) else principal_arn(principal)
+
+    def is_apart(self, node: Node) -> bool:
+        """Whether it is another session of a role than the one that stands for all of it."""
+        return node.number < self.own and node.number != self.numbers.get(self.arn(node))
+
+    def is_own(self, number: int) -> bool:
+        return number < self.own
+
+    def become(self, arn: str, tags: bool) -> List[int]:
+        """The sessions that who comes to a role may have, those that set tags or the others; the user."""
+        every = self.sessions.get(arn, [])
+        return [it for it in every if (self.principals[it].get(TAGS) is False) == tags]
 
     def names(self, node: Node) -> List[str]:
         """The texts that a pattern of '--to' is compared with. A session that its policies limit is not all of its role; who
         is the role may make that session."""
         principal = self.principals[node.number]
-        if is_limited(principal):
+        if self.is_apart(node):
             return [principal_text(principal)]
         role = principal.get("role")
         own = [principal_text(it) for it in self.limited if it["role"] == role]
@@ -157,7 +183,7 @@ class People:
 
     def holder(self, node: Node) -> Optional[Holder]:
         """What the exports say of it; of who is outside nothing."""
-        return self.holders.get(self.arn(node)) if node.number < self.own else None
+        return self.holders.get(self.arn(node)) if self.is_own(node.number) else None
 
     def principal(self, node: Node) -> Principal:
         if node not in self.made:
@@ -165,5 +191,5 @@ class People:
             for it in node.changes:
                 assert holder is not None
                 made = with_change(made, holder, it)
-            self.made[node] = self.loosened(made) if self.loosened else made
+            self.made[node] = made
         return self.made[node]

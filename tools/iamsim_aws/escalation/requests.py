@@ -1,28 +1,30 @@
 """The requests of the ways: the worlds in which they are asked, and which of them are allowed."""
 
 import re
-from typing import Any, Dict, List, NamedTuple, Optional, Set, Tuple
+from typing import Any, Callable, Dict, Iterator, List, NamedTuple, Optional, Set, Tuple
 
-from ..arns import account_of
+from ..arns import account_of, principal_arn, principal_text
 from ..asking import ask_allowed
+from ..bounds import hanging_people
 from ..documents import Policy, World, each, statements_of
+from ..examples import Example, ask_any_key
 from ..exports import is_service_linked, policy, tags
-from ..keys import with_key
-from ..making import RUNS_AS, bound
+from ..keys import with_key, with_own_keys
+from ..making import RUNS_AS, bound, has_service
+from ..names import Names, answers_of, stands
 from ..naming import trust_policy
 from ..patterns import is_pattern
+from ..questions import Scope
 from ..reports import Answers
 from ..sources import ASSUME, Source
-from ..speaking import Origins, meets, texts_of
-from .elsewhere import elsewhere
-from .loosening import Loose, is_of
+from ..speaking import Origin, meets, texts_of
+from ..strangers import is_stranger
 from .nodes import Node, People, boundary_of
-from .table import ADMINISTRATOR, ELSEWHERE, HELD, KINDS, OWN, SERVICE_KEY, BOUNDARY_KEY, WAYS, Ask
-from .witnesses import resources
+from .table import ADMINISTRATOR, BOUNDARY_KEY, ELSEWHERE, HELD, OWN, POLICY_KEY, SERVICE_KEY, WAYS, Ask
+from .unnamed import ACTIONS, OPENED, Shown, names_for, shown_of
 
-OPEN, ASSUMED, EVERY = "role open to all", "role to assume", "*"
-OPENED = {"Version": "2012-10-17", "Statement": {"Effect": "Allow", "Principal": {"AWS": "*"}, "Action": ASSUME}}
-ABROAD = Policy("a trust policy of an account without an export (assumed)", OPENED)
+OPEN, ASSUMED, EVERY, NAMED = "role open to all", "role to assume", "*", "named"
+OPEN_RANK = 2
 PASSED = "iam:PassRole"
 # A service that a policy names with its region, or by its name in China.
 OF_REGION = re.compile(r"(?:\.[a-z]{2}(?:-[a-z]+)+-\d)?(\.amazonaws\.com)(?:\.cn)?$")
@@ -33,18 +35,31 @@ Group = Tuple[str, Tuple[Tuple[str, str], ...]]
 
 
 class Request(NamedTuple):
-    """A request that is allowed."""
+    """A request that is allowed: as it is, or with an example of keys that nothing gives, or perhaps; and for what its resource stands."""
 
-    answers: Answers
+    answers: Optional[Answers]
     cell: int
     ask: Ask
+    turn: Optional[Example]
+    is_open: bool
+    origin: Callable[[], Optional[Origin]]
+
+    @property
+    def rank(self) -> int:
+        """Less where less is needed."""
+        return OPEN_RANK if self.is_open else int(self.turn is not None)
+
+
+def is_of_trust(action: str) -> bool:
+    """Whether trust policies decide on an action."""
+    return has_service([action], "sts")
 
 
 def group_of(ask: Ask) -> Group:
-    """The world in which a request is asked: that of what no export has is one, and so is that of the trust policies."""
-    if ask.action == ASSUME:
-        return ask.kind if ask.kind in (OPEN, ELSEWHERE) else ASSUMED, ()
-    return (ask.kind, ask.keys) if ask.kind in HELD else ("", ())
+    """The world in which a request is asked that names its resource: that of the trust policies is one."""
+    if is_of_trust(ask.action):
+        return ask.kind if ask.kind == OPEN else ASSUMED, ()
+    return (ask.kind, ask.keys) if ask.kind in HELD else (EVERY, ())
 
 
 def trusted(role: Dict[str, Any]) -> Set[str]:
@@ -61,14 +76,10 @@ def trusted(role: Dict[str, Any]) -> Set[str]:
 class Things:
     """What requests are asked on."""
 
-    def __init__(self, source: Source, loose: Optional[Loose] = None):
+    def __init__(self, source: Source):
         assert source.estate is not None
-        self.source, self.estate, self.loose = source, source.estate, loose
+        self.source, self.estate, self.scope = source, source.estate, Scope(source)
         self.trust: Dict[str, Set[str]] = {}
-        # What the texts stand for on which no export tells more.
-        self.stand: Origins = {}
-        # The pattern of a policy for each text that stands for roles of accounts without an export.
-        self.elsewhere: Dict[str, str] = {}
         self.profiles: Set[str] = set()
         self.runs = {it["arn"]: it[RUNS_AS] for it in self.estate.further if it.get(RUNS_AS)}
         for it in (one for account in self.estate.accounts for one in account.roles):
@@ -77,8 +88,6 @@ class Things:
                 self.profiles.add(it["Arn"])
         [self.assumed] = source.worlds([ASSUME])
         self.base = source.world([PASSED])
-        if loose:
-            self.assumed, self.base = loose.world(self.assumed), loose.world(self.base)
         self.held = {kind: self.held_of(kind) for kind in HELD}
 
     @property
@@ -113,45 +122,31 @@ class Things:
         some = [it for it in self.assumed["resources"] if it["arn"] in own]
         return [{**it, "policy": Policy(f"{trust_policy(it['arn'])}, as it was written", OPENED)} for it in some]
 
-    def abroad(self, world: World) -> List[Resource]:
-        """Roles of accounts without an export, as policies mean them; their trust policies, which nobody knows, let in everybody."""
-        accounts = self.estate.accounts
-        found = elsewhere(world, {it.account for it in accounts}, accounts[0].partition)
-        self.elsewhere.update(found)
-        made = [{"arn": it, "account": account_of(it), "sealed": True, "policy": ABROAD} for it in found]
-        return [bound(self.estate, it) for it in made]
-
-    def why_open(self, arn: str) -> str:
-        """Why nothing says where a step leads that is allowed on a resource."""
-        pattern = self.elsewhere.get(arn)
-        if pattern is not None:
-            roles = f"roles of other accounts that {pattern} means" if is_pattern(pattern) else f"role {pattern}"
+    def why_open(self, arn: str, origin: str) -> str:
+        """Why nothing says where a step leads that is allowed on a resource, which stands for a pattern of a policy."""
+        if origin:
+            roles = f"roles of other accounts that {origin} means" if is_pattern(origin) else f"role {origin}"
             return f"no export has the {roles}"
         role = self.runs.get(arn)
         return f"the exports have no principal {role}" if role else "nothing tells under which role"
 
     def world(self, group: Group, actions: List[str], people: People, nodes: List[Node]) -> World:
-        """The world of these nodes, of what is asked on, and of the keys."""
+        """The world of these nodes, of what is named, and of the keys."""
         kind, keys = group
-        outside = kind in (ASSUMED, "")
-        principals = [people.principal(it) for it in nodes if outside or it.number < people.own]
-        base = self.assumed if ASSUME in actions else self.base
+        own = {it["Arn"] for it in self.held["role"]}
+        principals = [people.principal(it) for it in nodes if kind in (ASSUMED, NAMED) or people.is_own(it.number)]
+        base = self.assumed if kind in (OPEN, ASSUMED) else self.base
         world: World = {**base, "actions": actions, "principals": principals}
         if kind == OPEN:
             world["resources"] = self.opened()
-        elif kind == ELSEWHERE:
-            world["resources"] = self.abroad(world)
         elif kind == ASSUMED:
-            own = {it["Arn"] for it in self.held["role"]}
             world["resources"] = [it for it in base["resources"] if it["arn"] in own]
-        elif kind:
+        elif kind == EVERY:
+            accounts = {account_of(principal_arn(it)) for it in principals}
+            world["resources"] = [{"arn": EVERY, "account": it} for it in sorted(accounts)]
+        elif kind != NAMED:
             world["resources"] = self.of_kind(kind, dict(keys))
-        else:
-            world["resources"] = self.texts(world)
-        if self.loose:
-            # The principals are so already; resources have policies of the organisation that come here.
-            world["resources"] = self.loose.resources(world["resources"])
-        return self.with_keys(self.with_accounts(world), keys)
+        return with_own_keys(self.with_keys(self.with_accounts(world), keys))
 
     def with_accounts(self, world: World) -> World:
         """The world with the accounts of its principals and resources too."""
@@ -161,26 +156,15 @@ class Things:
         return {**world, "accounts": world["accounts"] + [self.estate.organization.account(it) for it in new]}
 
     def with_keys(self, world: World, keys: Tuple[Tuple[str, str], ...]) -> World:
+        """The world with the keys that its requests have; of those of other requests of the ways it is known that they are absent."""
         for key, value in keys:
             if value == ADMINISTRATOR:
                 partition = self.estate.accounts[0].partition
                 value = f"arn:{partition}:iam::aws:{value}"
             world = with_key(world, key, value) if value != OWN else world
+        for key in (POLICY_KEY, BOUNDARY_KEY, SERVICE_KEY):
+            world = with_key(world, key, [])
         return world
-
-    def texts(self, world: World) -> List[Resource]:
-        """Texts that stand for the patterns of policies on each kind of resource that no export has, and the resources
-        that are named."""
-        found = {(EVERY, it["id"]): {"arn": EVERY, "account": it["id"]} for it in world["accounts"]}
-        for kind, pattern in KINDS.items():
-            actions = sorted({it.action for way in WAYS for it in way.asks if it.kind == kind})
-            made = resources({**world, "actions": actions}, pattern, actions)
-            some = [*world["resources"], *(it.resource for it in made)]
-            some = [bound(self.estate, it) for it in some if is_of(pattern, it["arn"])]
-            found.update(((it["arn"], it["account"]), it) for it in some)
-            for it in made:
-                self.stand.setdefault(it.resource["arn"], it.origin)
-        return list(found.values())
 
 
 class Round:
@@ -192,43 +176,71 @@ class Round:
         # What is known of the node that was asked for last.
         self.last: Tuple[Optional[Node], Dict[Tuple[Ask, bool], Dict[str, Request]]] = (None, {})
         actions: Dict[Group, Dict[str, None]] = {}
-        for ask in (it for way in WAYS for it in way.asks):
+        for ask in (it for way in WAYS for it in way.asks if it.kind not in ACTIONS):
             actions.setdefault(group_of(ask), {})[ask.action] = None
         worlds = {group: things.world(group, list(some), people, nodes) for group, some in actions.items()}
         some = {group: world for group, world in worlds.items() if world["resources"] and world["principals"]}
         self.answers: Dict[Group, Answers] = dict(zip(some, ask_allowed(list(some.values()))))
         self.flags = {group: it.flags() for group, it in self.answers.items()}
-        self.kinds = {group: kinds_of(it.world) for group, it in self.answers.items()}
+        self.turns = dict(zip(some, turns_of(list(self.answers.values()))))
+        self.worlds = [*some.values()]
+        # By the number of a node, the kind and the action: what no export names.
+        self.unnamed: Dict[Tuple[int, str, str], Dict[str, Shown]] = {}
+        self.ask_unnamed()
+
+    def ask_unnamed(self) -> None:
+        """Asks for all that no export names; of those who are outside roles elsewhere are not asked."""
+        some: List[Tuple[str, Names]] = []
+        number_of: Dict[Tuple[int, str], int] = {}
+        for kind, actions in ACTIONS.items():
+            group = ASSUMED if kind == ELSEWHERE else NAMED
+            world = self.things.world((group, ()), actions, self.people, self.nodes)
+            numbers = {id(it): n for n, it in enumerate(world["principals"])}
+            if kind == ELSEWHERE:
+                world = {**world, "principals": [it for it in world["principals"] if not is_stranger(it)]}
+            for names in names_for(self.things.scope, kind, world):
+                number_of.update({(len(some), principal_text(it)): numbers[id(it)] for it in names.people})
+                some.append((kind, names))
+            self.worlds.append(world)
+        for n, it in shown_of(some):
+            key = number_of[n, it.row["principal"]], some[n][0], it.row["action"]
+            self.unnamed.setdefault(key, {}).setdefault(it.row["resource"], it)
 
     def allowed(self, node: Node, ask: Ask, anywhere: bool = False) -> Dict[str, Request]:
         """The resources on which a request of a node is allowed: roles, and what else is of its own account, or of any."""
         if self.last[0] != node:
             self.last = node, {}
-        known, anywhere = self.last[1], anywhere or ask.action == ASSUME
+        known, anywhere = self.last[1], anywhere or is_of_trust(ask.action)
         if (ask, anywhere) not in known:
-            known[ask, anywhere] = self.found(node, ask, anywhere)
+            own = self.people.account(node)
+            find = self.found_unnamed if ask.kind in ACTIONS else self.found
+            some = ((arn, account, it) for arn, account, it in find(node, ask))
+            known[ask, anywhere] = {arn: it for arn, account, it in some if anywhere or account == own}
         return known[ask, anywhere]
 
-    def found(self, node: Node, ask: Ask, anywhere: bool) -> Dict[str, Request]:
+    def found_unnamed(self, node: Node, ask: Ask) -> Iterator[Tuple[str, str, Request]]:
+        for text, it in self.unnamed.get((self.numbers[node], ask.kind, ask.action), {}).items():
+            [resource] = it.names.shown()(text) if it.row["decision"] == "allowed" else [{"account": self.people.account(node)}]
+            yield text, resource["account"], shown_request(it, ask)
+
+    def found(self, node: Node, ask: Ask) -> Iterator[Tuple[str, str, Request]]:
         group = group_of(ask)
         answers = self.answers.get(group)
         if answers is None or self.numbers[node] >= answers.shape[0]:
-            return {}
+            return
         action = answers.world["actions"].index(ask.action)
-        first, flags = answers.cell(self.numbers[node], action, 0), self.flags[group]
-        resources = answers.world["resources"]
-        if flags.find(1, first, first + len(resources)) < 0:
-            return {}
-        own, found = self.people.account(node), {}
-        for n in self.kinds[group].get(ask.kind, range(len(resources))):
-            if flags[first + n] and (anywhere or resources[n]["account"] == own):
-                found[resources[n]["arn"]] = Request(answers, first + n, ask)
-        return found
+        first, flags, turns = answers.cell(self.numbers[node], action, 0), self.flags[group], self.turns[group]
+        for n, it in enumerate(answers.world["resources"]):
+            if flags[first + n]:
+                yield it["arn"], it["account"], Request(answers, first + n, ask, None, False, lambda: None)
+            elif first + n in turns:
+                of, cell, turn = turns[first + n]
+                yield it["arn"], it["account"], Request(of, cell, ask, turn, turn is None, lambda: None)
 
     def together(
         self, node: Node, asks: List[Ask], on: Dict[str, str], anywhere: bool = False
     ) -> Optional[List[Request]]:
-        """A request for each ask, all allowed, those of one kind on the same resource; `on` says on which."""
+        """A request for each ask, all allowed, those of one kind on the same resource, by which the least is needed; `on` says on which."""
         found: List[Request] = []
         for kind in dict.fromkeys(it.kind for it in asks):
             every = [self.allowed(node, it, anywhere) for it in asks if it.kind == kind]
@@ -236,12 +248,31 @@ class Round:
             common = [it for it in every[0] if all(it in one for one in every) and wanted in (None, it)]
             if not common:
                 return None
-            found += [it[common[0]] for it in every]
+            best = min(common, key=lambda text: max(it[text].rank for it in every))
+            found += [it[best] for it in every]
         return found
 
 
-def kinds_of(world: World) -> Dict[str, List[int]]:
-    """The numbers of the resources of each kind that no export has."""
-    arns = [it["arn"] for it in world["resources"]]
-    found = {kind: [n for n, arn in enumerate(arns) if is_of(pattern, arn)] for kind, pattern in KINDS.items()}
-    return {**found, EVERY: [n for n, arn in enumerate(arns) if arn == EVERY]}
+def turns_of(several: List[Answers]) -> List[Dict[int, Tuple[Answers, int, Optional[Example]]]]:
+    """Of the requests of worlds that are not allowed as they are, by their cells: those that are with values of keys, each with an
+    example, and those of which it is not shown."""
+    hung = [(it, hanging_people(it.world)) for it in several]
+    worlds = [{**it.world, "principals": people} for it, people in hung]
+    found: List[Dict[int, Tuple[Answers, int, Optional[Example]]]] = []
+    for (answers, people), turned in zip(hung, ask_any_key(worlds)):
+        numbers = {id(it): n for n, it in enumerate(answers.world["principals"])}
+        own: Dict[int, Tuple[Answers, int, Optional[Example]]] = {}
+        for cell in (*turned.examples, *turned.opens):
+            p, a, r = turned.answers.place(cell)
+            own[answers.cell(numbers[id(people[p])], a, r)] = turned.answers, cell, turned.examples.get(cell)
+        found.append(own)
+    return found
+
+
+def shown_request(it: Shown, ask: Ask) -> Request:
+    """A request on what no export names."""
+    text = it.row["resource"]
+    if it.row["decision"] != "allowed":
+        return Request(None, 0, ask, None, True, lambda: None)
+    [answers] = answers_of(it.names, [it.row])
+    return Request(answers, 0, ask, it.row["example"], it.is_open, lambda: stands(it.names)(it.row).get(text))

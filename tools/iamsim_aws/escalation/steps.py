@@ -4,8 +4,8 @@ from typing import Dict, Iterator, List, NamedTuple, Tuple
 
 from ..arns import account_of
 from .nodes import Change, Holder, Node, People, versions_of
-from .requests import OPEN, Request, Round, Things
-from .table import ANY, BECOMES, BOUNDARY, GROUP, REPLACED, UNTOLD, VERSION, WAYS, Way
+from .requests import OPEN, Request, Round, Things, is_of_trust
+from .table import ANY, BECOMES, BOUNDARY, ELSEWHERE, GROUP, REPLACED, TAGGED, UNTOLD, VERSION, WAYS, Way
 
 
 class Part(NamedTuple):
@@ -26,6 +26,11 @@ class Step(NamedTuple):
     target: Node
     parts: List[Part]
 
+    @property
+    def rank(self) -> int:
+        """What its requests need at most."""
+        return max(it.rank for part in self.parts for it in part.requests)
+
 
 class Open(NamedTuple):
     """A way whose requests are allowed, and of which nothing says where it leads, and why."""
@@ -33,6 +38,10 @@ class Open(NamedTuple):
     node: Node
     part: Part
     why: str
+
+    @property
+    def rank(self) -> int:
+        return max(it.rank for it in self.part.requests)
 
 
 class Steps:
@@ -45,9 +54,9 @@ class Steps:
     def of(self, node: Node) -> Iterator[Step]:
         """The steps of a node: whom it becomes, then what it changes of itself and of these."""
         first: Dict[Node, Step] = {}
-        for way in WAYS:
-            for it in self.becoming(node, way):
-                first.setdefault(it.target, it)
+        for it in (one for way in WAYS for one in self.becoming(node, way)):
+            if it.target not in first or it.rank < first[it.target].rank:
+                first[it.target] = it
         yield from first.values()
         for target, parts in self.changes(node, node):
             yield Step(node, target, parts)
@@ -60,13 +69,15 @@ class Steps:
             yield from self.running(node, way)
         kind = way.asks[0].kind
         for arn in self.asked.allowed(node, way.asks[0]) if way.gain in BECOMES else ():
-            number = self.people.numbers.get(arn)
-            is_other = number is not None and number != node.number
-            if not is_other or (way.name == "ec2-new" and arn not in self.things.profiles):
+            every = self.people.become(arn, way.gain == TAGGED)
+            # A session that a service makes has no name of its own choice.
+            own = every if is_of_trust(way.asks[-1].action) else every[:1]
+            numbers = [it for it in own if it != node.number]
+            if not numbers or (way.name == "ec2-new" and arn not in self.things.profiles):
                 continue
             found = self.asked.together(node, way.asks, {kind: arn, OPEN: arn})
-            if found and number is not None:
-                yield Step(node, Node(number), [Part(way, arn, found)])
+            for number in numbers if found else ():
+                yield Step(node, Node(number), [Part(way, arn, found or [])])
 
     def running(self, node: Node, way: Way) -> Iterator[Step]:
         """By what is there already: to the role that --resources tells, else to one that nothing tells, or that no export has."""
@@ -75,8 +86,10 @@ class Steps:
             role = self.things.runs.get(arn, "")
             number = self.people.numbers.get(role)
             if found and number is None:
-                what = role or self.things.elsewhere.get(arn, "a role that nothing tells")
-                self.open.append(Open(node, Part(way, what, found), self.things.why_open(arn)))
+                origin = found[0].origin() if way.asks[0].kind == ELSEWHERE else None
+                pattern = (origin.pattern if origin.policy else "*") if origin else ""
+                what = role or pattern or "a role that nothing tells"
+                self.open.append(Open(node, Part(way, what, found), self.things.why_open(arn, pattern)))
             elif found and number is not None and number != node.number:
                 yield Step(node, Node(number), [Part(way, f"{role} by {arn}", found)])
 
@@ -92,7 +105,7 @@ class Steps:
             for arn, change, what in targets(way, holder):
                 made, found = of.changed(change), self.asked.together(node, way.asks, {way.asks[0].kind: arn})
                 if made and found:
-                    is_given = is_given or way.gain == ANY
+                    is_given = is_given or (way.gain == ANY and not any(it.rank for it in found))
                     yield made, [Part(way, what, found)]
 
 

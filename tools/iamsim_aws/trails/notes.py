@@ -38,7 +38,7 @@ def notes(replay: Replay, logs: Logs, goes_on: List[str], sides: List[Side]) -> 
     if rest:
         yield f"no event tells these keys, for which policies ask; they count as absent: {', '.join(rest)}"
     if asked & DATES:
-        yield "policies ask for dates: all calls are asked for one moment, that of --moment (now) or of the world"
+        yield "policies ask for dates: all calls are asked for one moment, that of --moment, or else now or that of the world"
 
 
 def untold(worlds: Iterable[World]) -> List[str]:

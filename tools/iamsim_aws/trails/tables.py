@@ -287,11 +287,7 @@ RULES: Dict[str, List[Tuple[str, str]]] = {
         ("*Layer*", ""),
         ("*", "qualified|function|tagged"),
     ],
-    "secretsmanager": [
-        ("ListSecrets|GetRandomPassword", "*"),
-        ("CreateSecret", "made-secret"),
-        ("*", "secret"),
-    ],
+    "secretsmanager": [("ListSecrets|GetRandomPassword", "*"), ("CreateSecret", "made-secret"), ("*", "secret")],
     "ssm": [
         ("DescribeParameters|ListDocuments|ListCommands|ListCommandInvocations|DescribeInstanceInformation", "*"),
         ("GetParameter|PutParameter|DeleteParameter|GetParameterHistory|*LabelParameterVersion", "parameter"),

@@ -64,6 +64,16 @@ pub record IsViewAt (world : WorldValue) (p r : ℕ) (tried base derived : Conte
   pub who : IsPrincipal world p (λ principal. requester ≡ principal.requester)
   pub what : IsResource world r (λ resource. arn ≡ resource.arn)
 
+-- they are those of these statements in the contexts that are looked at where principal p asks for resource r and these keys are tried
+pub record AreChancesAt (world : WorldValue) (p r : ℕ) (tried : ContextValue) (at : Option ℕ) (statements : List Placed) (chances : List Chance)
+    : Type 0 where
+  pub access : AccessValue
+  pub derived : ContextValue
+  pub moment : ℕ
+  pub known : List (List ℕ)
+  pub view : IsViewAt world p r tried access.context derived at moment known access.requester access.resource
+  pub are : AreChances access (Follows known access.context) statements chances
+
 -- the pair of principal p and resource r where these keys are tried
 pub record IsPairAt (world : WorldValue) (p r : ℕ) (tried : ContextValue) (at : Option ℕ) (pair : Pair) : Type 0 where
   pub access : AccessValue

@@ -1,21 +1,23 @@
-use Rattle.std.proofs.Common.{[], None}
+use Rattle.std.proofs.Common.{ℕ, subst}
 use Rattle.std.proofs.lemmas.Result.{IfOk-weaker}
+use Rattle.iam_open.specs.InQuestion.{IsAlways, IsNever}
 use Rattle.iam_open.specs.declared.certain.Certain.{Certain}
-use Rattle.iam_open.proofs.PairLemmas.{always_plain, never_plain}
 use Rattle.iam_open.proofs.pair.certainly.Goals as goal
 
 pub returns-clause-always : goal.returns-clause-always
 returns-clause-always c = λ worlds among.
     let world = c.args.world.now in
-    IfOk-weaker c.pair_certain.result _ _
+    IfOk-weaker c.scene_certain.result _ _
     (λ (certain : Certain) told always.
-    always_plain worlds world c.args.p c.args.a c.args.r among (told c.args.p c.args.r [] None c.in_ok-pair.ensures.is always))
-    c.pair_certain.ensures.always
+    subst (λ (p : ℕ). IsAlways worlds world p c.args.a c.args.r) c.named-scene.ensures.principal
+    (told worlds world c.args.a c.args.r c.named-scene.ensures.seat c.action_text.ensures among always))
+    c.scene_certain.ensures.always
 
 pub returns-clause-never : goal.returns-clause-never
 returns-clause-never c = λ worlds among.
     let world = c.args.world.now in
-    IfOk-weaker c.pair_certain.result _ _
+    IfOk-weaker c.scene_certain.result _ _
     (λ (certain : Certain) told never.
-    never_plain worlds world c.args.p c.args.a c.args.r among (told c.args.p c.args.r [] None c.in_ok-pair.ensures.is never))
-    c.pair_certain.ensures.never
+    subst (λ (p : ℕ). IsNever worlds world p c.args.a c.args.r) c.named-scene.ensures.principal
+    (told worlds world c.args.a c.args.r c.named-scene.ensures.seat c.action_text.ensures among never))
+    c.scene_certain.ensures.never

@@ -11,28 +11,26 @@ use Rattle.iam_open.proofs.pair.pair_certain.Goals as goal
 
 pub returns-clause-always : goal.returns-clause-always
 returns-clause-always c =
-    let world = c.args.world.now in
-    let action = c.action_text.result.now in
+    let action = c.args.action.now in
     IfOk-weaker c.allowed_certain.result _ _
-    (λ (certain : Certain) told p r part at is always.
-    always_where c.one_stamp.ensures c.one_decision.ensures world p c.args.a r part is.access.context is.derived at is.moment is.known is.access.requester
+    (λ (certain : Certain) told world p a r part at does is always.
+    always_where c.one_stamp.ensures c.one_decision.ensures world p a r part is.access.context is.derived at is.moment is.known is.access.requester
     is.access.resource action
-    (looked_at world p c.args.a r part is.access is.derived at is.moment is.known action is.view c.action_text.ensures) is.view.first
-    (λ a applies.
-    subst (λ (x : Certain). Tells x (Follows is.known is.access.context) (λ other. IsDecision a (request_in is.access action other) Allowed)) always
-    (told is.access is.known a (is.each a applies))))
+    (looked_at world p a r part is.access is.derived at is.moment is.known action is.view does) is.view.first
+    (λ y applies.
+    subst (λ (x : Certain). Tells x (Follows is.known is.access.context) (λ other. IsDecision y (request_in is.access action other) Allowed)) always
+    (told is.access is.known y (is.each y applies))))
     c.allowed_certain.ensures
 
 pub returns-clause-never : goal.returns-clause-never
 returns-clause-never c =
-    let world = c.args.world.now in
-    let action = c.action_text.result.now in
+    let action = c.args.action.now in
     IfOk-weaker c.allowed_certain.result _ _
-    (λ (certain : Certain) told p r part at is never.
-    never_where c.one_stamp.ensures world p c.args.a r part is.access.context is.derived at is.moment is.known is.access.requester is.access.resource
+    (λ (certain : Certain) told world p a r part at does is never.
+    never_where c.one_stamp.ensures world p a r part is.access.context is.derived at is.moment is.known is.access.requester is.access.resource
     action
-    (looked_at world p c.args.a r part is.access is.derived at is.moment is.known action is.view c.action_text.ensures) is.view.first
-    (λ a applies.
-    subst (λ (x : Certain). Tells x (Follows is.known is.access.context) (λ other. IsDecision a (request_in is.access action other) Allowed)) never
-    (told is.access is.known a (is.each a applies))))
+    (looked_at world p a r part is.access is.derived at is.moment is.known action is.view does) is.view.first
+    (λ y applies.
+    subst (λ (x : Certain). Tells x (Follows is.known is.access.context) (λ other. IsDecision y (request_in is.access action other) Allowed)) never
+    (told is.access is.known y (is.each y applies))))
     c.allowed_certain.ensures

@@ -8,5 +8,6 @@ use Rattle.iam_open.proofs.pair.plain_pair.Goals as goal
 pub returns-clause-is : goal.returns-clause-is
 returns-clause-is c =
     IfOk-weaker c.pair_of.result _ _
-    (λ (pair : Pair) is. subst (λ (part : ContextValue). IsPairAt c.args.world.now c.args.p c.args.r part None pair) c.new-none.ensures.items is)
+    (λ (pair : Pair) is other r seat.
+    subst (λ (part : ContextValue). IsPairAt other c.args.scene.p r part None pair) c.new-none.ensures.items (is other r seat))
     c.pair_of.ensures.is

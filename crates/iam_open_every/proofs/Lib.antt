@@ -1,0 +1,9 @@
+mod ActionLemmas
+mod AlikeLemmas
+mod ConcernedLemmas
+mod GroupLemmas
+mod LineLemmas
+mod LookedLemmas
+mod SaidLemmas
+mod TextLemmas
+mod TurnedLemmas

@@ -1,0 +1,10 @@
+pub mod Actions
+pub mod Alike
+pub mod Concerned
+pub mod Given
+pub mod Groups
+pub mod Lines
+pub mod Looked
+pub mod Said
+pub mod Texts
+pub mod Turned

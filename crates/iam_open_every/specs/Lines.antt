@@ -1,0 +1,31 @@
+-- What can be shown of the texts of a line, whatever values the keys have that nothing gives: AWS IAM User Guide, "IAM JSON policy elements:
+-- Resource" and "NotResource". LOGIC 11.12 and 15.
+use Rattle.std.specs.Prelude.{◌≡◌, ℕ, List, Some, length, map, string_bytes}
+use Rattle.std.specs.List.{slice_get}
+use Rattle.iam_glob.specs.declared.sign.Sign.{Sign}
+use Rattle.iam_kinds.specs.States.{PassesLimit}
+use Rattle.iam_layers.specs.Unnamed.{IsSaid, world_and}
+use Rattle.iam_every.specs.Every.{EveryValue, LineValue, line_question}
+use Rattle.iam_open_every.specs.Looked.{AreOpenGroupsAt, AsksBeyondAt}
+use Rattle.iam_open_every.specs.Texts.{AreAllTexts}
+use Rattle.iam_open_every.specs.declared.lines.LineTexts.{LineTexts}
+use Rattle.iam_open_every.specs.declared.lines.LineTexts.TheVariants.{Shown, TooMany, Beyond}
+use Rattle.iam_world.specs.World.{ResourceValue}
+
+-- by groups that tell apart all texts that are not alike there are too many kinds of texts
+pub record AreTooMany (every : EveryValue) (p k : ℕ) (line : LineValue) : Type 0 where
+  pub groups : List (List (List Sign))
+  pub tell : AreOpenGroupsAt every.world p line.unnamed groups
+  pub passes : PassesLimit (line_question every k line groups)
+
+-- on a resource that is like those of the line, a text of a resource element asks for a key that is not known
+abbrev pub AsksBeyondOn : EveryValue → ℕ → LineValue → Type 0
+AsksBeyondOn every p line =
+    (text : List ℕ) × ((action : List ℕ) (resource : ResourceValue) → IsSaid every.world line.unnamed text resource
+    → AsksBeyondAt (world_and every.world action resource) p (length every.world.resources))
+
+-- this holds of line k where principal p asks
+abbrev pub AreLineTexts : EveryValue → ℕ → ℕ → LineTexts → Type 0
+AreLineTexts every p k (Shown texts) = AreAllTexts every p k (map string_bytes texts.items)
+AreLineTexts every p k TooMany = (line : LineValue) × (slice_get every.lines k ≡ Some line) × AreTooMany every p k line
+AreLineTexts every p k Beyond = (line : LineValue) × (slice_get every.lines k ≡ Some line) × AsksBeyondOn every p line
