@@ -26,7 +26,9 @@ mod verdict;
 
 pub use actions::{action_groups, action_kinds, are_same};
 pub use asked::{Asked, Line, Which};
-pub use given::{first_line, is_first_line, line_patterns, names_of};
+pub use given::{
+    Given, first_line, is_among, is_first_line, line_patterns, matched_resources, names_of,
+};
 pub use groups::{Side, text_groups};
 pub use laws::{
     alike_actions_at_decide_alike, alike_actions_decide_alike, alike_names_decide_alike,
@@ -34,9 +36,9 @@ pub use laws::{
     one_list_of_groups, one_list_of_rows, own_groups_tell_apart,
 };
 pub use meant::{all_said, meant_actions, policies_of};
-pub use pattern::Pattern;
+pub use pattern::{Pattern, add_patterns};
 pub use report::{EveryAnswer, EveryFault, every_report};
-pub use rows::{Row, Said, rows_of};
+pub use rows::{Row, Said, action_text, rows_of, shared_text};
 pub use text::EveryText;
 pub use texts::text_kinds;
 pub use verdict::verdict_on;

@@ -14,7 +14,7 @@ use iam_crew::Gate;
 use iam_decision::Decision;
 use iam_layers::World;
 use iam_match::OutOfMemory;
-use iam_row::Format;
+use iam_row::{Format, opening};
 use std::alloc::Global;
 use std::thread::Threads;
 
@@ -135,7 +135,7 @@ pub fn every_report<R: Threads + Sync, G: Gate + Sync>(
     let unshown = has_unshown(all.as_slice());
     let rows = texts(alloc, asked.world, all, format, brief)?;
     Ok(EveryAnswer {
-        text: EveryText::of(format, brief, rows),
+        text: EveryText::of(opening(format, brief), format, rows),
         some,
         unshown,
     })

@@ -126,7 +126,7 @@ fn given_rows(
 }
 
 /// Which actions are in question, as it is written.
-fn action_text(actions: Which<'_>) -> &str
+pub fn action_text(actions: Which<'_>) -> &str
     ensures { result.now ≡ written_in actions.entry }
 {
     match actions {
@@ -157,7 +157,7 @@ fn unshown_row(alloc: Global, action: &str, text: &str) -> Result<Row, OutOfMemo
 }
 
 /// The text, to be shared.
-fn shared_text(alloc: Global, text: &str) -> Result<Arc<String>, OutOfMemory>
+pub fn shared_text(alloc: Global, text: &str) -> Result<Arc<String>, OutOfMemory>
     ensures { IfOk result (λ shared. string_bytes (arc_value shared) ≡ text.now) }
 {
     let shared = Arc::new(alloc, String::from_str(alloc, text)?)?;

@@ -4,18 +4,19 @@ ghost use Rattle.std.specs.Io.KnownBytes.{Appends};
 ghost use Rattle.std.specs.List.{flat_map};
 ghost use Rattle.iam_report.specs.Code.Buffer.{Passes};
 ghost use Rattle.iam_report.specs.Streams.{AppendsBeginning};
-ghost use Rattle.iam_row.specs.Piece.{closing_text, opening_text};
+ghost use Rattle.iam_row.specs.Piece.{closing_text};
 
 use iam_report::{OutputFault, put, write_end};
-use iam_row::{Format, opening};
+use iam_row::Format;
 use std::io::Write;
 use std::marker::Model;
 
 /// The report on all names. A contract sees its text.
 #[derive(Drop)]
 pub struct EveryText {
+    // What stands before all rows.
+    opening: &'static str,
     format: Format,
-    brief: bool,
     // The rows of one principal each.
     rows: Vec<String>,
 }
@@ -23,11 +24,11 @@ pub struct EveryText {
 impl Model for EveryText {
     ghost use Rattle.std.specs.Prelude.{◌++◌, ℕ, List, string_bytes};
     ghost use Rattle.std.specs.List.{flat_map};
-    ghost use Rattle.iam_row.specs.Piece.{closing_text, opening_text};
+    ghost use Rattle.iam_row.specs.Piece.{closing_text};
 
     ghost Value = { List ℕ };
 
-    ghost view = { λ text. opening_text text.format text.brief ++ (flat_map string_bytes text.rows.items ++ closing_text text.format) };
+    ghost view = { λ text. text.opening.now ++ (flat_map string_bytes text.rows.items ++ closing_text text.format) };
 }
 
 /// Puts texts one behind the other.
@@ -46,13 +47,13 @@ fn put_texts<W: Write>(
 }
 
 impl EveryText {
-    /// The text of these rows in this format.
-    pub(crate) fn of(format: Format, brief: bool, rows: Vec<String>) -> EveryText
-        ensures { result ≡ opening_text format brief ++ (flat_map string_bytes rows.items ++ closing_text format) }
+    /// The text of these rows in this format, behind what stands before all.
+    pub fn of(opening: &'static str, format: Format, rows: Vec<String>) -> EveryText
+        ensures { result ≡ opening.now ++ (flat_map string_bytes rows.items ++ closing_text format) }
     {
         EveryText {
+            opening,
             format,
-            brief,
             rows,
         }
     }
@@ -64,7 +65,7 @@ impl EveryText {
         ensures ok { OnOk result (Appends (W.contents writer.old) (W.contents writer.new) self.now) }
         ensures err { OnErr result (AppendsBeginning (W.contents writer.old) (W.contents writer.new) self.now) }
     {
-        put(writer, kept, opening(self.format, self.brief))?;
+        put(writer, kept, self.opening)?;
         put_texts(writer, kept, self.rows.as_slice())?;
         write_end(writer, kept, self.format)
     }

@@ -22,7 +22,7 @@ pub record TurnedRow : Type 0 where
   pub places : List Place
   pub keys : List (List ℕ)
 
--- one of these
+-- such a row
 abbrev pub row_with : CellTexts → Turned → Verdict → List Place → List (List ℕ) → TurnedRow
 row_with texts turned verdict places keys = record { texts = texts; turned = turned; verdict = verdict; places = places; keys = keys }
 

@@ -41,7 +41,7 @@ mod trials;
 mod unmet;
 
 pub use answer::{Turned, scene_turned, turned_of};
-pub use asked::{Asked, Word};
+pub use asked::{Asked, Word, word_of, word_text};
 pub use beyond::text_beyond;
 pub use certain::Certain;
 pub use decide::{scene_verdict, verdict_in};
@@ -54,7 +54,7 @@ pub use known::Known;
 pub use pair::{certainly, certainly_where, scene_certain};
 pub use report::turned_report;
 pub use resource::resource_certain;
-pub use row::example_text;
+pub use row::{brief_text, example_text, full_row, full_text, opening};
 pub use scene::{Scene, Target};
 pub use statement::statement_certain;
 pub use sure::{known_of, statements_at};

@@ -3,7 +3,7 @@ ghost use Rattle.std.specs.Prelude.{◌≡◌, ◌++◌, ◌∷◌, [], IfOk, On
 ghost use Rattle.std.specs.List.{join_by};
 ghost use Rattle.iam_layers.specs.Cell.{IsCell};
 ghost use Rattle.iam_open.specs.Report.{IsRow};
-ghost use Rattle.iam_open.specs.Rows.{TurnedRow, back_text, entry_text, example_text, front_text, full_text, joined_row, json_of, keys_in, lacks_in, opening_text, places_in, row_text, row_with, shown_text, turned_word};
+ghost use Rattle.iam_open.specs.Rows.{TurnedRow, back_text, entry_text, brief_text, example_text, front_text, full_text, joined_row, json_of, keys_in, lacks_in, opening_text, places_in, row_text, row_with, shown_text, turned_word};
 ghost use Rattle.iam_open.specs.Turned.{IsTurned};
 ghost use Rattle.iam_decision.specs.declared.verdict.Verdict.{Verdict};
 ghost use Rattle.iam_row.specs.Piece.{quote_of};
@@ -146,8 +146,30 @@ fn back_text(
     )
 }
 
+/// A row in brief, of texts as they stand in it.
+pub fn brief_text(
+    alloc: Global,
+    format: Format,
+    cell: u64,
+    principal: &str,
+    action: &str,
+    resource: &str,
+    word: &str,
+) -> Result<String, OutOfMemory>
+    ensures { IfOk result (λ text. string_bytes text
+        ≡ brief_text format cell (record { principal = principal.now; action = action.now; resource = resource.now }) word.now) }
+{
+    let front = front_text(alloc, format, cell, principal, action, resource, word)?;
+    match format {
+        Format::Csv => format!(in alloc; "{front}\n"),
+        Format::Json => format!(in alloc;
+            "{front},\"principal\":{principal},\"resource\":{resource}}}"
+        ),
+    }
+}
+
 /// A row in full, of texts as they stand in it.
-fn full_text(
+pub fn full_text(
     alloc: Global,
     format: Format,
     cell: u64,
@@ -223,8 +245,8 @@ fn lacks(alloc: Global, format: Format, verdict: &Verdict) -> Result<String, Out
     format!(in alloc; "{lacks}")
 }
 
-/// A row in full, of texts as they stand in it.
-fn full_row(
+/// A row in full of what is said of a request, of texts as they stand in it.
+pub fn full_row(
     alloc: Global,
     format: Format,
     cell: u64,

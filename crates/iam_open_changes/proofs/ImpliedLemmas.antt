@@ -1,5 +1,5 @@
 -- Entries of conditions that hold wherever others do.
-use Rattle.std.proofs.Common.{◌≡◌, ◌≢◌, ◌∙◌, ℕ, ℤ, List, [], ◌∷◌, ◌++◌, All, Bool, true, false, IsSome, MatchBool, Option, Some, None, ap, arith, get_or, inl, inr, option_map, refl, subst, sym}
+use Rattle.std.proofs.Common.{◌≡◌, ◌≢◌, ◌∙◌, ℕ, ℤ, List, [], ◌∷◌, All, Bool, true, false, IsSome, MatchBool, Option, Some, None, ap, arith, get_or, inl, inr, refl, subst, sym}
 use Rattle.std.proofs.lemmas.Int.{ints}
 use Rattle.std.specs.List.{Any}
 use Rattle.std.specs.Str.{chars}
@@ -19,6 +19,7 @@ use Rattle.iam_context.specs.Resolve.{resolved}
 use Rattle.iam_glob.specs.Glob.{Matches}
 use Rattle.iam_glob.specs.declared.sign.Sign.{Sign}
 use Rattle.iam_match.specs.Entry.{HasTruth, HoldsBare, HoldsOn, HoldsWith, HoldsWithout, Ordered, Resolves, Satisfies, ValueMatches, asks_every, is_null}
+use Rattle.iam_match.proofs.StatementLemmas.{plain_resolved}
 use Rattle.iam_open.proofs.ListLemmas.{in_some, some_in}
 use Rattle.iam_open_changes.specs.Code.Implied.{AreWithin, AreWithinBy, AreWithinSign, Covers, HoldsAddress, Implies, IsFurther, IsWider, IsWithin}
 use Rattle.iam_text.specs.Draft.{plain_draft}
@@ -27,18 +28,13 @@ use Rattle.iam_value.specs.Address.{Block, Holds}
 
 -- ---- wider values
 
--- what a text without variables becomes
-pub becomes : (context : ContextValue) (signs : List Sign) → resolved context (plain_draft signs) ≡ Some signs
-becomes context [] = refl
-becomes context (sign ∷ signs) = ap (option_map (λ rest. (sign ∷ []) ++ rest)) (becomes context signs)
-
 -- such a text becomes no other pattern
 one_becomes : (context : ContextValue) (value : Operand) (pieces known : List Piece) (signs found : List Sign) → value ≡ operand.Text pieces
     → pieces ≡ plain_draft signs → value ≡ operand.Text known → resolved context known ≡ Some found → found ≡ signs
 one_becomes context value pieces known signs found is plain is_known resolves =
     let texts : operand.Text known ≡ operand.Text pieces = sym is_known ∙ is in
     let same : known ≡ pieces = cc in
-    let both : Some found ≡ Some signs = sym resolves ∙ ap (resolved context) (same ∙ plain) ∙ becomes context signs in
+    let both : Some found ≡ Some signs = sym resolves ∙ ap (resolved context) (same ∙ plain) ∙ plain_resolved context signs in
     cc
 
 -- what stands so to a bound stands so to one further out
@@ -56,7 +52,7 @@ wider_matches context (Text test.Equals) text one other wider matches = absurd w
 wider_matches context (Text test.EqualsIgnoreCase) text one other wider matches = absurd wider
 wider_matches context (Text test.Like) text one other (pieces, wide, is, is_wide, (signs, around, plain, bare, on)) (known, found, is_known, resolves, fits) =
     let same : found ≡ signs = one_becomes context one pieces known signs found is plain is_known resolves in
-    (wide, around, is_wide, ap (resolved context) bare ∙ becomes context around, on (chars text) (subst (λ (ss : List Sign). Matches ss (chars text)) same fits))
+    (wide, around, is_wide, ap (resolved context) bare ∙ plain_resolved context around, on (chars text) (subst (λ (ss : List Sign). Matches ss (chars text)) same fits))
 wider_matches context Arn text one other wider matches = absurd wider
 wider_matches context (Number order) text one other (bound, wide, is, is_wide, beyond) (n, m, is_m, whole, ordered) =
     let both : operand.Number m ≡ operand.Number bound = sym is_m ∙ is in
@@ -83,7 +79,7 @@ wider_resolves context (Text test.EqualsIgnoreCase) one other wider = absurd wid
 wider_resolves context (Text test.Like) one other (pieces, wide, is, is_wide, (signs, around, plain, bare, on)) = λ has known is_known.
     let texts : operand.Text known ≡ operand.Text pieces = sym is_known ∙ is in
     let same : known ≡ pieces = cc in
-    subst (λ (found : Option (List Sign)). IsSome found) (sym (ap (resolved context) (same ∙ plain) ∙ becomes context signs)) refl
+    subst (λ (found : Option (List Sign)). IsSome found) (sym (ap (resolved context) (same ∙ plain) ∙ plain_resolved context signs)) refl
 wider_resolves context Arn one other wider = absurd wider
 wider_resolves context (Number order) one other wider = λ has known is_known. absurd (let wrong : ⊥ = cc in wrong)
 wider_resolves context (Date order) one other wider = λ has known is_known. absurd (let wrong : ⊥ = cc in wrong)

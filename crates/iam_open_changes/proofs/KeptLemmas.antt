@@ -13,7 +13,7 @@ use Rattle.iam_match.specs.Requester.{RequesterValue}
 use Rattle.iam_match.specs.Statement.{AccessValue, RequestValue}
 use Rattle.iam_open.specs.Code.Certain.{Contexts}
 use Rattle.iam_open.specs.Code.Known.{AgreeOn, request_in}
-use Rattle.iam_open.proofs.ListLemmas.{all_pushed, in_some, none_of_none, taken_more}
+use Rattle.iam_open.proofs.ListLemmas.{all_pushed, taken_more}
 use Rattle.iam_open.proofs.TriedLemmas.{all_are_tried}
 use Rattle.iam_open.proofs.TurnLemmas.{OneStamp}
 use Rattle.iam_open.proofs.WhereLemmas.{IsLookedAt, in_turn}
@@ -44,15 +44,6 @@ pub some_never : (Are : Contexts) (entries : List EntryValue) (i : ℕ) (entry :
 some_never Are entries i entry below at never other is all = never other is (subst (EntryHolds other) (sym at) (all i entry below))
 
 -- ---- the statements
-
-no_member : {X : Type 0} (x : X) → ¬ Contains [] x
-no_member x among = none_of_none (λ y. y ≡ x) (in_some (λ y. y ≡ x) [] x among refl)
-
-pub kept_none : (access : AccessValue) (action : List ℕ) (Are : Contexts) → AreKeptOf access action Are [] []
-kept_none access action Are = record {
-  applying = λ it among. absurd (no_member it among);
-  matching = λ context s is among matched. absurd (no_member s among);
-}
 
 last_in : {X : Type 0} (xs : List X) (x : X) → Contains (xs ++ x ∷ []) x
 last_in xs x = Contains-append_right xs (x ∷ []) x (0, omega arith, refl)

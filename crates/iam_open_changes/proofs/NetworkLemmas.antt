@@ -1,10 +1,8 @@
 -- Networks, ranges that hold them, and their halves.
 use Rattle.std.proofs.Common.{◌≡◌, ◌∙◌, ◌⊎◌, ◌+◌, ◌-◌, ◌*◌, ◌/◌, ◌%◌, ◌^◌, ◌<◌, ◌≤◌, ℕ, List, ap, arith, inl, inr, pow_mono, subst, sym}
 use Rattle.std.proofs.lemmas.Nat.{div-add-mod', shr-shr, shr_below}
-use Rattle.std.specs.List.{Any}
 use Rattle.iam_condition.specs.declared.operand.Operand.{Operand}
-use Rattle.iam_open.proofs.ListLemmas.{in_some, some_in}
-use Rattle.iam_open_changes.specs.Code.Implied.{AreHeld, HoldsAddress, HoldsAll, HoldsNetwork, IsNetworkOf}
+use Rattle.iam_open_changes.specs.Code.Implied.{AreHeld, HoldsAll, IsNetworkOf}
 use Rattle.iam_open_changes.specs.declared.network.Network.{Network}
 use Rattle.iam_value.specs.Address.{Block, first_bits}
 
@@ -38,12 +36,6 @@ holds_all range network long width fewer fronts address (of_width, bits) =
       ap (λ n. range.address.number / 2 ^ (n - range.prefix)) width ∙ fronts ∙ more
           ∙ ap (λ n. address.number / 2 ^ (n - range.prefix)) of_width,
     )
-
--- what one range holds is held
-pub held_by_one : (network : Network) (values : List Operand) → Any (HoldsNetwork network) values → AreHeld network values
-held_by_one network values some address inside =
-    let (value, among, (range, is, holds)) = some_in (HoldsNetwork network) values some in
-    in_some (HoldsAddress address) values value among (range, is, holds address inside)
 
 -- each address of a network is in its lower or in its upper half
 halves : (c f : ℕ) → c / 2 ≡ f → (c ≡ f * 2) ⊎ (c ≡ f * 2 + 1)

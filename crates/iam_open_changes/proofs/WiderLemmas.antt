@@ -1,5 +1,5 @@
 -- Patterns that match whatever others match.
-use Rattle.std.proofs.Common.{◌≡◌, ◌∙◌, ◌+◌, ◌<◌, ◌==◌, if◌then◌else◌, ℕ, suc, List, [], ◌∷◌, ◌++◌, All, Bool, false, ap, append_assoc, arith, get_or, length, map, refl, subst, sym, take}
+use Rattle.std.proofs.Common.{◌≡◌, ◌∙◌, ◌+◌, ◌<◌, ℕ, suc, List, [], ◌∷◌, ◌++◌, All, ap, append_assoc, arith, get_or, length, map, refl, subst, sym, take}
 use Rattle.std.proofs.Math.Utf8.{encode}
 use Rattle.std.proofs.lemmas.List.{append-nil, map-append, take_more}
 use Rattle.std.proofs.lemmas.Str.{IsUtf8-encode, chars-append, chars-nil, chars_past_char}
@@ -56,13 +56,6 @@ runs_match (sign ∷ wide) written text runs (part ∷ parts, (fit, rest), is) m
     let (more, are_more, joined) =
     runs_match wide (concat parts) back (λ k d below. runs (suc k) d (omega (arith, below))) (parts, rest, refl) last in
     (front ∷ more, (fits_on sign part front (runs 0 sign (omega arith)) fit first, are_more), ap (λ t. front ++ t) joined ∙ sym split)
-
--- a character that is no wildcard stands for itself
-pub stands : (c : ℕ) → (c == 42) ≡ false → (c == 63) ≡ false → wild_sign c ≡ Given c
-stands c star one = go (c == 42) (c == 63) refl refl star one
-  where
-    go : (a b : Bool) → (c == 42) ≡ a → (c == 63) ≡ b → a ≡ false → b ≡ false → (if c == 42 then Any else (if c == 63 then One else Given c)) ≡ Given c
-    go a b is is' none none' = rw (is ∙ none, is' ∙ none') refl
 
 -- a text with one more character
 pub one_more : (bytes : List ℕ) (c : ℕ) → IsUtf8 bytes → IsScalar c → chars (bytes ++ encode c) ≡ chars bytes ++ (c ∷ [])

@@ -4,6 +4,9 @@ mod ConcernedLemmas
 mod GroupLemmas
 mod LineLemmas
 mod LookedLemmas
+mod ReportLemmas
+mod RowLemmas
 mod SaidLemmas
+mod SpotLemmas
 mod TextLemmas
 mod TurnedLemmas

@@ -8,21 +8,22 @@ use Rattle.iam_layers.specs.declared.unnamed.Unnamed.{Unnamed}
 use Rattle.iam_open.specs.Seat.{IsSeat}
 use Rattle.iam_open.specs.declared.scene.Target.{Target}
 use Rattle.iam_open.specs.declared.scene.Target.TheVariants as target
-use Rattle.iam_open_every.specs.Lines.{AsksBeyondOn}
-use Rattle.iam_open_every.specs.Looked.{AreOpenGroupsAt, AsksBeyondAt}
+use Rattle.iam_open_every.specs.Lines.{OnLine}
+use Rattle.iam_open_every.specs.Looked.{AreOpenGroupsAt}
 use Rattle.iam_world.specs.World.{WorldValue}
 
-pub beyond_on : (every : EveryValue) (p : ℕ) (line : LineValue) (world : WorldValue) (q : ℕ) (t : Target) (text : Bor (List ℕ))
-    → world ≡ every.world → q ≡ p → t ≡ target.Unnamed line.unnamed text
-    → ((other : WorldValue) (r : ℕ) → IsSeat world t other r → AsksBeyondAt other q r) → AsksBeyondOn every p line
-beyond_on every p line world q t text world_is who is asks = (
+-- what holds of its scene holds on the line
+pub on_line : (P : WorldValue → ℕ → ℕ → Type 0) (every : EveryValue) (p : ℕ) (line : LineValue) (world : WorldValue) (q : ℕ) (t : Target)
+    (text : Bor (List ℕ)) → world ≡ every.world → q ≡ p → t ≡ target.Unnamed line.unnamed text
+    → ((other : WorldValue) (r : ℕ) → IsSeat world t other r → P other q r) → OnLine P every p line
+on_line P every p line world q t text world_is who is holds = (
   text.now,
   λ action resource said.
       let w = world_and every.world action resource in
       let n = length every.world.resources in
       let seat : IsSeat world t w n = subst (λ (x : WorldValue). IsSeat x t w n) (sym world_is)
       (subst (λ (x : Target). IsSeat every.world x w n) (sym is) (action, resource, said, refl, refl)) in
-      subst (λ m. AsksBeyondAt w m n) who (asks w n seat),
+      subst (λ m. P w m n) who (holds w n seat),
 )
 
 -- groups that tell texts apart in its scene tell those of the line apart

@@ -1,11 +1,13 @@
 -- Requests in contexts in question, and the one that is looked at.
-use Rattle.std.proofs.Common.{◌≡◌, ◌∙◌, ◌≤◌, ◌++◌, ◌∷◌, [], ℕ, Bool, false, List, None, Option, Some, IfSome, ap, append-nil, append_assoc, arith, length, map, refl, subst, sym}
+use Rattle.std.proofs.Common.{◌≡◌, ◌∙◌, ◌≤◌, ◌++◌, ◌∷◌, [], ℕ, Bool, false, List, None, Option, Some, IfSome, option_map, ap, append-nil, append_assoc, arith, length, map, refl, subst, sym}
 use Rattle.std.specs.List.{list_any, slice_get}
 use Rattle.iam_context.specs.Context.{ContextValue, all_of, derived_names, has_key, has_twice, is_same_key, joined, keys_of}
 use Rattle.iam_context.specs.ContextFault.{IsClean}
 use Rattle.iam_context.specs.declared.fault.ContextFault.TheVariants.{DerivedKeyGiven, KeyTwice, OutOfMemory}
 use Rattle.iam_match.specs.Statement.{AccessValue}
 use Rattle.iam_decision.specs.Applicable.{ApplicableValue}
+use Rattle.iam_decision.specs.Matched.{Placed, placed}
+use Rattle.iam_glob.specs.declared.sign.Sign.{Sign}
 use Rattle.iam_world.specs.World.{PrincipalValue, ResourceValue, WorldValue}
 use Rattle.iam_layers.specs.Applicable.{applicable_of}
 use Rattle.iam_layers.specs.Cell.{IsApplicableAt, IsPrincipal}
@@ -25,7 +27,9 @@ use Rattle.iam_open.proofs.ListLemmas.{neither, neither_is}
 use Rattle.iam_open.proofs.TriedLemmas.{none_tried}
 use Rattle.iam_open.proofs.TurnLemmas.{OneStamp, turn_agrees}
 use Rattle.iam_open_every.specs.Alike.{AreReadAlikeBy}
-use Rattle.iam_open_every.specs.Looked.{AgreeingTextsAreTurnedAlike, ContextsInQuestionFollow, IsContextSeen, IsLookedAt, IsSeen}
+use Rattle.iam_open_every.specs.Concerned.{AreConcerned}
+use Rattle.iam_open_every.specs.Groups.{groups_at}
+use Rattle.iam_open_every.specs.Looked.{AgreeingTextsAreTurnedAlike, AreGroupsSeen, ContextsInQuestionFollow, IsContextSeen, IsLookedAt, IsSeen}
 use Rattle.iam_open_every.proofs.GroupLemmas.{agreeing_texts}
 use Rattle.iam_open_every.proofs.TurnedLemmas.{by_text, said_too, turned_alike}
 
@@ -156,6 +160,13 @@ agreeing_turned one decide world p unnamed a looked known found groups action te
 pub some_weaker : {T : Type 0} (P Q : T → Type 0) → ((x : T) → P x → Q x) → (o : Option T) → IfSome o P → IfSome o Q
 some_weaker P Q on None some = tt
 some_weaker P Q on (Some x) some = on x some
+
+-- the groups that are seen, if there are some
+pub groups_seen : {X : Type 0} (f : X → List (List (List Sign))) (world : WorldValue) (p r : ℕ) (a : ApplicableValue) (looked : AccessValue)
+    (known : List (List ℕ)) (found : List Placed) → IsSeen world p r a looked known → AreConcerned looked known (placed a) found → (o : Option X)
+    → option_map f o ≡ groups_at known looked.context found → IfSome o (λ x. AreGroupsSeen world p r (f x))
+groups_seen f world p r a looked known found seen are None is = tt
+groups_seen f world p r a looked known found seen are (Some x) is = (a, looked, known, found, seen, are, sym is)
 
 -- what is asked of a scene whose resource the world does not name
 pub scene_looked : (world : WorldValue) (p : ℕ) (t : Target) (unnamed : Unnamed) (text : _) (a : ApplicableValue) (looked : AccessValue)

@@ -1,10 +1,13 @@
 pub mod Actions
 pub mod Alike
+pub mod Code
 pub mod Concerned
-pub mod Given
 pub mod Groups
 pub mod Lines
 pub mod Looked
+pub mod Report
+pub mod Rows
 pub mod Said
+pub mod Spots
 pub mod Texts
 pub mod Turned

@@ -6,23 +6,28 @@ use Rattle.iam_glob.specs.declared.sign.Sign.{Sign}
 use Rattle.iam_kinds.specs.States.{PassesLimit}
 use Rattle.iam_layers.specs.Unnamed.{IsSaid, world_and}
 use Rattle.iam_every.specs.Every.{EveryValue, LineValue, line_question}
-use Rattle.iam_open_every.specs.Looked.{AreOpenGroupsAt, AsksBeyondAt}
+use Rattle.iam_open_every.specs.Looked.{AreGroupsSeen, AreOpenGroupsAt, AsksBeyondAt}
 use Rattle.iam_open_every.specs.Texts.{AreAllTexts}
 use Rattle.iam_open_every.specs.declared.lines.LineTexts.{LineTexts}
 use Rattle.iam_open_every.specs.declared.lines.LineTexts.TheVariants.{Shown, TooMany, Beyond}
-use Rattle.iam_world.specs.World.{ResourceValue}
+use Rattle.iam_world.specs.World.{ResourceValue, WorldValue}
 
--- by groups that tell apart all texts that are not alike there are too many kinds of texts
+-- P holds where principal p asks for a resource that is like those of the line
+abbrev pub OnLine : (WorldValue → ℕ → ℕ → Type 0) → EveryValue → ℕ → LineValue → Type 0
+OnLine P every p line =
+    (text : List ℕ) × ((action : List ℕ) (resource : ResourceValue) → IsSaid every.world line.unnamed text resource
+    → P (world_and every.world action resource) p (length every.world.resources))
+
+-- by the groups of the statements that may concern, which tell apart all texts that are not alike, there are too many kinds of texts
 pub record AreTooMany (every : EveryValue) (p k : ℕ) (line : LineValue) : Type 0 where
   pub groups : List (List (List Sign))
+  pub seen : OnLine (λ world q r. AreGroupsSeen world q r groups) every p line
   pub tell : AreOpenGroupsAt every.world p line.unnamed groups
   pub passes : PassesLimit (line_question every k line groups)
 
 -- on a resource that is like those of the line, a text of a resource element asks for a key that is not known
 abbrev pub AsksBeyondOn : EveryValue → ℕ → LineValue → Type 0
-AsksBeyondOn every p line =
-    (text : List ℕ) × ((action : List ℕ) (resource : ResourceValue) → IsSaid every.world line.unnamed text resource
-    → AsksBeyondAt (world_and every.world action resource) p (length every.world.resources))
+AsksBeyondOn = OnLine AsksBeyondAt
 
 -- this holds of line k where principal p asks
 abbrev pub AreLineTexts : EveryValue → ℕ → ℕ → LineTexts → Type 0

@@ -1,6 +1,6 @@
 -- The context that is looked at where a principal asks for resources that a world does not name, and what those in question have in
 -- common with it: AWS IAM User Guide, "AWS global condition context keys". LOGIC 9.1, 9.2 and 11.12.
-use Rattle.std.specs.Prelude.{◌≡◌, ℕ, List, [], None, Any, length, true}
+use Rattle.std.specs.Prelude.{◌≡◌, ℕ, List, [], None, Some, Any, length, true}
 use Rattle.std.specs.Str.{chars}
 use Rattle.iam_context.specs.Context.{ContextValue}
 use Rattle.iam_glob.specs.declared.sign.Sign.{Sign}
@@ -17,7 +17,7 @@ use Rattle.iam_open.specs.Code.Known.{Follows}
 use Rattle.iam_open.specs.Code.Tried.{AreKnownAt}
 use Rattle.iam_open.specs.InQuestion.{at_moment}
 use Rattle.iam_open_every.specs.Concerned.{AreConcerned, MayConcern}
-use Rattle.iam_open_every.specs.Groups.{AreOpenGroups, element_beyond}
+use Rattle.iam_open_every.specs.Groups.{AreOpenGroups, element_beyond, groups_at}
 use Rattle.iam_open_every.specs.Turned.{AreTurnedAlike, IsUnnamedAskedIn}
 
 -- what is seen where principal p asks for resource r of the world and nothing gives further keys, at its moment: who asks in which context,
@@ -62,6 +62,12 @@ AgreeingTextsAreTurnedAlike =
 abbrev pub AreOpenGroupsAt : WorldValue → ℕ → Unnamed → List (List (List Sign)) → Type 0
 AreOpenGroupsAt world p unnamed groups =
     (action one other : List ℕ) → Groups.AgreeOn groups (chars one) (chars other) → AreTurnedAlike world p unnamed action one other
+
+-- the groups are those of the statements that may concern, as principal p asks for resource r of the world
+abbrev pub AreGroupsSeen : WorldValue → ℕ → ℕ → List (List (List Sign)) → Type 0
+AreGroupsSeen world p r groups =
+    (a : ApplicableValue) × (looked : AccessValue) × (known : List (List ℕ)) × (found : List Placed) × IsSeen world p r a looked known
+    × AreConcerned looked known (placed a) found × (groups_at known looked.context found ≡ Some groups)
 
 -- where principal p asks for resource r of the world, a text of the resource element of a statement that may concern it asks for a key that
 -- is not known

@@ -1,18 +1,17 @@
 // The groups of patterns by which statements read the text of a resource, in all contexts that agree on what is known.
 ghost use Rattle.std.specs.Prelude.{◌≡◌, ◌++◌, IfOk, IfSome, OnOk, map, option_map};
-ghost use Rattle.std.specs.List.{filter_map, list_any};
-ghost use Rattle.iam_context.specs.Resolve.{resolved};
+ghost use Rattle.std.specs.List.{list_any};
 ghost use Rattle.iam_decision.specs.Code.Scan.{placed_value};
-ghost use Rattle.iam_every.specs.Groups.{groups_of, signs_of};
+ghost use Rattle.iam_every.specs.Groups.{groups_of};
 ghost use Rattle.iam_open.specs.Code.Known.{text_beyond};
 ghost use Rattle.iam_open_every.specs.Groups.{AreOpenGroups, element_beyond, element_groups, groups_at};
 
-use iam_context::{Context, resolve};
+use iam_context::Context;
 use iam_decision::Standing;
-use iam_every::Pattern;
+use iam_every::{Pattern, add_patterns};
 use iam_match::{OutOfMemory, Statement};
 use iam_open::{Known, text_beyond};
-use iam_text::{Template, TemplateForm};
+use iam_text::Template;
 use std::alloc::Global;
 
 /// For each of the statements that has a resource element a group: the patterns that the texts of the element become in the context, which
@@ -75,40 +74,8 @@ fn add_group<'c>(
     let Some(element) = statement.resource() else {
         return Ok(());
     };
-    groups.push(patterns_of(alloc, element.texts(), context)?)?;
-    Ok(())
-}
-
-/// The patterns that the texts become in the context; a text that becomes none matches nothing, and is left out.
-fn patterns_of<'c>(
-    alloc: Global,
-    texts: &'c [Template],
-    context: &Context<'c>,
-) -> Result<Vec<Pattern<'c>>, OutOfMemory>
-    ensures { IfOk result (λ patterns. map signs_of patterns.items ≡ filter_map (resolved context.now) texts.now) }
-{
     let mut patterns = Vec::new(alloc);
-    for text in texts {
-        if let Some(pattern) = pattern_of(alloc, text, context)? {
-            patterns.push(pattern)?;
-        }
-    }
-    Ok(patterns)
-}
-
-/// The pattern that the text becomes in the context; `None` where it becomes none.
-fn pattern_of<'c>(
-    alloc: Global,
-    text: &'c Template,
-    context: &Context<'c>,
-) -> Result<Option<Pattern<'c>>, OutOfMemory>
-    ensures { IfOk result (λ found. option_map signs_of found ≡ resolved context.now text.now) }
-{
-    match text.form() {
-        TemplateForm::Fixed(glob) => Ok(Some(Pattern::Fixed(glob))),
-        TemplateForm::Open(draft) => {
-            let found = resolve(alloc, draft, context)?;
-            Ok(found.map(|glob| Pattern::Made(glob)))
-        }
-    }
+    add_patterns(alloc, &mut patterns, element.texts(), context)?;
+    groups.push(patterns)?;
+    Ok(())
 }

@@ -8,23 +8,29 @@
 
 mod actions;
 mod concerned;
-mod given;
+mod crew;
 mod groups;
 mod laws;
 mod lines;
+mod report;
+mod row_text;
+mod rows;
 mod said;
 mod scene;
+mod spots;
 mod texts;
 
 pub use actions::{alike_actions_are_turned_alike, all_actions};
 pub use concerned::concerns;
-pub use given::Given;
 pub use groups::open_groups;
 pub use laws::{
     agreeing_texts_are_read_alike, agreeing_texts_are_turned_alike, alike_texts_are_told_alike,
     contexts_in_question_follow, read_alike_are_turned_alike, read_alike_decide_alike,
 };
 pub use lines::{LineTexts, line_texts};
+pub use report::open_every_report;
+pub use rows::{Row, rows_of};
 pub use said::{Said, said_on};
 pub use scene::scene_groups;
+pub use spots::{Spot, spots_of};
 pub use texts::all_texts;

@@ -1,15 +1,14 @@
 // What can be shown of the texts of a line.
 ghost use Rattle.std.specs.Prelude.{◌≡◌, ◌<◌, IfOk, length};
-ghost use Rattle.iam_every.specs.Code.Rows.{AreWalksOf};
+ghost use Rattle.iam_every.specs.Code.Rows.{AreWalksOf, IsGiven};
 ghost use Rattle.iam_every.specs.Every.{every_of};
 ghost use Rattle.iam_layers.specs.Unnamed.{IsThere};
 ghost use Rattle.iam_open.specs.declared.scene.Target.TheVariants as target;
-ghost use Rattle.iam_open_every.specs.Given.{IsGiven};
 ghost use Rattle.iam_open_every.specs.Lines.{AreLineTexts};
 
-use crate::given::Given;
 use crate::scene::scene_groups;
 use crate::texts::all_texts;
+use iam_every::Given;
 use iam_kinds::Walks;
 use iam_layers::Unnamed;
 use iam_match::OutOfMemory;
@@ -58,7 +57,7 @@ pub fn line_texts(
 }
 
 /// The principal, and the resource of this text that the world does not name, of which this is said.
-fn scene_of<'a>(given: Given<'a>, unnamed: Unnamed<'a>, text: &'a str) -> Scene<'a, 'a>
+pub fn scene_of<'a>(given: Given<'a>, unnamed: Unnamed<'a>, text: &'a str) -> Scene<'a, 'a>
     requires given { IsGiven given }
     requires there { IsThere given.asked.world.now unnamed }
     ensures world { result.world.now ≡ given.entry.asked.world.now }

@@ -4,7 +4,7 @@ ghost use Rattle.iam_every.specs.Groups.{groups_of};
 ghost use Rattle.iam_layers.specs.declared.unnamed.Unnamed.{Unnamed};
 ghost use Rattle.iam_open.specs.Seat.{IsSeat};
 ghost use Rattle.iam_open.specs.declared.scene.Target.TheVariants as target;
-ghost use Rattle.iam_open_every.specs.Looked.{AreOpenGroupsAt, AsksBeyondAt, IsContextSeen};
+ghost use Rattle.iam_open_every.specs.Looked.{AreGroupsSeen, AreOpenGroupsAt, AsksBeyondAt, IsContextSeen};
 ghost use Rattle.iam_world.specs.World.{WorldValue};
 
 use crate::concerned::concerns;
@@ -32,6 +32,8 @@ pub fn scene_groups<'c>(
     requires context { (other : WorldValue) (r : ℕ) → IsSeat scene.world.now scene.target other r → IsContextSeen other scene.p r context.now }
     ensures apart { (unnamed : Unnamed) (text : _) → scene.entry.target ≡ target.Unnamed unnamed text
         → IfOk result (λ found. IfSome found (λ groups. AreOpenGroupsAt scene.entry.world.now scene.entry.p unnamed (groups_of groups.items))) }
+    ensures seen { (other : WorldValue) (r : ℕ) → IsSeat scene.entry.world.now scene.entry.target other r
+        → IfOk result (λ found. IfSome found (λ groups. AreGroupsSeen other scene.entry.p r (groups_of groups.items))) }
     ensures beyond { (other : WorldValue) (r : ℕ) → IsSeat scene.entry.world.now scene.entry.target other r
         → IfOk result (λ found. found ≡ None → AsksBeyondAt other scene.entry.p r) }
 {

@@ -1,14 +1,12 @@
 // Texts of resources that policies do not tell apart, whatever values the keys have that nothing gives.
 ghost use Rattle.std.specs.Prelude.{◌<◌, IfOk, length, map, option_map, string_bytes};
 ghost use Rattle.iam_decision.specs.Matched.{Selects};
-ghost use Rattle.iam_every.specs.Code.Rows.{AreWalksOf, IsFirstOf};
+ghost use Rattle.iam_every.specs.Code.Rows.{AreWalksOf, IsFirstOf, IsGiven};
 ghost use Rattle.iam_every.specs.Every.{every_of, line_of};
 ghost use Rattle.iam_every.specs.Groups.{groups_of};
-ghost use Rattle.iam_open_every.specs.Given.{IsGiven};
 ghost use Rattle.iam_open_every.specs.Texts.{AreTextsBy};
 
-use crate::given::Given;
-use iam_every::{Line, Pattern, is_first_line, text_kinds};
+use iam_every::{Given, Line, Pattern, is_first_line, text_kinds};
 use iam_kinds::{Kinds, Walks};
 use iam_match::OutOfMemory;
 use std::alloc::Global;

@@ -1,5 +1,6 @@
-use Rattle.std.proofs.Common.{◌≡◌, ◌↔◌, ◌<◌, ◌≤◌, ◌∙◌, [], Any, List, IsTrue, false, length, string_bytes, subst, sym}
+use Rattle.std.proofs.Common.{◌≡◌, ◌↔◌, ◌<◌, ◌≤◌, ◌∙◌, ◌++◌, [], Any, List, IsTrue, ap, false, length, string_bytes, subst, sym}
 use Rattle.std.specs.List.{flat_map}
+use Rattle.iam_row.specs.Piece.{closing_text}
 use Rattle.iam_every.specs.Every.{every_of}
 use Rattle.iam_every.specs.declared.crew.Chosen.{Chosen}
 use Rattle.iam_every.specs.Report.{has_unshown}
@@ -25,7 +26,8 @@ returns-clause-ok g c =
     let F : List Chosen → Type 0 = λ chosen. length (rows_in chosen) ≤ 16777216 in
     let few = subst F c.as_slice.ensures.value (c.are_few.ensures.0 c.if-not-are_few.false) in
     reported c.args.format c.args.brief every c.args.principals.now c.args.decisions.now c.in_ok-all.all.items (flat_map string_bytes c.in_ok-rows.rows.items) c.of.result
-    c.requires.principals c.in_ok-all.ensures few c.in_ok-rows.ensures c.of.ensures
+    c.requires.principals c.in_ok-all.ensures few c.in_ok-rows.ensures
+    (c.of.ensures ∙ ap (λ front. front ++ (flat_map string_bytes c.in_ok-rows.rows.items ++ closing_text c.args.format)) c.opening.ensures)
 
 pub returns-clause-some : goal.returns-clause-some
 returns-clause-some g c =

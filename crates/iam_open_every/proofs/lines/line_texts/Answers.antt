@@ -4,9 +4,9 @@ use Rattle.iam_every.specs.Every.{LineValue, every_of, line_of}
 use Rattle.iam_every.specs.Groups.{groups_of}
 use Rattle.iam_every.proofs.LineLemmas.{line_has, line_read}
 use Rattle.iam_layers.specs.Unnamed.{IsThere}
-use Rattle.iam_open_every.specs.Looked.{AreOpenGroupsAt}
+use Rattle.iam_open_every.specs.Looked.{AreGroupsSeen, AreOpenGroupsAt, AsksBeyondAt}
 use Rattle.iam_open_every.specs.Texts.{AreTextsBy}
-use Rattle.iam_open_every.proofs.LineLemmas.{beyond_on, tell_by}
+use Rattle.iam_open_every.proofs.LineLemmas.{on_line, tell_by}
 use Rattle.iam_open_every.proofs.lines.line_texts.Goals as goal
 
 pub scene_of-scene-requires-clause-there : goal.scene_of-scene-requires-clause-there
@@ -24,7 +24,7 @@ returns-in_default-2-clause-texts c =
     let of = c.scene_of-scene.ensures in (
       line,
       line_read lines k c.index-given-k.result c.requires.line,
-      beyond_on every c.args.given.p line scene.world.now scene.p scene.target _ of.world of.principal of.target
+      on_line AsksBeyondAt every c.args.given.p line scene.world.now scene.p scene.target _ of.world of.principal of.target
           (λ other r seat. c.in_ok-groups.ensures.beyond other r seat c.in_default-2.is),
     )
 
@@ -67,6 +67,9 @@ returns-clause-texts c =
       line_read lines k d c.requires.line,
       record {
         groups = groups;
+        seen = on_line (λ world q r. AreGroupsSeen world q r groups) every p line scene.world.now scene.p scene.target _ of.world of.principal of.target
+            (λ other r seat. subst (λ found. IfSome found (λ gs. AreGroupsSeen other scene.p r (groups_of gs.items))) c.in-Some.is
+            (c.in_ok-groups.ensures.seen other r seat));
         tell = tell_by every p line scene.world.now scene.p scene.target _ groups of.world of.principal of.target
             (λ unnamed text is. subst (λ found. IfSome found (λ gs. AreOpenGroupsAt scene.world.now scene.p unnamed (groups_of gs.items))) c.in-Some.is
             (c.in_ok-groups.ensures.apart unnamed text is));

@@ -1,7 +1,7 @@
-use Rattle.std.proofs.Common.{◌≡◌, ◌∙◌, List, arith, length, map, string_bytes, take, sym, ap, subst}
+use Rattle.std.proofs.Common.{◌≡◌, ◌∙◌, All, List, arith, length, map, string_bytes, take, sym, ap, subst}
 use Rattle.std.proofs.lemmas.List.{length-map, length-take-le, take-map}
 use Rattle.std.proofs.lemmas.Simd.{map-map}
-use Rattle.std.specs.Str.{chars}
+use Rattle.std.specs.Str.{IsUtf8, chars}
 use Rattle.iam_glob.specs.Signs.{signs_in}
 use Rattle.iam_glob.specs.declared.sign.Sign.{Sign}
 use Rattle.iam_kinds.specs.Answers.{IsAnswer}
@@ -37,7 +37,7 @@ returns-in_ok-first_texts-in-Shown-clause-texts c = λ line at p tell.
     (c.in_ok-texts.ensures.answer (map (λ resource. resource.arn) every.world.resources) (sym c.requires.walks.names)) in
     let shown = subst (λ (x : Kinds). IsAnswer (line_question every k line groups) x) c.in-Shown.is answer in
     are_texts every p k line groups (map string_bytes c.in-Shown.texts.items) (map string_bytes c.in_ok-first_texts-in-Shown.field-0.items)
-    c.requires.given.names at (subst (AreKinds (line_question every k line groups)) (sym (map-map chars string_bytes c.in-Shown.texts.items)) shown.0)
+    (subst (All IsUtf8) c.requires.given.names.are c.requires.given.names.utf8) at (subst (AreKinds (line_question every k line groups)) (sym (map-map chars string_bytes c.in-Shown.texts.items)) shown.0)
     c.in_ok-first_texts-in-Shown.ensures tell
 
 pub returns-in-NotShown-clause-texts : goal.returns-in-NotShown-clause-texts
