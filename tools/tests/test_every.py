@@ -1,11 +1,18 @@
-"""every, on the program as it is built: files of lines, their limits, streams that fail, memory that is refused, and patterns that
-were made to take long."""
+"""every, on the program as it is built: files of lines, their limits, streams that fail, memory that is refused,
+patterns that were made to take long, and rows of any key beside the matrix of random names."""
 
+import collections
 import json
 import os
+import sys
 
-from harness import EXAMPLES, IAMSIM, answer, document, file, patience, row_world, same, small_world, statement
+from harness import EXAMPLES, IAMSIM, TOOLS, answer, document, file, patience, row_world, same, small_world, statement
 from test_refused import FORMS, LINES, refused, tell
+
+sys.path.insert(0, os.path.join(os.path.dirname(TOOLS), "bench"))
+from random_keys import with_open_keys
+from random_lines import Extended, Question, without_doubles
+from random_worlds import Maker, requester
 
 ANN, KEY, B = "arn:aws:iam::111122223333:user/ann", "arn:aws:s3:::b/k", "arn:aws:s3:::b/"
 SMALLEST, COMPANY = (os.path.join(EXAMPLES, f"{name}.json") for name in ("smallest", "company"))
@@ -73,7 +80,7 @@ def test_statuses():
 
 def test_any_number_of_workers():
     lines = file(widened(COMPANY))
-    for words in ([], ["--action", "*"], ["--action", "KMS:?*", "--decision", "allowed"]):
+    for words in ([], ["--action", "*"], ["--action", "KMS:?*", "--decision", "allowed"], ["--any-key"]):
         for form in FORMS:
             found = {
                 every(COMPANY, "--texts", lines, *words, *form, "--workers", number) for number in ("1", "2", "7", "64")
@@ -129,7 +136,7 @@ def jobs(kind, path):
     with open(path, "rb") as it:
         world = it.read()
     lines = file(widened(path))
-    for words in ([], ["--action", "*", "--workers", "1", "--brief", "--format", "json"]):
+    for words in ([], ["--any-key"], ["--action", "*", "--workers", "1", "--brief", "--format", "json"]):
         for later in (0, 1):
             yield kind, later, ["every", "--texts", lines, *words], world
     for faulty in ("x\n", lines_of([LINE, {**LINE, "like": 9}])):
@@ -189,3 +196,62 @@ def test_patterns_that_are_made_to_take_long():
         shown = {line.rsplit(b",", 1)[1] for line in out.splitlines()[1:]}
         same((status, said), (5 if b"notShown" in shown else 0, b""), what)
         assert shown and shown <= {b"allowed", b"implicitDeny", b"notShown"}, f"{what}: {shown}"
+
+
+class Turned(Extended):
+    """What `matrix --any-key` says of a world that has more names too."""
+
+    def matrix(self):
+        world = self.question.world
+        resources = [*world["resources"], *map(self.question.resource, self.texts)]
+        made = {**world, "actions": self.actions, "resources": resources}
+        return answer(["matrix", "--any-key", "--format", "json", "--allow-empty"], json.dumps(made).encode())
+
+    def of(self, row, text):
+        """What is said of a row's request, but for this text in place of its own."""
+        named = self.question.named
+        number = named.index(text) if named.count(text) == 1 else self.number(text)
+        who = [requester(it) for it in self.question.world["principals"]].index(row["principal"])
+        return None if number is None else {**self.cell(who, row["action"], number), "cell": row["cell"]}
+
+
+def any_key(question):
+    """The rows of every --any-key, and the matrix of their texts and of others that the lines match."""
+    words = ["--any-key", "--texts", file(lines_of(question.lines)), "--format", "json"]
+    words += ["--action", question.action] if question.action else []
+    status, out, said = every("-", *words, given=json.dumps(question.world).encode())
+    assert status in (0, 4, 5), said
+    rows = json.loads(out)
+    sampled = [text for number in range(len(question.lines)) for text in question.texts_of(number)]
+    own = [it["resource"] for it in rows if it["decision"] != "notShown" and it["resource"] not in question.named]
+    turned = Turned(question, [it["action"] for it in rows if it["decision"] != "notShown"], own + sampled)
+    same(turned.fault, "")
+    return rows, turned
+
+
+def test_any_key_beside_the_matrix():
+    """Each row stands in the matrix, and no name contradicts all rows of the line that speaks of it."""
+    contradictions = {"always", "never"}, {"never", "possible"}
+    names, words = 0, set()
+    for seed in range(40):
+        world = Maker(seed).world()
+        if answer(["check"], world)[0] != 0:
+            continue
+        question = Question(seed, with_open_keys(seed, without_doubles(json.loads(world))))
+        rows, turned = any_key(question)
+        told = collections.defaultdict(list)
+        for row in rows:
+            words.add(row["decision"])
+            if row["decision"] == "notShown":
+                place = [it["pattern"] for it in question.lines].index(row["resource"])
+            else:
+                place = question.place(row["resource"])
+                same(turned.of(row, row["resource"]) or row, row, f"{seed}")
+            if row["resource"] not in question.named:
+                told[row["principal"], row["action"], place].append(row)
+        for (_, action, place), some in told.items():
+            for text in (it for it in turned.texts if action in turned.actions and question.place(it) == place):
+                cell = turned.of(some[0], text)
+                assert any({it["decision"], cell["decision"]} not in contradictions for it in some), f"{cell} {some}"
+                names += 1
+    assert names > 500 and words == {"always", "never", "possible", "open", "notShown"}, f"{names} {words}"

@@ -11,8 +11,6 @@ from harness import ROWS, TOOLS, run
 TOP = os.path.dirname(TOOLS)
 # What is left out.
 LEFT_OUT = {"1.2"}
-# What no command tells yet.
-UNTOLD = {"11.12"}
 # What is left out, and the examples of other sections.
 WITHOUT_DEFINITIONS = LEFT_OUT | {"6.11", "11.5"}
 
@@ -87,7 +85,7 @@ def test_each_row_names_a_section_and_each_section_has_a_row():
         rows = json.loads(read(path))
         if isinstance(rows, list):
             tried |= {row["rule"] for row in rows}
-    assert tried == set(sections()) - LEFT_OUT - UNTOLD, set(sections()) ^ tried
+    assert tried == set(sections()) - LEFT_OUT, set(sections()) ^ tried
 
 
 def test_proofs_has_the_number_of_trusted_definitions():

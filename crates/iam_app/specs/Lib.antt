@@ -1,5 +1,6 @@
 pub mod AnyKey
 pub mod AnyKeyChanges
+pub mod AnyKeyNames
 pub mod Ask
 pub mod Changes
 pub mod ChangesFault

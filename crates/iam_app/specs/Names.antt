@@ -1,5 +1,5 @@
 -- What a run about all names writes, and why it ends without its report. LOGIC 13.9.
-use Rattle.std.specs.Prelude.{◌≡◌, ◌≢◌, ◌∷◌, [], ℕ, List, Option, String, ⊤, chars, codes, length, option_map, string_bytes, unwrap_or}
+use Rattle.std.specs.Prelude.{◌≡◌, ◌≢◌, ◌∷◌, [], ℕ, List, MatchBool, Option, String, ⊤, chars, codes, length, option_map, string_bytes, unwrap_or}
 use Rattle.std.specs.Global.{Global}
 use Rattle.std.specs.List.{AllZip, range_with_len}
 use Rattle.iam_glob.specs.Glob.{Matches}
@@ -24,6 +24,7 @@ use Rattle.iam_selection.specs.Selection.{IsMeant, pattern_of}
 use Rattle.iam_options.specs.declared.every.EveryCommand.{EveryCommand}
 use Rattle.iam_options.specs.declared.every.Texts.{Texts}
 use Rattle.iam_options.specs.declared.every.Texts.TheVariants as x
+use Rattle.iam_app.specs.AnyKeyNames.{IsAnyKeyNames, IsLongAnyKey}
 use Rattle.iam_app.specs.Ask.{HasWorld}
 use Rattle.iam_app.specs.Changes.{IsNoWorld}
 use Rattle.iam_app.specs.Output.{format_of}
@@ -95,27 +96,32 @@ abbrev pub ArePrincipalsMeant : List (List Sign) → WorldValue → List ℕ →
 ArePrincipalsMeant patterns world principals =
     Selects (IsPrincipalMeant patterns world) (range_with_len 0 (length world.principals)) principals
 
--- for whom the command asks, and by which decisions
-pub record AreChosen (command : EveryCommand) (world : WorldValue) (principals : List ℕ) (decisions : List Decision) : Type 0 where
-  pub meant : ArePrincipalsMeant (patterns_in command.principals.items) world principals
-  pub wanted : AllZip Means command.decisions.items decisions
-
 -- ---- the report
--- the report that the command asks for, of this, and what is told beside it
-pub record IsNamesReport (command : EveryCommand) (every : EveryValue) (text : List ℕ) (told : Told) : Type 0 where
-  pub workers : ¬ IsUnlawful command.options.workers
-  pub principals : List ℕ
+-- the report of these principals by the keys that are given, and what is told beside it
+pub record IsGivenNames (command : EveryCommand) (every : EveryValue) (principals : List ℕ) (text : List ℕ) (told : Told) : Type 0 where
   pub decisions : List Decision
-  pub chosen : AreChosen command every.world principals decisions
+  pub meant : AllZip Means command.decisions.items decisions
   pub report : IsEveryReport (format_of command.options.json) command.options.brief every principals decisions text
   pub some : TellsRows every principals told.some
   pub unshown : TellsUnshown every principals told.unshown
 
 -- there is none since it would be too long
+abbrev pub IsLongGiven : EveryCommand → EveryValue → List ℕ → Type 0
+IsLongGiven command every principals =
+    (decisions : List Decision) × AllZip Means command.decisions.items decisions × IsTooLong every principals decisions
+
+-- the report that the command asks for, of this, and what is told beside it: whatever values the keys have, or by those that are given
+pub record IsNamesReport (command : EveryCommand) (every : EveryValue) (text : List ℕ) (told : Told) : Type 0 where
+  pub workers : ¬ IsUnlawful command.options.workers
+  pub principals : List ℕ
+  pub meant : ArePrincipalsMeant (patterns_in command.principals.items) every.world principals
+  pub report : MatchBool command.any_key (IsAnyKeyNames command every principals text told) (IsGivenNames command every principals text told)
+
+-- there is none since it would be too long
 abbrev pub IsLongReport : EveryCommand → EveryValue → Type 0
 IsLongReport command every =
-    (principals : List ℕ) × (decisions : List Decision) × AreChosen command every.world principals decisions
-    × IsTooLong every principals decisions
+    (principals : List ℕ) × ArePrincipalsMeant (patterns_in command.principals.items) every.world principals
+    × MatchBool command.any_key (IsLongAnyKey command every principals) (IsLongGiven command every principals)
 
 -- the number of workers is unlawful
 abbrev pub IsNoCrew : EveryCommand → MatrixFault → Type 0

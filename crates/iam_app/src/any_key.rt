@@ -50,7 +50,7 @@ fn word(text: &str) -> Word
 }
 
 /// What these words say.
-fn words(alloc: Global, texts: &[String]) -> Result<Vec<Word>, OutOfMemory>
+pub fn words(alloc: Global, texts: &[String]) -> Result<Vec<Word>, OutOfMemory>
     ensures { IfOk result (λ words. AllZip MeansWord texts.now words.items) }
 {
     let mut words = Vec::new(alloc);

@@ -1,17 +1,21 @@
-// A run about all names: the world and the lines are read, the report is made and written.
+// A run about all names, by the keys that are given, or whatever values the others have: the world and the lines are read, the report is
+// made and written.
 ghost use Rattle.std.specs.Prelude.{◌≡◌, ◌↔◌, ◌<◌, ◌∷◌, [], ◌||◌, All, chars, IfErr, IfOk, IsTrue, MatchResult, codes, if◌then◌else◌, length, map, option_map, string_bytes, unwrap_or};
 ghost use Rattle.std.specs.Io.KnownBytes.{Appends};
 ghost use Rattle.std.specs.List.{AllZip};
 ghost use Rattle.iam_glob.specs.Glob.{Matches};
 ghost use Rattle.iam_asked.specs.TextLines.{said_value, text_line_of};
 ghost use Rattle.iam_every.specs.Every.{AreThere, every_of, line_of, pattern_in, written_in};
+ghost use Rattle.iam_every.specs.declared.report.EveryFault.TheVariants as e;
 ghost use Rattle.iam_matrix.specs.Workers.{IsUnlawful};
 ghost use Rattle.iam_selection.specs.Selection.{IsMeant, pattern_of};
+ghost use Rattle.iam_app.specs.AnyKeyNames.{IsAnyKeyNames, IsLongAnyKey};
 ghost use Rattle.iam_app.specs.Code.Naming.{AreKnown, EndsLinesBy, EndsReportBy, IsNoLine, IsNoLines, IsLent, IsNoReport, IsNoReportOf, NamesAll, OfAsked, WritesNames, patterns_of, told_of};
-ghost use Rattle.iam_app.specs.Names.{AreChosen, ArePrincipalsMeant, AreSaid, EndsNamesBy, HasNamesOutput, IsAskedOf, IsLineOf, IsNamesReport, IsOfNoWorld, IsOneLine, IsUnnamedOf, ReadsOfFile};
+ghost use Rattle.iam_app.specs.Names.{ArePrincipalsMeant, AreSaid, EndsNamesBy, HasNamesOutput, IsAskedOf, IsGivenNames, IsLineOf, IsLongGiven, IsNamesReport, IsOfNoWorld, IsOneLine, IsUnnamedOf, ReadsOfFile};
 ghost use Rattle.iam_app.specs.Streams.{ConsumesAtMost};
 
 use crate::OutOfMemory;
+use crate::any_key::words;
 use crate::ask::read_world;
 use crate::cells::format_in;
 use crate::command::NOTHING_ASKED;
@@ -21,9 +25,10 @@ use crate::names_fault::NamesFault;
 use crate::output::write_names;
 use crate::selected::{decisions, patterns};
 use iam_asked::{FaultyText, SaidOf, TextLine, check_said, read_texts};
-use iam_every::{Asked, EveryAnswer, Line, Which, every_report};
+use iam_every::{Asked, EveryAnswer, EveryFault, Line, Which, every_report};
 use iam_layers::{Unnamed, World};
 use iam_matrix::{MatrixFault, Open, is_unlawful};
+use iam_open_every::open_every_report;
 use iam_options::{EveryCommand, Texts};
 use iam_report::buffer;
 use iam_selection::pattern_of;
@@ -195,6 +200,64 @@ pub fn which_of<'a>(action: &'a Option<(Glob, &'a str)>) -> Which<'a>
     }
 }
 
+/// The report of these principals, by the keys that are given.
+fn given_report<T: Threads + Sync>(
+    rt: &T,
+    alloc: Global,
+    command: &EveryCommand,
+    asked: Asked<'_>,
+    principals: &[u64],
+) -> Result<EveryAnswer, EveryFault>
+    requires principals { All (λ p. p < length asked.world.now.principals) principals.now }
+    requires there { AreThere (every_of asked) }
+    requires workers { ¬ IsUnlawful command.now.options.workers }
+    ensures ok { IfOk result (λ answer. IsGivenNames command.now (every_of asked.entry) principals.now answer.text (told_of answer)) }
+    ensures many { IfErr result (λ fault. fault ≡ e.TooMany → IsLongGiven command.now (every_of asked.entry) principals.now) }
+{
+    let decisions = decisions(alloc, command.decisions.as_slice())?;
+    let answer = every_report(
+        rt,
+        alloc,
+        asked,
+        principals,
+        decisions.as_slice(),
+        command.options.workers,
+        &Open,
+        format_in(command.options.json),
+        command.options.brief,
+    )?;
+    Ok(answer)
+}
+
+/// The report of these principals, whatever values the keys have that nothing gives.
+fn any_key_report<T: Threads + Sync>(
+    rt: &T,
+    alloc: Global,
+    command: &EveryCommand,
+    asked: Asked<'_>,
+    principals: &[u64],
+) -> Result<EveryAnswer, EveryFault>
+    requires principals { All (λ p. p < length asked.world.now.principals) principals.now }
+    requires there { AreThere (every_of asked) }
+    requires workers { ¬ IsUnlawful command.now.options.workers }
+    ensures ok { IfOk result (λ answer. IsAnyKeyNames command.now (every_of asked.entry) principals.now answer.text (told_of answer)) }
+    ensures many { IfErr result (λ fault. fault ≡ e.TooMany → IsLongAnyKey command.now (every_of asked.entry) principals.now) }
+{
+    let words = words(alloc, command.decisions.as_slice())?;
+    let answer = open_every_report(
+        rt,
+        alloc,
+        asked,
+        principals,
+        words.as_slice(),
+        command.options.workers,
+        &Open,
+        format_in(command.options.json),
+        command.options.brief,
+    )?;
+    Ok(answer)
+}
+
 /// The report that the command asks for, of this.
 fn report_on<T: Threads + Sync>(
     rt: &T,
@@ -209,19 +272,10 @@ fn report_on<T: Threads + Sync>(
 {
     let meant = patterns(alloc, command.principals.as_slice())?;
     let principals = principals_of(alloc, asked.world, meant.as_slice())?;
-    let decisions = decisions(alloc, command.decisions.as_slice())?;
-    let answer = every_report(
-        rt,
-        alloc,
-        asked,
-        principals.as_slice(),
-        decisions.as_slice(),
-        command.options.workers,
-        &Open,
-        format_in(command.options.json),
-        command.options.brief,
-    )?;
-    Ok(answer)
+    if command.any_key {
+        return Ok(any_key_report(rt, alloc, command, asked, principals.as_slice())?);
+    }
+    Ok(given_report(rt, alloc, command, asked, principals.as_slice())?)
 }
 
 /// The report that the command asks for, of the world and these lines.
@@ -293,12 +347,12 @@ fn tell<T: Threads + Sync, S: Read, W: Write>(
 }
 
 /// Reads a world and lines that say something of texts, where a file has them, and writes the report on all names that they speak of: of
-/// each principal that is asked for, and each action, the resources of the world and one text of each kind that decisions tell apart;
-/// and whether there are rows, and whether a line could not be shown. The whole report is made before its first byte is written. At
-/// most 8,388,609 bytes are read of the world, and of the lines. The first fault in this order ends the run: of the world `Read`,
-/// `World`; of the lines `Read`, `Texts`; then `Matrix`, `Kinds`, `Write`. That there is no memory can come at any point before the
-/// writing. After every fault except `Write` nothing was written; after `Write` a beginning of the report. After `World`, and where
-/// the command line has the line, nothing is read of the file.
+/// each principal that is asked for, and each action, the resources of the world and one text of each kind that decisions tell apart, by
+/// the keys that are given, or whatever values the others have; and whether there are rows, and whether a line could not be shown. The
+/// whole report is made before its first byte is written. At most 8,388,609 bytes are read of the world, and of the lines. The first
+/// fault in this order ends the run: of the world `Read`, `World`; of the lines `Read`, `Texts`; then `Matrix`, `Kinds`, `Write`. That
+/// there is no memory can come at any point before the writing. After every fault except `Write` nothing was written; after `Write` a
+/// beginning of the report. After `World`, and where the command line has the line, nothing is read of the file.
 pub fn run_every<T: Threads + Sync, R: Read, S: Read, W: Write>(
     rt: &T,
     alloc: Global,

@@ -1,6 +1,6 @@
 -- What `clap` gave of a name is what stands there.
 use Rattle.std.proofs.Common.{◌≡◌, ◌∙◌, ℕ, Bool, List, Option, Some, None, Bor, IsTrue, refl, sym, ap}
-use Rattle.std.specs.Prelude.{◌↔◌, IfErr, Result, Ok, Err, SomeIff, option_map}
+use Rattle.std.specs.Prelude.{◌↔◌, SomeIff, option_map}
 use Rattle.std.specs.Option.{option_eq}
 use Rattle.std.specs.Str.{bytes_eq}
 use Rattle.std.specs.Str.Parse.{ExplainsUnsignedError, HasUnsignedDigitsIfOk, ParsesUnsigned}
@@ -33,8 +33,3 @@ same_word found (Some s) word is there tested =
       λ on. sym there ∙ ap Some (decides.0 (sym tested ∙ on)),
       λ e. tested ∙ decides.1 (same_Some _ _ (there ∙ e)),
     )
-
--- what holds of each error holds of the error of a result
-pub any_err : {A E : Type 0} (P : E → Type 0) → ((e : E) → P e) → (r : Result A E) → IfErr r P
-any_err P all (Ok x) = tt
-any_err P all (Err e) = all e

@@ -1,4 +1,4 @@
--- What the command lines of `matrix --any-key` and `first --any-key` say, where `clap` has matched their words. LOGIC 13.3.
+-- What the command lines with `--any-key` say, where `clap` has matched their words. LOGIC 13.3.
 use Rattle.std.specs.Prelude.{◌≡◌, ◌||◌, ℕ, All, Bool, true, false, List, codes}
 use Rattle.std.specs.Str.{bytes_eq}
 use Rattle.clap.specs.declared.parser.matches.ArgMatches.{ArgMatches}

@@ -2,6 +2,7 @@
 use Rattle.std.specs.Prelude.{◌≡◌, ◌≢◌, ◌⊎◌, Some, None, codes, string_bytes}
 use Rattle.clap.specs.Matches.{first_value, found_of}
 use Rattle.clap.specs.declared.parser.matches.ArgMatches.{ArgMatches}
+use Rattle.iam_options.specs.AnyKey.{HasOtherWords}
 use Rattle.iam_options.specs.Words.{IsFileAt, IsNumberAt, NamesNeither}
 use Rattle.iam_options.specs.declared.every.Texts.{Texts}
 use Rattle.iam_options.specs.declared.every.Texts.TheVariants.{File, Like, Account}
@@ -23,6 +24,6 @@ pub record NamesNoTexts (matches : ArgMatches) : Type 0 where
       (first_value (found_of matches) (codes "resource") ≡ None)
       ⊎ (IsNumberAt matches (codes "like") 64 None × (first_value (found_of matches) (codes "account") ≡ None))
 
--- the command is refused: no texts are said, or both inputs would be standard input
+-- the command is refused: no texts are said, or both inputs would be standard input, or a word for decisions is one of the other kind
 abbrev pub IsRefused : ArgMatches → Type 0
-IsRefused matches = NamesNoTexts matches ⊎ NamesNeither matches (codes "WORLD") (codes "texts")
+IsRefused matches = NamesNoTexts matches ⊎ NamesNeither matches (codes "WORLD") (codes "texts") ⊎ HasOtherWords matches

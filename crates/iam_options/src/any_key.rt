@@ -1,6 +1,6 @@
-// The command lines of `matrix --any-key` and `first --any-key`.
-ghost use Rattle.std.specs.Prelude.{◌≡◌, ◌↔◌, All, IfOk, IsTrue, codes, string_bytes};
-ghost use Rattle.iam_options.specs.AnyKey.{AreWords, is_any_key_word, is_first};
+// The flag `--any-key`, and the command lines of `matrix` and `first` with it.
+ghost use Rattle.std.specs.Prelude.{◌≡◌, ◌↔◌, All, IfOk, IfSome, IsTrue, None, codes, string_bytes};
+ghost use Rattle.iam_options.specs.AnyKey.{AreWords, HasOtherWords, is_any_key_word, is_first};
 ghost use Rattle.iam_options.specs.Words.{HasAsked, HasRun, IsFileAt, IsFlag};
 
 use crate::command::{Asked, asked_in, file_at, texts_at};
@@ -70,18 +70,35 @@ fn are_words(words: &[String], any_key: bool) -> bool
 }
 
 /// Whether the words for decisions are those that stand beside the flag, or without it.
-pub fn has_words(alloc: Global, command: &ArgMatches<'_>, any_key: bool) -> Result<bool, AllocError>
+fn has_words(alloc: Global, command: &ArgMatches<'_>, any_key: bool) -> Result<bool, AllocError>
     ensures { IfOk result (λ are. IsTrue are ↔ AreWords command.now any_key) }
 {
     let words = texts_at(alloc, command, "decision")?;
     Ok(are_words(words.as_slice(), any_key))
 }
 
-/// The flag, beside which no tile is said.
-pub fn any_key<'a>(alloc: Global, help: &'static str) -> Result<Arg<'a>, AllocError> {
+/// Whether the flag is set; nothing where a word for decisions is one of the other kind.
+pub fn any_key_at(alloc: Global, command: &ArgMatches<'_>) -> Result<Option<bool>, AllocError>
+    ensures flag { IfOk result (λ read. IfSome read (IsFlag command.now (codes "any-key"))) }
+    ensures words { IfOk result (λ read. IfSome read (AreWords command.now)) }
+    ensures none { IfOk result (λ read. read ≡ None → HasOtherWords command.now) }
+{
+    let any_key = command.get_flag("any-key");
+    if has_words(alloc, command, any_key)? {
+        return Ok(Some(any_key));
+    }
+    Ok(None)
+}
+
+/// The flag.
+pub fn flag<'a>(alloc: Global, help: &'static str) -> Arg<'a> {
     Arg::new(alloc, "any-key")
         .long("any-key")
         .action(ArgAction::SetTrue)
         .help(help)
-        .conflicts_with("tile")
+}
+
+/// The flag, beside which no tile is said.
+pub fn any_key<'a>(alloc: Global, help: &'static str) -> Result<Arg<'a>, AllocError> {
+    flag(alloc, help).conflicts_with("tile")
 }

@@ -6,7 +6,7 @@ ghost use Rattle.iam_options.specs.EveryChanges.{asks_every};
 ghost use Rattle.iam_options.specs.Words.{HasAsked, IsFileAt, IsFlag, texts_at};
 ghost use Rattle.iam_options.specs.declared.options.Usage.TheVariants as u;
 
-use crate::any_key::{AnyKeyCommand, any_key, any_key_in, has_words};
+use crate::any_key::{AnyKeyCommand, any_key, any_key_at, any_key_in};
 use crate::any_key_changes::{AnyKeyChangesCommand, any_key_changes_in};
 use crate::arguments::{check, decide, first, matrix, named, with};
 use crate::ask::{AskCommand, ask, ask_in};
@@ -33,11 +33,8 @@ const SELECTION: &str =
 In a PATTERN * and ? are wild: iamsim matrix world.json --principal '*:user/ann' --action 's3:*'
 An option with PATTERN or WORD may be given several times; then one of its values has to match.";
 
-/// The decisions that `--decision` takes.
-static DECISIONS: [&str; 3] = ["allowed", "explicitDeny", "implicitDeny"];
-
-/// Those that it takes of `matrix`, where the last four stand beside `--any-key` alone.
-static MATRIX_DECISIONS: [&str; 7] = [
+/// The words that `--decision` takes: the last four beside `--any-key`, and the others without it.
+static DECISIONS: [&str; 7] = [
     "allowed",
     "explicitDeny",
     "implicitDeny",
@@ -47,7 +44,7 @@ static MATRIX_DECISIONS: [&str; 7] = [
     "open",
 ];
 
-const ANY_KEY: &str =
+pub const ANY_KEY: &str =
     "Tell whether keys that nothing gives can turn requests: always, never, possible or open";
 
 const FIRST_ANY_KEY: &str =
@@ -58,7 +55,8 @@ const EVERY_KEY: &str = "--any-key cannot be used with --every";
 /// What `matrix` is called by.
 const MATRIX: &str = "iamsim matrix";
 
-const OTHER_WORD: &str =
+/// Why a word for decisions is refused.
+pub const OTHER_WORD: &str =
     "--decision takes always, never, possible and open beside --any-key, and the other words without it";
 
 /// What a command line asks for.
@@ -149,11 +147,10 @@ fn about_world(alloc: Global, options: Options, command: &ArgMatches<'_>) -> Res
     ensures words { IfOk result (λ read. AreWords command.now (asks_any_key read)) }
     ensures refused { IfErr result (λ usage. usage ≢ u.OutOfMemory → HasOtherWords command.now) }
 {
-    let any_key = command.get_flag("any-key");
-    if !has_words(alloc, command, any_key)? {
+    let Some(any_key) = any_key_at(alloc, command)? else {
         let kind = ErrorKind::InvalidValue;
         return Err(refused(alloc, matrix_of_world(alloc)?, MATRIX, kind, OTHER_WORD)?);
-    }
+    };
     if any_key {
         return Ok(Command::AnyKey(any_key_in(alloc, options.task, command)?));
     }
@@ -288,7 +285,7 @@ fn iamsim<'a>(alloc: Global) -> Result<Parser<'a>, AllocError> {
 /// The parser of `matrix`.
 fn matrix_of_world<'a>(alloc: Global) -> Result<Parser<'a>, AllocError> {
     selecting(alloc, of_world(alloc, matrix(alloc)))?
-        .arg(decision(alloc).value_parser(MATRIX_DECISIONS.as_slice()))?
+        .arg(decision(alloc))?
         .arg(any_key(alloc, ANY_KEY)?)
 }
 

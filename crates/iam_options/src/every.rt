@@ -1,14 +1,17 @@
 // The command line of `every`.
 ghost use Rattle.std.specs.Prelude.{◌≡◌, ◌≢◌, IfErr, IfOk, IfSome, IsTrue, None, Some, codes, map, option_map, string_bytes};
 ghost use Rattle.clap.specs.Matches.{first_value, found_of};
+ghost use Rattle.iam_options.specs.AnyKey.{AreWords};
 ghost use Rattle.iam_options.specs.Every.{AreTextsAt, IsRefused, NamesNoTexts};
 ghost use Rattle.iam_options.specs.Words.{HasRun, IsFileAt, IsFlag, IsNumberAt, texts_at};
 ghost use Rattle.iam_options.specs.declared.every.Texts.TheVariants as t;
 ghost use Rattle.iam_options.specs.declared.options.Usage.TheVariants as u;
 
+use crate::any_key::{any_key_at, flag};
 use crate::arguments::{brief, format, working};
 use crate::command::{
-    allow_empty, decision, file, file_at, pattern, refused, text_at, texts_at, texts_file,
+    ANY_KEY, OTHER_WORD, allow_empty, decision, file, file_at, pattern, refused, text_at, texts_at,
+    texts_file,
 };
 use crate::options::{RunOptions, Usage, number_at, run_options};
 use clap::builder::ValueParser;
@@ -28,6 +31,11 @@ the world says of one of its resources, by its number, or that they are of an ac
 from standard input for -, which WORLD is where it is not named.
 
 Texts, and with --action actions, of which the policies tell no two apart have one row.
+A line that cannot be looked at whole has a row notShown.
+
+With --any-key a row holds whatever values the keys have that nothing gives, at whatever moment from the
+world's on: possible has an example, and what is neither shown nor excluded is open.
+
 In a PATTERN * and ? are wild; given several times, one of them has to match.";
 
 /// What the command is called by.
@@ -59,7 +67,10 @@ pub struct EveryCommand {
     pub principals: Vec<String>,
     /// The pattern of the actions that are asked about; those of the world where there is none.
     pub action: Option<String>,
-    /// Words for decisions. An empty list says nothing.
+    /// Whether requests are asked about whatever values the keys have that nothing gives.
+    pub any_key: bool,
+    /// Words for decisions: `allowed`, `explicitDeny` or `implicitDeny`; beside `--any-key` `always`, `never`, `possible` or `open`. An
+    /// empty list says nothing.
     pub decisions: Vec<String>,
     /// How the report is made; of tiles nothing is said.
     pub options: RunOptions,
@@ -67,14 +78,16 @@ pub struct EveryCommand {
     pub allow_empty: bool,
 }
 
-/// The command that was read, with all that stands behind it; refused where no texts are said, and where world and lines both come from
-/// standard input.
+/// The command that was read, with all that stands behind it; refused where no texts are said, where world and lines both come from
+/// standard input, and where a word for decisions is one of the other kind.
 pub fn every_in(alloc: Global, command: &ArgMatches<'_>) -> Result<EveryCommand, Usage>
     ensures world { IfOk result (λ read. IsFileAt command.now (codes "WORLD") read.world) }
     ensures texts { IfOk result (λ read. AreTextsAt command.now read.texts) }
     ensures principals { IfOk result (λ read. map string_bytes read.principals.items ≡ texts_at command.now (codes "principal")) }
     ensures action { IfOk result (λ read. option_map string_bytes read.action ≡ first_value (found_of command.now) (codes "action")) }
+    ensures any_key { IfOk result (λ read. IsFlag command.now (codes "any-key") read.any_key) }
     ensures decisions { IfOk result (λ read. map string_bytes read.decisions.items ≡ texts_at command.now (codes "decision")) }
+    ensures words { IfOk result (λ read. AreWords command.now read.any_key) }
     ensures run { IfOk result (λ read.
         HasRun command.now read.options.workers read.options.tile read.options.json read.options.brief) }
     ensures empty { IfOk result (λ read. IsFlag command.now (codes "allow-empty") read.allow_empty) }
@@ -89,11 +102,16 @@ pub fn every_in(alloc: Global, command: &ArgMatches<'_>) -> Result<EveryCommand,
         let kind = ErrorKind::ArgumentConflict;
         return Err(refused(alloc, every(alloc)?, NAME, kind, BOTH)?);
     }
+    let Some(any_key) = any_key_at(alloc, command)? else {
+        let kind = ErrorKind::InvalidValue;
+        return Err(refused(alloc, every(alloc)?, NAME, kind, OTHER_WORD)?);
+    };
     Ok(EveryCommand {
         world,
         texts,
         principals: texts_at(alloc, command, "principal")?,
         action: text_at(alloc, command, "action")?,
+        any_key,
         decisions: texts_at(alloc, command, "decision")?,
         options: run_options(command),
         allow_empty: command.get_flag("allow-empty"),
@@ -146,6 +164,7 @@ pub fn every<'a>(alloc: Global) -> Result<Parser<'a>, AllocError> {
         .arg(pattern(alloc, "principal", "Only requests of principals that match"))?
         .arg(action(alloc))?
         .arg(decision(alloc))?
+        .arg(flag(alloc, ANY_KEY))?
         .arg(format(alloc))?
         .arg(brief(alloc))?
         .arg(allow_empty(
